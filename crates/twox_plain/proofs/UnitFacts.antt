@@ -1,0 +1,62 @@
+-- A value that takes words or bytes of a list, one after another, where the list is cut or joined.
+use Rattle.std.proofs.Common.{◌≡◌, ℕ, zero, suc, ◌+◌, ◌*◌, ◌<◌, ◌≤◌, List, ◌++◌, length, take, drop, slice_index, refl, ap, ap₂, ◌∙◌, arith, add-one, add-zero, add-suc}
+use Rattle.std.proofs.lemmas.List.{get_or-drop}
+use Rattle.std.proofs.lemmas.Nat.{mul-le}
+use Rattle.std.specs.Int.{Width, byte_len}
+use Rattle.twox_plain.specs.Word.{word_at}
+use Rattle.twox_plain.specs.Units.{after_units}
+use Rattle.twox_plain.proofs.WordFacts.{word_at-drop, word_at-append, word_at-part}
+
+pub after_units_none : (step : ℕ → ℕ → ℕ) (unit : ℕ → ℕ) (a : ℕ) → after_units step unit a 0 ≡ a
+unfolding after_units
+after_units_none step unit a = refl
+
+pub after_units_next : (step : ℕ → ℕ → ℕ) (unit : ℕ → ℕ) (a k : ℕ) → after_units step unit a (k + 1) ≡ step (after_units step unit a k) (unit k)
+unfolding after_units
+after_units_next step unit a k = rw add-one refl
+
+-- equal units give equal values
+pub after_units_same : (step : ℕ → ℕ → ℕ) (f g : ℕ → ℕ) (a k : ℕ) → ((i : ℕ) → i < k → f i ≡ g i) → after_units step f a k ≡ after_units step g a k
+unfolding after_units
+after_units_same step f g a zero same = refl
+after_units_same step f g a (suc k) same =
+    ap₂ step (after_units_same step f g a k (λ i low. same i (omega arith))) (same k (omega arith))
+
+-- ---- the words at one place `at` of each block of a message
+
+-- the words of k blocks within m stay as d follows
+pub words_longer : (w : Width) (step : ℕ → ℕ → ℕ) (m d : List ℕ) (a k block at : ℕ) → at + byte_len w ≤ block → k * block ≤ length m
+    → after_units step (λ i. word_at w (m ++ d) (i * block + at)) a k ≡ after_units step (λ i. word_at w m (i * block + at)) a k
+words_longer w step m d a k block at inside within =
+    after_units_same step _ _ a k (λ i low.
+    let rows : (i + 1) * block ≤ k * block = mul-le (i + 1) block k block (omega arith) (omega arith) in
+    word_at-append w m d (i * block + at) (omega arith))
+
+-- one word more, read in block k by itself
+pub words_one : (w : Width) (step : ℕ → ℕ → ℕ) (a : ℕ) (m part : List ℕ) (k block at : ℕ) → part ≡ take block (drop (k * block) m) → at + byte_len w ≤ block
+    → after_units step (λ i. word_at w part (i * block + at)) (after_units step (λ i. word_at w m (i * block + at)) a k) 1 ≡ after_units step (λ i. word_at w m (i * block + at)) a (k + 1)
+unfolding after_units
+words_one w step a m part k block at e inside =
+    let word : word_at w part (0 * block + at) ≡ word_at w m (k * block + at) = ap (word_at w part) (omega arith) ∙ word_at-part w block m part (k * block) at e inside in
+    rw (add-one, word) refl
+
+-- n words more, read in what follows the first k blocks
+pub words_more : (w : Width) (step : ℕ → ℕ → ℕ) (a : ℕ) (m rest : List ℕ) (k n block at : ℕ) → rest ≡ drop (k * block) m
+    → after_units step (λ i. word_at w rest (i * block + at)) (after_units step (λ i. word_at w m (i * block + at)) a k) n ≡ after_units step (λ i. word_at w m (i * block + at)) a (k + n)
+unfolding after_units
+words_more w step a m rest k zero block at e = rw add-zero refl
+words_more w step a m rest k (suc n) block at e =
+    let word : word_at w rest (n * block + at) ≡ word_at w m ((k + n) * block + at) = rw e (word_at-drop w (k * block) m (n * block + at) ∙ ap (word_at w m) (omega arith)) in
+    rw add-suc (ap₂ step (words_more w step a m rest k n block at e) word)
+
+-- ---- the words and bytes that fill no block, on their own and in their place
+
+pub words_drop : (w : Width) (step : ℕ → ℕ → ℕ) (i : ℕ) (m : List ℕ) (a k size : ℕ)
+    → after_units step (λ u. word_at w (drop i m) (0 + u * size)) a k ≡ after_units step (λ u. word_at w m (i + u * size)) a k
+words_drop w step i m a k size =
+    after_units_same step _ _ a k (λ u low. word_at-drop w i m (0 + u * size) ∙ ap (word_at w m) (omega arith))
+
+pub bytes_drop : (step : ℕ → ℕ → ℕ) (i : ℕ) (m : List ℕ) (a k at : ℕ)
+    → after_units step (λ u. slice_index (drop i m) (0 + at + u)) a k ≡ after_units step (λ u. slice_index m (i + at + u)) a k
+bytes_drop step i m a k at =
+    after_units_same step _ _ a k (λ u low. get_or-drop i m (0 + at + u) 0 ∙ ap (slice_index m) (omega arith))

@@ -1,0 +1,4 @@
+//! XXH32 and XXH64, and the little-endian words that every hash of this repository reads.
+#![tactic(auto)]
+
+pub mod words;
