@@ -2,3 +2,4 @@
 #![tactic(auto)]
 
 pub mod words;
+pub mod xxhash64;
