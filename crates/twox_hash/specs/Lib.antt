@@ -1,6 +1,9 @@
 pub use Rattle.twox_plain.specs.Word
 pub use Rattle.twox_plain.specs.Units
 pub use Rattle.twox_plain.specs.Buffered
+pub use Rattle.twox_plain.specs.Xxh32
+pub use Rattle.twox_plain.specs.Core32
+pub use Rattle.twox_plain.specs.Record32
 pub use Rattle.twox_plain.specs.Xxh64
 pub use Rattle.twox_plain.specs.Core64
 pub use Rattle.twox_plain.specs.Record64

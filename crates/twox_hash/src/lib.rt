@@ -2,5 +2,6 @@
 //! xxHash definition.
 #![tactic(auto)]
 
-pub use twox_plain::{words, xxhash64};
+pub use twox_plain::{words, xxhash32, xxhash64};
+pub use xxhash32::Hasher as XxHash32;
 pub use xxhash64::Hasher as XxHash64;

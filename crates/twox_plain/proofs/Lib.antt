@@ -1,7 +1,11 @@
 pub mod Buffering
+pub mod Core32Facts
 pub mod Core64Facts
+pub mod Message32
 pub mod Message64
+pub mod Tail32
 pub mod Tail64
 pub mod UnitFacts
+pub mod Vectors32
 pub mod Vectors64
 pub mod WordFacts

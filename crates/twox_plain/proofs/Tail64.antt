@@ -1,4 +1,4 @@
--- The bytes that fill no stripe, on their own and in their place, and the value from them.
+-- The bytes that fill no stripe, on their own and in their place.
 use Rattle.std.proofs.Common.{◌≡◌, ℕ, ◌+◌, ◌*◌, ◌/◌, ◌%◌, ◌<◌, ◌≤◌, List, drop, nat_lt, true, false, refl, ap, ◌∙◌, arith}
 use Rattle.std.proofs.lemmas.Bool.Decides.{nat_tests}
 use Rattle.std.specs.Int.{w32, w64}

@@ -1,5 +1,7 @@
 pub mod Buffered
+pub mod Core32
 pub mod Core64
+pub mod Record32
 pub mod Record64
 pub mod Units
 pub mod Word

@@ -2,4 +2,5 @@
 #![tactic(auto)]
 
 pub mod words;
+pub mod xxhash32;
 pub mod xxhash64;
