@@ -1,5 +1,5 @@
 -- The record of an XXH32 hasher: the lists that it stands for, and what each call makes of it.
-use Rattle.std.specs.Prelude.{◌≡◌, ◌≢◌, ◌<◌, ◌+◌, ◌-◌, ◌%◌, ◌^◌, ℕ, List, [], length, take, min, nat_lt, replicate, if◌then◌else◌}
+use Rattle.std.specs.Prelude.{◌≡◌, ◌<◌, ◌+◌, ◌-◌, ◌%◌, ◌^◌, ℕ, List, [], length, take, min, nat_lt, replicate, if◌then◌else◌}
 use Rattle.std.specs.Int.{w32}
 use Rattle.twox_plain.specs.Word.{wrap_add, counted}
 use Rattle.twox_plain.specs.Xxh32.{p5, converged, after_tail, avalanche}
