@@ -1,8 +1,12 @@
 pub mod Buffering
+pub mod ByteItems
+pub mod ByteTexts
 pub mod Core32Facts
 pub mod Core64Facts
 pub mod Message32
 pub mod Message64
+pub mod SavedTexts32
+pub mod SavedTexts64
 pub mod Tail32
 pub mod Tail64
 pub mod UnitFacts
