@@ -1,2 +1,3 @@
 pub mod WordFacts
 pub mod UnitFacts
+pub mod ChunksFront
