@@ -1,6 +1,7 @@
 pub mod Buffering
 pub mod ByteItems
 pub mod ByteTexts
+pub mod ChunksFront
 pub mod Core32Facts
 pub mod Core64Facts
 pub mod Message32

@@ -1,5 +1,5 @@
 -- A word of a list, where the list is cut, joined or read one byte at a time.
-use Rattle.std.proofs.Common.{◌≡◌, ℕ, zero, suc, ◌+◌, ◌-◌, ◌*◌, ◌<◌, ◌≤◌, List, [], ◌∷◌, ◌++◌, length, take, drop, get_or, slice_index, refl, sym, ap, ◌∙◌, arith, add-zero, length-drop}
+use Rattle.std.proofs.Common.{◌≡◌, ℕ, zero, suc, ◌+◌, ◌-◌, ◌*◌, ◌<◌, ◌≤◌, List, [], ◌∷◌, ◌++◌, length, take, drop, get_or, slice_index, refl, sym, ap, ap₂, ◌∙◌, arith, add-zero, length-drop}
 use Rattle.std.proofs.lemmas.List.{drop_more, drop-drop, drop_at, drop-append-le, take-append-le, take-take, drop-take}
 use Rattle.std.proofs.Math.Nat.{zero-mul}
 use Rattle.std.specs.Simd.{first_chunks}
@@ -64,3 +64,13 @@ first_chunks_at n (suc k) xs zero d low = rw zero-mul refl
 first_chunks_at n (suc k) xs (suc i) d low =
     let place : n + i * n ≡ suc i * n = omega arith in
     first_chunks_at n k (drop n xs) i d (omega arith) ∙ rw (drop-drop (i * n) n xs, place) refl
+
+-- the first k chunks of n lie within the first k * n items
+pub first_chunks_take : {X : Type 0} (n k : ℕ) (xs : List X) → first_chunks n k (take (k * n) xs) ≡ first_chunks n k xs
+first_chunks_take n zero xs = refl
+first_chunks_take {X = X} n (suc k) xs =
+    let place : suc k * n ≡ n + k * n = omega arith in
+    rw place
+    (ap₂ (λ (x : List X) (ys : List (List X)). x ∷ ys)
+    (take-take n (n + k * n) xs (omega arith))
+    (ap (first_chunks n k) (drop-take n (k * n) xs) ∙ first_chunks_take n k (drop n xs)))

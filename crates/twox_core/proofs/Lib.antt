@@ -1,0 +1,3 @@
+pub mod DerivedFacts
+pub mod PartFacts
+pub mod Vectors

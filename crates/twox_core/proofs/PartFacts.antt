@@ -1,0 +1,73 @@
+-- Chunks and pairs of chunks of a list, cut together and read one by one.
+use Rattle.std.proofs.Common.{◌≡◌, ℕ, zero, suc, ◌+◌, ◌-◌, ◌*◌, ◌<◌, ◌≤◌, List, ◌∷◌, length, take, drop, get_or, refl, sym, ap, ap₂, ◌∙◌, arith}
+use Rattle.std.proofs.lemmas.List.{drop-drop}
+use Rattle.std.specs.Simd.{first_chunks}
+use Rattle.twox_plain.proofs.WordFacts.{first_chunks_at, first_chunks_take}
+use Rattle.twox_core.specs.Parts.{chunk_at, chunks_at, pair_at, pairs_at}
+
+-- ---- chunks of n items
+
+pub length-first_chunks : {X : Type 0} (n k : ℕ) (xs : List X) → length (first_chunks n k xs) ≡ k
+length-first_chunks n zero xs = refl
+length-first_chunks n (suc k) xs = ap suc (length-first_chunks n k (drop n xs))
+
+pub take-first_chunks : {X : Type 0} (n j k : ℕ) (xs : List X) → j ≤ k → take j (first_chunks n k xs) ≡ first_chunks n j xs
+take-first_chunks n zero k xs within = refl
+take-first_chunks n (suc j) zero xs within = absurd (omega arith)
+take-first_chunks {X = X} n (suc j) (suc k) xs within =
+    ap (λ (ys : List (List X)). take n xs ∷ ys) (take-first_chunks n j k (drop n xs) (omega arith))
+
+pub drop-first_chunks : {X : Type 0} (n j k : ℕ) (xs : List X) → j ≤ k → drop j (first_chunks n k xs) ≡ first_chunks n (k - j) (drop (j * n) xs)
+drop-first_chunks n zero k xs within =
+    let none : 0 * n ≡ 0 = omega arith in
+    let all : k - 0 ≡ k = omega arith in
+    rw (none, all) refl
+drop-first_chunks n (suc j) zero xs within = absurd (omega arith)
+drop-first_chunks n (suc j) (suc k) xs within =
+    let place : n + j * n ≡ suc j * n = omega arith in
+    let left : suc k - suc j ≡ k - j = omega arith in
+    drop-first_chunks n j k (drop n xs) (omega arith) ∙ rw (drop-drop (j * n) n xs, place, left) refl
+
+-- ---- chunks of 16 bytes, and pairs of them
+
+-- the chunks of all bytes that a part of n chunks has
+pub chunks_at-part : (m part : List ℕ) (i n k : ℕ) → part ≡ take (n * 16) (drop i m) → k ≡ n → first_chunks 16 k part ≡ chunks_at m i n
+unfolding chunks_at
+chunks_at-part m part i n k e count = ap₂ (first_chunks 16) count e ∙ first_chunks_take 16 n (drop i m)
+
+-- chunk c, which begins at byte j
+pub chunks_at-chunk : (m : List ℕ) (i n c j : ℕ) (d : List ℕ) → c < n → i + 16 * c ≡ j → get_or (chunks_at m i n) c d ≡ chunk_at m j
+unfolding chunks_at
+chunks_at-chunk m i n c j d low at =
+    let place : i + c * 16 ≡ j = omega arith in
+    first_chunks_at 16 n (drop i m) c d low ∙ rw (drop-drop (c * 16) i m, place) refl
+
+-- two chunks from a part of two
+pub pair_at-part : (m : List ℕ) (i : ℕ) → first_chunks 16 2 (drop i m) ≡ pair_at m i
+pair_at-part m i = rw (drop-drop 16 i m) refl
+
+-- the pairs of the chunks cs
+pub pairs_at-chunks : (m : List ℕ) (cs : List (List ℕ)) (i n k : ℕ) → cs ≡ first_chunks 16 k (drop i m) → 2 * n ≤ k → first_chunks 2 n cs ≡ pairs_at m i n
+unfolding chunks_at pairs_at
+pairs_at-chunks m cs i n k e within =
+    let twice : n * 2 ≤ k = omega arith in
+    let whole : n * 2 ≡ 2 * n = omega arith in
+    ap (first_chunks 2 n) e ∙ sym (first_chunks_take 2 n (first_chunks 16 k (drop i m)))
+    ∙ ap (first_chunks 2 n) (take-first_chunks 16 (n * 2) k (drop i m) twice ∙ ap (λ (j : ℕ). first_chunks 16 j (drop i m)) whole)
+
+-- eight chunks are four pairs
+pub pairs_at-eight : (m : List ℕ) (cs : List (List ℕ)) (i k : ℕ) → cs ≡ chunks_at m i 8 → k ≡ 4 → first_chunks 2 k cs ≡ pairs_at m i 4
+unfolding pairs_at
+pairs_at-eight m cs i k e count = ap₂ (first_chunks 2) count e
+
+-- pair c, which begins at byte j
+pub pairs_at-pair : (m : List ℕ) (i n c j : ℕ) (d : List (List ℕ)) → c < n → i + 32 * c ≡ j → get_or (pairs_at m i n) c d ≡ pair_at m j
+unfolding chunks_at pairs_at
+pairs_at-pair m i n c j d low at =
+    let chunks : List (List ℕ) = first_chunks 16 (2 * n) (drop i m) in
+    let place : i + c * 2 * 16 ≡ j = omega arith in
+    let cut : drop (c * 2) chunks ≡ first_chunks 16 (2 * n - c * 2) (drop j m) =
+    drop-first_chunks 16 (c * 2) (2 * n) (drop i m) (omega arith)
+    ∙ ap (first_chunks 16 (2 * n - c * 2)) (drop-drop (c * 2 * 16) i m ∙ ap (λ (k : ℕ). drop k m) place) in
+    first_chunks_at 2 n chunks c d low ∙ ap (take 2) cut
+    ∙ take-first_chunks 16 2 (2 * n - c * 2) (drop j m) (omega arith) ∙ pair_at-part m j

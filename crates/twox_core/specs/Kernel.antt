@@ -1,0 +1,17 @@
+-- The two operations of a kernel on the eight lanes at once, each lane by the functions that the long
+-- definition follows it with: the xxHash specification, "XXH3 algorithm description (for large inputs)",
+-- step 2.
+use Rattle.std.specs.Prelude.{ℕ, List, [], ◌∷◌, slice_index}
+use Rattle.twox_core.specs.Long.{accumulated, scrambled}
+
+-- the eight values f 0 to f 7
+abbrev pub lanes8 : (ℕ → ℕ) → List ℕ
+lanes8 f = f 0 ∷ f 1 ∷ f 2 ∷ f 3 ∷ f 4 ∷ f 5 ∷ f 6 ∷ f 7 ∷ []
+
+-- the lanes a after the 64 bytes t of a stripe, under the 64 bytes u of the secret
+abbrev pub accumulate : List ℕ → List ℕ → List ℕ → List ℕ
+accumulate a t u = lanes8 (λ i. accumulated i (slice_index a i) t 0 u 0)
+
+-- the lanes a scrambled under the 64 bytes u of the secret
+abbrev pub round_scramble : List ℕ → List ℕ → List ℕ
+round_scramble a u = lanes8 (λ i. scrambled i (slice_index a i) u 0)

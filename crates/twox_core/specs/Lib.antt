@@ -1,0 +1,11 @@
+pub use Rattle.twox_plain.specs.Word
+pub mod Parts
+pub mod Primes
+pub mod Steps
+pub mod Secret
+pub mod SecretBytes
+pub mod Short
+pub mod Middle
+pub mod Long
+pub mod Value
+pub mod Kernel

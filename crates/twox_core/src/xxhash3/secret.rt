@@ -1,0 +1,314 @@
+//! Secrets of at least 136 bytes, and the parts that each range of lengths reads of them.
+
+ghost use Rattle.std.specs.Prelude.{◌≤◌, length};
+
+use super::parts::{array_at, chunks_at, pair_at, pairs_at};
+use thiserror::Error;
+use twox_plain::words::{u32_at, u64_at};
+
+/// The minimum length of a secret.
+pub const SECRET_MINIMUM_LENGTH: usize = 136;
+
+/// A secret: at least 136 bytes, lent.
+#[derive(Clone, Copy)]
+pub struct Secret<'a> {
+    bytes: &'a [u8],
+    pub ghost long_enough: { 136 ≤ length bytes.now },
+}
+
+/// The secret has fewer than 136 bytes.
+#[derive(Clone, Copy, Debug, PartialEq, Eq, Error)]
+#[error("The secret must have at least {SECRET_MINIMUM_LENGTH} bytes")]
+pub struct Error;
+
+impl<'a> Secret<'a> {
+    ghost use Rattle.std.specs.Prelude.{◌≡◌, ◌-◌, ◌*◌, ◌<◌, ◌≤◌, length, take, true, MatchResult};
+    ghost use Rattle.twox_core.specs.Long.{stripes_of};
+    ghost use Rattle.twox_core.specs.Parts.{chunks_at, stripe_at};
+    ghost use Rattle.twox_core.specs.SecretBytes.{secret_bytes, viewed_by_64, viewed_by_128};
+
+    /// The bytes as a secret.
+    ///
+    /// # Errors
+    ///
+    /// The bytes are fewer than 136.
+    #[inline(always)]
+    pub fn new(bytes: &'a [u8]) -> Result<Secret<'a>, Error>
+        ensures { MatchResult result (λ s. (136 ≤ length bytes.now) × (secret_bytes s ≡ bytes.now)) (λ _. length bytes.now < 136) }
+    {
+        if bytes.len() < SECRET_MINIMUM_LENGTH {
+            return Err(Error);
+        }
+        Ok(Secret { bytes })
+    }
+
+    /// The words that XXH3 of 64 bits reads.
+    #[inline(always)]
+    pub fn for_64(self) -> Secret64BitView<'a>
+        ensures { viewed_by_64 result ≡ secret_bytes self.entry }
+    {
+        Secret64BitView { secret: self }
+    }
+
+    /// The words that XXH3 of 128 bits reads.
+    #[inline(always)]
+    pub fn for_128(self) -> Secret128BitView<'a>
+        ensures { viewed_by_128 result ≡ secret_bytes self.entry }
+    {
+        Secret128BitView { secret: self }
+    }
+
+    /// The first 136 bytes, which are all that inputs of up to 240 bytes read.
+    #[inline(always)]
+    pub fn minimum(self) -> &'a [u8; SECRET_MINIMUM_LENGTH]
+        ensures { result.now ≡ take 136 (secret_bytes self.entry) }
+    {
+        array_at(self.bytes, 0)
+    }
+
+    /// The first eight chunks of 16 bytes.
+    #[inline(always)]
+    pub fn words_for_17_to_128(self) -> &'a [[u8; 16]]
+        ensures chunks { result.now ≡ chunks_at (secret_bytes self.entry) 0 8 }
+        ensures count { length result.now ≡ 8 }
+    {
+        chunks_at(self.bytes, 0)
+    }
+
+    /// The 64 bytes from byte `8 * i` on. The caller shows that `i` is below `n_stripes()`.
+    #[inline(always)]
+    pub fn stripe(self, i: usize) -> &'a [u8; 64]
+        requires { i < stripes_of (secret_bytes self) }
+        ensures { result.now ≡ stripe_at (secret_bytes self.entry) (8 * i) }
+    {
+        array_at(self.bytes, 8 * i)
+    }
+
+    /// The last 64 bytes.
+    #[inline(always)]
+    pub fn last_stripe(self) -> &'a [u8; 64]
+        ensures { result.now ≡ stripe_at (secret_bytes self.entry) (length (secret_bytes self.entry) - 64) }
+    {
+        array_at(self.bytes, self.len() - 64)
+    }
+
+    /// The 64 bytes that end seven bytes before the secret's end.
+    #[inline(always)]
+    pub fn last_stripe_secret_better_name(self) -> &'a [u8; 64]
+        ensures { result.now ≡ stripe_at (secret_bytes self.entry) (length (secret_bytes self.entry) - 71) }
+    {
+        array_at(self.bytes, self.len() - 71)
+    }
+
+    /// The 64 bytes from byte 11 on.
+    #[inline(always)]
+    pub fn final_secret(self) -> &'a [u8; 64]
+        ensures { result.now ≡ stripe_at (secret_bytes self.entry) 11 }
+    {
+        array_at(self.bytes, 11)
+    }
+
+    /// The number of bytes.
+    #[inline(always)]
+    pub fn len(self) -> usize
+        ensures { result ≡ length (secret_bytes self.entry) }
+    {
+        self.bytes.len()
+    }
+
+    /// How many stripes are accumulated from one scramble to the next.
+    #[inline(always)]
+    pub fn n_stripes(self) -> usize
+        ensures { result ≡ stripes_of (secret_bytes self.entry) }
+    {
+        (self.len() - 64) / 8
+    }
+
+    /// Whether there are at least 136 bytes, which holds of every secret.
+    #[inline(always)]
+    pub fn is_valid(self) -> bool
+        ensures { result ≡ true }
+    {
+        self.len() >= SECRET_MINIMUM_LENGTH
+    }
+}
+
+/// The words and chunks of a secret that XXH3 of 64 bits reads of it, up to 240 bytes.
+#[derive(Clone, Copy)]
+pub struct Secret64BitView<'a> {
+    secret: Secret<'a>,
+}
+
+impl<'a> Secret64BitView<'a> {
+    ghost use Rattle.std.specs.Prelude.{◌≡◌, [], ◌∷◌, length};
+    ghost use Rattle.std.specs.Int.{w32, w64};
+    ghost use Rattle.twox_plain.specs.Word.{word_at};
+    ghost use Rattle.twox_core.specs.Parts.{chunk_at, chunks_at};
+    ghost use Rattle.twox_core.specs.SecretBytes.{viewed_by_64};
+
+    /// The eight-byte words at 56 and 64.
+    #[inline(always)]
+    pub fn words_for_0(self) -> [u64; 2]
+        ensures { let s = viewed_by_64 self.entry in result ≡ word_at w64 s 56 ∷ word_at w64 s 64 ∷ [] }
+    {
+        let bytes = self.secret.bytes;
+        [u64_at(bytes, 56), u64_at(bytes, 64)]
+    }
+
+    /// The four-byte words at 0 and 4.
+    #[inline(always)]
+    pub fn words_for_1_to_3(self) -> [u32; 2]
+        ensures { let s = viewed_by_64 self.entry in result ≡ word_at w32 s 0 ∷ word_at w32 s 4 ∷ [] }
+    {
+        let bytes = self.secret.bytes;
+        [u32_at(bytes, 0), u32_at(bytes, 4)]
+    }
+
+    /// The eight-byte words at 8 and 16.
+    #[inline(always)]
+    pub fn words_for_4_to_8(self) -> [u64; 2]
+        ensures { let s = viewed_by_64 self.entry in result ≡ word_at w64 s 8 ∷ word_at w64 s 16 ∷ [] }
+    {
+        let bytes = self.secret.bytes;
+        [u64_at(bytes, 8), u64_at(bytes, 16)]
+    }
+
+    /// The eight-byte words at 24, 32, 40 and 48.
+    #[inline(always)]
+    pub fn words_for_9_to_16(self) -> [u64; 4]
+        ensures { let s = viewed_by_64 self.entry in result ≡ word_at w64 s 24 ∷ word_at w64 s 32 ∷ word_at w64 s 40 ∷ word_at w64 s 48 ∷ [] }
+    {
+        let bytes = self.secret.bytes;
+        [
+            u64_at(bytes, 24),
+            u64_at(bytes, 32),
+            u64_at(bytes, 40),
+            u64_at(bytes, 48),
+        ]
+    }
+
+    /// Eight chunks of 16 bytes from byte 0 on.
+    #[inline(always)]
+    pub fn words_for_129_to_240_part1(self) -> &'a [[u8; 16]]
+        ensures chunks { result.now ≡ chunks_at (viewed_by_64 self.entry) 0 8 }
+        ensures count { length result.now ≡ 8 }
+    {
+        chunks_at(self.secret.bytes, 0)
+    }
+
+    /// Eight chunks of 16 bytes from byte 3 on.
+    #[inline(always)]
+    pub fn words_for_129_to_240_part2(self) -> &'a [[u8; 16]]
+        ensures chunks { result.now ≡ chunks_at (viewed_by_64 self.entry) 3 8 }
+        ensures count { length result.now ≡ 8 }
+    {
+        chunks_at(self.secret.bytes, 3)
+    }
+
+    /// The 16 bytes from byte 119 on.
+    #[inline(always)]
+    pub fn words_for_129_to_240_part3(self) -> &'a [u8; 16]
+        ensures { result.now ≡ chunk_at (viewed_by_64 self.entry) 119 }
+    {
+        array_at(self.secret.bytes, 119)
+    }
+}
+
+/// The words and chunks of a secret that XXH3 of 128 bits reads of it.
+#[derive(Clone, Copy)]
+pub struct Secret128BitView<'a> {
+    secret: Secret<'a>,
+}
+
+impl<'a> Secret128BitView<'a> {
+    ghost use Rattle.std.specs.Prelude.{◌≡◌, ◌-◌, [], ◌∷◌, length};
+    ghost use Rattle.std.specs.Int.{w32, w64};
+    ghost use Rattle.twox_plain.specs.Word.{word_at};
+    ghost use Rattle.twox_core.specs.Parts.{pair_at, pairs_at, stripe_at};
+    ghost use Rattle.twox_core.specs.SecretBytes.{viewed_by_128};
+
+    /// The eight-byte words at 64, 72, 80 and 88.
+    #[inline(always)]
+    pub fn words_for_0(self) -> [u64; 4]
+        ensures { let s = viewed_by_128 self.entry in result ≡ word_at w64 s 64 ∷ word_at w64 s 72 ∷ word_at w64 s 80 ∷ word_at w64 s 88 ∷ [] }
+    {
+        let bytes = self.secret.bytes;
+        [
+            u64_at(bytes, 64),
+            u64_at(bytes, 72),
+            u64_at(bytes, 80),
+            u64_at(bytes, 88),
+        ]
+    }
+
+    /// The four-byte words at 0, 4, 8 and 12.
+    #[inline(always)]
+    pub fn words_for_1_to_3(self) -> [u32; 4]
+        ensures { let s = viewed_by_128 self.entry in result ≡ word_at w32 s 0 ∷ word_at w32 s 4 ∷ word_at w32 s 8 ∷ word_at w32 s 12 ∷ [] }
+    {
+        let bytes = self.secret.bytes;
+        [
+            u32_at(bytes, 0),
+            u32_at(bytes, 4),
+            u32_at(bytes, 8),
+            u32_at(bytes, 12),
+        ]
+    }
+
+    /// The eight-byte words at 16 and 24.
+    #[inline(always)]
+    pub fn words_for_4_to_8(self) -> [u64; 2]
+        ensures { let s = viewed_by_128 self.entry in result ≡ word_at w64 s 16 ∷ word_at w64 s 24 ∷ [] }
+    {
+        let bytes = self.secret.bytes;
+        [u64_at(bytes, 16), u64_at(bytes, 24)]
+    }
+
+    /// The eight-byte words at 32, 40, 48 and 56.
+    #[inline(always)]
+    pub fn words_for_9_to_16(self) -> [u64; 4]
+        ensures { let s = viewed_by_128 self.entry in result ≡ word_at w64 s 32 ∷ word_at w64 s 40 ∷ word_at w64 s 48 ∷ word_at w64 s 56 ∷ [] }
+    {
+        let bytes = self.secret.bytes;
+        [
+            u64_at(bytes, 32),
+            u64_at(bytes, 40),
+            u64_at(bytes, 48),
+            u64_at(bytes, 56),
+        ]
+    }
+
+    /// Four pairs of 16 bytes from byte 0 on.
+    #[inline(always)]
+    pub fn words_for_129_to_240_part1(self) -> &'a [[[u8; 16]; 2]]
+        ensures pairs { result.now ≡ pairs_at (viewed_by_128 self.entry) 0 4 }
+        ensures count { length result.now ≡ 4 }
+    {
+        pairs_at(self.secret.bytes, 0)
+    }
+
+    /// Four pairs of 16 bytes from byte 3 on.
+    #[inline(always)]
+    pub fn words_for_129_to_240_part2(self) -> &'a [[[u8; 16]; 2]]
+        ensures pairs { result.now ≡ pairs_at (viewed_by_128 self.entry) 3 4 }
+        ensures count { length result.now ≡ 4 }
+    {
+        pairs_at(self.secret.bytes, 3)
+    }
+
+    /// The 32 bytes from byte 103 on, as a pair of 16 bytes.
+    #[inline(always)]
+    pub fn words_for_129_to_240_part3(self) -> &'a [[u8; 16]; 2]
+        ensures { result.now ≡ pair_at (viewed_by_128 self.entry) 103 }
+    {
+        pair_at(self.secret.bytes, 103)
+    }
+
+    /// The 64 bytes that end eleven bytes before the secret's end.
+    #[inline(always)]
+    pub fn final_secret(self) -> &'a [u8; 64]
+        ensures { let s = viewed_by_128 self.entry in result.now ≡ stripe_at s (length s - 75) }
+    {
+        array_at(self.secret.bytes, self.secret.len() - 75)
+    }
+}
