@@ -1,3 +1,4 @@
+pub mod Apart
 pub mod Buffered
 pub mod Core32
 pub mod Core64

@@ -8,7 +8,7 @@ use Rattle.twox_plain.proofs.xxhash32.finish_with.Goals.{then-len-into_u64, else
 pub returns : goal.returns
 unfolding value_of
 returns c =
-    let whole = rw c.low_half.ensures at (c.avalanche.ensures ∙ ap avalanche c.after_tail.ensures) in
+    let whole = rw c.lower_half.ensures at (c.avalanche.ensures ∙ ap avalanche c.after_tail.ensures) in
     elim c.if-len-into_u64.branch [
       | then-len-into_u64 w ↦
           let test : nat_lt c.args.len 16 ≡ true = grind (arith, nat_tests, w.if-len-into_u64.true) in
