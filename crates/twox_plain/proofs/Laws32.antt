@@ -1,8 +1,7 @@
 -- XXH32 tells each unit of the list, at any length, and the seed under 16 bytes.
-use Rattle.std.proofs.Common.{◌≡◌, ◌≢◌, ℕ, zero, suc, ◌+◌, ◌-◌, ◌*◌, ◌/◌, ◌%◌, ◌^◌, ◌<◌, ◌≤◌, ◌⊎◌, List, length, nat_lt, true, false, slice_index, bit_xor, inl, inr, refl, sym, ap, subst, ◌∙◌, arith, lit<, lit≤, mod-lt, pow_pos}
+use Rattle.std.proofs.Common.{◌≡◌, ◌≢◌, ℕ, zero, suc, ◌+◌, ◌-◌, ◌*◌, ◌/◌, ◌%◌, ◌^◌, ◌<◌, ◌≤◌, List, length, nat_lt, true, false, slice_index, inl, inr, refl, sym, ap, subst, ◌∙◌, arith, lit<, lit≤, mod-lt, pow_pos}
 use Rattle.std.proofs.lemmas.Bool.{cases_lt}
 use Rattle.std.proofs.lemmas.Bool.Decides.{nat_tests}
-use Rattle.std.proofs.lemmas.Nat.{xor_lt, shr_le}
 use Rattle.std.specs.Int.{w32, rotate_left}
 use Rattle.twox_plain.specs.Word.{IsBytes, word_at, counted}
 use Rattle.twox_plain.specs.Units.{after_units}

@@ -1,5 +1,5 @@
 -- A word tells its bytes, and a list tells a word that it does not touch.
-use Rattle.std.proofs.Common.{◌≡◌, ◌≢◌, ℕ, ◌+◌, ◌-◌, ◌*◌, ◌%◌, ◌^◌, ◌<◌, ◌≤◌, ◌⊎◌, min, List, length, take, drop, get_or, slice_index, inl, inr, refl, sym, ap, subst, ◌∙◌, arith, lit<, length-drop, length-take}
+use Rattle.std.proofs.Common.{◌≡◌, ℕ, ◌+◌, ◌-◌, ◌^◌, ◌<◌, ◌≤◌, ◌⊎◌, List, length, take, drop, get_or, slice_index, inl, inr, refl, sym, ap, subst, ◌∙◌, arith, lit<, length-drop, length-take}
 use Rattle.std.proofs.lemmas.Bool.{cases_lt}
 use Rattle.std.proofs.lemmas.List.{get_or-drop, get_or-take, get_or_past}
 use Rattle.std.proofs.lemmas.Grind.{same_number_lists}
