@@ -82,3 +82,7 @@ pairs_at-pair m ps i n c j d e low at =
     ∙ ap (first_chunks 16 (2 * n - c * 2)) (drop-drop (c * 2 * 16) i m ∙ ap (λ (k : ℕ). drop k m) place) in
     ap (λ (l : List (List (List ℕ))). get_or l c d) e ∙ first_chunks_at 2 n chunks c d low ∙ ap (take 2) cut
     ∙ take-first_chunks 16 2 (2 * n - c * 2) (drop j m) (omega arith) ∙ pair_at-part m j
+
+-- the two chunks cs of the last 32 bytes c
+pub last-pair : (m c : List ℕ) (cs : List (List ℕ)) (k : ℕ) → 32 ≤ length m → c ≡ drop (length m - 32) m → cs ≡ first_chunks 16 k c → k ≡ 2 → cs ≡ pair_at m (length m - 32)
+last-pair m c cs k enough e chunks count = chunks ∙ ap₂ (first_chunks 16) count e ∙ pair_at-part m (length m - 32)
