@@ -1,3 +1,4 @@
 pub mod DerivedFacts
+pub mod MixFacts
 pub mod PartFacts
 pub mod Vectors

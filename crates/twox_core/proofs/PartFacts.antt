@@ -1,6 +1,6 @@
 -- Chunks and pairs of chunks of a list, cut together and read one by one.
-use Rattle.std.proofs.Common.{◌≡◌, ℕ, zero, suc, ◌+◌, ◌-◌, ◌*◌, ◌<◌, ◌≤◌, List, ◌∷◌, length, take, drop, get_or, refl, sym, ap, ap₂, ◌∙◌, arith}
-use Rattle.std.proofs.lemmas.List.{drop-drop}
+use Rattle.std.proofs.Common.{◌≡◌, ℕ, zero, suc, ◌+◌, ◌-◌, ◌*◌, ◌<◌, ◌≤◌, List, ◌∷◌, length, take, drop, get_or, refl, sym, ap, ap₂, ◌∙◌, arith, length-drop}
+use Rattle.std.proofs.lemmas.List.{drop-drop, take_all}
 use Rattle.std.specs.Simd.{first_chunks}
 use Rattle.twox_plain.proofs.WordFacts.{first_chunks_at, first_chunks_take}
 use Rattle.twox_core.specs.Parts.{chunk_at, chunks_at, pair_at, pairs_at}
@@ -35,12 +35,23 @@ pub chunks_at-part : (m part : List ℕ) (i n k : ℕ) → part ≡ take (n * 16
 unfolding chunks_at
 chunks_at-part m part i n k e count = ap₂ (first_chunks 16) count e ∙ first_chunks_take 16 n (drop i m)
 
--- chunk c, which begins at byte j
-pub chunks_at-chunk : (m : List ℕ) (i n c j : ℕ) (d : List ℕ) → c < n → i + 16 * c ≡ j → get_or (chunks_at m i n) c d ≡ chunk_at m j
+-- chunk c of the chunks cs from byte i on, which begins at byte j
+pub chunks_at-chunk : (m : List ℕ) (cs : List (List ℕ)) (i n c j : ℕ) (d : List ℕ) → cs ≡ chunks_at m i n → c < n → i + 16 * c ≡ j → get_or cs c d ≡ chunk_at m j
 unfolding chunks_at
-chunks_at-chunk m i n c j d low at =
+chunks_at-chunk m cs i n c j d e low at =
     let place : i + c * 16 ≡ j = omega arith in
-    first_chunks_at 16 n (drop i m) c d low ∙ rw (drop-drop (c * 16) i m, place) refl
+    ap (λ (l : List (List ℕ)). get_or l c d) e ∙ first_chunks_at 16 n (drop i m) c d low ∙ rw (drop-drop (c * 16) i m, place) refl
+
+-- chunk c of all whole chunks
+pub whole-chunk : (m : List ℕ) (cs : List (List ℕ)) (n c j : ℕ) (d : List ℕ) → cs ≡ first_chunks 16 n m → c < n → 16 * c ≡ j → get_or cs c d ≡ chunk_at m j
+unfolding chunks_at
+whole-chunk m cs n c j d e low at = chunks_at-chunk m cs 0 n c j d e low (omega arith)
+
+-- the last 16 bytes
+pub last-chunk : (m c : List ℕ) → 16 ≤ length m → c ≡ drop (length m - 16) m → c ≡ chunk_at m (length m - 16)
+last-chunk m c enough e =
+    let size : length (drop (length m - 16) m) ≤ 16 = omega (arith, length-drop (length m - 16) m) in
+    e ∙ sym (take_all 16 (drop (length m - 16) m) size)
 
 -- two chunks from a part of two
 pub pair_at-part : (m : List ℕ) (i : ℕ) → first_chunks 16 2 (drop i m) ≡ pair_at m i
@@ -60,14 +71,18 @@ pub pairs_at-eight : (m : List ℕ) (cs : List (List ℕ)) (i k : ℕ) → cs �
 unfolding pairs_at
 pairs_at-eight m cs i k e count = ap₂ (first_chunks 2) count e
 
--- pair c, which begins at byte j
-pub pairs_at-pair : (m : List ℕ) (i n c j : ℕ) (d : List (List ℕ)) → c < n → i + 32 * c ≡ j → get_or (pairs_at m i n) c d ≡ pair_at m j
+-- pair c of the pairs ps from byte i on, which begins at byte j
+pub pairs_at-pair : (m : List ℕ) (ps : List (List (List ℕ))) (i n c j : ℕ) (d : List (List ℕ)) → ps ≡ pairs_at m i n → c < n → i + 32 * c ≡ j → get_or ps c d ≡ pair_at m j
 unfolding chunks_at pairs_at
-pairs_at-pair m i n c j d low at =
+pairs_at-pair m ps i n c j d e low at =
     let chunks : List (List ℕ) = first_chunks 16 (2 * n) (drop i m) in
     let place : i + c * 2 * 16 ≡ j = omega arith in
     let cut : drop (c * 2) chunks ≡ first_chunks 16 (2 * n - c * 2) (drop j m) =
     drop-first_chunks 16 (c * 2) (2 * n) (drop i m) (omega arith)
     ∙ ap (first_chunks 16 (2 * n - c * 2)) (drop-drop (c * 2 * 16) i m ∙ ap (λ (k : ℕ). drop k m) place) in
-    first_chunks_at 2 n chunks c d low ∙ ap (take 2) cut
+    ap (λ (l : List (List (List ℕ))). get_or l c d) e ∙ first_chunks_at 2 n chunks c d low ∙ ap (take 2) cut
     ∙ take-first_chunks 16 2 (2 * n - c * 2) (drop j m) (omega arith) ∙ pair_at-part m j
+
+-- the two chunks cs of the last 32 bytes c
+pub last-pair : (m c : List ℕ) (cs : List (List ℕ)) (k : ℕ) → 32 ≤ length m → c ≡ drop (length m - 32) m → cs ≡ first_chunks 16 k c → k ≡ 2 → cs ≡ pair_at m (length m - 32)
+last-pair m c cs k enough e chunks count = chunks ∙ ap₂ (first_chunks 16) count e ∙ pair_at-part m (length m - 32)

@@ -1,4 +1,4 @@
-use Rattle.std.proofs.Common.{List, ℕ, [], get_or, arith, ap, ◌∙◌}
+use Rattle.std.proofs.Common.{[], arith, ◌∙◌}
 use Rattle.twox_core.specs.SecretBytes.{secret_bytes}
 use Rattle.twox_core.proofs.PartFacts.{pairs_at-eight, pairs_at-pair}
 use Rattle.twox_core.proofs.xxhash3.chunks_17_to_128.Goals as goal
@@ -7,4 +7,4 @@ pub returns-clause-words : goal.returns-clause-words
 returns-clause-words c =
     let s = secret_bytes c.args.secret in
     let pairs = c.bp_as_chunks.ensures.chunks ∙ pairs_at-eight s _ 0 _ c.words_for_17_to_128.ensures.chunks (omega arith) in
-    ap (λ (l : List (List (List ℕ))). get_or l c.args.c []) pairs ∙ pairs_at-pair s 0 4 c.args.c _ [] (omega arith) (omega arith)
+    pairs_at-pair s _ 0 4 c.args.c _ [] pairs (omega arith) (omega arith)

@@ -1,0 +1,293 @@
+//! XXH3 of 128 bits.
+
+ghost use Rattle.std.specs.Prelude.{◌≡◌, ◌+◌, ◌-◌, ◌*◌, ◌/◌, ◌^◌, ◌<◌, ◌≤◌, bit_xor, length, MatchResult, IfOk, IsOk};
+ghost use Rattle.std.specs.Int.{w64};
+ghost use Rattle.twox_plain.specs.Word.{low64, high64};
+ghost use Rattle.twox_core.specs.Middle.{lanes_high, lanes_low};
+ghost use Rattle.twox_core.specs.Secret.{default_secret, derived_secret};
+ghost use Rattle.twox_core.specs.SecretBytes.{secret_bytes};
+ghost use Rattle.twox_core.specs.Short.{combined, empty128_high, empty128_low, four128_high, four128_low, four_product, nine_product, tiny_high, tiny_low};
+ghost use Rattle.twox_core.specs.Steps.{add64, avalanche, mix, word64};
+ghost use Rattle.twox_core.specs.Value.{effective_secret, high_in, low_in, xxh3_128, Range};
+
+use std::alloc::{Allocator, Global};
+use twox_core::xxhash3::primes::{PRIME_MX2, PRIME32_2, PRIME64_1, PRIME64_2, PRIME64_4};
+pub use twox_core::xxhash3::{
+    DEFAULT_SECRET_LENGTH, OneshotWithSecretError, SECRET_MINIMUM_LENGTH,
+};
+use twox_core::xxhash3::{
+    DEFAULT_SEED, Secret, avalanche, avalanche_xxh64, chunks_17_to_128, default_secret,
+    full_product, impl_1_to_3_bytes_combined, mix_step, pairs_of_u64_bytes, to_u64s,
+};
+use twox_plain::words::{Halves, IntoU64, IntoU128, bp_as_chunks, u32_at, u64_at};
+
+/// Calculates the 128-bit hash.
+pub struct Hasher<A: Allocator = Global> {
+    allocator: A,
+}
+
+impl Hasher<Global> {
+    /// The hash of all bytes at once, with the default secret and the seed 0.
+    #[inline]
+    pub fn oneshot(input: &[u8]) -> u128
+        requires { length input.now ≤ 240 }
+        ensures { result ≡ xxh3_128 0 default_secret input.now }
+    {
+        impl_oneshot(default_secret(), DEFAULT_SEED, input)
+    }
+
+    /// The hash of all bytes at once, with a seed: up to 240 bytes with the default secret, above with the
+    /// secret that the seed derives.
+    #[inline]
+    #[tactic(auto, unfolding(twox_core::specs::Value::effective_secret))]
+    pub fn oneshot_with_seed(seed: u64, input: &[u8]) -> u128
+        requires { length input.now ≤ 240 }
+        ensures { result ≡ xxh3_128 seed (effective_secret (derived_secret seed) input.now) input.now }
+    {
+        impl_oneshot(default_secret(), seed, input)
+    }
+
+    /// The hash of all bytes at once, with a secret and the seed 0, at every length.
+    ///
+    /// # Errors
+    ///
+    /// The secret has fewer than 136 bytes.
+    #[inline]
+    pub fn oneshot_with_secret(secret: &[u8], input: &[u8]) -> Result<u128, OneshotWithSecretError>
+        requires { length input.now ≤ 240 }
+        ensures { MatchResult result (λ x. (136 ≤ length secret.now) × (x ≡ xxh3_128 0 secret.now input.now)) (λ _. length secret.now < 136) }
+    {
+        let secret = Secret::new(secret)?;
+        Ok(impl_oneshot(secret, DEFAULT_SEED, input))
+    }
+
+    /// The hash of all bytes at once, with a seed and a secret. Only one of the two has an effect: up to 240
+    /// bytes the seed, with the default secret, whatever secret is handed in; above, the secret.
+    #[inline]
+    #[tactic(auto, unfolding(twox_core::specs::Value::effective_secret))]
+    pub fn oneshot_with_seed_and_secret(
+        seed: u64,
+        secret: &[u8],
+        input: &[u8],
+    ) -> Result<u128, OneshotWithSecretError>
+        requires { length input.now ≤ 240 }
+        ensures accepted { IsOk result }
+        ensures value { IfOk result (λ x. x ≡ xxh3_128 seed (effective_secret secret.now input.now) input.now) }
+    {
+        Ok(impl_oneshot(default_secret(), seed, input))
+    }
+}
+
+// The halves of a value.
+#[derive(Clone, Copy)]
+struct X128 {
+    low: u64,
+    high: u64,
+}
+
+impl IntoU128 for X128 {
+    ghost number = { λ x. x.high * 2 ^ 64 + x.low };
+
+    #[inline(always)]
+    fn into_u128(self) -> u128 {
+        self.high.into_u128() << 64 | self.low.into_u128()
+    }
+}
+
+#[inline(always)]
+#[tactic(auto, unfolding(twox_core::specs::Value::xxh3_128, twox_core::specs::Value::range_of, twox_core::specs::Value::low_in, twox_core::specs::Value::high_in))]
+fn impl_oneshot(secret: Secret<'_>, seed: u64, input: &[u8]) -> u128
+    requires { length input.now ≤ 240 }
+    ensures { result ≡ xxh3_128 seed (secret_bytes secret.entry) input.now }
+{
+    match input.len() {
+        0 => impl_0_bytes(secret, seed).into_u128(),
+        1..=3 => impl_1_to_3_bytes(secret, seed, input).into_u128(),
+        4..=8 => impl_4_to_8_bytes(secret, seed, input).into_u128(),
+        9..=16 => impl_9_to_16_bytes(secret, seed, input).into_u128(),
+        17..=128 => impl_17_to_128_bytes(secret, seed, input).into_u128(),
+        _ => impl_129_to_240_bytes(secret, seed, input).into_u128(),
+    }
+}
+
+#[inline(always)]
+#[tactic(auto, unfolding(twox_core::specs::Short::empty128_low, twox_core::specs::Short::empty128_high))]
+fn impl_0_bytes(secret: Secret<'_>, seed: u64) -> X128
+    ensures low { result.low ≡ empty128_low seed (secret_bytes secret.entry) }
+    ensures high { result.high ≡ empty128_high seed (secret_bytes secret.entry) }
+{
+    let words = secret.for_128().words_for_0();
+    let low = avalanche_xxh64(seed ^ words[0] ^ words[1]);
+    let high = avalanche_xxh64(seed ^ words[2] ^ words[3]);
+    X128 { low, high }
+}
+
+#[inline(always)]
+#[tactic(auto, unfolding(twox_core::specs::Short::tiny_low, twox_core::specs::Short::tiny_high))]
+fn impl_1_to_3_bytes(secret: Secret<'_>, seed: u64, input: &[u8]) -> X128
+    requires some { 1 ≤ length input.now }
+    requires few { length input.now ≤ 3 }
+    ensures low { result.low ≡ tiny_low seed (secret_bytes secret.entry) (combined input.now) }
+    ensures high { result.high ≡ tiny_high seed (secret_bytes secret.entry) (combined input.now) }
+{
+    let combined = impl_1_to_3_bytes_combined(input);
+    let words = secret.for_128().words_for_1_to_3();
+    let low_key = (words[0] ^ words[1]).into_u64();
+    let high_key = (words[2] ^ words[3]).into_u64();
+    let low = low_key.wrapping_add(seed) ^ combined.into_u64();
+    let high = high_key.wrapping_sub(seed) ^ combined.swap_bytes().rotate_left(13).into_u64();
+    X128 {
+        low: avalanche_xxh64(low),
+        high: avalanche_xxh64(high),
+    }
+}
+
+#[inline(always)]
+#[tactic(auto, unfolding(twox_core::specs::Short::four128_low, twox_core::specs::Short::four128_high, twox_core::specs::Short::four_product, twox_core::specs::Short::mixed_seed))]
+fn impl_4_to_8_bytes(secret: Secret<'_>, seed: u64, input: &[u8]) -> X128
+    requires some { 4 ≤ length input.now }
+    requires few { length input.now ≤ 8 }
+    ensures low { result.low ≡ four128_low (four_product seed (secret_bytes secret.entry) input.now) }
+    ensures high { result.high ≡ four128_high (four_product seed (secret_bytes secret.entry) input.now) }
+{
+    let first = u32_at(input, 0);
+    let last = u32_at(input, input.len() - 4);
+    let mixed_seed = seed ^ (seed.lower_half().swap_bytes().into_u64() << 32);
+    let words = secret.for_128().words_for_4_to_8();
+    let combined = first.into_u64() | (last.into_u64() << 32);
+    let lhs = (words[0] ^ words[1]).wrapping_add(mixed_seed) ^ combined;
+    let rhs = PRIME64_1.wrapping_add(input.len().into_u64() << 2);
+    let product = full_product(lhs, rhs);
+
+    let high = product.upper_half().wrapping_add(product.lower_half() << 1);
+    let low = product.lower_half() ^ (high >> 3);
+    let low = low ^ (low >> 35);
+    let low = low.wrapping_mul(PRIME_MX2);
+    X128 {
+        low: low ^ (low >> 28),
+        high: avalanche(high),
+    }
+}
+
+#[inline(always)]
+#[tactic(auto, unfolding(twox_core::specs::Short::nine_product, twox_core::specs::Short::nine_both, twox_core::specs::Short::nine_high, twox_core::specs::Short::nine_low, twox_core::specs::Short::nine_first, twox_core::specs::Short::nine_second))]
+fn impl_9_to_16_bytes(secret: Secret<'_>, seed: u64, input: &[u8]) -> X128
+    requires some { 9 ≤ length input.now }
+    requires few { length input.now ≤ 16 }
+    ensures low { result.low ≡ avalanche (low64 (nine_product seed (secret_bytes secret.entry) input.now)) }
+    ensures high { result.high ≡ avalanche (high64 (nine_product seed (secret_bytes secret.entry) input.now)) }
+{
+    let first = u64_at(input, 0);
+    let last = u64_at(input, input.len() - 8);
+    let words = secret.for_128().words_for_9_to_16();
+    let one = (words[0] ^ words[1]).wrapping_sub(seed) ^ first ^ last;
+    let two = (words[2] ^ words[3]).wrapping_add(seed) ^ last;
+    let product = full_product(one, PRIME64_1);
+    let low = product
+        .lower_half()
+        .wrapping_add((input.len() - 1).into_u64() << 54);
+    let high = product
+        .upper_half()
+        .wrapping_add(two.upper_half().into_u64() << 32)
+        .wrapping_add(two.lower_half().into_u64().wrapping_mul(PRIME32_2));
+    let low = low ^ high.swap_bytes();
+    let product = X128 { low, high }
+        .into_u128()
+        .wrapping_mul(PRIME64_2.into_u128());
+    X128 {
+        low: avalanche(product.lower_half()),
+        high: avalanche(product.upper_half()),
+    }
+}
+
+// A lane after the 16 bytes `own` under the secret's, and then the words of the 16 bytes `other`.
+#[inline(always)]
+fn lane_step(lane: u64, own: &[u8; 16], words: &[u8; 16], other: &[u8; 16], seed: u64) -> u64
+    ensures { result ≡ bit_xor (add64 lane (mix own.now 0 words.now 0 seed)) (add64 (word64 other.now 0) (word64 other.now 8)) }
+{
+    let other = to_u64s(other);
+    lane.wrapping_add(mix_step(own, words, seed)) ^ other[0].wrapping_add(other[1])
+}
+
+#[inline(always)]
+fn impl_17_to_128_bytes(secret: Secret<'_>, seed: u64, input: &[u8]) -> X128
+    requires some { 17 ≤ length input.now }
+    requires few { length input.now ≤ 128 }
+    ensures low { result.low ≡ low_in Range.Medium seed (secret_bytes secret.entry) input.now }
+    ensures high { result.high ≡ high_in Range.Medium seed (secret_bytes secret.entry) input.now }
+{
+    let mut first = input.len().into_u64().wrapping_mul(PRIME64_1);
+    let mut second = 0;
+    let n = (input.len() - 1) / 32 + 1;
+    for t in 0..n {
+        let (forward, backward, words) = chunks_17_to_128(secret, input, n - 1 - t);
+        first = lane_step(first, forward, &words[0], backward, seed);
+        second = lane_step(second, backward, &words[1], forward, seed);
+    }
+    finalize_medium(first, second, input.len().into_u64(), seed)
+}
+
+#[inline(always)]
+fn impl_129_to_240_bytes(secret: Secret<'_>, seed: u64, input: &[u8]) -> X128
+    requires some { 129 ≤ length input.now }
+    requires few { length input.now ≤ 240 }
+    ensures low { result.low ≡ low_in Range.Large seed (secret_bytes secret.entry) input.now }
+    ensures high { result.high ≡ high_in Range.Large seed (secret_bytes secret.entry) input.now }
+{
+    let pairs = pairs_of_u64_bytes(input);
+    let mut first = input.len().into_u64().wrapping_mul(PRIME64_1);
+    let mut second = 0;
+
+    let words = secret.for_128().words_for_129_to_240_part1();
+    'early: for p in 0..4 {
+        first = lane_step(first, &pairs[p][0], &words[p][0], &pairs[p][1], seed);
+        second = lane_step(second, &pairs[p][1], &words[p][1], &pairs[p][0], seed);
+    }
+    first = avalanche(first);
+    second = avalanche(second);
+
+    let words = secret.for_128().words_for_129_to_240_part2();
+    'later: for p in 0..pairs.len() - 4 {
+        first = lane_step(
+            first,
+            &pairs[4 + p][0],
+            &words[p][0],
+            &pairs[4 + p][1],
+            seed,
+        );
+        second = lane_step(
+            second,
+            &pairs[4 + p][1],
+            &words[p][1],
+            &pairs[4 + p][0],
+            seed,
+        );
+    }
+
+    // the halves of the last 32 bytes go in the other way round, and the seed with its sign turned
+    let tail: &[u8; 32] = input.last_chunk().unwrap();
+    let (tail, _) = bp_as_chunks(tail);
+    let words = secret.for_128().words_for_129_to_240_part3();
+    let negated = seed.wrapping_neg();
+    first = lane_step(first, &tail[1], &words[0], &tail[0], negated);
+    second = lane_step(second, &tail[0], &words[1], &tail[1], negated);
+    finalize_medium(first, second, input.len().into_u64(), seed)
+}
+
+// The value of the lanes.
+#[inline(always)]
+#[tactic(auto, unfolding(twox_core::specs::Middle::lanes_low, twox_core::specs::Middle::lanes_high))]
+fn finalize_medium(first: u64, second: u64, input_len: u64, seed: u64) -> X128
+    ensures low { result.low ≡ lanes_low first second }
+    ensures high { result.high ≡ lanes_high seed input_len first second }
+{
+    let low = first.wrapping_add(second);
+    let high = first
+        .wrapping_mul(PRIME64_1)
+        .wrapping_add(second.wrapping_mul(PRIME64_4))
+        .wrapping_add(input_len.wrapping_sub(seed).wrapping_mul(PRIME64_2));
+    X128 {
+        low: avalanche(low),
+        high: avalanche(high).wrapping_neg(),
+    }
+}

@@ -1,0 +1,204 @@
+//! XXH3 of 64 bits.
+
+ghost use Rattle.std.specs.Prelude.{◌≡◌, ◌+◌, ◌*◌, ◌<◌, ◌≤◌, length, MatchResult, IfOk, IsOk};
+ghost use Rattle.twox_core.specs.Middle.{large64, medium64};
+ghost use Rattle.twox_core.specs.Secret.{default_secret, derived_secret};
+ghost use Rattle.twox_core.specs.SecretBytes.{secret_bytes};
+ghost use Rattle.twox_core.specs.Short.{combined, empty64, four64, nine64, strong, tiny_low};
+ghost use Rattle.twox_core.specs.Value.{effective_secret, xxh3_64};
+
+use std::alloc::{Allocator, Global};
+use twox_core::xxhash3::primes::{PRIME_MX2, PRIME64_1};
+pub use twox_core::xxhash3::{
+    DEFAULT_SECRET_LENGTH, OneshotWithSecretError, SECRET_MINIMUM_LENGTH,
+};
+use twox_core::xxhash3::{
+    DEFAULT_SEED, Secret, avalanche, avalanche_xxh64, chunks_17_to_128, default_secret, fold,
+    impl_1_to_3_bytes_combined, mix_step,
+};
+use twox_plain::words::{Halves, IntoU64, bp_as_chunks, u32_at, u64_at};
+
+/// Calculates the 64-bit hash.
+pub struct Hasher<A: Allocator = Global> {
+    allocator: A,
+}
+
+impl Hasher<Global> {
+    /// The hash of all bytes at once, with the default secret and the seed 0.
+    #[inline]
+    pub fn oneshot(input: &[u8]) -> u64
+        requires { length input.now ≤ 240 }
+        ensures { result ≡ xxh3_64 0 default_secret input.now }
+    {
+        impl_oneshot(default_secret(), DEFAULT_SEED, input)
+    }
+
+    /// The hash of all bytes at once, with a seed: up to 240 bytes with the default secret, above with the
+    /// secret that the seed derives.
+    #[inline]
+    #[tactic(auto, unfolding(twox_core::specs::Value::effective_secret))]
+    pub fn oneshot_with_seed(seed: u64, input: &[u8]) -> u64
+        requires { length input.now ≤ 240 }
+        ensures { result ≡ xxh3_64 seed (effective_secret (derived_secret seed) input.now) input.now }
+    {
+        impl_oneshot(default_secret(), seed, input)
+    }
+
+    /// The hash of all bytes at once, with a secret and the seed 0, at every length.
+    ///
+    /// # Errors
+    ///
+    /// The secret has fewer than 136 bytes.
+    #[inline]
+    pub fn oneshot_with_secret(secret: &[u8], input: &[u8]) -> Result<u64, OneshotWithSecretError>
+        requires { length input.now ≤ 240 }
+        ensures { MatchResult result (λ x. (136 ≤ length secret.now) × (x ≡ xxh3_64 0 secret.now input.now)) (λ _. length secret.now < 136) }
+    {
+        let secret = Secret::new(secret)?;
+        Ok(impl_oneshot(secret, DEFAULT_SEED, input))
+    }
+
+    /// The hash of all bytes at once, with a seed and a secret. Only one of the two has an effect: up to 240
+    /// bytes the seed, with the default secret, whatever secret is handed in; above, the secret.
+    #[inline]
+    #[tactic(auto, unfolding(twox_core::specs::Value::effective_secret))]
+    pub fn oneshot_with_seed_and_secret(
+        seed: u64,
+        secret: &[u8],
+        input: &[u8],
+    ) -> Result<u64, OneshotWithSecretError>
+        requires { length input.now ≤ 240 }
+        ensures accepted { IsOk result }
+        ensures value { IfOk result (λ x. x ≡ xxh3_64 seed (effective_secret secret.now input.now) input.now) }
+    {
+        Ok(impl_oneshot(default_secret(), seed, input))
+    }
+}
+
+#[inline(always)]
+#[tactic(auto, unfolding(twox_core::specs::Value::xxh3_64, twox_core::specs::Value::range_of, twox_core::specs::Value::value64_in))]
+fn impl_oneshot(secret: Secret<'_>, seed: u64, input: &[u8]) -> u64
+    requires { length input.now ≤ 240 }
+    ensures { result ≡ xxh3_64 seed (secret_bytes secret.entry) input.now }
+{
+    match input.len() {
+        0 => impl_0_bytes(secret, seed),
+        1..=3 => impl_1_to_3_bytes(secret, seed, input),
+        4..=8 => impl_4_to_8_bytes(secret, seed, input),
+        9..=16 => impl_9_to_16_bytes(secret, seed, input),
+        17..=128 => impl_17_to_128_bytes(secret, seed, input),
+        _ => impl_129_to_240_bytes(secret, seed, input),
+    }
+}
+
+#[inline(always)]
+#[tactic(auto, unfolding(twox_core::specs::Short::empty64))]
+fn impl_0_bytes(secret: Secret<'_>, seed: u64) -> u64
+    ensures { result ≡ empty64 seed (secret_bytes secret.entry) }
+{
+    let words = secret.for_64().words_for_0();
+    avalanche_xxh64(seed ^ words[0] ^ words[1])
+}
+
+#[inline(always)]
+#[tactic(auto, unfolding(twox_core::specs::Short::tiny_low))]
+fn impl_1_to_3_bytes(secret: Secret<'_>, seed: u64, input: &[u8]) -> u64
+    requires some { 1 ≤ length input.now }
+    requires few { length input.now ≤ 3 }
+    ensures { result ≡ tiny_low seed (secret_bytes secret.entry) (combined input.now) }
+{
+    let words = secret.for_64().words_for_1_to_3();
+    let key = (words[0] ^ words[1]).into_u64();
+    avalanche_xxh64(key.wrapping_add(seed) ^ impl_1_to_3_bytes_combined(input).into_u64())
+}
+
+#[inline(always)]
+#[tactic(auto, unfolding(twox_core::specs::Short::four64, twox_core::specs::Short::mixed_seed))]
+fn impl_4_to_8_bytes(secret: Secret<'_>, seed: u64, input: &[u8]) -> u64
+    requires some { 4 ≤ length input.now }
+    requires few { length input.now ≤ 8 }
+    ensures { result ≡ four64 seed (secret_bytes secret.entry) input.now }
+{
+    let first = u32_at(input, 0);
+    let last = u32_at(input, input.len() - 4);
+    let mixed_seed = seed ^ (seed.lower_half().swap_bytes().into_u64() << 32);
+    let words = secret.for_64().words_for_4_to_8();
+    let combined = last.into_u64() | (first.into_u64() << 32);
+    let value = (words[0] ^ words[1]).wrapping_sub(mixed_seed) ^ combined;
+    strong(value, input.len().into_u64())
+}
+
+// The stronger mixing of 4 to 8 bytes, with their number.
+#[inline(always)]
+#[tactic(auto, unfolding(twox_core::specs::Short::strong))]
+fn strong(value: u64, len: u64) -> u64
+    requires { len ≤ 8 }
+    ensures { result ≡ strong len value }
+{
+    let value = value ^ value.rotate_left(49) ^ value.rotate_left(24);
+    let value = value.wrapping_mul(PRIME_MX2);
+    let value = value ^ (value >> 35).wrapping_add(len);
+    let value = value.wrapping_mul(PRIME_MX2);
+    value ^ (value >> 28)
+}
+
+#[inline(always)]
+#[tactic(auto, unfolding(twox_core::specs::Short::nine64))]
+fn impl_9_to_16_bytes(secret: Secret<'_>, seed: u64, input: &[u8]) -> u64
+    requires some { 9 ≤ length input.now }
+    requires few { length input.now ≤ 16 }
+    ensures { result ≡ nine64 seed (secret_bytes secret.entry) input.now }
+{
+    let first = u64_at(input, 0);
+    let last = u64_at(input, input.len() - 8);
+    let words = secret.for_64().words_for_9_to_16();
+    let low = (words[0] ^ words[1]).wrapping_add(seed) ^ first;
+    let high = (words[2] ^ words[3]).wrapping_sub(seed) ^ last;
+    let len = input.len().into_u64();
+    avalanche(
+        len.wrapping_add(low.swap_bytes())
+            .wrapping_add(high)
+            .wrapping_add(fold(low, high)),
+    )
+}
+
+#[inline(always)]
+fn impl_17_to_128_bytes(secret: Secret<'_>, seed: u64, input: &[u8]) -> u64
+    requires some { 17 ≤ length input.now }
+    requires few { length input.now ≤ 128 }
+    ensures { result ≡ medium64 seed (secret_bytes secret.entry) input.now }
+{
+    let mut acc = input.len().into_u64().wrapping_mul(PRIME64_1);
+    for c in 0..(input.len() - 1) / 32 + 1 {
+        let (forward, backward, words) = chunks_17_to_128(secret, input, c);
+        acc = acc.wrapping_add(mix_step(forward, &words[0], seed));
+        acc = acc.wrapping_add(mix_step(backward, &words[1], seed));
+    }
+    avalanche(acc)
+}
+
+#[inline(always)]
+fn impl_129_to_240_bytes(secret: Secret<'_>, seed: u64, input: &[u8]) -> u64
+    requires some { 129 ≤ length input.now }
+    requires few { length input.now ≤ 240 }
+    ensures { result ≡ large64 seed (secret_bytes secret.entry) input.now }
+{
+    let (chunks, _) = bp_as_chunks(input);
+    let mut acc = input.len().into_u64().wrapping_mul(PRIME64_1);
+
+    let words = secret.for_64().words_for_129_to_240_part1();
+    'early: for c in 0..8 {
+        acc = acc.wrapping_add(mix_step(&chunks[c], &words[c], seed));
+    }
+    acc = avalanche(acc);
+
+    let words = secret.for_64().words_for_129_to_240_part2();
+    'later: for c in 0..chunks.len() - 8 {
+        acc = acc.wrapping_add(mix_step(&chunks[8 + c], &words[c], seed));
+    }
+
+    let last = input.last_chunk().unwrap();
+    let words = secret.for_64().words_for_129_to_240_part3();
+    acc = acc.wrapping_add(mix_step(last, words, seed));
+    avalanche(acc)
+}
