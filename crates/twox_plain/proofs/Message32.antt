@@ -1,10 +1,10 @@
 -- What a record of XXH32 stands for, from call to call, and the value of the message.
-use Rattle.std.proofs.Common.{◌≡◌, ℕ, ◌*◌, ◌/◌, ◌%◌, ◌^◌, List, ◌++◌, drop, length, nat_lt, if◌then◌else◌, true, false, inl, inr, refl, ap, ◌∙◌, arith, lit<, length-drop}
+use Rattle.std.proofs.Common.{◌≡◌, ℕ, ◌*◌, ◌/◌, ◌%◌, ◌<◌, ◌^◌, List, ◌++◌, drop, length, nat_lt, if◌then◌else◌, true, false, inl, inr, refl, ap, ◌∙◌, arith, lit<, length-drop}
 use Rattle.std.proofs.lemmas.Bool.{cases_lt}
 use Rattle.std.proofs.lemmas.Bool.Decides.{nat_tests}
 use Rattle.std.specs.Int.{w32}
 use Rattle.twox_plain.specs.Word.{wrap_add, counted}
-use Rattle.twox_plain.specs.Xxh32.{p5, converged, start, avalanche, xxh32}
+use Rattle.twox_plain.specs.Xxh32.{p5, converged, start, after_tail, avalanche, xxh32}
 use Rattle.twox_plain.specs.Core32.{core_after, core_from}
 use Rattle.twox_plain.specs.Record32.{StandsFor, held, written, value_of, finished}
 use Rattle.twox_plain.specs.declared.xxhash32.Core.{Core}
@@ -48,3 +48,12 @@ value_of_message seed m rest len core count at cut =
 pub finished_message : (s : SavedState) (m : List ℕ) → StandsFor s m → finished s ≡ xxh32 s.seed m
 unfolding StandsFor
 finished_message s m stands = value_of_message s.seed m _ s.total_len s.core stands.0 stands.1.whole stands.1.bytes
+
+-- the value of a message that fills no stripe
+pub short_message : (seed : ℕ) (m : List ℕ) → length m < 16 → avalanche (after_tail m 0 (wrap_add w32 (wrap_add w32 seed p5) (length m % 2 ^ 32)) (length m)) ≡ xxh32 seed m
+unfolding value_of
+short_message seed m short =
+    let none : length m / 16 ≡ 0 = omega arith in
+    let len : counted (length m) ≡ length m = omega arith in
+    let test : nat_lt (counted (length m)) 16 ≡ true = grind (arith, nat_tests) in
+    rw (test, len) at (value_of_message seed m m (counted (length m)) (core_after seed m (length m / 16)) refl refl (rw none refl))

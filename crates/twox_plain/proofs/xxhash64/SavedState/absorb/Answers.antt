@@ -27,9 +27,9 @@ returns-clause-exact c =
     elim c.if-used-gt0.branch [
       | then-used-gt0+else-input-room w ↦
           let room : length (take (32 - old.buffer_usage) d) ≡ 32 - old.buffer_usage = length-take-le (32 - old.buffer_usage) d (omega arith) in
-          rw (held_full 32 core_from (held old) d w.if-used-gt0.true (omega arith), rw w.taken-is at taken, c.copy_from_slice-2.ensures.after, rw w.taken-is at cut, w.self-is, w.write.ensures, w.copy_from_slice-then-used-gt0.ensures.after, room, c.saturating_add-self.ensures, c.into_u64.ensures) refl
+          rw (held_full 32 core_from (held old) d w.if-used-gt0.true (omega arith), rw w.taken-is at taken, c.put_front.ensures, rw w.taken-is at cut, w.self-is, w.write.ensures, w.copy_from_slice-then-used-gt0.ensures.after, room, c.saturating_add-self.ensures, c.into_u64.ensures) refl
       | else-used-gt0 w ↦
-          rw (held_empty 32 core_from (held old) d (omega arith), rw w.taken-is at taken, c.copy_from_slice-2.ensures.after, rw w.taken-is at cut, w.self-is, c.saturating_add-self.ensures, c.into_u64.ensures) refl
+          rw (held_empty 32 core_from (held old) d (omega arith), rw w.taken-is at taken, c.put_front.ensures, rw w.taken-is at cut, w.self-is, c.saturating_add-self.ensures, c.into_u64.ensures) refl
     ]
 
 pub returns-then-input-room-clause-message : goal.returns-then-input-room-clause-message
