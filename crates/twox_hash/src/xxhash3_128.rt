@@ -227,7 +227,7 @@ fn impl_17_to_128_bytes(secret: Secret<'_>, seed: u64, input: &[u8]) -> X128
     finalize_medium(first, second, input.len().into_u64(), seed)
 }
 
-#[inline(always)]
+#[inline(never)]
 fn impl_129_to_240_bytes(secret: Secret<'_>, seed: u64, input: &[u8]) -> X128
     requires some { 129 ≤ length input.now }
     requires few { length input.now ≤ 240 }
@@ -265,7 +265,7 @@ fn impl_129_to_240_bytes(secret: Secret<'_>, seed: u64, input: &[u8]) -> X128
     }
 
     // the halves of the last 32 bytes go in the other way round, and the seed with its sign turned
-    let tail: &[u8; 32] = input.last_chunk().unwrap();
+    let (_, tail) = input.split_at(input.len() - 32);
     let (tail, _) = bp_as_chunks(tail);
     let words = secret.for_128().words_for_129_to_240_part3();
     let negated = seed.wrapping_neg();

@@ -177,28 +177,33 @@ fn impl_17_to_128_bytes(secret: Secret<'_>, seed: u64, input: &[u8]) -> u64
     avalanche(acc)
 }
 
-#[inline(always)]
+#[inline(never)]
 fn impl_129_to_240_bytes(secret: Secret<'_>, seed: u64, input: &[u8]) -> u64
     requires some { 129 ≤ length input.now }
     requires few { length input.now ≤ 240 }
     ensures { result ≡ large64 seed (secret_bytes secret.entry) input.now }
 {
+    let (_, tail) = input.split_at(128);
+    let (tail, _) = bp_as_chunks(tail);
     let (chunks, _) = bp_as_chunks(input);
     let mut acc = input.len().into_u64().wrapping_mul(PRIME64_1);
 
+    // These are eight, in a form that LLVM can't count: it would make vectors of them, which are slower.
+    let head = chunks.len() - tail.len();
     let words = secret.for_64().words_for_129_to_240_part1();
-    'early: for c in 0..8 {
+    'early: for c in 0..head {
         acc = acc.wrapping_add(mix_step(&chunks[c], &words[c], seed));
     }
     acc = avalanche(acc);
 
     let words = secret.for_64().words_for_129_to_240_part2();
-    'later: for c in 0..chunks.len() - 8 {
-        acc = acc.wrapping_add(mix_step(&chunks[8 + c], &words[c], seed));
+    'later: for c in 0..tail.len() {
+        acc = acc.wrapping_add(mix_step(&tail[c], &words[c], seed));
     }
 
-    let last = input.last_chunk().unwrap();
+    let (_, last) = input.split_at(input.len() - 16);
+    let (last, _) = bp_as_chunks(last);
     let words = secret.for_64().words_for_129_to_240_part3();
-    acc = acc.wrapping_add(mix_step(last, words, seed));
+    acc = acc.wrapping_add(mix_step(&last[0], words, seed));
     avalanche(acc)
 }
