@@ -10,13 +10,17 @@ ghost use Rattle.twox_core.specs.SecretBytes.{secret_bytes};
 ghost use Rattle.twox_core.specs.Short.{combined};
 ghost use Rattle.twox_core.specs.Steps.{avalanche, avalanche_xxh64, fold, mix};
 
+pub mod large;
 mod parts;
 pub mod primes;
 pub mod secret;
+pub mod streaming;
 
+pub use large::{Algorithm, Finalize, INITIAL_ACCUMULATORS, Kernel, Vector};
 use parts::array_at;
 use primes::{PRIME_MX1, PRIME64_2, PRIME64_3};
 pub use secret::{SECRET_MINIMUM_LENGTH, Secret};
+pub use streaming::StripeAccumulator;
 use thiserror::Error;
 use twox_plain::words::{Halves, IntoU32, IntoU128, bp_as_chunks, u64_at};
 
