@@ -75,6 +75,16 @@ pub fn derive_secret(seed: u64, secret: &mut DefaultSecret)
     }
 }
 
+/// The secret that the seed derives from the default one.
+#[tactic(auto, unfolding(crate::specs::Secret::default_secret))]
+pub fn derived_secret(seed: u64) -> DefaultSecret
+    ensures { result ≡ derived_secret seed }
+{
+    let mut secret = DEFAULT_SECRET_RAW;
+    derive_secret(seed, &mut secret);
+    secret
+}
+
 /// The secret that was handed in has fewer than 136 bytes.
 #[derive(Clone, Copy, Debug, PartialEq, Eq, Error)]
 #[error("{0}")]
