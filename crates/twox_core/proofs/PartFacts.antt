@@ -1,6 +1,6 @@
 -- Chunks and pairs of chunks of a list, cut together and read one by one.
-use Rattle.std.proofs.Common.{◌≡◌, ℕ, zero, suc, ◌+◌, ◌-◌, ◌*◌, ◌<◌, ◌≤◌, List, ◌∷◌, length, take, drop, get_or, refl, sym, ap, ap₂, ◌∙◌, arith, length-drop}
-use Rattle.std.proofs.lemmas.List.{drop-drop, take_all}
+use Rattle.std.proofs.Common.{◌≡◌, ℕ, zero, suc, ◌+◌, ◌-◌, ◌*◌, ◌<◌, ◌≤◌, List, ◌∷◌, length, take, drop, get_or, refl, sym, ap, ap₂, ◌∙◌, arith}
+use Rattle.std.proofs.lemmas.List.{drop-drop}
 use Rattle.std.specs.Simd.{first_chunks}
 use Rattle.twox_plain.proofs.WordFacts.{first_chunks_at, first_chunks_take}
 use Rattle.twox_core.specs.Parts.{chunk_at, chunks_at, pair_at, pairs_at}
@@ -47,11 +47,10 @@ pub whole-chunk : (m : List ℕ) (cs : List (List ℕ)) (n c j : ℕ) (d : List 
 unfolding chunks_at
 whole-chunk m cs n c j d e low at = chunks_at-chunk m cs 0 n c j d e low (omega arith)
 
--- the last 16 bytes
-pub last-chunk : (m c : List ℕ) → 16 ≤ length m → c ≡ drop (length m - 16) m → c ≡ chunk_at m (length m - 16)
-last-chunk m c enough e =
-    let size : length (drop (length m - 16) m) ≤ 16 = omega (arith, length-drop (length m - 16) m) in
-    e ∙ sym (take_all 16 (drop (length m - 16) m) size)
+-- the one chunk of the last 16 bytes c
+pub last-chunk : (m c : List ℕ) (cs : List (List ℕ)) (k : ℕ) (d : List ℕ) → 16 ≤ length m → c ≡ drop (length m - 16) m → cs ≡ first_chunks 16 k c → k ≡ 1 → get_or cs 0 d ≡ chunk_at m (length m - 16)
+last-chunk m c cs k d enough e chunks count =
+    whole-chunk (drop (length m - 16) m) cs 1 0 0 d (chunks ∙ ap₂ (first_chunks 16) count e) (omega arith) (omega arith)
 
 -- two chunks from a part of two
 pub pair_at-part : (m : List ℕ) (i : ℕ) → first_chunks 16 2 (drop i m) ≡ pair_at m i

@@ -1,6 +1,6 @@
 //! Parts of a slice of bytes that the caller shows to lie within it, lent with no test.
 
-ghost use Rattle.std.specs.Prelude.{◌≡◌, ◌+◌, ◌*◌, ◌≤◌, length, take, drop};
+ghost use Rattle.std.specs.Prelude.{◌≡◌, ◌+◌, ◌*◌, ◌<◌, ◌≤◌, length, take, drop};
 ghost use Rattle.twox_core.specs.Parts.{chunks_at, pair_at, pairs_at};
 
 use twox_plain::words::bp_as_chunks;
@@ -17,15 +17,15 @@ fn part_at(bytes: &[u8], from: usize, n: usize) -> &[u8]
     part
 }
 
-// The `N` bytes from byte `from` on.
+// The `N` bytes from byte `from` on. `N` isn't 0.
 #[inline(always)]
 pub(crate) fn array_at<const N: usize>(bytes: &[u8], from: usize) -> &[u8; N]
-    requires { from + N ≤ length bytes.now }
+    requires some { 0 < N }
+    requires within { from + N ≤ length bytes.now }
     ensures { result.now ≡ take N (drop from bytes.now) }
 {
-    let (_, rest) = bytes.split_at(from);
-    let (array, _) = rest.split_first_chunk().unwrap();
-    array
+    let (arrays, _) = bp_as_chunks(part_at(bytes, from, N));
+    &arrays[0]
 }
 
 // The eight chunks of 16 bytes from byte `from` on.
@@ -57,5 +57,6 @@ pub(crate) fn pair_at(bytes: &[u8], from: usize) -> &[[u8; 16]; 2]
     ensures { result.now ≡ pair_at bytes.now from }
 {
     let (chunks, _) = bp_as_chunks(part_at(bytes, from, 32));
-    chunks.as_array().unwrap()
+    let (pairs, _) = bp_as_chunks(chunks);
+    &pairs[0]
 }

@@ -73,8 +73,7 @@ later-preserved c =
 -- the last 32 bytes as two chunks, and the secret's for them
 tail_pair : (c : goal.After-finalize_medium) → c.bp_as_chunks.result.0.now ≡ pair_at c.args.input.now (length c.args.input.now - 32)
 tail_pair c =
-    let whole = rw c.unwrap-tail.ensures at c.last_chunk.ensures.cases in
-    last-pair c.args.input.now _ _ _ (omega arith) whole.1.same c.bp_as_chunks.ensures.chunks (omega arith)
+    last-pair c.args.input.now _ _ _ (omega arith) c.split_at.ensures.back c.bp_as_chunks.ensures.chunks (omega arith)
 
 tail_words : (c : goal.After-finalize_medium) → c.words_for_129_to_240_part3-words.result.now ≡ pair_at (secret_bytes c.args.secret) 103
 tail_words c = c.words_for_129_to_240_part3-words.ensures ∙ ap (λ b. pair_at b 103) c.for_128-3.ensures
