@@ -1,0 +1,5 @@
+pub mod HexPlace
+pub mod HexValue
+pub mod HexVectors
+pub mod MemoryPieces
+pub mod PieceFacts

@@ -1,0 +1,14 @@
+//! Digest lines: the value of all that a source gives, written to a sink as hexadecimal digits.
+
+mod adapters;
+mod ends;
+mod engine;
+mod error;
+mod hex;
+mod kind;
+
+pub use adapters::{FromRead, FromWrite, reader_pieces, writer_pieces};
+pub use ends::{Failed, Sink, Source};
+pub use engine::{digest, digest_from_64, read_on_64};
+pub use error::DigestError;
+pub use kind::Kind;

@@ -1,0 +1,24 @@
+//! The kinds of digest.
+
+ghost use Rattle.std.specs.Prelude.{◌≡◌, ◌≤◌};
+
+/// Which hash a digest line shows.
+#[derive(Clone, Copy, Debug, PartialEq, Eq)]
+pub enum Kind {
+    /// XXH64, in 16 digits.
+    X64,
+}
+
+impl Kind {
+    ghost use Rattle.xxh_program.specs.Kind.{digits_of};
+
+    // How many digits the line has.
+    pub(crate) fn digits(self) -> usize
+        ensures digits { result ≡ digits_of self }
+        ensures room { result ≤ 32 }
+    {
+        match self {
+            Kind::X64 => 16,
+        }
+    }
+}
