@@ -9,6 +9,6 @@ mod kind;
 
 pub use adapters::{FromRead, FromWrite, reader_pieces, writer_pieces};
 pub use ends::{Failed, Sink, Source};
-pub use engine::{digest, digest_from_64, read_on_64};
+pub use engine::{digest, digest_from_32, digest_from_64, read_on_32, read_on_64};
 pub use error::DigestError;
 pub use kind::Kind;

@@ -1,9 +1,11 @@
 //! The digest engine: reads a source to its end through a hasher, and writes the value as a line.
 
-ghost use Rattle.std.specs.Prelude.{◌≡◌, ◌≢◌, ◌↔◌, ◌≤◌, ◌⊎◌, ◌++◌, [], true, false, List, ℕ, length, Err, IfErr, IfOk};
+ghost use Rattle.std.specs.Prelude.{◌≡◌, ◌≢◌, ◌↔◌, ◌<◌, ◌≤◌, ◌^◌, ◌⊎◌, ◌++◌, [], true, false, List, ℕ, length, Err, IfErr, IfOk};
 ghost use Rattle.std.specs.List.{concat};
+ghost use Rattle.twox_hash.specs.Xxh32.{xxh32};
+ghost use Rattle.twox_hash.specs.Record32.{StandsFor as StandsFor32};
 ghost use Rattle.twox_hash.specs.Xxh64.{xxh64};
-ghost use Rattle.twox_hash.specs.Record64.{StandsFor};
+ghost use Rattle.twox_hash.specs.Record64.{StandsFor as StandsFor64};
 ghost use Rattle.xxh_program.specs.Pieces.{NoneEmpty};
 ghost use Rattle.xxh_program.specs.Feeding.{IsFed};
 ghost use Rattle.xxh_program.specs.Digest.{ReadsOn, Writes};
@@ -14,7 +16,7 @@ use crate::program::ends::{Failed, Sink, Source};
 use crate::program::error::DigestError;
 use crate::program::hex::write_digits;
 use crate::program::kind::Kind;
-use twox_hash::XxHash64;
+use twox_hash::{XxHash32, XxHash64};
 
 // How many bytes each read is offered.
 const OFFERED: usize = 4096;
@@ -40,8 +42,24 @@ trait Feed: Drop {
         ensures { (m : List ℕ) → stands_for self.now m → result ≡ value_at (seed_of self.now) m };
 }
 
+impl Feed for XxHash32 {
+    ghost stands_for = { StandsFor32 };
+
+    ghost seed_of = { λ h. h.seed };
+
+    ghost value_at = { xxh32 };
+
+    fn feed(&mut self, piece: &[u8]) {
+        self.write(piece);
+    }
+
+    fn value(&self) -> u128 {
+        u128::from(self.finish_32())
+    }
+}
+
 impl Feed for XxHash64 {
-    ghost stands_for = { StandsFor };
+    ghost stands_for = { StandsFor64 };
 
     ghost seed_of = { λ h. h.seed };
 
@@ -159,7 +177,7 @@ fn digest_by<H: Feed, R: Source, W: Sink>(
 /// the seed, in lower-case hexadecimal with leading zeros, and a line feed. Each read is offered 4,096
 /// bytes, and no memory is taken.
 ///
-/// The caller shows that neither end has failed.
+/// The caller shows that neither end has failed and that the seed of [`Kind::X32`] is below 2^32.
 ///
 /// # Errors
 ///
@@ -183,6 +201,7 @@ pub fn digest<R: Source, W: Sink>(
 ) -> Result<(), DigestError>
     requires reader { R.has_failed r.old ≡ false }
     requires writer { W.has_failed w.old ≡ false }
+    requires seed { kind ≡ Kind.X32 → seed < 2 ^ 32 }
 
     // What was read and what was written, `pieces` being the pieces read that are not empty.
     ensures digests { (pieces : List (List ℕ)) × NoneEmpty pieces
@@ -195,6 +214,10 @@ pub fn digest<R: Source, W: Sink>(
     ensures write_failed { (result ≡ Err DigestError.WriteFailed) ↔ (W.has_failed w.new ≡ true) }
 {
     match kind {
+        Kind::X32 => {
+            let hasher = XxHash32::with_seed(seed as u32);
+            digest_by(kind, seed, hasher, max_reads, r, w)
+        }
         Kind::X64 => {
             let hasher = XxHash64::with_seed(seed);
             digest_by(kind, seed, hasher, max_reads, r, w)
@@ -204,6 +227,31 @@ pub fn digest<R: Source, W: Sink>(
 
 /// Goes on from the hasher as [`digest`] goes on from a fresh one, with the same errors: the line is that
 /// of the bytes that the hasher was given, followed by what is read.
+pub fn digest_from_32<R: Source, W: Sink>(
+    hasher: XxHash32,
+    max_reads: u64,
+    r: &mut R,
+    w: &mut W,
+) -> Result<(), DigestError>
+    requires reader { R.has_failed r.old ≡ false }
+    requires writer { W.has_failed w.old ≡ false }
+
+    // What was read and what was written, for every list of bytes that the hasher stands for.
+    ensures digests { (pieces : List (List ℕ)) × NoneEmpty pieces
+        × ReadsOn R.gives R.fails max_reads pieces r.old r.new result
+        × ((result ≡ Err DigestError.TooLong) ↔ (length pieces ≡ max_reads))
+        × ((m : List ℕ) → StandsFor32 hasher m
+        → Writes W.takes W.refuses (hex_line 8 (xxh32 hasher.seed (m ++ concat pieces))) w.old w.new result) }
+
+    // When each end fails, and when nothing is written, whatever the hasher stands for.
+    ensures read_failed { (result ≡ Err DigestError.ReadFailed) ↔ (R.has_failed r.new ≡ true) }
+    ensures write_failed { (result ≡ Err DigestError.WriteFailed) ↔ (W.has_failed w.new ≡ true) }
+    ensures unwritten { (result ≡ Err DigestError.ReadFailed) ⊎ (result ≡ Err DigestError.TooLong) → w.new ≡ w.old }
+{
+    digest_on(hasher, 8, max_reads, r, w)
+}
+
+/// The same as [`digest_from_32`], from a hasher of XXH64.
 pub fn digest_from_64<R: Source, W: Sink>(
     hasher: XxHash64,
     max_reads: u64,
@@ -217,7 +265,7 @@ pub fn digest_from_64<R: Source, W: Sink>(
     ensures digests { (pieces : List (List ℕ)) × NoneEmpty pieces
         × ReadsOn R.gives R.fails max_reads pieces r.old r.new result
         × ((result ≡ Err DigestError.TooLong) ↔ (length pieces ≡ max_reads))
-        × ((m : List ℕ) → StandsFor hasher m
+        × ((m : List ℕ) → StandsFor64 hasher m
         → Writes W.takes W.refuses (hex_line 16 (xxh64 hasher.seed (m ++ concat pieces))) w.old w.new result) }
 
     // When each end fails, and when nothing is written, whatever the hasher stands for.
@@ -229,6 +277,26 @@ pub fn digest_from_64<R: Source, W: Sink>(
 }
 
 /// Reads as [`digest`] does, with the same errors of reading, and answers the hasher after what was read.
+pub fn read_on_32<R: Source>(
+    hasher: XxHash32,
+    max_reads: u64,
+    r: &mut R,
+) -> Result<XxHash32, DigestError>
+    requires { R.has_failed r.old ≡ false }
+
+    // What was read, and what the hasher then stands for.
+    ensures reads { (pieces : List (List ℕ)) × NoneEmpty pieces
+        × ReadsOn R.gives R.fails max_reads pieces r.old r.new result
+        × ((result ≡ Err DigestError.TooLong) ↔ (length pieces ≡ max_reads))
+        × IfOk result (λ after. (after.seed ≡ hasher.seed)
+        × ((m : List ℕ) → StandsFor32 hasher m → StandsFor32 after (m ++ concat pieces))) }
+    ensures read_failed { (result ≡ Err DigestError.ReadFailed) ↔ (R.has_failed r.new ≡ true) }
+    ensures never_writes { result ≢ Err DigestError.WriteFailed }
+{
+    read_all(hasher, max_reads, r)
+}
+
+/// The same as [`read_on_32`], from a hasher of XXH64.
 pub fn read_on_64<R: Source>(
     hasher: XxHash64,
     max_reads: u64,
@@ -241,7 +309,7 @@ pub fn read_on_64<R: Source>(
         × ReadsOn R.gives R.fails max_reads pieces r.old r.new result
         × ((result ≡ Err DigestError.TooLong) ↔ (length pieces ≡ max_reads))
         × IfOk result (λ after. (after.seed ≡ hasher.seed)
-        × ((m : List ℕ) → StandsFor hasher m → StandsFor after (m ++ concat pieces))) }
+        × ((m : List ℕ) → StandsFor64 hasher m → StandsFor64 after (m ++ concat pieces))) }
     ensures read_failed { (result ≡ Err DigestError.ReadFailed) ↔ (R.has_failed r.new ≡ true) }
     ensures never_writes { result ≢ Err DigestError.WriteFailed }
 {

@@ -5,6 +5,8 @@ ghost use Rattle.std.specs.Prelude.{◌≡◌, ◌≤◌};
 /// Which hash a digest line shows.
 #[derive(Clone, Copy, Debug, PartialEq, Eq)]
 pub enum Kind {
+    /// XXH32, in 8 digits. Its seeds are below 2^32.
+    X32,
     /// XXH64, in 16 digits.
     X64,
 }
@@ -18,6 +20,7 @@ impl Kind {
         ensures room { result ≤ 32 }
     {
         match self {
+            Kind::X32 => 8,
             Kind::X64 => 16,
         }
     }
