@@ -3,3 +3,4 @@ pub mod HexValue
 pub mod HexVectors
 pub mod MemoryPieces
 pub mod PieceFacts
+pub mod SeedFacts

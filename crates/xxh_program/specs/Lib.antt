@@ -1,6 +1,9 @@
 pub mod Adapters
+pub mod Command
 pub mod Digest
+pub mod Fault
 pub mod Feeding
 pub mod Hex
 pub mod Kind
 pub mod Pieces
+pub mod Run

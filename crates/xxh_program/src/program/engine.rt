@@ -97,7 +97,7 @@ fn read_all<H: Feed, R: Source>(hasher: H, max_reads: u64, r: &mut R) -> Result<
 }
 
 // Writes all the bytes, as many at a time as the sink takes.
-fn write_all<W: Sink>(bytes: &[u8], w: &mut W) -> Result<(), DigestError>
+pub(crate) fn write_all<W: Sink>(bytes: &[u8], w: &mut W) -> Result<(), DigestError>
     requires { W.has_failed w.old ≡ false }
     ensures writes { Writes W.takes W.refuses bytes.now w.old w.new result }
     ensures write_failed { (result ≡ Err DigestError.WriteFailed) ↔ (W.has_failed w.new ≡ true) }

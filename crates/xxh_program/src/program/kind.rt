@@ -1,6 +1,6 @@
 //! The kinds of digest.
 
-ghost use Rattle.std.specs.Prelude.{◌≡◌, ◌≤◌};
+ghost use Rattle.std.specs.Prelude.{◌≡◌, ◌+◌, ◌≤◌};
 
 /// Which hash a digest line shows.
 #[derive(Clone, Copy, Debug, PartialEq, Eq)]
@@ -13,6 +13,7 @@ pub enum Kind {
 
 impl Kind {
     ghost use Rattle.xxh_program.specs.Kind.{digits_of};
+    ghost use Rattle.xxh_program.specs.Kind.{seed_limit};
 
     // How many digits the line has.
     pub(crate) fn digits(self) -> usize
@@ -22,6 +23,16 @@ impl Kind {
         match self {
             Kind::X32 => 8,
             Kind::X64 => 16,
+        }
+    }
+
+    // The greatest seed of the kind.
+    pub(crate) fn most_seed(self) -> u64
+        ensures { result + 1 ≡ seed_limit self }
+    {
+        match self {
+            Kind::X32 => u64::from(u32::MAX),
+            Kind::X64 => u64::MAX,
         }
     }
 }
