@@ -1,3 +1,4 @@
+pub mod BufferedFacts
 pub mod HexPlace
 pub mod HexValue
 pub mod HexVectors

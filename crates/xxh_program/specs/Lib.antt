@@ -1,4 +1,5 @@
 pub mod Adapters
+pub mod Buffered
 pub mod Command
 pub mod Digest
 pub mod Fault

@@ -4,6 +4,8 @@
 #[cfg(test)]
 mod adapters;
 #[cfg(test)]
+mod buffered;
+#[cfg(test)]
 mod commands;
 #[cfg(test)]
 mod digests;
