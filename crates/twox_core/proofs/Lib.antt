@@ -3,5 +3,7 @@ pub mod EndingFacts
 pub mod LaneFacts
 pub mod MixFacts
 pub mod PartFacts
+pub mod ShortLaws
+pub mod StepLaws
 pub mod StripeFacts
 pub mod Vectors
