@@ -1,4 +1,7 @@
 pub mod DerivedFacts
+pub mod EndingFacts
+pub mod LaneFacts
 pub mod MixFacts
 pub mod PartFacts
+pub mod StripeFacts
 pub mod Vectors

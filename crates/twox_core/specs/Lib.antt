@@ -9,3 +9,5 @@ pub mod Middle
 pub mod Long
 pub mod Value
 pub mod Kernel
+pub mod Stripes
+pub mod Ending

@@ -10,13 +10,17 @@ ghost use Rattle.twox_core.specs.SecretBytes.{secret_bytes};
 ghost use Rattle.twox_core.specs.Short.{combined};
 ghost use Rattle.twox_core.specs.Steps.{avalanche, avalanche_xxh64, fold, mix};
 
+pub mod large;
 mod parts;
 pub mod primes;
 pub mod secret;
+pub mod streaming;
 
+pub use large::{Algorithm, Finalize, INITIAL_ACCUMULATORS, Kernel, Vector};
 use parts::array_at;
 use primes::{PRIME_MX1, PRIME64_2, PRIME64_3};
 pub use secret::{SECRET_MINIMUM_LENGTH, Secret};
+pub use streaming::StripeAccumulator;
 use thiserror::Error;
 use twox_plain::words::{Halves, IntoU32, IntoU128, bp_as_chunks, u64_at};
 
@@ -69,6 +73,16 @@ pub fn derive_secret(seed: u64, secret: &mut DefaultSecret)
         secret[16 * k..16 * k + 8].copy_from_slice(&first.to_le_bytes());
         secret[16 * k + 8..16 * k + 16].copy_from_slice(&second.to_le_bytes());
     }
+}
+
+/// The secret that the seed derives from the default one.
+#[tactic(auto, unfolding(crate::specs::Secret::default_secret))]
+pub fn derived_secret(seed: u64) -> DefaultSecret
+    ensures { result ≡ derived_secret seed }
+{
+    let mut secret = DEFAULT_SECRET_RAW;
+    derive_secret(seed, &mut secret);
+    secret
 }
 
 /// The secret that was handed in has fewer than 136 bytes.

@@ -1,4 +1,16 @@
 pub use Rattle.twox_plain.specs.Word
+pub use Rattle.twox_plain.specs.Units
+pub use Rattle.twox_plain.specs.Apart
+pub use Rattle.twox_plain.specs.Buffered
+pub use Rattle.twox_plain.specs.Xxh32
+pub use Rattle.twox_plain.specs.Core32
+pub use Rattle.twox_plain.specs.Record32
+pub use Rattle.twox_plain.specs.SavedText
+pub use Rattle.twox_plain.specs.Saved32
+pub use Rattle.twox_plain.specs.Xxh64
+pub use Rattle.twox_plain.specs.Core64
+pub use Rattle.twox_plain.specs.Record64
+pub use Rattle.twox_plain.specs.Saved64
 pub use Rattle.twox_core.specs.Secret
 pub use Rattle.twox_core.specs.SecretBytes
 pub use Rattle.twox_core.specs.Value

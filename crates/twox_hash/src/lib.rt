@@ -1,10 +1,13 @@
-//! XXH3 of 64 and of 128 bits, and every module of the crates below under its own name.
+//! XXH32, XXH64 and XXH3 under the names of the Rust crate `twox-hash`, each call proved equal to the
+//! xxHash definition.
 #![tactic(auto)]
 
 pub mod xxhash3_128;
 pub mod xxhash3_64;
 
 pub use twox_core::xxhash3;
-pub use twox_plain::words;
+pub use twox_plain::{words, xxhash32, xxhash64};
+pub use xxhash32::Hasher as XxHash32;
+pub use xxhash64::Hasher as XxHash64;
 pub use xxhash3_64::Hasher as XxHash3_64;
 pub use xxhash3_128::Hasher as XxHash3_128;

@@ -1,8 +1,10 @@
 //! XXH3 of 128 bits.
 
-ghost use Rattle.std.specs.Prelude.{◌≡◌, ◌+◌, ◌-◌, ◌*◌, ◌/◌, ◌^◌, ◌<◌, ◌≤◌, bit_xor, length, MatchResult, IfOk, IsOk};
+ghost use Rattle.std.specs.Prelude.{◌≡◌, ◌↔◌, ◌+◌, ◌-◌, ◌*◌, ◌/◌, ◌^◌, ◌<◌, ◌≤◌, bit_xor, length, MatchResult, IfOk, IsErr};
 ghost use Rattle.std.specs.Int.{w64};
 ghost use Rattle.twox_plain.specs.Word.{low64, high64};
+ghost use Rattle.twox_core.specs.Ending.{finalized_128};
+ghost use Rattle.twox_core.specs.Long.{long_low, long_high};
 ghost use Rattle.twox_core.specs.Middle.{lanes_high, lanes_low, medium_first, medium_second};
 ghost use Rattle.twox_core.specs.Primes.{prime64_1};
 ghost use Rattle.twox_core.specs.Secret.{default_secret, derived_secret};
@@ -17,8 +19,9 @@ pub use twox_core::xxhash3::{
     DEFAULT_SECRET_LENGTH, OneshotWithSecretError, SECRET_MINIMUM_LENGTH,
 };
 use twox_core::xxhash3::{
-    DEFAULT_SEED, Secret, avalanche, avalanche_xxh64, chunks_17_to_128, default_secret,
-    full_product, impl_1_to_3_bytes_combined, mix_step, pairs_of_u64_bytes, to_u64s,
+    Algorithm, CUTOFF, DEFAULT_SEED, Finalize, Kernel, Secret, Vector, avalanche, avalanche_xxh64,
+    chunks_17_to_128, default_secret, derived_secret, full_product, impl_1_to_3_bytes_combined,
+    mix_step, pairs_of_u64_bytes, to_u64s,
 };
 use twox_plain::words::{Halves, IntoU64, IntoU128, bp_as_chunks, u32_at, u64_at};
 
@@ -30,22 +33,29 @@ pub struct Hasher<A: Allocator = Global> {
 impl Hasher<Global> {
     /// The hash of all bytes at once, with the default secret and the seed 0.
     #[inline]
+    #[tactic(auto, unfolding(twox_core::specs::Value::xxh3_128, twox_core::specs::Value::range_of, twox_core::specs::Value::low_in, twox_core::specs::Value::high_in))]
     pub fn oneshot(input: &[u8]) -> u128
-        requires { length input.now ≤ 240 }
         ensures { result ≡ xxh3_128 0 default_secret input.now }
     {
-        impl_oneshot(default_secret(), DEFAULT_SEED, input)
+        if input.len() <= CUTOFF {
+            impl_oneshot(default_secret(), DEFAULT_SEED, input)
+        } else {
+            impl_oneshot_long(default_secret(), input)
+        }
     }
 
     /// The hash of all bytes at once, with a seed: up to 240 bytes with the default secret, above with the
     /// secret that the seed derives.
     #[inline]
-    #[tactic(auto, unfolding(twox_core::specs::Value::effective_secret))]
+    #[tactic(auto, unfolding(twox_core::specs::Value::xxh3_128, twox_core::specs::Value::range_of, twox_core::specs::Value::low_in, twox_core::specs::Value::high_in, twox_core::specs::Value::effective_secret))]
     pub fn oneshot_with_seed(seed: u64, input: &[u8]) -> u128
-        requires { length input.now ≤ 240 }
         ensures { result ≡ xxh3_128 seed (effective_secret (derived_secret seed) input.now) input.now }
     {
-        impl_oneshot(default_secret(), seed, input)
+        if input.len() <= CUTOFF {
+            impl_oneshot(default_secret(), seed, input)
+        } else {
+            impl_oneshot_derived(seed, input)
+        }
     }
 
     /// The hash of all bytes at once, with a secret and the seed 0, at every length.
@@ -54,29 +64,94 @@ impl Hasher<Global> {
     ///
     /// The secret has fewer than 136 bytes.
     #[inline]
+    #[tactic(auto, unfolding(twox_core::specs::Value::xxh3_128, twox_core::specs::Value::range_of, twox_core::specs::Value::low_in, twox_core::specs::Value::high_in))]
     pub fn oneshot_with_secret(secret: &[u8], input: &[u8]) -> Result<u128, OneshotWithSecretError>
-        requires { length input.now ≤ 240 }
         ensures { MatchResult result (λ x. (136 ≤ length secret.now) × (x ≡ xxh3_128 0 secret.now input.now)) (λ _. length secret.now < 136) }
     {
         let secret = Secret::new(secret)?;
-        Ok(impl_oneshot(secret, DEFAULT_SEED, input))
+        if input.len() <= CUTOFF {
+            Ok(impl_oneshot(secret, DEFAULT_SEED, input))
+        } else {
+            Ok(impl_oneshot_long(secret, input))
+        }
     }
 
     /// The hash of all bytes at once, with a seed and a secret. Only one of the two has an effect: up to 240
     /// bytes the seed, with the default secret, whatever secret is handed in; above, the secret.
+    ///
+    /// # Errors
+    ///
+    /// The input has more than 240 bytes and the secret fewer than 136.
     #[inline]
-    #[tactic(auto, unfolding(twox_core::specs::Value::effective_secret))]
+    #[tactic(auto, unfolding(twox_core::specs::Value::xxh3_128, twox_core::specs::Value::range_of, twox_core::specs::Value::low_in, twox_core::specs::Value::high_in, twox_core::specs::Value::effective_secret))]
     pub fn oneshot_with_seed_and_secret(
         seed: u64,
         secret: &[u8],
         input: &[u8],
     ) -> Result<u128, OneshotWithSecretError>
-        requires { length input.now ≤ 240 }
-        ensures accepted { IsOk result }
+        ensures refused { IsErr result ↔ ((240 < length input.now) × (length secret.now < 136)) }
         ensures value { IfOk result (λ x. x ≡ xxh3_128 seed (effective_secret secret.now input.now) input.now) }
     {
-        Ok(impl_oneshot(default_secret(), seed, input))
+        if input.len() <= CUTOFF {
+            return Ok(impl_oneshot(default_secret(), seed, input));
+        }
+        let secret = Secret::new(secret)?;
+        Ok(impl_oneshot_long(secret, input))
     }
+}
+
+/// The end of the hash of 128 bits, of short inputs and of long ones.
+#[derive(Clone, Copy)]
+pub struct Finalize128;
+
+impl Finalize for Finalize128 {
+    type Output = u128;
+
+    ghost small_of = { λ _ s seed m. xxh3_128 seed s m };
+
+    ghost large_of = { λ _ a b t s n. finalized_128 a b t s n };
+
+    #[inline(always)]
+    fn small(&self, secret: Secret<'_>, seed: u64, input: &[u8]) -> u128 {
+        impl_oneshot(secret, seed, input)
+    }
+
+    #[inline(always)]
+    fn large(
+        &self,
+        v: impl Vector,
+        acc: [u64; 8],
+        last_block: &[u8],
+        last_stripe: &[u8; 64],
+        secret: Secret<'_>,
+        len: u64,
+    ) -> u128 {
+        Algorithm(v).finalize_128(acc, last_block, last_stripe, secret, len)
+    }
+}
+
+// Apart, so that short inputs pay nothing for the room that long ones take.
+#[inline(never)]
+#[tactic(auto, using(twox_core::proofs::EndingFacts::block_both))]
+fn impl_oneshot_long(secret: Secret<'_>, input: &[u8]) -> u128
+    requires { 240 < length input.now }
+    ensures { let s = secret_bytes secret.entry in result ≡ long_high s input.now * 2 ^ 64 + long_low s input.now }
+{
+    Algorithm(Kernel {}).oneshot(secret, input, Finalize128)
+}
+
+// The same with the secret that a seed derives, which stands on the stack.
+#[inline(never)]
+#[tactic(auto, using(twox_core::proofs::Vectors::derived_secret_none))]
+fn impl_oneshot_derived(seed: u64, input: &[u8]) -> u128
+    requires { 240 < length input.now }
+    ensures { let s = derived_secret seed in result ≡ long_high s input.now * 2 ^ 64 + long_low s input.now }
+{
+    if seed == DEFAULT_SEED {
+        return impl_oneshot_long(default_secret(), input);
+    }
+    let secret = derived_secret(seed);
+    impl_oneshot_long(Secret::new(&secret).unwrap(), input)
 }
 
 // The halves of a value.

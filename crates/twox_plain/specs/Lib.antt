@@ -1,3 +1,12 @@
+pub mod Apart
+pub mod Buffered
+pub mod Core32
+pub mod Core64
+pub mod Record32
+pub mod Record64
+pub mod Saved32
+pub mod Saved64
+pub mod SavedText
 pub mod Units
 pub mod Word
 pub mod Xxh32

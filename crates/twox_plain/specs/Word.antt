@@ -1,8 +1,12 @@
 -- Little-endian words of a list of bytes, by absolute position, and arithmetic on words. A word is a
 -- number below 2 ^ 32, 2 ^ 64 or 2 ^ 128, and never a list of bits.
-use Rattle.std.specs.Prelude.{ℕ, ◌+◌, ◌-◌, ◌*◌, ◌/◌, ◌%◌, ◌^◌, List, take, drop, bit_xor, min}
+use Rattle.std.specs.Prelude.{ℕ, ◌+◌, ◌-◌, ◌*◌, ◌/◌, ◌%◌, ◌^◌, ◌<◌, List, take, drop, slice_index, bit_xor, min}
 use mir.Val.{bits}
 use Rattle.std.specs.Int.{Width, byte_len, from_le_bytes}
+
+-- each element is a byte
+abbrev pub IsBytes : List ℕ → Type 0
+IsBytes m = (k : ℕ) → slice_index m k < 2 ^ 8
 
 -- the word of `byte_len w` bytes that begins at byte i of m, its low byte first
 unfoldable pub word_at : Width → List ℕ → ℕ → ℕ

@@ -1,0 +1,41 @@
+//! XXH32 and XXH64.
+
+ghost use Rattle.std.specs.Prelude.{◌≡◌};
+ghost use Rattle.twox_hash.specs.Xxh32.{xxh32};
+ghost use Rattle.twox_hash.specs.Xxh64.{xxh64};
+
+use twox_hash::{XxHash32, XxHash64};
+
+#[unsafe(no_mangle)]
+pub extern "C" fn twox_xxh32(seed: u32, input: &[u8]) -> u32
+    ensures { result ≡ xxh32 seed input.now }
+{
+    XxHash32::oneshot(seed, input)
+}
+
+#[unsafe(no_mangle)]
+pub extern "C" fn twox_xxh64(seed: u64, input: &[u8]) -> u64
+    ensures { result ≡ xxh64 seed input.now }
+{
+    XxHash64::oneshot(seed, input)
+}
+
+/// The hash under the seed 0 of the input in pieces of that many bytes.
+#[unsafe(no_mangle)]
+pub extern "C" fn twox_xxh32_stream(input: &[u8], piece: usize) -> u32 {
+    let mut hasher = XxHash32::with_seed(0);
+    for part in input.chunks(piece.max(1)) {
+        hasher.write(part);
+    }
+    hasher.finish_32()
+}
+
+/// The hash under the seed 0 of the input in pieces of that many bytes.
+#[unsafe(no_mangle)]
+pub extern "C" fn twox_xxh64_stream(input: &[u8], piece: usize) -> u64 {
+    let mut hasher = XxHash64::with_seed(0);
+    for part in input.chunks(piece.max(1)) {
+        hasher.write(part);
+    }
+    hasher.finish()
+}

@@ -1,0 +1,159 @@
+-- The last block, the last 64 bytes and the merge give the long values of the definition.
+use Rattle.std.proofs.Common.{◌≡◌, ℕ, zero, suc, ◌+◌, ◌-◌, ◌*◌, ◌/◌, ◌%◌, ◌^◌, ◌<◌, ◌≤◌, ◌==◌, true, false, List, length, take, drop, slice_index, refl, sym, ap, ap₂, ◌∙◌, arith, lit<, add-zero, zero-add, add-one, length-drop}
+use Rattle.std.proofs.Math.Nat.{div-add-mod, div-div-eq-div-mul}
+use Rattle.std.proofs.lemmas.Bool.Decides.{nat_tests}
+use Rattle.std.proofs.lemmas.List.{drop-drop, length-take-le, take_all}
+use Rattle.std.proofs.lemmas.Nat.{mod-mul-add, mod_below}
+use Rattle.std.specs.Int.{w64}
+use Rattle.twox_plain.specs.Word.{counted}
+use Rattle.twox_plain.proofs.WordFacts.{word_at-part}
+use Rattle.twox_core.specs.Primes.{prime64_1, prime64_2}
+use Rattle.twox_core.specs.Steps.{word64, mul64, sum_below}
+use Rattle.twox_core.specs.Parts.{stripe_at}
+use Rattle.twox_core.specs.Long.{accumulated, lane_after, last_lane, stripes_of, pair_fold, merged, long_low, long_high}
+use Rattle.twox_core.specs.Kernel.{lanes8, accumulate}
+use Rattle.twox_core.specs.Stripes.{at_start, stripe_taken, stripes_taken}
+use Rattle.twox_core.specs.Ending.{lanes_after, stripes_before, block_lanes, last_block, last_stripe, accumulated_block, lanes_at_end, finalized_64, finalized_high, finalized_128}
+use Rattle.twox_core.proofs.StripeFacts.{stripes_taken-take}
+use Rattle.twox_core.proofs.LaneFacts.{accumulates, same_lanes, stripe_done, next_without}
+
+-- ---- a block short of the secret's last place takes no scramble
+
+short : (s a t : List ℕ) (k : ℕ) → k + 1 < stripes_of s
+    → stripe_taken s (record { accumulator = a; current_stripe = k }) t ≡ record { accumulator = accumulate a t (stripe_at s (8 * k)); current_stripe = suc k }
+unfolding stripe_taken
+short s a t k h =
+    let test : (k + 1 == stripes_of s) ≡ false = grind (arith, nat_tests) in
+    rw (test, add-one k) refl
+
+block_taken : (s a b : List ℕ) (k : ℕ) → k < stripes_of s
+    → stripes_taken s (at_start a) b k ≡ record { accumulator = accumulated_block s a b k; current_stripe = k }
+unfolding stripes_taken accumulated_block
+block_taken s a b zero h = refl
+block_taken s a b (suc k) h =
+    ap (λ x. stripe_taken s x (stripe_at b (64 * k))) (block_taken s a b k (omega arith))
+    ∙ short s (accumulated_block s a b k) (stripe_at b (64 * k)) k (omega arith)
+
+-- where the first k stripes of b were cut out
+pub front_taken : (s a b : List ℕ) (k : ℕ) → k < stripes_of s → 64 * k ≤ length b
+    → stripes_taken s (at_start a) (take (64 * k) b) (length (take (64 * k) b) / 64) ≡ record { accumulator = accumulated_block s a b k; current_stripe = k }
+front_taken s a b k h fits =
+    let count : length (take (64 * k) b) / 64 ≡ k = omega (arith, length-take-le (64 * k) b fits) in
+    rw count (stripes_taken-take s (at_start a) b (64 * k) k (omega arith)) ∙ block_taken s a b k h
+
+pub accumulated_block-next : (s a b t u : List ℕ) (k : ℕ) → t ≡ stripe_at b (64 * k) → u ≡ stripe_at s (8 * k)
+    → accumulate (accumulated_block s a b k) t u ≡ accumulated_block s a b (k + 1)
+unfolding accumulated_block
+accumulated_block-next s a b t u k e f = rw (e, f, add-one k) refl
+
+-- ---- the lanes of m after a block that begins where a scramble went by
+
+no_scramble : (j q r : ℕ) → r + 1 < q → ((q * j + r + 1) % q == 0) ≡ false
+no_scramble j q r h =
+    let e : q * j + r + 1 ≡ j * q + (r + 1) = omega arith in
+    let left : (q * j + r + 1) % q ≡ r + 1 = ap (λ (n : ℕ). n % q) e ∙ mod-mul-add j q (r + 1) h in
+    grind (arith, nat_tests, left)
+
+block_more : (s m : List ℕ) (j r : ℕ) → r < stripes_of s
+    → accumulated_block s (lanes_after s m (stripes_of s * j)) (drop (64 * (stripes_of s * j)) m) r ≡ lanes_after s m (stripes_of s * j + r)
+unfolding accumulated_block lanes_after
+block_more s m j zero h = rw (add-zero (stripes_of s * j)) refl
+block_more s m j (suc r) h =
+    let q = stripes_of s in
+    let k = q * j + r in
+    let flat : q * j + r ≡ j * q + r = omega arith in
+    let left : k % q ≡ r = ap (λ (n : ℕ). n % q) flat ∙ mod-mul-add j q r (omega arith) in
+    let here : stripe_at (drop (64 * (q * j)) m) (64 * r) ≡ stripe_at m (64 * k) =
+    let place : 64 * (q * j) + 64 * r ≡ 64 * k = omega arith in
+    ap (take 64) (drop-drop (64 * r) (64 * (q * j)) m ∙ ap (λ (n : ℕ). drop n m) place) in
+    let key : stripe_at s (8 * r) ≡ stripe_at s (8 * (k % q)) = ap (λ (n : ℕ). stripe_at s (8 * n)) (sym left) in
+    let next : k + 1 ≡ q * j + suc r = omega arith in
+    accumulates (λ i. lane_after s m i k) m s _ _ _ (64 * k) (8 * (k % q)) (block_more s m j r (omega arith)) here key
+    ∙ same_lanes (stripe_done s m k) (λ i. lane_after s m i (k + 1)) (λ i _. next_without s m k (no_scramble j q r (omega arith)) i)
+    ∙ ap (λ (n : ℕ). lanes8 (λ i. lane_after s m i n)) next
+
+-- how many stripes of the last block come before the last stripe
+last_places : (s m : List ℕ) → stripes_before s m + (length m - 1) / 64 % stripes_of s ≡ (length m - 1) / 64
+last_places s m =
+    let q = stripes_of s in
+    ap (λ (n : ℕ). q * n + (length m - 1) / 64 % q) (sym (div-div-eq-div-mul (length m - 1) 64 q)) ∙ div-add-mod ((length m - 1) / 64) q
+
+-- ---- the lanes of m after its last 64 bytes
+
+lanes_ended : (s m a b : List ℕ) → 64 ≤ length m → accumulated_block s a b ((length b - 1) / 64) ≡ lanes_after s m ((length m - 1) / 64)
+    → lanes_at_end a b (last_stripe m) s ≡ lanes8 (last_lane s m)
+unfolding lanes_at_end lanes_after last_stripe last_lane
+lanes_ended s m a b long e =
+    let end : drop (length m - 64) m ≡ stripe_at m (length m - 64) = sym (take_all 64 (drop (length m - 64) m) (omega (arith, length-drop (length m - 64) m))) in
+    accumulates (λ i. lane_after s m i ((length m - 1) / 64)) m s _ _ _ (length m - 64) (length s - 71) e end refl
+
+block_ended : (s m : List ℕ) → 0 < stripes_of s → 64 ≤ length m → lanes_at_end (block_lanes s m) (last_block s m) (last_stripe m) s ≡ lanes8 (last_lane s m)
+unfolding block_lanes last_block
+block_ended s m some long =
+    let q = stripes_of s in
+    let k = stripes_before s m in
+    let r = (length m - 1) / 64 % q in
+    let all = last_places s m in
+    let count : (length (drop (64 * k) m) - 1) / 64 ≡ r = omega (arith, length-drop (64 * k) m) in
+    lanes_ended s m _ _ long (rw count (block_more s m ((length m - 1) / (64 * q)) r (mod_below ((length m - 1) / 64) q some)) ∙ ap (lanes_after s m) all)
+
+stripe_ended : (s m : List ℕ) → 64 ≤ length m
+    → lanes_at_end (lanes_after s m ((length m - 1) / 64)) (drop (64 * ((length m - 1) / 64)) m) (last_stripe m) s ≡ lanes8 (last_lane s m)
+unfolding accumulated_block
+stripe_ended s m long =
+    let k = (length m - 1) / 64 in
+    let count : (length (drop (64 * k) m) - 1) / 64 ≡ 0 = omega (arith, length-drop (64 * k) m) in
+    lanes_ended s m _ _ long (rw count refl)
+
+-- ---- the values
+
+merged-lanes : (init : ℕ) (s a : List ℕ) (j : ℕ) (f : ℕ → ℕ) → a ≡ lanes8 f → merged init s j (slice_index a) ≡ merged init s j f
+unfolding merged sum_below pair_fold
+merged-lanes init s a j f e = rw e refl
+
+-- 64 bytes that were cut out of the secret
+pair_fold-stripe : (f : ℕ → ℕ) (s : List ℕ) (j i : ℕ) → i < 4 → pair_fold f (stripe_at s j) 0 i ≡ pair_fold f s j i
+unfolding pair_fold
+pair_fold-stripe f s j i h =
+    let first : word64 (stripe_at s j) (0 + 16 * i) ≡ word64 s (j + 16 * i) = ap (word64 (stripe_at s j)) (zero-add (16 * i)) ∙ word_at-part w64 64 s (stripe_at s j) j (16 * i) refl (omega arith) in
+    let second : word64 (stripe_at s j) (0 + 16 * i + 8) ≡ word64 s (j + 16 * i + 8) =
+    let place : 0 + 16 * i + 8 ≡ 16 * i + 8 = omega arith in
+    ap (word64 (stripe_at s j)) place ∙ word_at-part w64 64 s (stripe_at s j) j (16 * i + 8) refl (omega arith) ∙ ap (word64 s) (omega arith) in
+    rw (first, second) refl
+
+pub merged-stripe : (init : ℕ) (s u : List ℕ) (j : ℕ) (f : ℕ → ℕ) → u ≡ stripe_at s j → merged init u 0 f ≡ merged init s j f
+unfolding merged sum_below
+merged-stripe init s u j f e =
+    rw (e, pair_fold-stripe f s j 0 (lit< tt), pair_fold-stripe f s j 1 (lit< tt), pair_fold-stripe f s j 2 (lit< tt), pair_fold-stripe f s j 3 (lit< tt)) refl
+
+low_of : (s m a b : List ℕ) (n : ℕ) → lanes_at_end a b (last_stripe m) s ≡ lanes8 (last_lane s m) → n ≡ counted (length m)
+    → finalized_64 a b (last_stripe m) s n ≡ long_low s m
+unfolding finalized_64 long_low
+low_of s m a b n lanes count = rw count (merged-lanes _ s _ 11 (last_lane s m) lanes)
+
+high_of : (s m a b : List ℕ) (n : ℕ) → lanes_at_end a b (last_stripe m) s ≡ lanes8 (last_lane s m) → n ≡ counted (length m)
+    → finalized_high a b (last_stripe m) s n ≡ long_high s m
+unfolding finalized_high long_high
+high_of s m a b n lanes count = rw count (merged-lanes _ s _ (length s - 75) (last_lane s m) lanes)
+
+-- of the whole list at once
+pub block_low : (s m : List ℕ) → 0 < stripes_of s → 64 ≤ length m → length m < 2 ^ 64
+    → finalized_64 (block_lanes s m) (last_block s m) (last_stripe m) s (length m) ≡ long_low s m
+block_low s m some long low = low_of s m _ _ (length m) (block_ended s m some long) (omega arith)
+
+pub block_both : (s m : List ℕ) → 0 < stripes_of s → 64 ≤ length m → length m < 2 ^ 64
+    → finalized_128 (block_lanes s m) (last_block s m) (last_stripe m) s (length m) ≡ long_high s m * 2 ^ 64 + long_low s m
+unfolding finalized_128
+block_both s m some long low =
+    ap₂ (λ (x y : ℕ). x * 2 ^ 64 + y) (high_of s m _ _ (length m) (block_ended s m some long) (omega arith)) (block_low s m some long low)
+
+-- of a stream, which has taken all stripes but the last
+pub stream_low : (s m : List ℕ) → 64 ≤ length m
+    → finalized_64 (lanes_after s m ((length m - 1) / 64)) (drop (64 * ((length m - 1) / 64)) m) (last_stripe m) s (counted (length m)) ≡ long_low s m
+stream_low s m long = low_of s m _ _ (counted (length m)) (stripe_ended s m long) refl
+
+pub stream_both : (s m : List ℕ) → 64 ≤ length m
+    → finalized_128 (lanes_after s m ((length m - 1) / 64)) (drop (64 * ((length m - 1) / 64)) m) (last_stripe m) s (counted (length m)) ≡ long_high s m * 2 ^ 64 + long_low s m
+unfolding finalized_128
+stream_both s m long =
+    ap₂ (λ (x y : ℕ). x * 2 ^ 64 + y) (high_of s m _ _ (counted (length m)) (stripe_ended s m long) refl) (stream_low s m long)

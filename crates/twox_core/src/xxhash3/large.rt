@@ -1,0 +1,240 @@
+//! XXH3 above 240 bytes, over any kernel: the xxHash specification, "XXH3 algorithm description (for large
+//! inputs)".
+
+ghost use Rattle.std.specs.Prelude.{◌≡◌, ◌+◌, ◌-◌, ◌*◌, ◌/◌, ◌^◌, ◌<◌, ◌≤◌, ℕ, List, length, take, drop, slice_index};
+ghost use Rattle.twox_core.specs.Kernel.{accumulate, round_scramble};
+ghost use Rattle.twox_core.specs.Long.{merged, stripes_of};
+ghost use Rattle.twox_core.specs.Ending.{accumulated_block, block_lanes, last_block, last_stripe, lanes_at_end, finalized_64, finalized_128};
+ghost use Rattle.twox_core.specs.SecretBytes.{secret_bytes};
+
+pub mod scalar;
+
+use super::parts::array_at;
+use super::primes::{
+    PRIME32_1, PRIME32_2, PRIME32_3, PRIME64_1, PRIME64_2, PRIME64_3, PRIME64_4, PRIME64_5,
+};
+use super::streaming::StripeAccumulator;
+use super::{Secret, avalanche, fold};
+use twox_plain::words::{IntoU64, IntoU128, u64_at};
+
+/// A kernel: the two operations of XXH3 on its eight lanes. All kernels compute the same.
+pub trait Vector: Copy {
+    /// Scrambles the lanes under the secret's last 64 bytes.
+    fn round_scramble(&self, acc: &mut [u64; 8], secret_end: &[u8; 64])
+        ensures { acc.new ≡ round_scramble acc.old secret_end.now };
+
+    /// Takes a stripe into the lanes, under 64 bytes of the secret.
+    fn accumulate(&self, acc: &mut [u64; 8], stripe: &[u8; 64], secret: &[u8; 64])
+        ensures { acc.new ≡ accumulate acc.old stripe.now secret.now };
+}
+
+/// The kernel of this program.
+pub type Kernel = scalar::Impl;
+
+/// The lanes before the first stripe.
+pub const INITIAL_ACCUMULATORS: [u64; 8] = [
+    PRIME32_3, PRIME64_1, PRIME64_2, PRIME64_3, PRIME64_4, PRIME32_2, PRIME64_5, PRIME32_1,
+];
+
+/// What a hash makes of an input: one value for short ones and one for long ones.
+///
+/// Each call has one meaning, a function of its arguments without the kernel.
+pub trait Finalize {
+    /// The value.
+    type Output;
+
+    // The value of a short input: of the secret, the seed and the bytes.
+    ghost small_of: { Self → List ℕ → ℕ → List ℕ → Self.Output };
+
+    // The value of a long input: of the lanes, the last block, the last 64 bytes, the secret and the length.
+    ghost large_of: { Self → List ℕ → List ℕ → List ℕ → List ℕ → ℕ → Self.Output };
+
+    /// The value of an input, which the caller shows to have at most 240 bytes.
+    fn small(&self, secret: Secret<'_>, seed: u64, input: &[u8]) -> Self::Output
+        requires { length input.now ≤ 240 }
+        ensures { result ≡ small_of self.now (secret_bytes secret.entry) seed input.now };
+
+    /// The value of an input of `len` bytes that ends with the last block, from the lanes before that block,
+    /// and the input's last 64 bytes.
+    ///
+    /// The caller shows that the block isn't empty and that the secret has places for its stripes.
+    fn large(
+        &self,
+        v: impl Vector,
+        acc: [u64; 8],
+        last_block: &[u8],
+        last_stripe: &[u8; 64],
+        secret: Secret<'_>,
+        len: u64,
+    ) -> Self::Output
+        requires some { 0 < length last_block.now }
+        requires places { (length last_block.now - 1) / 64 ≤ stripes_of (secret_bytes secret) }
+        ensures { result ≡ large_of self.now acc last_block.now last_stripe.now (secret_bytes secret.entry) len };
+}
+
+/// The hash of long inputs over a kernel.
+#[derive(Clone, Copy)]
+pub struct Algorithm<V>(pub V);
+
+impl<V: Vector> Algorithm<V> {
+    /// What `finalize` makes of an input, which the caller shows to have at least 241 bytes.
+    ///
+    /// The lanes handed to it are those after all whole blocks but the last, which has the rest of the input;
+    /// a block has as many stripes as the secret has places.
+    #[inline(always)]
+    pub fn oneshot<F: Finalize + Drop>(
+        &self,
+        secret: Secret<'_>,
+        input: &[u8],
+        finalize: F,
+    ) -> F::Output
+        requires { 241 ≤ length input.now }
+        ensures { let s = secret_bytes secret.entry in let m = input.now in
+            result ≡ F.large_of finalize (block_lanes s m) (last_block s m) (last_stripe m) s (length m) }
+    {
+        let count = stripes_before_last_block(input.len(), secret.n_stripes());
+        let (blocks, last_block) = input.split_at(64 * count);
+        let mut stripes = StripeAccumulator::new();
+        stripes.process_stripes(self.0, blocks, secret);
+        finalize.large(
+            self.0,
+            stripes.accumulators(),
+            last_block,
+            array_at(input, input.len() - 64),
+            secret,
+            input.len().into_u64(),
+        )
+    }
+
+    /// The value of 64 bits of an input of `len` bytes: the last block's stripes but its last are accumulated
+    /// from the secret's start on, then the last 64 bytes, and the lanes are merged.
+    ///
+    /// The caller shows that the block isn't empty and that the secret has places for its stripes.
+    #[inline(always)]
+    pub fn finalize_64(
+        &self,
+        acc: [u64; 8],
+        last_block: &[u8],
+        last_stripe: &[u8; 64],
+        secret: Secret<'_>,
+        len: u64,
+    ) -> u64
+        requires some { 0 < length last_block.now }
+        requires places { (length last_block.now - 1) / 64 ≤ stripes_of (secret_bytes secret) }
+        ensures { result ≡ finalized_64 acc last_block.now last_stripe.now (secret_bytes secret.entry) len }
+    {
+        let acc = self.last_round(acc, last_block, last_stripe, secret);
+        final_merge(&acc, len.wrapping_mul(PRIME64_1), secret.final_secret())
+    }
+
+    /// The value of 128 bits, likewise: its low half is the value of 64 bits, and the high half merges the
+    /// same lanes under other bytes of the secret.
+    #[inline(always)]
+    pub fn finalize_128(
+        &self,
+        acc: [u64; 8],
+        last_block: &[u8],
+        last_stripe: &[u8; 64],
+        secret: Secret<'_>,
+        len: u64,
+    ) -> u128
+        requires some { 0 < length last_block.now }
+        requires places { (length last_block.now - 1) / 64 ≤ stripes_of (secret_bytes secret) }
+        ensures { result ≡ finalized_128 acc last_block.now last_stripe.now (secret_bytes secret.entry) len }
+    {
+        let acc = self.last_round(acc, last_block, last_stripe, secret);
+        let low = final_merge(&acc, len.wrapping_mul(PRIME64_1), secret.final_secret());
+        let high = final_merge(
+            &acc,
+            !len.wrapping_mul(PRIME64_2),
+            secret.for_128().final_secret(),
+        );
+        from_halves(high, low)
+    }
+
+    // The lanes with the last block's stripes but its last, and then the last 64 bytes.
+    #[inline(always)]
+    fn last_round(
+        &self,
+        acc: [u64; 8],
+        last_block: &[u8],
+        last_stripe: &[u8; 64],
+        secret: Secret<'_>,
+    ) -> [u64; 8]
+        requires some { 0 < length last_block.now }
+        requires places { (length last_block.now - 1) / 64 ≤ stripes_of (secret_bytes secret) }
+        ensures { result ≡ lanes_at_end acc last_block.now last_stripe.now (secret_bytes secret.entry) }
+    {
+        let mut acc = self.accumulate_block(acc, last_block, (last_block.len() - 1) / 64, secret);
+        self.0.accumulate(
+            &mut acc,
+            last_stripe,
+            secret.last_stripe_secret_better_name(),
+        );
+        acc
+    }
+
+    // The lanes with the first stripes of a block, from the secret's start on. No scramble follows the stripe
+    // at the secret's last place here, so that one is taken by itself.
+    #[inline(always)]
+    fn accumulate_block(
+        &self,
+        acc: [u64; 8],
+        block: &[u8],
+        count: usize,
+        secret: Secret<'_>,
+    ) -> [u64; 8]
+        requires there { 64 * count ≤ length block.now }
+        requires places { count ≤ stripes_of (secret_bytes secret) }
+        ensures { result ≡ accumulated_block (secret_bytes secret.entry) acc block.now count }
+    {
+        let last_place = secret.n_stripes() - 1;
+        let (front, rest) = block.split_at(64 * count.min(last_place));
+        let mut stripes = StripeAccumulator::starting_with(acc);
+        stripes.process_stripes(self.0, front, secret);
+        let mut acc = stripes.accumulators();
+        if count > last_place {
+            self.0
+                .accumulate(&mut acc, array_at(rest, 0), secret.stripe(last_place));
+        }
+        acc
+    }
+}
+
+// How many stripes come before the last block, in whole blocks of `n_stripes` stripes. The last block has at
+// least a byte, and may be whole.
+#[inline(always)]
+fn stripes_before_last_block(len: usize, n_stripes: usize) -> usize
+    requires some { 0 < len }
+    requires places { 0 < n_stripes }
+    ensures { result ≡ n_stripes * ((len - 1) / (64 * n_stripes)) }
+{
+    let count = (len - 1) / 64;
+    if count < n_stripes {
+        // One block takes no division.
+        return 0;
+    }
+    n_stripes * (count / n_stripes)
+}
+
+// The lanes merged under 64 bytes of the secret: the sum of the folds of neighbours, mixed.
+#[inline(never)]
+fn final_merge(acc: &[u64; 8], init: u64, secret: &[u8; 64]) -> u64
+    ensures { result ≡ merged init secret.now 0 (slice_index acc.now) }
+{
+    let mut sum = init;
+    for i in 0..4 {
+        let first = acc[2 * i] ^ u64_at(secret, 16 * i);
+        let second = acc[2 * i + 1] ^ u64_at(secret, 16 * i + 8);
+        sum = sum.wrapping_add(fold(first, second));
+    }
+    avalanche(sum)
+}
+
+// A value of 128 bits from its halves.
+#[inline(always)]
+fn from_halves(high: u64, low: u64) -> u128
+    ensures { result ≡ high * 2 ^ 64 + low }
+{
+    (high.into_u128() << 64) + low.into_u128()
+}

@@ -1,0 +1,89 @@
+//! The kernel that works on one lane after another.
+
+ghost use Rattle.std.specs.Prelude.{◌≡◌, ◌*◌, ◌<◌};
+ghost use Rattle.twox_core.specs.Steps.{word64};
+ghost use Rattle.twox_core.specs.Long.{accumulated, halves_product, scrambled};
+
+use super::Vector;
+use crate::xxhash3::primes::PRIME32_1;
+
+/// The scalar kernel.
+#[derive(Clone, Copy)]
+pub struct Impl;
+
+impl Vector for Impl {
+    #[inline(always)]
+    fn round_scramble(&self, acc: &mut [u64; 8], secret_end: &[u8; 64]) {
+        let [a, b, c, d, e, f, g, h] = *acc;
+        *acc = [
+            scrambled(a, secret_end, 0),
+            scrambled(b, secret_end, 1),
+            scrambled(c, secret_end, 2),
+            scrambled(d, secret_end, 3),
+            scrambled(e, secret_end, 4),
+            scrambled(f, secret_end, 5),
+            scrambled(g, secret_end, 6),
+            scrambled(h, secret_end, 7),
+        ];
+    }
+
+    #[inline(always)]
+    fn accumulate(&self, acc: &mut [u64; 8], stripe: &[u8; 64], secret: &[u8; 64]) {
+        let [a, b, c, d, e, f, g, h] = *acc;
+        *acc = [
+            accumulated(a, stripe, secret, 0),
+            accumulated(b, stripe, secret, 1),
+            accumulated(c, stripe, secret, 2),
+            accumulated(d, stripe, secret, 3),
+            accumulated(e, stripe, secret, 4),
+            accumulated(f, stripe, secret, 5),
+            accumulated(g, stripe, secret, 6),
+            accumulated(h, stripe, secret, 7),
+        ];
+    }
+}
+
+// Lane `i`, which gains its neighbour's word of the stripe and the product of the halves of its own.
+#[inline(always)]
+#[tactic(auto, unfolding(crate::specs::Long::accumulated))]
+fn accumulated(lane: u64, stripe: &[u8; 64], secret: &[u8; 64], i: usize) -> u64
+    requires { i < 8 }
+    ensures { result ≡ accumulated i lane stripe.now 0 secret.now 0 }
+{
+    let value = word(stripe, i) ^ word(secret, i);
+    lane.wrapping_add(word(stripe, i ^ 1))
+        .wrapping_add(halves_product(value))
+}
+
+#[inline(always)]
+fn halves_product(value: u64) -> u64
+    ensures { result ≡ halves_product value }
+{
+    full_product((value & 0xffff_ffff) as u32, (value >> 32) as u32)
+}
+
+#[inline(always)]
+fn full_product(a: u32, b: u32) -> u64
+    ensures { result ≡ a * b }
+{
+    u64::from(a) * u64::from(b)
+}
+
+#[inline(always)]
+#[tactic(auto, unfolding(crate::specs::Long::scrambled))]
+fn scrambled(lane: u64, secret_end: &[u8; 64], i: usize) -> u64
+    requires { i < 8 }
+    ensures { result ≡ scrambled i lane secret_end.now 0 }
+{
+    (lane ^ (lane >> 47) ^ word(secret_end, i)).wrapping_mul(PRIME32_1)
+}
+
+// Word `i`, read whole, so that the compiler can load several words at once.
+#[inline(always)]
+fn word(bytes: &[u8; 64], i: usize) -> u64
+    requires { i < 8 }
+    ensures { result ≡ word64 bytes.now (8 * i) }
+{
+    let (words, _) = bytes.as_chunks::<8>();
+    u64::from_le_bytes(words[i])
+}

@@ -1,0 +1,100 @@
+//! The lanes, and their place in the secret.
+
+ghost use Rattle.std.specs.Prelude.{◌≡◌, ◌/◌, ◌<◌, length};
+ghost use Rattle.twox_core.specs.Long.{stripes_of};
+ghost use Rattle.twox_core.specs.SecretBytes.{secret_bytes};
+
+use crate::xxhash3::Secret;
+use crate::xxhash3::large::{INITIAL_ACCUMULATORS, Vector};
+use twox_plain::words::bp_as_chunks;
+
+/// The lanes, and how many stripes they have taken since the last scramble.
+#[derive(Clone, Copy)]
+pub struct StripeAccumulator {
+    accumulator: [u64; 8],
+    current_stripe: usize,
+}
+
+impl StripeAccumulator {
+    ghost use Rattle.twox_core.specs.Stripes.{accumulators_of, at_start, current_stripe_of, no_stripe, stripe_taken, stripes_taken};
+
+    /// The lanes before the first stripe.
+    #[inline(always)]
+    pub fn new() -> StripeAccumulator
+        ensures { result ≡ no_stripe }
+    {
+        StripeAccumulator::starting_with(INITIAL_ACCUMULATORS)
+    }
+
+    // These lanes, at the secret's start.
+    #[inline(always)]
+    pub(crate) fn starting_with(accumulator: [u64; 8]) -> StripeAccumulator
+        ensures { result ≡ at_start accumulator }
+    {
+        StripeAccumulator {
+            accumulator,
+            current_stripe: 0,
+        }
+    }
+
+    /// The lanes.
+    #[inline(always)]
+    pub fn accumulators(&self) -> [u64; 8]
+        ensures { result ≡ accumulators_of self.now }
+    {
+        self.accumulator
+    }
+
+    /// How many stripes were taken since the last scramble.
+    #[inline(always)]
+    pub fn current_stripe(&self) -> usize
+        ensures { result ≡ current_stripe_of self.now }
+    {
+        self.current_stripe
+    }
+
+    /// Takes a stripe, under the secret's 64 bytes at `8 * current_stripe()`. Where that makes `n_stripes`
+    /// stripes since the last scramble, the lanes are scrambled and the count begins again.
+    ///
+    /// The caller shows that `n_stripes` is the secret's number of places and that the count is below it.
+    #[inline(always)]
+    pub fn process_stripe(
+        &mut self,
+        v: impl Vector,
+        stripe: &[u8; 64],
+        n_stripes: usize,
+        secret: Secret<'_>,
+    )
+        requires all { n_stripes ≡ stripes_of (secret_bytes secret) }
+        requires place { current_stripe_of self.old < n_stripes }
+        ensures exact { self.new ≡ stripe_taken (secret_bytes secret.entry) self.old stripe.now }
+        ensures place { current_stripe_of self.new < n_stripes }
+    {
+        v.accumulate(
+            &mut self.accumulator,
+            stripe,
+            secret.stripe(self.current_stripe),
+        );
+        self.current_stripe += 1;
+        if self.current_stripe == n_stripes {
+            v.round_scramble(&mut self.accumulator, secret.last_stripe());
+            self.current_stripe = 0;
+        }
+    }
+
+    // Takes the whole stripes of `bytes`. The lanes are a copy in the loop, so that they stay in registers.
+    #[inline(always)]
+    pub(crate) fn process_stripes<V: Vector>(&mut self, v: V, bytes: &[u8], secret: Secret<'_>)
+        requires { current_stripe_of self.old < stripes_of (secret_bytes secret) }
+        ensures exact { self.new ≡ stripes_taken (secret_bytes secret.entry) self.old bytes.now (length bytes.now / 64) }
+        ensures place { current_stripe_of self.new < stripes_of (secret_bytes secret.entry) }
+    {
+        let n_stripes = secret.n_stripes();
+        let (stripes, _) = bp_as_chunks(bytes);
+        let mut taken = *self;
+        'stripes: for stripe in stripes {
+            taken.process_stripe(v, stripe, n_stripes, secret);
+        }
+        *self = taken;
+    }
+}

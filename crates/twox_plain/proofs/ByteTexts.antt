@@ -1,0 +1,41 @@
+-- The texts and values of arrays of bytes, and that they read back.
+use Rattle.std.proofs.Common.{◌≡◌, ◌∷◌, ℕ, suc, false, true, nat_lt, List, [], Some, length, refl, ap, arith}
+use Rattle.std.proofs.lemmas.Bool.{eq-eqb}
+use Rattle.std.proofs.lemmas.Bool.Decides.{nat_tests}
+use Rattle.serde_json.specs.Data.{items_depth}
+use Rattle.serde_json.specs.Written.{items_have_float, items_text}
+use Rattle.serde_json.proofs.OnLiterals.{serde_json_on_literals}
+use Rattle.twox_plain.specs.Word.{IsBytes}
+use Rattle.twox_plain.specs.SavedText.{count, each_byte, bytes_from, more_numbers, numbers_text, items_of_bytes, bytes_data}
+
+pub no_float : (bytes : List ℕ) → items_have_float (items_of_bytes bytes) ≡ false
+no_float [] = refl
+no_float (b ∷ bs) = no_float bs
+
+pub flat : (bytes : List ℕ) → items_depth (items_of_bytes bytes) ≡ 0
+flat [] = refl
+flat (b ∷ bs) = rw (flat bs) refl
+
+more_of : (bytes : List ℕ) → items_text true (items_of_bytes bytes) ≡ more_numbers bytes
+unfolding serde_json_on_literals
+more_of [] = refl
+more_of (b ∷ bs) = rw (more_of bs) refl
+
+pub array_of : (bytes : List ℕ) → 91 ∷ items_text false (items_of_bytes bytes) ≡ numbers_text bytes
+unfolding serde_json_on_literals
+array_of [] = refl
+array_of (b ∷ bs) = rw (more_of bs) refl
+
+count-items_of_bytes : (bytes : List ℕ) → count (items_of_bytes bytes) ≡ length bytes
+count-items_of_bytes [] = refl
+count-items_of_bytes (b ∷ bs) = ap suc (count-items_of_bytes bs)
+
+each_byte-items_of_bytes : (bytes : List ℕ) → IsBytes bytes → each_byte (items_of_bytes bytes) ≡ Some bytes
+each_byte-items_of_bytes [] small = refl
+each_byte-items_of_bytes (b ∷ bs) small =
+    let test : nat_lt b 256 ≡ true = grind (arith, nat_tests, small 0) in
+    rw (each_byte-items_of_bytes bs (λ k. small (suc k)), test) refl
+
+pub bytes_from-bytes_data : (n : ℕ) (bytes : List ℕ) → length bytes ≡ n → IsBytes bytes → bytes_from n (bytes_data bytes) ≡ Some bytes
+bytes_from-bytes_data n bytes size small =
+    rw (count-items_of_bytes bytes, eq-eqb (length bytes) n size) (each_byte-items_of_bytes bytes small)

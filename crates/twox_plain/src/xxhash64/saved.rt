@@ -1,0 +1,108 @@
+//! The saved text of a record.
+
+ghost use Rattle.std.specs.Prelude.{◌≡◌, ◌^◌, Some, None, IfOk, IsErrOf, string_bytes};
+ghost use Rattle.serde_json.specs.View.{view};
+ghost use Rattle.twox_plain.specs.Saved64.{core_from, record_from, record_of, core_data, members_data, saved_text};
+
+use crate::saved_text::{bytes_of, bytes_value, u64_at};
+use crate::xxhash64::{Core, SavedState};
+use serde_json::{Value, json};
+use std::alloc::{AllocError, Global};
+use thiserror::Error;
+
+/// Why a text gave no record.
+#[derive(Clone, Copy, Debug, PartialEq, Eq, Error)]
+pub enum FormError {
+    /// The text is not a saved state's.
+    #[error("The text is not a saved state")]
+    Text,
+    /// A growth of memory was refused.
+    #[error("out of memory")]
+    Memory,
+}
+
+fn core_in(value: &Value) -> Option<Core>
+    ensures { result ≡ core_from (view value.now) }
+{
+    let v1 = u64_at(value, "v1")?;
+    let v2 = u64_at(value, "v2")?;
+    let v3 = u64_at(value, "v3")?;
+    let v4 = u64_at(value, "v4")?;
+    Some(Core { v1, v2, v3, v4 })
+}
+
+fn record_in(value: &Value) -> Option<SavedState>
+    ensures { result ≡ record_from (view value.now) }
+{
+    let buffer = bytes_of(value.get("buffer")?)?;
+    let buffer_usage = u64_at(value, "buffer_usage")? as usize;
+    let core = core_in(value.get("core")?)?;
+    let seed = u64_at(value, "seed")?;
+    let total_len = u64_at(value, "total_len")?;
+    Some(SavedState {
+        total_len,
+        seed,
+        core,
+        buffer,
+        buffer_usage,
+    })
+}
+
+fn core_value(alloc: Global, core: Core) -> Result<Value, AllocError>
+    ensures value { IfOk result (λ value. view value ≡ core_data core) }
+    ensures reads_back { IfOk result (λ value. core_from (view value) ≡ Some core) }
+{
+    let (v1, v2, v3, v4) = (core.v1, core.v2, core.v3, core.v4);
+    let value = json!(in alloc; {"v1": v1, "v2": v2, "v3": v3, "v4": v4})?;
+    Ok(value)
+}
+
+// The object of the members, of which the buffer and the core are values already.
+fn record_value(
+    alloc: Global,
+    buffer: Value,
+    core: Value,
+    usage: usize,
+    seed: u64,
+    total_len: u64,
+) -> Result<Value, AllocError>
+    ensures { IfOk result (λ value. view value ≡ members_data (view buffer) (view core) usage seed total_len) }
+{
+    json!(in alloc; {"buffer": buffer, "buffer_usage": usage, "core": core, "seed": seed, "total_len": total_len})
+}
+
+impl SavedState {
+    /// The saved text: the compact JSON of an object with the members `buffer` (an array of numbers),
+    /// `buffer_usage`, `core` (an object of `v1` to `v4`), `seed` and `total_len`, in this order.
+    ///
+    /// An `Err` is want of memory.
+    pub fn to_json(&self, alloc: Global) -> Result<String, AllocError>
+        ensures text { IfOk result (λ text. string_bytes text ≡ saved_text self.now) }
+        ensures reads_back { IfOk result (λ text. record_of (string_bytes text) ≡ Some self.now) }
+    {
+        let buffer = bytes_value(alloc, &self.buffer)?;
+        let core = core_value(alloc, self.core)?;
+        let (usage, seed, total_len) = (self.buffer_usage, self.seed, self.total_len);
+        record_value(alloc, buffer, core, usage, seed, total_len)?.to_string(alloc)
+    }
+
+    /// The record of a saved text: of an object with the members that [`SavedState::to_json`] writes, in any
+    /// order and with any white space, each number whole and in its type's range, and exactly 32 of them in
+    /// the buffer. Other members are passed over.
+    ///
+    /// `FormError::Text` comes exactly where, want of memory aside, `serde_json` reads no such object.
+    /// `FormError::Memory` may be met before the text is judged.
+    pub fn from_json(alloc: Global, text: &str) -> Result<SavedState, FormError>
+        ensures read { IfOk result (λ state. record_of text.now ≡ Some state) }
+        ensures refused { IsErrOf result FormError.Text → record_of text.now ≡ None }
+    {
+        match Value::from_str(alloc, text) {
+            Ok(value) => record_in(&value).ok_or(FormError::Text),
+            Err(error) => Err(if error.is_memory() {
+                FormError::Memory
+            } else {
+                FormError::Text
+            }),
+        }
+    }
+}

@@ -1,0 +1,7 @@
+pub mod BufferedFacts
+pub mod HexPlace
+pub mod HexValue
+pub mod HexVectors
+pub mod MemoryPieces
+pub mod PieceFacts
+pub mod SeedFacts

@@ -1,0 +1,26 @@
+use Rattle.std.proofs.Common.{◌<◌, ◌≤◌, [], ◌∷◌, ◌++◌, length, take, subst, arith, length-take, length-append, rules}
+use Rattle.xxh_program.proofs.PieceFacts.{Pieces-push, NoneEmpty-push, IsFed-push}
+use Rattle.xxh_program.proofs.program.engine.read_all.Goals as goal
+
+pub loop-turn-preserved : goal.loop-turn-preserved
+loop-turn-preserved g c =
+    let so_far = c.loop-turn.invariant in
+    let piece = take c.in-Ok.count c.read.new.buf in
+    let within : c.in-Ok.count ≤ length c.read.new.buf = c.in-Ok.ensures.within in
+    let some : 0 < length piece = simp length-take (omega (arith, c.in-Ok.count-test.1)) in
+    record {
+      works = search rules;
+      pieces = so_far.pieces ++ piece ∷ [];
+      count = simp length-append (omega (arith, so_far.count));
+      some = NoneEmpty-push so_far.pieces piece so_far.some some;
+      read = Pieces-push g.R.Source.gives _ _ _ so_far.pieces piece so_far.read c.in-Ok.ensures.piece;
+      fed = IsFed-push g.H.Feed.stands_for g.H.Feed.seed_of _ _ _ so_far.pieces piece so_far.fed c.feed.ensures;
+    }
+
+pub returns-in-Ok-eq0-clause-reads : goal.returns-in-Ok-eq0-clause-reads
+returns-in-Ok-eq0-clause-reads g c =
+    let so_far = c.loop-turn.invariant in
+    let fewer : length so_far.pieces < c.args.max_reads = omega (arith, so_far.count) in
+    let at_end : g.R.Source.gives c.loop-turn.r [] c.read.new.self =
+    subst (λ n. g.R.Source.gives c.loop-turn.r (take n c.read.new.buf) c.read.new.self) c.in-Ok-eq0.field-0-test c.in-Ok-eq0.ensures.piece in
+    (so_far.pieces, so_far.some, (fewer, Pieces-push g.R.Source.gives _ _ _ so_far.pieces [] so_far.read at_end), (λ e. cc, λ e. absurd (omega arith)), so_far.fed)

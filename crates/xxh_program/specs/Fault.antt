@@ -1,0 +1,27 @@
+-- The line that tells each fault, and the exit status.
+use Rattle.std.specs.Prelude.{ℕ, List, [], ◌∷◌, ◌++◌, codes}
+use Rattle.xxh_program.specs.declared.program.error.DigestError.TheVariants.{ReadFailed, WriteFailed, TooLong}
+use Rattle.xxh_program.specs.declared.program.fault.Fault.{Fault}
+use Rattle.xxh_program.specs.declared.program.fault.Fault.TheVariants.{Usage, BadSeed, BadState, OutOfMemory, Digest}
+
+-- what is wrong
+abbrev pub text_of : Fault → List ℕ
+text_of Usage = codes "usage: xxh hash|save|resume 32|64|3-64|3-128 [SEED|JSON]"
+text_of BadSeed = codes "bad seed"
+text_of BadState = codes "bad state"
+text_of OutOfMemory = codes "out of memory"
+text_of (Digest ReadFailed) = codes "read failed"
+text_of (Digest WriteFailed) = codes "write failed"
+text_of (Digest TooLong) = codes "too long"
+
+-- the program's name, the text and a line feed
+abbrev pub line_of : Fault → List ℕ
+line_of fault = codes "xxh: " ++ (text_of fault ++ 10 ∷ [])
+
+-- 1 where reading or writing failed, 2 where the words are at fault, 3 where memory is
+abbrev pub status_of : Fault → ℕ
+status_of Usage = 2
+status_of BadSeed = 2
+status_of BadState = 2
+status_of OutOfMemory = 3
+status_of (Digest e) = 1

@@ -1,0 +1,17 @@
+-- Pieces of bytes that are read from one state of an end to another, or written. `step old piece new` says
+-- that one read or write of the piece leads from old to new.
+use Rattle.std.specs.Prelude.{◌≡◌, ℕ, ◌<◌, List, [], ◌∷◌, ◌++◌, length}
+use Rattle.std.specs.List.{AllByRecursion}
+
+-- the pieces, one step each, lead from old to new
+abbrev pub Pieces : {S : Type 0} → (S → List ℕ → S → Type 0) → S → List (List ℕ) → S → Type 0
+Pieces step old [] new = new ≡ old
+Pieces {S} step old (piece ∷ pieces) new = (mid : S) × step old piece mid × Pieces step mid pieces new
+
+-- no piece is empty
+abbrev pub NoneEmpty : List (List ℕ) → Type 0
+NoneEmpty pieces = AllByRecursion (λ piece. 0 < length piece) pieces
+
+-- whole begins with front, and goes on after it
+abbrev pub IsProperBeginning : List ℕ → List ℕ → Type 0
+IsProperBeginning front whole = (rest : List ℕ) × (whole ≡ front ++ rest) × (0 < length rest)

@@ -1,0 +1,60 @@
+//! Why a command is not carried out: the line and the exit status of each fault.
+
+ghost use Rattle.std.specs.Prelude.{◌≡◌};
+
+use crate::program::error::DigestError;
+
+/// Why a command is not carried out.
+#[derive(Clone, Copy, Debug, PartialEq, Eq)]
+pub(crate) enum Fault {
+    /// The words are no command, or the kind is none of the command's.
+    Usage,
+    /// The seed is not one or more decimal digits, or the kind has no such seed.
+    BadSeed,
+    /// The text is not a saved state, or no hasher has that state.
+    BadState,
+    /// There was no memory.
+    OutOfMemory,
+    /// Reading or writing ended without a digest.
+    Digest(DigestError),
+}
+
+impl Fault {
+    ghost use Rattle.xxh_program.specs.Fault.{line_of, status_of};
+
+    // The line for standard error.
+    pub(crate) fn line(self) -> &'static [u8]
+        ensures { result.now ≡ line_of self }
+    {
+        match self {
+            Fault::Usage => { b"xxh: usage: xxh hash|save|resume 32|64|3-64|3-128 [SEED|JSON]\n" }
+            Fault::BadSeed => b"xxh: bad seed\n",
+            Fault::BadState => b"xxh: bad state\n",
+            Fault::OutOfMemory => b"xxh: out of memory\n",
+            Fault::Digest(DigestError::ReadFailed) => b"xxh: read failed\n",
+            Fault::Digest(DigestError::WriteFailed) => b"xxh: write failed\n",
+            Fault::Digest(DigestError::TooLong) => b"xxh: too long\n",
+        }
+    }
+
+    // The exit status.
+    pub(crate) fn status(self) -> u8
+        ensures { result ≡ status_of self }
+    {
+        match self {
+            Fault::Digest(_) => 1,
+            Fault::Usage | Fault::BadSeed | Fault::BadState => 2,
+            Fault::OutOfMemory => 3,
+        }
+    }
+}
+
+impl From<DigestError> for Fault {
+    ghost use Rattle.xxh_program.specs.declared.program.fault.Fault.TheVariants.{Digest};
+
+    ghost from_gives = { λ e fault. fault ≡ Digest e };
+
+    fn from(error: DigestError) -> Fault {
+        Fault::Digest(error)
+    }
+}

@@ -1,0 +1,52 @@
+//! The buffer in front of a reader.
+
+use std::io;
+use std::io::{ErrorKind, Read};
+use std::test::Fail;
+use xxh_program::program::Buffered;
+
+/// Gives up to three bytes a read, and fails once, at its second read.
+#[derive(Drop)]
+struct Stumbling<'a> {
+    left: &'a [u8],
+    reads: usize,
+}
+
+impl Read for Stumbling<'_> {
+    fn read(&mut self, buf: &mut [u8]) -> io::Result<usize> {
+        self.reads = self.reads.saturating_add(1);
+        if self.reads == 2 {
+            return Err(io::Error::from(ErrorKind::Interrupted));
+        }
+        let count = buf.len().min(3);
+        self.left.read(&mut buf[..count])
+    }
+}
+
+#[test]
+fn bytes_in_order_and_an_error_after_those_that_wait(rt: HostRuntime) -> Result<(), Fail> {
+    let mut r = Buffered::<_, 4>::new(Stumbling {
+        left: b"some bytes",
+        reads: 0,
+    });
+    let mut two = [0; 2];
+    // Three bytes wait, and are given by twos.
+    assert_eq!(rt; r.read(&mut two)?, 2);
+    assert_eq!(rt; two.as_slice(), b"so".as_slice());
+    assert_eq!(rt; r.read(&mut two)?, 1);
+    assert_eq!(rt; two[0], b'm');
+    assert!(rt; r.read(&mut two).is_err());
+    // The reading goes on after the error, with no byte lost.
+    let mut rest = Vec::new(rt.alloc());
+    for _ in 0..20 {
+        let mut five = [0; 5];
+        let count = r.read(&mut five)?;
+        if count == 0 {
+            break;
+        }
+        rest.extend_from_slice(&five[..count])?;
+    }
+    assert_eq!(rt; rest.as_slice(), b"e bytes".as_slice());
+    assert_eq!(rt; r.read(&mut two)?, 0);
+    Ok(())
+}
