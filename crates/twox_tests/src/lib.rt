@@ -1,0 +1,5 @@
+//! Tests of the hashes through the public calls of `twox_hash` alone.
+#![tactic(auto)]
+
+#[cfg(test)]
+mod short;
