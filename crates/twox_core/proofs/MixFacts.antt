@@ -1,7 +1,7 @@
 -- Mixing steps over parts of a list, one after another.
-use Rattle.std.proofs.Common.{◌≡◌, ℕ, ◌+◌, ◌-◌, ◌*◌, ◌/◌, ◌%◌, ◌^◌, ◌<◌, List, length, slice_index, bit_xor, ap, arith, refl, ◌∙◌, add-zero, add-one, lit≤}
-use Rattle.std.specs.Int.{w64, w128, from_le_bytes}
-use Rattle.twox_plain.proofs.WordFacts.{listed, word_at_listed, word_at-part}
+use Rattle.std.proofs.Common.{◌≡◌, ℕ, suc, ◌+◌, ◌-◌, ◌*◌, ◌<◌, List, length, bit_xor, ap, refl, ◌∙◌, arith, add-zero, add-one, lit≤}
+use Rattle.std.specs.Int.{w64}
+use Rattle.twox_plain.proofs.WordFacts.{word_at-part}
 use Rattle.twox_core.specs.Parts.{chunk_at}
 use Rattle.twox_core.specs.Steps.{word64, add64, mix, sum_below}
 use Rattle.twox_core.specs.Middle.{lane_step, medium_first, medium_second, pairs_first, pairs_second}
@@ -32,17 +32,26 @@ unfolding lane_step
 lane_step-of_chunks seed s m a b c k d i j l same e f g =
     rw (same, mix-of_chunks m s c k i j seed e f, chunk-first m d l g, chunk-second m d l g) refl
 
--- one more step of the two lanes
-pub medium_first-next : (seed : ℕ) (s m : List ℕ) (n t : ℕ) → medium_first seed s m n (t + 1)
-    ≡ lane_step seed s m (medium_first seed s m n t) (16 * (n - 1 - t)) (32 * (n - 1 - t)) (length m - 16 * (n - 1 - t + 1))
+-- the step of each lane that takes chunk c
+pub medium_first-chunk : (seed : ℕ) (s m : List ℕ) (n c : ℕ) → c < n → medium_first seed s m n (n - c)
+    ≡ lane_step seed s m (medium_first seed s m n (n - 1 - c)) (16 * c) (32 * c) (length m - 16 * (c + 1))
 unfolding medium_first
-medium_first-next seed s m n t = rw (add-one t) refl
+medium_first-chunk seed s m n c low =
+    let t = n - 1 - c in
+    let next : n - c ≡ suc t = omega arith in
+    let chunk : n - 1 - t ≡ c = omega arith in
+    ap (medium_first seed s m n) next ∙ ap (λ (k : ℕ). lane_step seed s m (medium_first seed s m n t) (16 * k) (32 * k) (length m - 16 * (k + 1))) chunk
 
-pub medium_second-next : (seed : ℕ) (s m : List ℕ) (n t : ℕ) → medium_second seed s m n (t + 1)
-    ≡ lane_step seed s m (medium_second seed s m n t) (length m - 16 * (n - 1 - t + 1)) (32 * (n - 1 - t) + 16) (16 * (n - 1 - t))
+pub medium_second-chunk : (seed : ℕ) (s m : List ℕ) (n c : ℕ) → c < n → medium_second seed s m n (n - c)
+    ≡ lane_step seed s m (medium_second seed s m n (n - 1 - c)) (length m - 16 * (c + 1)) (32 * c + 16) (16 * c)
 unfolding medium_second
-medium_second-next seed s m n t = rw (add-one t) refl
+medium_second-chunk seed s m n c low =
+    let t = n - 1 - c in
+    let next : n - c ≡ suc t = omega arith in
+    let chunk : n - 1 - t ≡ c = omega arith in
+    ap (medium_second seed s m n) next ∙ ap (λ (k : ℕ). lane_step seed s m (medium_second seed s m n t) (length m - 16 * (k + 1)) (32 * k + 16) (16 * k)) chunk
 
+-- one more step of the two lanes over pairs of chunks
 pub pairs_first-next : (seed : ℕ) (s m : List ℕ) (i j a t : ℕ) → pairs_first seed s m i j a (t + 1)
     ≡ lane_step seed s m (pairs_first seed s m i j a t) (i + 32 * t) (j + 32 * t) (i + 32 * t + 16)
 unfolding pairs_first
@@ -52,13 +61,3 @@ pub pairs_second-next : (seed : ℕ) (s m : List ℕ) (i j a t : ℕ) → pairs_
     ≡ lane_step seed s m (pairs_second seed s m i j a t) (i + 32 * t + 16) (j + 32 * t + 16) (i + 32 * t)
 unfolding pairs_second
 pairs_second-next seed s m i j a t = rw (add-one t) refl
-
--- 16 bytes as one number are their two words, the second over the first
-pub words_of_16 : (bytes : List ℕ) → length bytes ≡ 16 → ((k : ℕ) → slice_index bytes k < 256)
-    → (word64 bytes 0 ≡ from_le_bytes w128 bytes % 2 ^ 64) × (word64 bytes 8 ≡ from_le_bytes w128 bytes / 2 ^ 64)
-words_of_16 bytes size small =
-    let low : from_le_bytes w64 (listed bytes 0 0 8) ≡ word64 bytes 0 = word_at_listed w64 bytes 0 (omega arith) in
-    let high : from_le_bytes w64 (listed bytes 8 0 8) ≡ word64 bytes 8 = word_at_listed w64 bytes 8 (omega arith) in
-    let both : from_le_bytes w128 bytes ≡ word64 bytes 8 * 2 ^ 64 + word64 bytes 0 = omega (arith, low, high) in
-    let fits : word64 bytes 0 < 2 ^ 64 = omega (arith, low, small 0, small 1, small 2, small 3, small 4, small 5, small 6, small 7) in
-    (omega arith, omega arith)

@@ -173,9 +173,7 @@ pub fn fold(a: u64, b: u64) -> u64
 pub fn to_u64s(bytes: &[u8; 16]) -> [u64; 2]
     ensures { result ≡ word_at w64 bytes.now 0 ∷ word_at w64 bytes.now 8 ∷ [] }
 {
-    // one load of 16 bytes keeps LLVM from making vectors of the words, which only slows the products
-    let words = u128::from_le_bytes(*bytes);
-    [words.lower_half(), words.upper_half()]
+    [u64_at(bytes, 0), u64_at(bytes, 8)]
 }
 
 /// The whole pairs of 16 bytes from the front; fewer than 32 bytes are left out.

@@ -5,12 +5,13 @@ ghost use Rattle.std.specs.Int.{w64};
 ghost use Rattle.twox_plain.specs.Word.{low64, high64};
 ghost use Rattle.twox_core.specs.Ending.{finalized_128};
 ghost use Rattle.twox_core.specs.Long.{long_low, long_high};
-ghost use Rattle.twox_core.specs.Middle.{lanes_high, lanes_low};
+ghost use Rattle.twox_core.specs.Middle.{lanes_high, lanes_low, medium_first, medium_second};
+ghost use Rattle.twox_core.specs.Primes.{prime64_1};
 ghost use Rattle.twox_core.specs.Secret.{default_secret, derived_secret};
 ghost use Rattle.twox_core.specs.SecretBytes.{secret_bytes};
 ghost use Rattle.twox_core.specs.Short.{combined, empty128_high, empty128_low, four128_high, four128_low, four_product, nine_product, tiny_high, tiny_low};
-ghost use Rattle.twox_core.specs.Steps.{add64, avalanche, mix, word64};
-ghost use Rattle.twox_core.specs.Value.{effective_secret, high_in, low_in, xxh3_128, Range};
+ghost use Rattle.twox_core.specs.Steps.{add64, avalanche, mix, mul64, word64};
+ghost use Rattle.twox_core.specs.Value.{effective_secret, high_in, low_in, steps_of, xxh3_128, Range};
 
 use std::alloc::{Allocator, Global};
 use twox_core::xxhash3::primes::{PRIME_MX2, PRIME32_2, PRIME64_1, PRIME64_2, PRIME64_4};
@@ -94,8 +95,7 @@ impl Hasher<Global> {
         if input.len() <= CUTOFF {
             return Ok(impl_oneshot(default_secret(), seed, input));
         }
-        let secret = Secret::new(secret)?;
-        Ok(impl_oneshot_long(secret, input))
+        Ok(impl_oneshot_long(Secret::new(secret)?, input))
     }
 }
 
@@ -275,6 +275,25 @@ fn impl_9_to_16_bytes(secret: Secret<'_>, seed: u64, input: &[u8]) -> X128
     }
 }
 
+// The two lanes of 17 to 240 bytes.
+#[derive(Clone, Copy)]
+struct Lanes {
+    first: u64,
+    second: u64,
+}
+
+// The lanes before the first chunk.
+#[inline(always)]
+fn initial_lanes(input: &[u8]) -> Lanes
+    ensures first { result.first ≡ mul64 (length input.now) prime64_1 }
+    ensures second { result.second ≡ 0 }
+{
+    Lanes {
+        first: input.len().into_u64().wrapping_mul(PRIME64_1),
+        second: 0,
+    }
+}
+
 // A lane after the 16 bytes `own` under the secret's, and then the words of the 16 bytes `other`.
 #[inline(always)]
 fn lane_step(lane: u64, own: &[u8; 16], words: &[u8; 16], other: &[u8; 16], seed: u64) -> u64
@@ -284,6 +303,29 @@ fn lane_step(lane: u64, own: &[u8; 16], words: &[u8; 16], other: &[u8; 16], seed
     lane.wrapping_add(mix_step(own, words, seed)) ^ other[0].wrapping_add(other[1])
 }
 
+// The lanes after chunk `c` from the front and from the back, where there is one.
+#[inline(always)]
+fn mix_two_chunks(lanes: Lanes, secret: Secret<'_>, seed: u64, input: &[u8], c: usize) -> Lanes
+    requires some { 17 ≤ length input.now }
+    requires few { length input.now ≤ 128 }
+    requires chunk { c < 4 }
+    ensures first { let s = secret_bytes secret.entry in
+        let n = steps_of input.now in
+        lanes.first ≡ medium_first seed s input.now n (n - 1 - c) → result.first ≡ medium_first seed s input.now n (n - c) }
+    ensures second { let s = secret_bytes secret.entry in
+        let n = steps_of input.now in
+        lanes.second ≡ medium_second seed s input.now n (n - 1 - c) → result.second ≡ medium_second seed s input.now n (n - c) }
+{
+    if input.len() <= 32 * c {
+        return lanes;
+    }
+    let (forward, backward, words) = chunks_17_to_128(secret, input, c);
+    Lanes {
+        first: lane_step(lanes.first, forward, &words[0], backward, seed),
+        second: lane_step(lanes.second, backward, &words[1], forward, seed),
+    }
+}
+
 #[inline(always)]
 fn impl_17_to_128_bytes(secret: Secret<'_>, seed: u64, input: &[u8]) -> X128
     requires some { 17 ≤ length input.now }
@@ -291,15 +333,12 @@ fn impl_17_to_128_bytes(secret: Secret<'_>, seed: u64, input: &[u8]) -> X128
     ensures low { result.low ≡ low_in Range.Medium seed (secret_bytes secret.entry) input.now }
     ensures high { result.high ≡ high_in Range.Medium seed (secret_bytes secret.entry) input.now }
 {
-    let mut first = input.len().into_u64().wrapping_mul(PRIME64_1);
-    let mut second = 0;
-    let n = (input.len() - 1) / 32 + 1;
-    for t in 0..n {
-        let (forward, backward, words) = chunks_17_to_128(secret, input, n - 1 - t);
-        first = lane_step(first, forward, &words[0], backward, seed);
-        second = lane_step(second, backward, &words[1], forward, seed);
-    }
-    finalize_medium(first, second, input.len().into_u64(), seed)
+    let lanes = initial_lanes(input);
+    let lanes = mix_two_chunks(lanes, secret, seed, input, 3);
+    let lanes = mix_two_chunks(lanes, secret, seed, input, 2);
+    let lanes = mix_two_chunks(lanes, secret, seed, input, 1);
+    let lanes = mix_two_chunks(lanes, secret, seed, input, 0);
+    finalize_medium(lanes, input.len().into_u64(), seed)
 }
 
 #[inline(never)]
@@ -310,8 +349,10 @@ fn impl_129_to_240_bytes(secret: Secret<'_>, seed: u64, input: &[u8]) -> X128
     ensures high { result.high ≡ high_in Range.Large seed (secret_bytes secret.entry) input.now }
 {
     let pairs = pairs_of_u64_bytes(input);
-    let mut first = input.len().into_u64().wrapping_mul(PRIME64_1);
-    let mut second = 0;
+    let Lanes {
+        mut first,
+        mut second,
+    } = initial_lanes(input);
 
     let words = secret.for_128().words_for_129_to_240_part1();
     'early: for p in 0..4 {
@@ -344,22 +385,25 @@ fn impl_129_to_240_bytes(secret: Secret<'_>, seed: u64, input: &[u8]) -> X128
     let (tail, _) = bp_as_chunks(tail);
     let words = secret.for_128().words_for_129_to_240_part3();
     let negated = seed.wrapping_neg();
-    first = lane_step(first, &tail[1], &words[0], &tail[0], negated);
-    second = lane_step(second, &tail[0], &words[1], &tail[1], negated);
-    finalize_medium(first, second, input.len().into_u64(), seed)
+    let lanes = Lanes {
+        first: lane_step(first, &tail[1], &words[0], &tail[0], negated),
+        second: lane_step(second, &tail[0], &words[1], &tail[1], negated),
+    };
+    finalize_medium(lanes, input.len().into_u64(), seed)
 }
 
 // The value of the lanes.
 #[inline(always)]
 #[tactic(auto, unfolding(twox_core::specs::Middle::lanes_low, twox_core::specs::Middle::lanes_high))]
-fn finalize_medium(first: u64, second: u64, input_len: u64, seed: u64) -> X128
-    ensures low { result.low ≡ lanes_low first second }
-    ensures high { result.high ≡ lanes_high seed input_len first second }
+fn finalize_medium(lanes: Lanes, input_len: u64, seed: u64) -> X128
+    ensures low { result.low ≡ lanes_low lanes.first lanes.second }
+    ensures high { result.high ≡ lanes_high seed input_len lanes.first lanes.second }
 {
-    let low = first.wrapping_add(second);
-    let high = first
+    let low = lanes.first.wrapping_add(lanes.second);
+    let high = lanes
+        .first
         .wrapping_mul(PRIME64_1)
-        .wrapping_add(second.wrapping_mul(PRIME64_4))
+        .wrapping_add(lanes.second.wrapping_mul(PRIME64_4))
         .wrapping_add(input_len.wrapping_sub(seed).wrapping_mul(PRIME64_2));
     X128 {
         low: avalanche(low),

@@ -11,7 +11,7 @@ use Rattle.twox_hash.proofs.xxhash3_128.impl_129_to_240_bytes.Goals as goal
 
 pub early-init : goal.early-init
 unfolding pairs_first pairs_second
-early-init c = record { first = ap (λ n. mul64 n prime64_1) c.into_u64-first.ensures; second = refl }
+early-init c = record { first = c.initial_lanes-first.ensures.first; second = c.initial_lanes-first.ensures.second }
 
 pub early-preserved : goal.early-preserved
 early-preserved c =
@@ -84,7 +84,7 @@ last_chunk c =
     ap (λ l. get_or l 1 []) (tail_pair c) ∙ ap (chunk_at c.args.input.now) place
 
 -- each lane after the last step
-last_first : (c : goal.After-finalize_medium) → c.lane_step-first-2.result ≡ large_first c.args.seed (secret_bytes c.args.secret) c.args.input.now
+last_first : (c : goal.After-finalize_medium) → c.lane_step.result ≡ large_first c.args.seed (secret_bytes c.args.secret) c.args.input.now
 unfolding large_first
 last_first c =
     let m = c.args.input.now in
@@ -93,12 +93,12 @@ last_first c =
     let start : ℕ = avalanche (pairs_first seed s m 0 0 (mul64 (length m) prime64_1) 4) in
     let negated : c.wrapping_neg-negated.result ≡ sub64 0 seed = omega arith in
     let done : c.later.p ≡ (length m - 128) / 32 = omega (arith, c.pairs_of_u64_bytes-pairs.ensures.count) in
-    c.lane_step-first-2.ensures
+    c.lane_step.ensures
     ∙ lane_step-of_chunks _ s m _ _ _ _ _ (length m - 16) 103 (length m - 32) (c.later.invariant.first ∙ ap (pairs_first seed s m 128 3 start) done)
     (last_chunk c) (ap (λ l. get_or l 0 []) (tail_words c)) (ap (λ l. get_or l 0 []) (tail_pair c))
     ∙ ap (λ (x : ℕ). lane_step x s m (pairs_first seed s m 128 3 start ((length m - 128) / 32)) (length m - 16) 103 (length m - 32)) negated
 
-last_second : (c : goal.After-finalize_medium) → c.lane_step-second-2.result ≡ large_second c.args.seed (secret_bytes c.args.secret) c.args.input.now
+last_second : (c : goal.After-finalize_medium) → c.lane_step-2.result ≡ large_second c.args.seed (secret_bytes c.args.secret) c.args.input.now
 unfolding large_second
 last_second c =
     let m = c.args.input.now in
@@ -107,7 +107,7 @@ last_second c =
     let start : ℕ = avalanche (pairs_second seed s m 0 0 0 4) in
     let negated : c.wrapping_neg-negated.result ≡ sub64 0 seed = omega arith in
     let done : c.later.p ≡ (length m - 128) / 32 = omega (arith, c.pairs_of_u64_bytes-pairs.ensures.count) in
-    c.lane_step-second-2.ensures
+    c.lane_step-2.ensures
     ∙ lane_step-of_chunks _ s m _ _ _ _ _ (length m - 32) 119 (length m - 16) (c.later.invariant.second ∙ ap (pairs_second seed s m 128 3 start) done)
     (ap (λ l. get_or l 0 []) (tail_pair c)) (ap (λ l. get_or l 1 []) (tail_words c)) (last_chunk c)
     ∙ ap (λ (x : ℕ). lane_step x s m (pairs_second seed s m 128 3 start ((length m - 128) / 32)) (length m - 32) 119 (length m - 16)) negated
@@ -120,5 +120,5 @@ pub returns-clause-high : goal.returns-clause-high
 unfolding high_in
 returns-clause-high c =
     c.finalize_medium.ensures.high
-    ∙ ap (λ len. lanes_high c.args.seed len c.lane_step-first-2.result c.lane_step-second-2.result) c.into_u64.ensures
+    ∙ ap (λ len. lanes_high c.args.seed len c.lane_step.result c.lane_step-2.result) c.into_u64.ensures
     ∙ ap₂ (lanes_high c.args.seed (length c.args.input.now)) (last_first c) (last_second c)

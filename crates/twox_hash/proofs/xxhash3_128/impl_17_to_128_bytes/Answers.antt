@@ -1,54 +1,49 @@
-use Rattle.std.proofs.Common.{◌≡◌, ℕ, [], get_or, ◌+◌, ◌*◌, ◌-◌, length, arith, refl, sym, ap, ap₂, ◌∙◌}
-use Rattle.twox_core.specs.Parts.{pair_at}
-use Rattle.twox_core.specs.Primes.{prime64_1}
+use Rattle.std.proofs.Common.{◌≡◌, ◌-◌, length, arith, ap, ap₂, ◌∙◌}
 use Rattle.twox_core.specs.SecretBytes.{secret_bytes}
-use Rattle.twox_core.specs.Steps.{mul64}
 use Rattle.twox_core.specs.Middle.{lanes_high, lanes_low, medium_first, medium_second}
 use Rattle.twox_core.specs.Value.{high_in, low_in, steps_of}
-use Rattle.twox_core.proofs.MixFacts.{lane_step-of_chunks, medium_first-next, medium_second-next}
 use Rattle.twox_hash.proofs.xxhash3_128.impl_17_to_128_bytes.Goals as goal
 
-pub loop-t-init : goal.loop-t-init
-unfolding medium_first medium_second
-loop-t-init c = record { first = ap (λ n. mul64 n prime64_1) c.into_u64-first.ensures; second = refl }
+-- each lane after its last step
+last_first : (c : goal.After-finalize_medium) → c.mix_two_chunks-lanes-4.result.first
+    ≡ medium_first c.args.seed (secret_bytes c.args.secret) c.args.input.now (steps_of c.args.input.now) (steps_of c.args.input.now)
+unfolding medium_first
+last_first c =
+    let n = steps_of c.args.input.now in
+    let after = medium_first c.args.seed (secret_bytes c.args.secret) c.args.input.now n in
+    let none : 0 ≡ n - 1 - 3 = omega arith in
+    let one : n - 3 ≡ n - 1 - 2 = omega arith in
+    let two : n - 2 ≡ n - 1 - 1 = omega arith in
+    let three : n - 1 ≡ n - 1 - 0 = omega arith in
+    let all : n - 0 ≡ n = omega arith in
+    c.mix_two_chunks-lanes-4.ensures.first
+    (c.mix_two_chunks-lanes-3.ensures.first
+    (c.mix_two_chunks-lanes-2.ensures.first
+    (c.mix_two_chunks-lanes.ensures.first (c.initial_lanes-lanes.ensures.first ∙ ap after none) ∙ ap after one) ∙ ap after two) ∙ ap after three) ∙ ap after all
 
-pub loop-t-preserved : goal.loop-t-preserved
-loop-t-preserved c =
-    let m = c.args.input.now in
-    let s = secret_bytes c.args.secret in
-    let seed = c.args.seed in
-    let n = steps_of m in
-    let t = c.loop-t.t in
-    let i = n - 1 - t in
-    let before = c.loop-t.invariant in
-    let parts = c.chunks_17_to_128.ensures in
-    let key : (k : ℕ) → get_or c.chunks_17_to_128.result.2.now k [] ≡ get_or (pair_at s (32 * i)) k [] = λ k. ap (λ l. get_or l k []) parts.words in
-    record {
-      first = c.lane_step-first.ensures
-          ∙ lane_step-of_chunks seed s m _ _ _ _ _ (16 * i) (32 * i) (length m - 16 * (i + 1)) before.first parts.forward (key 0) parts.backward
-          ∙ sym (medium_first-next seed s m n t);
-      second = c.lane_step-second.ensures
-          ∙ lane_step-of_chunks seed s m _ _ _ _ _ (length m - 16 * (i + 1)) (32 * i + 16) (16 * i) before.second parts.backward (key 1) parts.forward
-          ∙ sym (medium_second-next seed s m n t);
-    }
+last_second : (c : goal.After-finalize_medium) → c.mix_two_chunks-lanes-4.result.second
+    ≡ medium_second c.args.seed (secret_bytes c.args.secret) c.args.input.now (steps_of c.args.input.now) (steps_of c.args.input.now)
+unfolding medium_second
+last_second c =
+    let n = steps_of c.args.input.now in
+    let after = medium_second c.args.seed (secret_bytes c.args.secret) c.args.input.now n in
+    let none : 0 ≡ n - 1 - 3 = omega arith in
+    let one : n - 3 ≡ n - 1 - 2 = omega arith in
+    let two : n - 2 ≡ n - 1 - 1 = omega arith in
+    let three : n - 1 ≡ n - 1 - 0 = omega arith in
+    let all : n - 0 ≡ n = omega arith in
+    c.mix_two_chunks-lanes-4.ensures.second
+    (c.mix_two_chunks-lanes-3.ensures.second
+    (c.mix_two_chunks-lanes-2.ensures.second
+    (c.mix_two_chunks-lanes.ensures.second (c.initial_lanes-lanes.ensures.second ∙ ap after none) ∙ ap after one) ∙ ap after two) ∙ ap after three) ∙ ap after all
 
 pub returns-clause-low : goal.returns-clause-low
 unfolding low_in
-returns-clause-low c =
-    let m = c.args.input.now in
-    let s = secret_bytes c.args.secret in
-    let n = steps_of m in
-    let done : c.loop-t.t ≡ n = omega arith in
-    c.finalize_medium.ensures.low
-    ∙ ap₂ lanes_low (c.loop-t.invariant.first ∙ ap (medium_first c.args.seed s m n) done) (c.loop-t.invariant.second ∙ ap (medium_second c.args.seed s m n) done)
+returns-clause-low c = c.finalize_medium.ensures.low ∙ ap₂ lanes_low (last_first c) (last_second c)
 
 pub returns-clause-high : goal.returns-clause-high
 unfolding high_in
 returns-clause-high c =
-    let m = c.args.input.now in
-    let s = secret_bytes c.args.secret in
-    let n = steps_of m in
-    let done : c.loop-t.t ≡ n = omega arith in
     c.finalize_medium.ensures.high
-    ∙ ap (λ len. lanes_high c.args.seed len c.loop-t.first c.loop-t.second) c.into_u64.ensures
-    ∙ ap₂ (lanes_high c.args.seed (length m)) (c.loop-t.invariant.first ∙ ap (medium_first c.args.seed s m n) done) (c.loop-t.invariant.second ∙ ap (medium_second c.args.seed s m n) done)
+    ∙ ap (λ len. lanes_high c.args.seed len c.mix_two_chunks-lanes-4.result.first c.mix_two_chunks-lanes-4.result.second) c.into_u64.ensures
+    ∙ ap₂ (lanes_high c.args.seed (length c.args.input.now)) (last_first c) (last_second c)
