@@ -6,4 +6,5 @@ pub mod PartFacts
 pub mod ShortLaws
 pub mod StepLaws
 pub mod StripeFacts
+pub mod ValueLaws
 pub mod Vectors

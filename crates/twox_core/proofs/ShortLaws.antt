@@ -1,16 +1,38 @@
 -- The values of up to 16 bytes tell the bytes and the seed.
-use Rattle.std.proofs.Common.{◌≡◌, ℕ, zero, suc, ◌+◌, ◌-◌, ◌*◌, ◌/◌, ◌%◌, ◌^◌, ◌<◌, ◌≤◌, List, length, slice_index, bit_xor, sym, ap, refl, subst, inl, inr, ◌∙◌, arith, lit<, mod-lt, pow_pos}
+use Rattle.std.proofs.Common.{◌≡◌, ℕ, zero, suc, ◌+◌, ◌-◌, ◌*◌, ◌/◌, ◌%◌, ◌^◌, ◌<◌, ◌≤◌, Bool, true, false, if◌then◌else◌, nat_lt, List, [], ◌∷◌, length, slice_index, bit_xor, sym, ap, refl, subst, inl, inr, ◌∙◌, arith, lit<, mod-lt, pow_pos}
 use Rattle.std.specs.Int.{w32, w64, swap_bytes}
 use Rattle.std.proofs.lemmas.Nat.{xor_lt}
 use Rattle.std.proofs.lemmas.Grind.{same_number_lists}
 use Rattle.std.proofs.lemmas.Bool.{cases_lt}
+use Rattle.std.proofs.lemmas.Bool.Decides.{nat_tests}
 use Rattle.twox_plain.specs.Word.{IsBytes, word_at}
 use Rattle.twox_plain.proofs.OneToOne.{xor_cancel_left, xor_cancel_right, multiple_one_to_one, sum_one_to_one_64}
 use Rattle.twox_plain.proofs.WordLaws.{word_at-lt_32, word_at-lt_64, told_by_word_32, told_by_word_64}
 use Rattle.twox_core.specs.Primes.{prime32_2, prime64_1}
+use Rattle.twox_core.specs.Secret.{default_secret}
 use Rattle.twox_core.specs.Steps.{word64, avalanche}
 use Rattle.twox_core.specs.Short.{pair32, pair64, empty64, empty128_low, combined, tiny_low, strong, mixed_seed, first32, last32, four64, four_product, four128_low, four128_high, first64, last64, nine_first, nine_second, nine_high, nine_low, nine_both, nine_product}
 use Rattle.twox_core.proofs.StepLaws.{avalanche_one_to_one, avalanche_xxh64_one_to_one, strong_one_to_one, mixed_seed_one_to_one, mixed_seed-lt, difference_one_to_one, four128_one_to_one, wide_one_to_one, second_word_one_to_one}
+
+-- ---- the default secret is bytes
+
+all_bytes : List ℕ → Bool
+all_bytes [] = true
+all_bytes (x ∷ l) = if nat_lt x 256 then all_bytes l else false
+
+both_true : (b c : Bool) → (if b then c else false) ≡ true → (b ≡ true) × (c ≡ true)
+both_true true c e = (refl, e)
+both_true false c e = grind (arith, e)
+
+bytes_from : (l : List ℕ) → all_bytes l ≡ true → IsBytes l
+unfolding all_bytes
+bytes_from [] e k = lit< tt
+bytes_from (x ∷ l) e zero = let test = (both_true (nat_lt x 256) (all_bytes l) e).0 in grind (arith, nat_tests, test)
+bytes_from (x ∷ l) e (suc k) = bytes_from l (both_true (nat_lt x 256) (all_bytes l) e).1 k
+
+pub default_secret-bytes : IsBytes default_secret
+unfolding default_secret all_bytes
+default_secret-bytes = bytes_from default_secret refl
 
 -- ---- no bytes: the seed
 
@@ -183,7 +205,8 @@ pub four128_in_seed : (s m : List ℕ) (x y : ℕ) → IsBytes m → 4 ≤ lengt
     → four128_high (four_product x s m) ≡ four128_high (four_product y s m) → x ≡ y
 unfolding four_inside
 four128_in_seed s m x y p low high bx by e f =
-    let sums = xor_cancel_right _ _ _ (four_product_told s m m x y p p refl low high e f) in
+    let sums : (pair64 s 16 + mixed_seed x) % 2 ^ 64 ≡ (pair64 s 16 + mixed_seed y) % 2 ^ 64 =
+    xor_cancel_right (first32 m + last32 m * 2 ^ 32) _ _ (four_product_told s m m x y p p refl low high e f) in
     let small = mixed_seed-lt x bx in
     let small' = mixed_seed-lt y by in
     mixed_seed_one_to_one x y bx by (omega (arith, sums))
@@ -277,9 +300,10 @@ pub nine128_told : (seed : ℕ) (s m n : List ℕ) → IsBytes m → IsBytes n �
 unfolding nine_first nine_second
 nine128_told seed s m n p q len low high e f =
     let words = nine_told s m n seed seed p q len e f in
-    let last : last64 m ≡ last64 n = xor_cancel_left _ _ _ words.1 in
+    let key = (pair64 s 32 + (2 ^ 64 - seed)) % 2 ^ 64 in
+    let last : last64 m ≡ last64 n = xor_cancel_left ((pair64 s 48 + seed) % 2 ^ 64) (last64 m) (last64 n) words.1 in
     let first : first64 m ≡ first64 n =
-    xor_cancel_left _ _ _ (xor_cancel_right (last64 n) _ _ (ap (bit_xor (bit_xor ((pair64 s 32 + (2 ^ 64 - seed)) % 2 ^ 64) (first64 m))) (sym last) ∙ words.0)) in
+    xor_cancel_left key (first64 m) (first64 n) (xor_cancel_right (last64 n) _ _ (ap (bit_xor (bit_xor key (first64 m))) (sym last) ∙ words.0)) in
     same_ends 8 m n len (omega arith) high (told_by_word_64 m n 0 0 p q (omega arith) (omega arith) first)
     (told_by_word_64 m n (length m - 8) (length n - 8) p q (omega arith) (omega arith) last)
 
