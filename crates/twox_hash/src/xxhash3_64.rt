@@ -90,8 +90,7 @@ impl Hasher<Global> {
         if input.len() <= CUTOFF {
             return Ok(impl_oneshot(default_secret(), seed, input));
         }
-        let secret = Secret::new(secret)?;
-        Ok(impl_oneshot_long(secret, input))
+        Ok(impl_oneshot_long(Secret::new(secret)?, input))
     }
 }
 

@@ -2,4 +2,7 @@
 #![tactic(auto)]
 
 #[cfg(test)]
+mod long;
+
+#[cfg(test)]
 mod short;

@@ -124,7 +124,8 @@ impl<V: Vector> Algorithm<V> {
         ensures { result ≡ finalized_64 acc last_block.now last_stripe.now (secret_bytes secret.entry) len }
     {
         let acc = self.last_round(acc, last_block, last_stripe, secret);
-        final_merge(&acc, len.wrapping_mul(PRIME64_1), secret.final_secret())
+        let init = len.wrapping_mul(PRIME64_1);
+        final_merge(&acc, init, secret.final_secret())
     }
 
     /// The value of 128 bits, likewise: its low half is the value of 64 bits, and the high half merges the
@@ -143,12 +144,10 @@ impl<V: Vector> Algorithm<V> {
         ensures { result ≡ finalized_128 acc last_block.now last_stripe.now (secret_bytes secret.entry) len }
     {
         let acc = self.last_round(acc, last_block, last_stripe, secret);
-        let low = final_merge(&acc, len.wrapping_mul(PRIME64_1), secret.final_secret());
-        let high = final_merge(
-            &acc,
-            !len.wrapping_mul(PRIME64_2),
-            secret.for_128().final_secret(),
-        );
+        let low = len.wrapping_mul(PRIME64_1);
+        let low = final_merge(&acc, low, secret.final_secret());
+        let high = !len.wrapping_mul(PRIME64_2);
+        let high = final_merge(&acc, high, secret.for_128().final_secret());
         from_halves(high, low)
     }
 
