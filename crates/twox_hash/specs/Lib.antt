@@ -14,3 +14,4 @@ pub use Rattle.twox_plain.specs.Saved64
 pub use Rattle.twox_core.specs.Secret
 pub use Rattle.twox_core.specs.SecretBytes
 pub use Rattle.twox_core.specs.Value
+pub use Rattle.twox_core.specs.OtherBytes
