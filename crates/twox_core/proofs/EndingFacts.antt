@@ -1,5 +1,5 @@
 -- The last block, the last 64 bytes and the merge give the long values of the definition.
-use Rattle.std.proofs.Common.{◌≡◌, ℕ, zero, suc, ◌+◌, ◌-◌, ◌*◌, ◌/◌, ◌%◌, ◌^◌, ◌<◌, ◌≤◌, ◌==◌, true, false, List, length, take, drop, slice_index, refl, sym, ap, ap₂, ◌∙◌, arith, lit<, add-zero, zero-add, add-one, length-drop}
+use Rattle.std.proofs.Common.{◌≡◌, ℕ, zero, suc, ◌+◌, ◌-◌, ◌*◌, ◌/◌, ◌%◌, ◌^◌, ◌<◌, ◌≤◌, ◌==◌, false, List, length, take, drop, slice_index, refl, sym, ap, ap₂, ◌∙◌, arith, lit<, add-zero, zero-add, add-one, length-drop}
 use Rattle.std.proofs.Math.Nat.{div-add-mod, div-div-eq-div-mul}
 use Rattle.std.proofs.lemmas.Bool.Decides.{nat_tests}
 use Rattle.std.proofs.lemmas.List.{drop-drop, length-take-le, take_all}
@@ -7,10 +7,9 @@ use Rattle.std.proofs.lemmas.Nat.{mod-mul-add, mod_below}
 use Rattle.std.specs.Int.{w64}
 use Rattle.twox_plain.specs.Word.{counted}
 use Rattle.twox_plain.proofs.WordFacts.{word_at-part}
-use Rattle.twox_core.specs.Primes.{prime64_1, prime64_2}
-use Rattle.twox_core.specs.Steps.{word64, mul64, sum_below}
+use Rattle.twox_core.specs.Steps.{word64, sum_below}
 use Rattle.twox_core.specs.Parts.{stripe_at}
-use Rattle.twox_core.specs.Long.{accumulated, lane_after, last_lane, stripes_of, pair_fold, merged, long_low, long_high}
+use Rattle.twox_core.specs.Long.{lane_after, last_lane, stripes_of, pair_fold, merged, long_low, long_high}
 use Rattle.twox_core.specs.Kernel.{lanes8, accumulate}
 use Rattle.twox_core.specs.Stripes.{at_start, stripe_taken, stripes_taken}
 use Rattle.twox_core.specs.Ending.{lanes_after, stripes_before, block_lanes, last_block, last_stripe, accumulated_block, lanes_at_end, finalized_64, finalized_high, finalized_128}

@@ -3,6 +3,5 @@
 
 #[cfg(test)]
 mod long;
-
 #[cfg(test)]
 mod short;

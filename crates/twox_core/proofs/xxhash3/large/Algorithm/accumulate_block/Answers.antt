@@ -1,5 +1,4 @@
-use Rattle.std.proofs.Common.{◌≡◌, ◌+◌, ◌-◌, ◌*◌, min, drop, ◌∙◌, arith}
-use Rattle.twox_core.specs.Long.{stripes_of}
+use Rattle.std.proofs.Common.{◌≡◌, ◌+◌, ◌-◌, ◌∙◌, arith}
 use Rattle.twox_core.specs.SecretBytes.{secret_bytes}
 use Rattle.twox_core.proofs.EndingFacts.{front_taken, accumulated_block-next}
 use Rattle.twox_core.proofs.xxhash3.large.Algorithm.accumulate_block.Goals as goal

@@ -1,4 +1,4 @@
-use Rattle.std.proofs.Common.{◌≡◌, ℕ, ◌+◌, ◌-◌, ◌*◌, ◌^◌, length, ap₂, ◌∙◌}
+use Rattle.std.proofs.Common.{ℕ, ◌+◌, ◌-◌, ◌*◌, ◌^◌, length, ap₂, ◌∙◌}
 use Rattle.twox_core.specs.Primes.{prime64_1, prime64_2}
 use Rattle.twox_core.specs.Steps.{mul64}
 use Rattle.twox_core.specs.SecretBytes.{secret_bytes}

@@ -1,7 +1,6 @@
-use Rattle.std.proofs.Common.{◌∙◌, slice_index, ap}
+use Rattle.std.proofs.Common.{◌∙◌}
 use Rattle.twox_core.specs.Primes.{prime64_1}
 use Rattle.twox_core.specs.Steps.{mul64}
-use Rattle.twox_core.specs.Long.{merged}
 use Rattle.twox_core.specs.SecretBytes.{secret_bytes}
 use Rattle.twox_core.specs.Ending.{finalized_64}
 use Rattle.twox_core.proofs.EndingFacts.{merged-stripe}
