@@ -7,10 +7,6 @@ use Rattle.twox_core.specs.Parts.{chunk_at, chunks_at, pair_at, pairs_at}
 
 -- ---- chunks of n items
 
-pub length-first_chunks : {X : Type 0} (n k : ℕ) (xs : List X) → length (first_chunks n k xs) ≡ k
-length-first_chunks n zero xs = refl
-length-first_chunks n (suc k) xs = ap suc (length-first_chunks n k (drop n xs))
-
 pub take-first_chunks : {X : Type 0} (n j k : ℕ) (xs : List X) → j ≤ k → take j (first_chunks n k xs) ≡ first_chunks n j xs
 take-first_chunks n zero k xs within = refl
 take-first_chunks n (suc j) zero xs within = absurd (omega arith)

@@ -11,6 +11,9 @@ pub use Rattle.twox_plain.specs.Xxh64
 pub use Rattle.twox_plain.specs.Core64
 pub use Rattle.twox_plain.specs.Record64
 pub use Rattle.twox_plain.specs.Saved64
+pub use Rattle.twox_core.specs.Parts
+pub use Rattle.twox_core.specs.Steps
+pub use Rattle.twox_core.specs.Short
 pub use Rattle.twox_core.specs.Secret
 pub use Rattle.twox_core.specs.SecretBytes
 pub use Rattle.twox_core.specs.Value
