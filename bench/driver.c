@@ -43,16 +43,19 @@ static const char *const streams[] = { "XXH32", "XXH64", "XXH3-64", "XXH3-128" }
 
 static unsigned char *input, secret[SECRET];
 
+/* Of 128 bits the halves' xor is answered. */
+static uint64_t both(struct halves h) { return h.low ^ h.high; }
+
 static uint64_t oneshot(const struct peer *p, enum kind kind, size_t n)
 {
     switch (kind) {
-    case XXH32_: return p->xxh32(input, n, 7);
-    case XXH64_: return p->xxh64(input, n, 7);
+    case XXH32_: return p->xxh32(7, input, n);
+    case XXH64_: return p->xxh64(7, input, n);
     case XXH3_64_: return p->xxh3_64(input, n);
-    case XXH3_64_SEEDED: return p->xxh3_64_seeded(input, n, 7);
-    case XXH3_64_KEYED: return p->xxh3_64_keyed(input, n, secret, SECRET);
-    case XXH3_128_: return p->xxh3_128(input, n);
-    default: return p->xxh3_128_seeded(input, n, 7);
+    case XXH3_64_SEEDED: return p->xxh3_64_seeded(7, input, n);
+    case XXH3_64_KEYED: return p->xxh3_64_keyed(secret, SECRET, input, n);
+    case XXH3_128_: return both(p->xxh3_128(input, n));
+    default: return both(p->xxh3_128_seeded(7, input, n));
     }
 }
 
@@ -62,7 +65,7 @@ static uint64_t stream(const struct peer *p, int kind, size_t piece)
     case 0: return p->xxh32_stream(input, STREAM, piece);
     case 1: return p->xxh64_stream(input, STREAM, piece);
     case 2: return p->xxh3_64_stream(input, STREAM, piece);
-    default: return p->xxh3_128_stream(input, STREAM, piece);
+    default: return both(p->xxh3_128_stream(input, STREAM, piece));
     }
 }
 

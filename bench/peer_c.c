@@ -7,22 +7,22 @@
 #define NAME_OF(x) #x
 #define NAME(x) NAME_OF(x)
 
-static uint64_t both(XXH128_hash_t h) { return h.low64 ^ h.high64; }
+static struct halves halves(XXH128_hash_t h) { return (struct halves){ h.low64, h.high64 }; }
 
-static uint64_t xxh32(const void *p, size_t n, uint64_t seed) { return XXH32(p, n, (XXH32_hash_t)seed); }
-static uint64_t xxh64(const void *p, size_t n, uint64_t seed) { return XXH64(p, n, seed); }
+static uint32_t xxh32(uint32_t seed, const void *p, size_t n) { return XXH32(p, n, seed); }
+static uint64_t xxh64(uint64_t seed, const void *p, size_t n) { return XXH64(p, n, seed); }
 static uint64_t xxh3_64(const void *p, size_t n) { return XXH3_64bits(p, n); }
-static uint64_t xxh3_64_seeded(const void *p, size_t n, uint64_t seed) { return XXH3_64bits_withSeed(p, n, seed); }
-static uint64_t xxh3_64_keyed(const void *p, size_t n, const void *s, size_t m) { return XXH3_64bits_withSecret(p, n, s, m); }
-static uint64_t xxh3_128(const void *p, size_t n) { return both(XXH3_128bits(p, n)); }
-static uint64_t xxh3_128_seeded(const void *p, size_t n, uint64_t seed) { return both(XXH3_128bits_withSeed(p, n, seed)); }
+static uint64_t xxh3_64_seeded(uint64_t seed, const void *p, size_t n) { return XXH3_64bits_withSeed(p, n, seed); }
+static uint64_t xxh3_64_keyed(const void *s, size_t m, const void *p, size_t n) { return XXH3_64bits_withSecret(p, n, s, m); }
+static struct halves xxh3_128(const void *p, size_t n) { return halves(XXH3_128bits(p, n)); }
+static struct halves xxh3_128_seeded(uint64_t seed, const void *p, size_t n) { return halves(XXH3_128bits_withSeed(p, n, seed)); }
 
 /* Feeds a stream in pieces. */
 #define FEED(update)                                                                  \
     for (size_t at = 0; at < n; at += piece)                                          \
         update(&state, (const char *)p + at, n - at < piece ? n - at : piece)
 
-static uint64_t xxh32_stream(const void *p, size_t n, size_t piece)
+static uint32_t xxh32_stream(const void *p, size_t n, size_t piece)
 {
     XXH32_state_t state;
     XXH32_reset(&state, 0);
@@ -44,13 +44,13 @@ static uint64_t xxh3_64_stream(const void *p, size_t n, size_t piece)
     FEED(XXH3_64bits_update);
     return XXH3_64bits_digest(&state);
 }
-static uint64_t xxh3_128_stream(const void *p, size_t n, size_t piece)
+static struct halves xxh3_128_stream(const void *p, size_t n, size_t piece)
 {
     XXH3_state_t state;
     XXH3_INITSTATE(&state);
     XXH3_128bits_reset(&state);
     FEED(XXH3_128bits_update);
-    return both(XXH3_128bits_digest(&state));
+    return halves(XXH3_128bits_digest(&state));
 }
 
 const struct peer PEER = {
