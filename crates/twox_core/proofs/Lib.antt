@@ -3,5 +3,8 @@ pub mod EndingFacts
 pub mod LaneFacts
 pub mod MixFacts
 pub mod PartFacts
+pub mod ShortLaws
+pub mod StepLaws
 pub mod StripeFacts
+pub mod ValueLaws
 pub mod Vectors

@@ -1,8 +1,9 @@
 //! XXH3 of 128 bits.
 
-ghost use Rattle.std.specs.Prelude.{◌≡◌, ◌↔◌, ◌+◌, ◌-◌, ◌*◌, ◌/◌, ◌^◌, ◌<◌, ◌≤◌, bit_xor, length, MatchResult, IfOk, IsErr};
+ghost use Rattle.std.specs.Prelude.{◌≡◌, ◌≢◌, ◌↔◌, ◌⊎◌, ◌+◌, ◌-◌, ◌*◌, ◌/◌, ◌^◌, ◌<◌, ◌≤◌, ℕ, List, bit_xor, length, MatchResult, IfOk, IsErr};
 ghost use Rattle.std.specs.Int.{w64};
 ghost use Rattle.twox_plain.specs.Word.{low64, high64};
+ghost use Rattle.twox_core.specs.Apart.{IsOtherShort128};
 ghost use Rattle.twox_core.specs.Ending.{finalized_128};
 ghost use Rattle.twox_core.specs.Long.{long_low, long_high};
 ghost use Rattle.twox_core.specs.Middle.{lanes_high, lanes_low, medium_first, medium_second};
@@ -11,7 +12,7 @@ ghost use Rattle.twox_core.specs.Secret.{default_secret, derived_secret};
 ghost use Rattle.twox_core.specs.SecretBytes.{secret_bytes};
 ghost use Rattle.twox_core.specs.Short.{combined, empty128_high, empty128_low, four128_high, four128_low, four_product, nine_product, tiny_high, tiny_low};
 ghost use Rattle.twox_core.specs.Steps.{add64, avalanche, mix, mul64, word64};
-ghost use Rattle.twox_core.specs.Value.{effective_secret, high_in, low_in, steps_of, xxh3_128, Range};
+ghost use Rattle.twox_core.specs.Value.{effective_secret, high_in, low_in, steps_of, xxh3_64, xxh3_128, Range};
 
 use std::alloc::{Allocator, Global};
 use twox_core::xxhash3::primes::{PRIME_MX2, PRIME32_2, PRIME64_1, PRIME64_2, PRIME64_4};
@@ -35,7 +36,10 @@ impl Hasher<Global> {
     #[inline]
     #[tactic(auto, unfolding(twox_core::specs::Value::xxh3_128, twox_core::specs::Value::range_of, twox_core::specs::Value::low_in, twox_core::specs::Value::high_in))]
     pub fn oneshot(input: &[u8]) -> u128
-        ensures { result ≡ xxh3_128 0 default_secret input.now }
+        ensures value { result ≡ xxh3_128 0 default_secret input.now }
+        ensures changed_bytes { (n : List ℕ) → IsOtherShort128 input.now n → xxh3_128 0 default_secret n ≢ result }
+        ensures changed_seed { (other : ℕ) → other < 2 ^ 64 → other ≢ 0 → length input.now ≤ 16 → xxh3_128 other default_secret input.now ≢ result }
+        ensures low_half { ((1 ≤ length input.now) × (length input.now ≤ 3)) ⊎ (240 < length input.now) → low64 result ≡ xxh3_64 0 default_secret input.now }
     {
         if input.len() <= CUTOFF {
             impl_oneshot(default_secret(), DEFAULT_SEED, input)
@@ -49,7 +53,10 @@ impl Hasher<Global> {
     #[inline]
     #[tactic(auto, unfolding(twox_core::specs::Value::xxh3_128, twox_core::specs::Value::range_of, twox_core::specs::Value::low_in, twox_core::specs::Value::high_in, twox_core::specs::Value::effective_secret))]
     pub fn oneshot_with_seed(seed: u64, input: &[u8]) -> u128
-        ensures { result ≡ xxh3_128 seed (effective_secret (derived_secret seed) input.now) input.now }
+        ensures value { result ≡ xxh3_128 seed (effective_secret (derived_secret seed) input.now) input.now }
+        ensures changed_bytes { (n : List ℕ) → IsOtherShort128 input.now n → xxh3_128 seed default_secret n ≢ result }
+        ensures changed_seed { (other : ℕ) → other < 2 ^ 64 → other ≢ seed → length input.now ≤ 16 → xxh3_128 other default_secret input.now ≢ result }
+        ensures low_half { ((1 ≤ length input.now) × (length input.now ≤ 3)) ⊎ (240 < length input.now) → low64 result ≡ xxh3_64 seed (effective_secret (derived_secret seed) input.now) input.now }
     {
         if input.len() <= CUTOFF {
             impl_oneshot(default_secret(), seed, input)
@@ -66,7 +73,10 @@ impl Hasher<Global> {
     #[inline]
     #[tactic(auto, unfolding(twox_core::specs::Value::xxh3_128, twox_core::specs::Value::range_of, twox_core::specs::Value::low_in, twox_core::specs::Value::high_in))]
     pub fn oneshot_with_secret(secret: &[u8], input: &[u8]) -> Result<u128, OneshotWithSecretError>
-        ensures { MatchResult result (λ x. (136 ≤ length secret.now) × (x ≡ xxh3_128 0 secret.now input.now)) (λ _. length secret.now < 136) }
+        ensures value { MatchResult result (λ x. (136 ≤ length secret.now) × (x ≡ xxh3_128 0 secret.now input.now)) (λ _. length secret.now < 136) }
+        ensures changed_bytes { IfOk result (λ x. (n : List ℕ) → IsOtherShort128 input.now n → xxh3_128 0 secret.now n ≢ x) }
+        ensures changed_seed { IfOk result (λ x. (other : ℕ) → other < 2 ^ 64 → other ≢ 0 → length input.now ≤ 16 → xxh3_128 other secret.now input.now ≢ x) }
+        ensures low_half { IfOk result (λ x. ((1 ≤ length input.now) × (length input.now ≤ 3)) ⊎ (240 < length input.now) → low64 x ≡ xxh3_64 0 secret.now input.now) }
     {
         let secret = Secret::new(secret)?;
         if input.len() <= CUTOFF {
@@ -91,6 +101,9 @@ impl Hasher<Global> {
     ) -> Result<u128, OneshotWithSecretError>
         ensures refused { IsErr result ↔ ((240 < length input.now) × (length secret.now < 136)) }
         ensures value { IfOk result (λ x. x ≡ xxh3_128 seed (effective_secret secret.now input.now) input.now) }
+        ensures changed_bytes { IfOk result (λ x. (n : List ℕ) → IsOtherShort128 input.now n → xxh3_128 seed default_secret n ≢ x) }
+        ensures changed_seed { IfOk result (λ x. (other : ℕ) → other < 2 ^ 64 → other ≢ seed → length input.now ≤ 16 → xxh3_128 other default_secret input.now ≢ x) }
+        ensures low_half { IfOk result (λ x. ((1 ≤ length input.now) × (length input.now ≤ 3)) ⊎ (240 < length input.now) → low64 x ≡ xxh3_64 seed (effective_secret secret.now input.now) input.now) }
     {
         if input.len() <= CUTOFF {
             return Ok(impl_oneshot(default_secret(), seed, input));

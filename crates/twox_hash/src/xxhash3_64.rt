@@ -1,6 +1,7 @@
 //! XXH3 of 64 bits.
 
-ghost use Rattle.std.specs.Prelude.{◌≡◌, ◌↔◌, ◌+◌, ◌*◌, ◌<◌, ◌≤◌, length, MatchResult, IfOk, IsErr};
+ghost use Rattle.std.specs.Prelude.{◌≡◌, ◌≢◌, ◌↔◌, ◌+◌, ◌*◌, ◌^◌, ◌<◌, ◌≤◌, ℕ, List, length, MatchResult, IfOk, IsErr};
+ghost use Rattle.twox_core.specs.Apart.{IsOtherShort64};
 ghost use Rattle.twox_core.specs.Ending.{finalized_64};
 ghost use Rattle.twox_core.specs.Long.{long_low};
 ghost use Rattle.twox_core.specs.Middle.{large64, medium64};
@@ -30,7 +31,9 @@ impl Hasher<Global> {
     #[inline]
     #[tactic(auto, unfolding(twox_core::specs::Value::xxh3_64, twox_core::specs::Value::range_of, twox_core::specs::Value::value64_in))]
     pub fn oneshot(input: &[u8]) -> u64
-        ensures { result ≡ xxh3_64 0 default_secret input.now }
+        ensures value { result ≡ xxh3_64 0 default_secret input.now }
+        ensures changed_bytes { (n : List ℕ) → IsOtherShort64 input.now n → xxh3_64 0 default_secret n ≢ result }
+        ensures changed_seed { (other : ℕ) → other < 2 ^ 64 → other ≢ 0 → length input.now ≤ 8 → xxh3_64 other default_secret input.now ≢ result }
     {
         if input.len() <= CUTOFF {
             impl_oneshot(default_secret(), DEFAULT_SEED, input)
@@ -44,7 +47,9 @@ impl Hasher<Global> {
     #[inline]
     #[tactic(auto, unfolding(twox_core::specs::Value::xxh3_64, twox_core::specs::Value::range_of, twox_core::specs::Value::value64_in, twox_core::specs::Value::effective_secret))]
     pub fn oneshot_with_seed(seed: u64, input: &[u8]) -> u64
-        ensures { result ≡ xxh3_64 seed (effective_secret (derived_secret seed) input.now) input.now }
+        ensures value { result ≡ xxh3_64 seed (effective_secret (derived_secret seed) input.now) input.now }
+        ensures changed_bytes { (n : List ℕ) → IsOtherShort64 input.now n → xxh3_64 seed default_secret n ≢ result }
+        ensures changed_seed { (other : ℕ) → other < 2 ^ 64 → other ≢ seed → length input.now ≤ 8 → xxh3_64 other default_secret input.now ≢ result }
     {
         if input.len() <= CUTOFF {
             impl_oneshot(default_secret(), seed, input)
@@ -61,7 +66,9 @@ impl Hasher<Global> {
     #[inline]
     #[tactic(auto, unfolding(twox_core::specs::Value::xxh3_64, twox_core::specs::Value::range_of, twox_core::specs::Value::value64_in))]
     pub fn oneshot_with_secret(secret: &[u8], input: &[u8]) -> Result<u64, OneshotWithSecretError>
-        ensures { MatchResult result (λ x. (136 ≤ length secret.now) × (x ≡ xxh3_64 0 secret.now input.now)) (λ _. length secret.now < 136) }
+        ensures value { MatchResult result (λ x. (136 ≤ length secret.now) × (x ≡ xxh3_64 0 secret.now input.now)) (λ _. length secret.now < 136) }
+        ensures changed_bytes { IfOk result (λ x. (n : List ℕ) → IsOtherShort64 input.now n → xxh3_64 0 secret.now n ≢ x) }
+        ensures changed_seed { IfOk result (λ x. (other : ℕ) → other < 2 ^ 64 → other ≢ 0 → length input.now ≤ 8 → xxh3_64 other secret.now input.now ≢ x) }
     {
         let secret = Secret::new(secret)?;
         if input.len() <= CUTOFF {
@@ -86,6 +93,8 @@ impl Hasher<Global> {
     ) -> Result<u64, OneshotWithSecretError>
         ensures refused { IsErr result ↔ ((240 < length input.now) × (length secret.now < 136)) }
         ensures value { IfOk result (λ x. x ≡ xxh3_64 seed (effective_secret secret.now input.now) input.now) }
+        ensures changed_bytes { IfOk result (λ x. (n : List ℕ) → IsOtherShort64 input.now n → xxh3_64 seed default_secret n ≢ x) }
+        ensures changed_seed { IfOk result (λ x. (other : ℕ) → other < 2 ^ 64 → other ≢ seed → length input.now ≤ 8 → xxh3_64 other default_secret input.now ≢ x) }
     {
         if input.len() <= CUTOFF {
             return Ok(impl_oneshot(default_secret(), seed, input));

@@ -46,12 +46,15 @@ quotient_zero d m two e =
     let more : d * 2 ≤ d * m = mul-le-mul_left d two in omega arith
 
 -- with d the xor of two such numbers, d is its own quotient, and so zero
-pub xor_shift_one_to_one : (n k : ℕ) → 2 ≤ 2 ^ k → IsOneToOne n (λ x. bit_xor x (x / 2 ^ k))
-xor_shift_one_to_one n k two x y p q e =
+pub xor_shift_told : (k x y : ℕ) → 2 ≤ 2 ^ k → bit_xor x (x / 2 ^ k) ≡ bit_xor y (y / 2 ^ k) → x ≡ y
+xor_shift_told k x y two e =
     let d = bit_xor x y in
     let both : bit_xor d (d / 2 ^ k) ≡ 0 =
     ap (bit_xor d) (xor_shr x y k) ∙ xor_four x y (x / 2 ^ k) (y / 2 ^ k) ∙ ap (λ (z : ℕ). bit_xor z (bit_xor y (y / 2 ^ k))) e ∙ xor_self (bit_xor y (y / 2 ^ k)) in
     same_from_xor x y (quotient_zero d (2 ^ k) two (same_from_xor d (d / 2 ^ k) both))
+
+pub xor_shift_one_to_one : (n k : ℕ) → 2 ≤ 2 ^ k → IsOneToOne n (λ x. bit_xor x (x / 2 ^ k))
+xor_shift_one_to_one n k two x y p q e = xor_shift_told k x y two e
 
 -- ---- a multiple by p, which has the inverse q modulo m
 

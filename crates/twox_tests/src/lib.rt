@@ -2,6 +2,10 @@
 #![tactic(auto)]
 
 #[cfg(test)]
+mod laws;
+#[cfg(test)]
 mod long;
+#[cfg(test)]
+mod plain;
 #[cfg(test)]
 mod short;

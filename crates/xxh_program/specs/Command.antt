@@ -1,5 +1,6 @@
 -- What the words of the command line ask for.
 use Rattle.std.specs.Prelude.{ℕ, ◌<◌, List, [], ◌∷◌, length, ◌&&◌, nat_lt, bytes_eq, codes, if◌then◌else◌}
+use Rattle.std.specs.Borrow.{Bor}
 use Rattle.std.specs.Str.{all_ascii_digits}
 use Rattle.std.specs.Str.Parse.{digits_value}
 use Rattle.std.specs.declared.result.Result.{Result}
@@ -10,7 +11,7 @@ use Rattle.xxh_program.specs.declared.program.kind.Kind.TheVariants.{X32, X64}
 use Rattle.xxh_program.specs.declared.program.fault.Fault.{Fault}
 use Rattle.xxh_program.specs.declared.program.fault.Fault.TheVariants.{Usage, BadSeed}
 use Rattle.xxh_program.specs.declared.program.command.Command.{Command}
-use Rattle.xxh_program.specs.declared.program.command.Command.TheVariants.{Hash}
+use Rattle.xxh_program.specs.declared.program.command.Command.TheVariants.{Hash, Save32, Save64, Resume32, Resume64}
 
 -- the kind of this name
 abbrev pub kind_named : List ℕ → Result Kind Fault
@@ -26,26 +27,58 @@ seed_named limit word =
     else Err BadSeed
 
 -- the kind is tested before the seed
-abbrev pub hash_seeded : Kind → Result ℕ Fault → Result Command Fault
-hash_seeded kind (Ok seed) = Ok (Hash kind seed)
-hash_seeded kind (Err fault) = Err fault
+abbrev pub hash_with : Kind → Result ℕ Fault → Result Command Fault
+hash_with kind (Ok seed) = Ok (Hash kind seed)
+hash_with kind (Err fault) = Err fault
 
-abbrev pub hash_of_kind : Result Kind Fault → List ℕ → Result Command Fault
-hash_of_kind (Ok kind) seed = hash_seeded kind (seed_named (seed_limit kind) seed)
-hash_of_kind (Err fault) seed = Err fault
+abbrev pub hash_of : Result Kind Fault → List ℕ → Result Command Fault
+hash_of (Ok kind) seed = hash_with kind (seed_named (seed_limit kind) seed)
+hash_of (Err fault) seed = Err fault
 
 abbrev pub hash_command : List ℕ → List ℕ → Result Command Fault
-hash_command kind seed = hash_of_kind (kind_named kind) seed
+hash_command kind seed = hash_of (kind_named kind) seed
 
-abbrev pub command_named : List ℕ → List ℕ → List ℕ → Result Command Fault
-command_named name kind seed = if bytes_eq name (codes "hash") then hash_command kind seed else Err Usage
+abbrev pub save_with : Kind → Result ℕ Fault → Result Command Fault
+save_with X32 (Ok seed) = Ok (Save32 seed)
+save_with X64 (Ok seed) = Ok (Save64 seed)
+save_with kind (Err fault) = Err fault
+
+abbrev pub save_of : Result Kind Fault → List ℕ → Result Command Fault
+save_of (Ok kind) seed = save_with kind (seed_named (seed_limit kind) seed)
+save_of (Err fault) seed = Err fault
+
+abbrev pub save_command : List ℕ → List ℕ → Result Command Fault
+save_command kind seed = save_of (kind_named kind) seed
+
+-- the state is tested later
+abbrev pub resume_of : Result Kind Fault → Bor (List ℕ) → Result Command Fault
+resume_of (Ok X32) json = Ok (Resume32 json)
+resume_of (Ok X64) json = Ok (Resume64 json)
+resume_of (Err fault) json = Err fault
+
+abbrev pub resume_command : List ℕ → Bor (List ℕ) → Result Command Fault
+resume_command kind json = resume_of (kind_named kind) json
+
+-- a command that takes a seed
+abbrev pub seeded_command : List ℕ → List ℕ → List ℕ → Result Command Fault
+seeded_command name kind seed =
+    if bytes_eq name (codes "hash") then hash_command kind seed
+    else if bytes_eq name (codes "save") then save_command kind seed
+    else Err Usage
+
+-- a command with a last word, which is a saved text or a seed
+abbrev pub last_command : List ℕ → List ℕ → Bor (List ℕ) → Result Command Fault
+last_command name kind last =
+    if bytes_eq name (codes "resume") then resume_command kind last
+    else seeded_command name kind last.now
 
 -- the command of the words after the program's name; without a seed it is 0
-abbrev pub command_of : List (List ℕ) → Result Command Fault
-command_of (name ∷ kind ∷ []) = command_named name kind (codes "0")
-command_of (name ∷ kind ∷ seed ∷ []) = command_named name kind seed
+abbrev pub command_of : List (Bor (List ℕ)) → Result Command Fault
+command_of (name ∷ kind ∷ []) = seeded_command name.now kind.now (codes "0")
+command_of (name ∷ kind ∷ last ∷ []) = last_command name.now kind.now last
 command_of _ = Err Usage
 
--- the command's seed is one of its kind
+-- a command's seed is one of its kind
 abbrev pub SeedFits : Command → Type 0
 SeedFits (Hash kind seed) = seed < seed_limit kind
+SeedFits _ = Unit {0}

@@ -1,5 +1,9 @@
 -- The line that tells each fault, and the exit status.
 use Rattle.std.specs.Prelude.{ℕ, List, [], ◌∷◌, ◌++◌, codes}
+use Rattle.twox_plain.specs.declared.xxhash32.saved.FormError.{FormError as FormError32}
+use Rattle.twox_plain.specs.declared.xxhash32.saved.FormError.TheVariants as Form32
+use Rattle.twox_plain.specs.declared.xxhash64.saved.FormError.{FormError as FormError64}
+use Rattle.twox_plain.specs.declared.xxhash64.saved.FormError.TheVariants as Form64
 use Rattle.xxh_program.specs.declared.program.error.DigestError.TheVariants.{ReadFailed, WriteFailed, TooLong}
 use Rattle.xxh_program.specs.declared.program.fault.Fault.{Fault}
 use Rattle.xxh_program.specs.declared.program.fault.Fault.TheVariants.{Usage, BadSeed, BadState, OutOfMemory, Digest}
@@ -25,3 +29,12 @@ status_of BadSeed = 2
 status_of BadState = 2
 status_of OutOfMemory = 3
 status_of (Digest e) = 1
+
+-- what is wrong with a saved text
+abbrev pub form_fault_32 : FormError32 → Fault
+form_fault_32 Form32.Text = BadState
+form_fault_32 Form32.Memory = OutOfMemory
+
+abbrev pub form_fault_64 : FormError64 → Fault
+form_fault_64 Form64.Text = BadState
+form_fault_64 Form64.Memory = OutOfMemory

@@ -8,3 +8,4 @@ pub mod Hex
 pub mod Kind
 pub mod Pieces
 pub mod Run
+pub mod States

@@ -10,6 +10,7 @@ mod error;
 mod fault;
 mod hex;
 mod kind;
+mod states;
 
 pub use adapters::{FromRead, FromWrite, reader_pieces, writer_pieces};
 pub use buffered::Buffered;

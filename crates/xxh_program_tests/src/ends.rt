@@ -97,8 +97,16 @@ impl Taken {
         }
     }
 
-    pub(crate) fn bytes(&self) -> &[u8] {
-        self.bytes.as_slice()
+    pub(crate) fn into_bytes(self) -> Vec<u8> {
+        let Taken {
+            bytes,
+            room: _,
+            take: _,
+            fail_at: _,
+            writes: _,
+            failed: _,
+        } = self;
+        bytes
     }
 }
 

@@ -1,4 +1,5 @@
 //! Tests of the digest engine and of the program `xxh`, through the public calls of `xxh_program` alone.
+//! Tables are texts, one row a line, since a check reads a text faster than many small arrays.
 #![tactic(auto)]
 
 #[cfg(test)]
@@ -11,3 +12,7 @@ mod commands;
 mod digests;
 #[cfg(test)]
 mod ends;
+#[cfg(test)]
+mod over_memory;
+#[cfg(test)]
+mod states;

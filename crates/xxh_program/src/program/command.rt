@@ -1,50 +1,91 @@
 //! What the words of the command line ask for.
 
-ghost use Rattle.std.specs.Prelude.{◌≡◌, ◌+◌, map, IfOk};
-ghost use Rattle.xxh_program.specs.Command.{command_of, command_named, kind_named, seed_named, hash_command, SeedFits};
+ghost use Rattle.std.specs.Prelude.{◌≡◌, ◌+◌, IfOk};
+ghost use Rattle.xxh_program.specs.Command.{command_of, hash_command, kind_named, last_command, resume_command, save_command, seed_named, seeded_command, SeedFits};
 
 use crate::program::fault::Fault;
 use crate::program::kind::Kind;
 
 /// What the words ask for.
 #[derive(Clone, Copy, Debug, PartialEq, Eq)]
-pub(crate) enum Command {
+pub(crate) enum Command<'w> {
     /// Prints the digest line of the input.
     Hash { kind: Kind, seed: u64 },
+    /// Prints the saved text of XXH32 of the input.
+    Save32 { seed: u32 },
+    /// Prints the saved text of XXH64 of the input.
+    Save64 { seed: u64 },
+    /// Goes on from a saved text of XXH32, and prints the digest line.
+    Resume32 { json: &'w str },
+    /// Goes on from a saved text of XXH64, and prints the digest line.
+    Resume64 { json: &'w str },
 }
 
 // The seed where the words have none.
 const NO_SEED: &str = "0";
 
 // The command that the words after the program's name ask for.
-pub(crate) fn parse(words: &[&str]) -> Result<Command, Fault>
-    ensures command { result ≡ command_of (map (λ w. w.now) words.now) }
+pub(crate) fn parse<'w>(words: &[&'w str]) -> Result<Command<'w>, Fault>
+    ensures command { result ≡ command_of words.now }
     ensures seed { IfOk result SeedFits }
 {
     match words {
-        [name, kind] => command_from(name, kind, NO_SEED),
-        [name, kind, seed] => command_from(name, kind, seed),
+        [name, kind] => seeded(name, kind, NO_SEED),
+        [name, kind, last] => with_last(name, kind, last),
         _ => Err(Fault::Usage),
     }
 }
 
-fn command_from(name: &str, kind: &str, seed: &str) -> Result<Command, Fault>
-    ensures command { result ≡ command_named name.now kind.now seed.now }
+fn with_last<'w>(name: &str, kind: &str, last: &'w str) -> Result<Command<'w>, Fault>
+    ensures command { result ≡ last_command name.now kind.now last.entry }
+    ensures seed { IfOk result SeedFits }
+{
+    match name {
+        "resume" => resume(kind, last),
+        _ => seeded(name, kind, last),
+    }
+}
+
+fn seeded(name: &str, kind: &str, seed: &str) -> Result<Command<'static>, Fault>
+    ensures command { result ≡ seeded_command name.now kind.now seed.now }
     ensures seed { IfOk result SeedFits }
 {
     match name {
         "hash" => hash(kind, seed),
+        "save" => save(kind, seed),
         _ => Err(Fault::Usage),
     }
 }
 
-fn hash(kind: &str, seed: &str) -> Result<Command, Fault>
+fn hash(kind: &str, seed: &str) -> Result<Command<'static>, Fault>
     ensures command { result ≡ hash_command kind.now seed.now }
     ensures seed { IfOk result SeedFits }
 {
     let kind = kind_from(kind)?;
     let seed = seed_from(seed, kind.most_seed())?;
     Ok(Command::Hash { kind, seed })
+}
+
+fn save(kind: &str, seed: &str) -> Result<Command<'static>, Fault>
+    ensures command { result ≡ save_command kind.now seed.now }
+    ensures seed { IfOk result SeedFits }
+{
+    let kind = kind_from(kind)?;
+    let seed = seed_from(seed, kind.most_seed())?;
+    Ok(match kind {
+        Kind::X32 => Command::Save32 { seed: seed as u32 },
+        Kind::X64 => Command::Save64 { seed },
+    })
+}
+
+fn resume<'w>(kind: &str, json: &'w str) -> Result<Command<'w>, Fault>
+    ensures command { result ≡ resume_command kind.now json.entry }
+    ensures seed { IfOk result SeedFits }
+{
+    Ok(match kind_from(kind)? {
+        Kind::X32 => Command::Resume32 { json },
+        Kind::X64 => Command::Resume64 { json },
+    })
 }
 
 // The kind of this name.

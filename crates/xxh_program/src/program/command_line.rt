@@ -9,20 +9,20 @@ use crate::program::command::{Command, parse};
 use crate::program::ends::{Sink, Source};
 use crate::program::engine::{digest, write_all};
 use crate::program::fault::Fault;
+use crate::program::states::{MAX_READS, resume_32, resume_64, save_32, save_64};
 use std::alloc::Global;
-
-// How many reads the program makes at most.
-const MAX_READS: u64 = u64::MAX;
 
 /// Does what the words after the program's name ask for, and answers the exit status.
 ///
 /// | words | does |
 /// |---|---|
-/// | `hash KIND [SEED]` | prints the digest line of the input, by [`digest`] |
+/// | `hash KIND [SEED]` | prints the digest line of the input |
+/// | `save KIND [SEED]` | prints the saved text of the input's hasher, and a line feed |
+/// | `resume KIND JSON` | goes on from a saved text, and prints the digest line |
 ///
 /// KIND is `32` or `64`. SEED is one or more decimal digits, below 2^32 for `32` and below 2^64 otherwise;
-/// without it the seed is 0. The words are tested first: their number, the command and the kind, and then
-/// the seed. Where they are at fault, nothing is read.
+/// without it the seed is 0. JSON is a saved text. The words are tested first: their number, the command and
+/// the kind, and then the seed or the state. Where they are at fault, nothing is read.
 ///
 /// | status | line on `err` |
 /// |---|---|
@@ -33,7 +33,7 @@ const MAX_READS: u64 = u64::MAX;
 ///
 /// A line that `err` refuses does not change the status. The caller shows that no end has failed.
 pub fn run<R: Source, W: Sink, E: Sink>(
-    _alloc: Global,
+    alloc: Global,
     words: &[&str],
     r: &mut R,
     out: &mut W,
@@ -43,11 +43,11 @@ pub fn run<R: Source, W: Sink, E: Sink>(
     requires writer { W.has_failed out.old ≡ false }
     requires faults { E.has_failed err.old ≡ false }
     ensures { (answer : Result (Unit {0}) Fault)
-        × Performs R.gives R.fails W.takes W.refuses (command_of (map (λ w. w.now) words.now)) r.old r.new out.old out.new answer
+        × Performs R.gives R.fails W.takes W.refuses (command_of words.now) r.old r.new out.old out.new answer
         × Tells E.takes E.refuses E.has_failed answer err.old err.new
         × (result ≡ status_after answer) }
 {
-    match carry_out(words, r, out) {
+    match carry_out(alloc, words, r, out) {
         Ok(()) => 0,
         Err(fault) => {
             // Whether the line could be written does not change the status.
@@ -57,23 +57,36 @@ pub fn run<R: Source, W: Sink, E: Sink>(
     }
 }
 
-fn carry_out<R: Source, W: Sink>(words: &[&str], r: &mut R, out: &mut W) -> Result<(), Fault>
+fn carry_out<R: Source, W: Sink>(
+    alloc: Global,
+    words: &[&str],
+    r: &mut R,
+    out: &mut W,
+) -> Result<(), Fault>
     requires reader { R.has_failed r.old ≡ false }
     requires writer { W.has_failed out.old ≡ false }
-    ensures { Performs R.gives R.fails W.takes W.refuses (command_of (map (λ w. w.now) words.now)) r.old r.new out.old out.new result }
+    ensures { Performs R.gives R.fails W.takes W.refuses (command_of words.now) r.old r.new out.old out.new result }
 {
     let command = parse(words)?;
-    perform(command, r, out)
+    perform(alloc, command, r, out)
 }
 
-fn perform<R: Source, W: Sink>(command: Command, r: &mut R, out: &mut W) -> Result<(), Fault>
+fn perform<R: Source, W: Sink>(
+    alloc: Global,
+    command: Command<'_>,
+    r: &mut R,
+    out: &mut W,
+) -> Result<(), Fault>
     requires reader { R.has_failed r.old ≡ false }
     requires writer { W.has_failed out.old ≡ false }
     requires seed { SeedFits command }
-    ensures { Performs R.gives R.fails W.takes W.refuses (Ok command) r.old r.new out.old out.new result }
+    ensures { Performs R.gives R.fails W.takes W.refuses (Ok command.entry) r.old r.new out.old out.new result }
 {
     match command {
-        Command::Hash { kind, seed } => digest(kind, seed, MAX_READS, r, out)?,
+        Command::Hash { kind, seed } => Ok(digest(kind, seed, MAX_READS, r, out)?),
+        Command::Save32 { seed } => save_32(alloc, seed, r, out),
+        Command::Save64 { seed } => save_64(alloc, seed, r, out),
+        Command::Resume32 { json } => resume_32(alloc, json, r, out),
+        Command::Resume64 { json } => resume_64(alloc, json, r, out),
     }
-    Ok(())
 }

@@ -3,6 +3,8 @@
 ghost use Rattle.std.specs.Prelude.{◌≡◌};
 
 use crate::program::error::DigestError;
+use std::alloc::AllocError;
+use twox_hash::{xxhash32, xxhash64};
 
 /// Why a command is not carried out.
 #[derive(Clone, Copy, Debug, PartialEq, Eq)]
@@ -56,5 +58,61 @@ impl From<DigestError> for Fault {
 
     fn from(error: DigestError) -> Fault {
         Fault::Digest(error)
+    }
+}
+
+impl From<AllocError> for Fault {
+    ghost use Rattle.xxh_program.specs.declared.program.fault.Fault.TheVariants.{OutOfMemory};
+
+    ghost from_gives = { λ _ fault. fault ≡ OutOfMemory };
+
+    fn from(_error: AllocError) -> Fault {
+        Fault::OutOfMemory
+    }
+}
+
+impl From<xxhash32::FormError> for Fault {
+    ghost use Rattle.xxh_program.specs.Fault.{form_fault_32};
+
+    ghost from_gives = { λ e fault. fault ≡ form_fault_32 e };
+
+    fn from(error: xxhash32::FormError) -> Fault {
+        match error {
+            xxhash32::FormError::Text => Fault::BadState,
+            xxhash32::FormError::Memory => Fault::OutOfMemory,
+        }
+    }
+}
+
+impl From<xxhash32::RestoreError> for Fault {
+    ghost use Rattle.xxh_program.specs.declared.program.fault.Fault.TheVariants.{BadState};
+
+    ghost from_gives = { λ _ fault. fault ≡ BadState };
+
+    fn from(_error: xxhash32::RestoreError) -> Fault {
+        Fault::BadState
+    }
+}
+
+impl From<xxhash64::FormError> for Fault {
+    ghost use Rattle.xxh_program.specs.Fault.{form_fault_64};
+
+    ghost from_gives = { λ e fault. fault ≡ form_fault_64 e };
+
+    fn from(error: xxhash64::FormError) -> Fault {
+        match error {
+            xxhash64::FormError::Text => Fault::BadState,
+            xxhash64::FormError::Memory => Fault::OutOfMemory,
+        }
+    }
+}
+
+impl From<xxhash64::RestoreError> for Fault {
+    ghost use Rattle.xxh_program.specs.declared.program.fault.Fault.TheVariants.{BadState};
+
+    ghost from_gives = { λ _ fault. fault ≡ BadState };
+
+    fn from(_error: xxhash64::RestoreError) -> Fault {
+        Fault::BadState
     }
 }

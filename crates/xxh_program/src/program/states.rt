@@ -1,0 +1,99 @@
+//! Saved texts of the input's hasher, and digests that go on from one.
+
+ghost use Rattle.std.specs.Prelude.{◌≡◌, [], ◌∷◌, ◌++◌, false, string_bytes};
+ghost use Rattle.xxh_program.specs.States.{Prints, Restores32, Restores64, Resumes32, Resumes64, Saves32, Saves64};
+
+use crate::program::ends::{Sink, Source};
+use crate::program::engine::{digest_from_32, digest_from_64, read_on_32, read_on_64, write_all};
+use crate::program::fault::Fault;
+use std::alloc::Global;
+use twox_hash::{XxHash32, XxHash64, xxhash32, xxhash64};
+
+// How many reads the program makes at most.
+pub(crate) const MAX_READS: u64 = u64::MAX;
+
+// Prints the saved text of XXH32 of the input, and a line feed.
+pub(crate) fn save_32<R: Source, W: Sink>(
+    alloc: Global,
+    seed: u32,
+    r: &mut R,
+    out: &mut W,
+) -> Result<(), Fault>
+    requires reader { R.has_failed r.old ≡ false }
+    requires writer { W.has_failed out.old ≡ false }
+    ensures { Saves32 R.gives R.fails W.takes W.refuses seed r.old r.new out.old out.new result }
+{
+    let hasher = read_on_32(XxHash32::with_seed(seed), MAX_READS, r)?;
+    let text = hasher.to_state().to_json(alloc)?;
+    print_line(text, out)
+}
+
+// Prints the saved text of XXH64 of the input, and a line feed.
+pub(crate) fn save_64<R: Source, W: Sink>(
+    alloc: Global,
+    seed: u64,
+    r: &mut R,
+    out: &mut W,
+) -> Result<(), Fault>
+    requires reader { R.has_failed r.old ≡ false }
+    requires writer { W.has_failed out.old ≡ false }
+    ensures { Saves64 R.gives R.fails W.takes W.refuses seed r.old r.new out.old out.new result }
+{
+    let hasher = read_on_64(XxHash64::with_seed(seed), MAX_READS, r)?;
+    let text = hasher.to_state().to_json(alloc)?;
+    print_line(text, out)
+}
+
+// Writes the text and a line feed.
+fn print_line<W: Sink>(text: String, out: &mut W) -> Result<(), Fault>
+    requires { W.has_failed out.old ≡ false }
+    ensures { Prints W.takes W.refuses (string_bytes text ++ 10 ∷ []) out.old out.new result }
+{
+    let mut line = text;
+    line.push('\n')?;
+    Ok(write_all(line.as_bytes(), out)?)
+}
+
+// Goes on from a saved text of XXH32, and prints the digest line.
+pub(crate) fn resume_32<R: Source, W: Sink>(
+    alloc: Global,
+    json: &str,
+    r: &mut R,
+    out: &mut W,
+) -> Result<(), Fault>
+    requires reader { R.has_failed r.old ≡ false }
+    requires writer { W.has_failed out.old ≡ false }
+    ensures { Resumes32 R.gives R.fails W.takes W.refuses json.now r.old r.new out.old out.new result }
+{
+    let hasher = restored_32(alloc, json)?;
+    Ok(digest_from_32(hasher, MAX_READS, r, out)?)
+}
+
+// Goes on from a saved text of XXH64, and prints the digest line.
+pub(crate) fn resume_64<R: Source, W: Sink>(
+    alloc: Global,
+    json: &str,
+    r: &mut R,
+    out: &mut W,
+) -> Result<(), Fault>
+    requires reader { R.has_failed r.old ≡ false }
+    requires writer { W.has_failed out.old ≡ false }
+    ensures { Resumes64 R.gives R.fails W.takes W.refuses json.now r.old r.new out.old out.new result }
+{
+    let hasher = restored_64(alloc, json)?;
+    Ok(digest_from_64(hasher, MAX_READS, r, out)?)
+}
+
+fn restored_32(alloc: Global, json: &str) -> Result<XxHash32, Fault>
+    ensures { Restores32 json.now result }
+{
+    let state = xxhash32::SavedState::from_json(alloc, json)?;
+    Ok(XxHash32::from_state(state)?)
+}
+
+fn restored_64(alloc: Global, json: &str) -> Result<XxHash64, Fault>
+    ensures { Restores64 json.now result }
+{
+    let state = xxhash64::SavedState::from_json(alloc, json)?;
+    Ok(XxHash64::from_state(state)?)
+}

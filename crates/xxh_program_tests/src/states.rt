@@ -1,0 +1,123 @@
+//! Saved texts, and digests that go on from them.
+
+use crate::ends::{Pieces, Taken};
+use crate::over_memory::{resume, run_line};
+use std::alloc::Global;
+use std::str;
+use std::test::Fail;
+use xxh_program::program::run;
+
+const HELLO: &[u8] = b"Hello, world!\0";
+
+const HELLO_32: &str =
+    "{\"buffer\":[72,101,108,108,111,44,32,119,111,114,108,100,33,0,0,0],\"buffer_usage\":14,\"core\":{\"v1\":606290984,\"v2\":2246822519,\"v3\":0,\"v4\":1640531535},\"seed\":0,\"total_len\":14}";
+
+const HELLO_64: &str =
+    "{\"buffer\":[72,101,108,108,111,44,32,119,111,114,108,100,33,0,0,0,0,0,0,0,0,0,0,0,0,0,0,0,0,0,0,0],\"buffer_usage\":14,\"core\":{\"v1\":6983438078262162902,\"v2\":14029467366897019727,\"v3\":0,\"v4\":7046029288634856825},\"seed\":0,\"total_len\":14}";
+
+#[test]
+fn a_saved_text(rt: HostRuntime) -> Result<(), Fail> {
+    let saved = run_line(rt.alloc(), "save 32", HELLO)?;
+    assert_eq!(rt; saved.status, 0);
+    assert_eq!(rt; saved.out.split_last(), Some((&b'\n', HELLO_32.as_bytes())));
+    let saved = run_line(rt.alloc(), "save 64 0", HELLO)?;
+    assert_eq!(rt; saved.status, 0);
+    assert_eq!(rt; saved.out.split_last(), Some((&b'\n', HELLO_64.as_bytes())));
+    Ok(())
+}
+
+#[test]
+fn a_digest_over_two_runs(rt: HostRuntime) -> Result<(), Fail> {
+    let saved = run_line(rt.alloc(), "save 64 1234", b"some")?;
+    assert_eq!(rt; saved.status, 0);
+    let text = str::from_utf8(saved.out.as_slice())?;
+    let resumed = resume(rt.alloc(), "64", text, b" bytes")?;
+    assert_eq!(rt; resumed.status, 0);
+    assert_eq!(rt; resumed.out.as_slice(), b"eab55659a496d78b\n".as_slice());
+    let resumed = resume(rt.alloc(), "64", HELLO_64, b"")?;
+    assert_eq!(rt; resumed.out.as_slice(), b"7b06c531ea43e89f\n".as_slice());
+    Ok(())
+}
+
+// A plain one, one in whose buffer a byte that is not read is other than zero, and one with its members in
+// another order and one more, which is passed over.
+const STATES: &str = "\
+{\"buffer\":[72,101,108,108,111,44,32,119,111,114,108,100,33,0,0,0],\"buffer_usage\":14,\"core\":{\"v1\":606290984,\"v2\":2246822519,\"v3\":0,\"v4\":1640531535},\"seed\":0,\"total_len\":14}
+{\"buffer\":[72,101,108,108,111,44,32,119,111,114,108,100,33,0,0,9],\"buffer_usage\":14,\"core\":{\"v1\":606290984,\"v2\":2246822519,\"v3\":0,\"v4\":1640531535},\"seed\":0,\"total_len\":14}
+{ \"total_len\": 14, \"seed\": 0, \"more\": [null], \"buffer\":[72,101,108,108,111,44,32,119,111,114,108,100,33,0,0,0],\"buffer_usage\":14,\"core\":{\"v1\":606290984,\"v2\":2246822519,\"v3\":0,\"v4\":1640531535}}";
+
+#[test]
+fn texts_that_are_states(rt: HostRuntime) -> Result<(), Fail> {
+    for text in STATES.lines() {
+        let resumed = resume(rt.alloc(), "32", text, b"")?;
+        assert_eq!(rt; resumed.status, 0, "{text}");
+        assert_eq!(rt; resumed.out.as_slice(), b"9e5e7e93\n".as_slice(), "{text}");
+    }
+    Ok(())
+}
+
+// A kind and a text: a usage that does not fit, lanes that do not, both; too few bytes, a number that is too
+// great for a byte, negative, a fraction, too great for a lane; no core; the end cut off; the other kind's
+// text, both ways; and other JSON and none.
+const NO_STATES: &str = "\
+32={\"buffer\":[72,101,108,108,111,44,32,119,111,114,108,100,33,0,0,0],\"buffer_usage\":17,\"core\":{\"v1\":606290984,\"v2\":2246822519,\"v3\":0,\"v4\":1640531535},\"seed\":0,\"total_len\":14}
+32={\"buffer\":[72,101,108,108,111,44,32,119,111,114,108,100,33,0,0,0],\"buffer_usage\":14,\"core\":{\"v1\":606290985,\"v2\":2246822519,\"v3\":0,\"v4\":1640531535},\"seed\":0,\"total_len\":14}
+32={\"buffer\":[72,101,108,108,111,44,32,119,111,114,108,100,33,0,0,0],\"buffer_usage\":17,\"core\":{\"v1\":606290985,\"v2\":2246822519,\"v3\":0,\"v4\":1640531535},\"seed\":0,\"total_len\":14}
+32={\"buffer\":[72,101,108,108,111,44,32,119,111,114,108,100,33,0,0],\"buffer_usage\":14,\"core\":{\"v1\":606290984,\"v2\":2246822519,\"v3\":0,\"v4\":1640531535},\"seed\":0,\"total_len\":14}
+32={\"buffer\":[256,101,108,108,111,44,32,119,111,114,108,100,33,0,0,0],\"buffer_usage\":14,\"core\":{\"v1\":606290984,\"v2\":2246822519,\"v3\":0,\"v4\":1640531535},\"seed\":0,\"total_len\":14}
+32={\"buffer\":[72,101,108,108,111,44,32,119,111,114,108,100,33,0,0,0],\"buffer_usage\":-14,\"core\":{\"v1\":606290984,\"v2\":2246822519,\"v3\":0,\"v4\":1640531535},\"seed\":0,\"total_len\":14}
+32={\"buffer\":[72,101,108,108,111,44,32,119,111,114,108,100,33,0,0,0],\"buffer_usage\":14.5,\"core\":{\"v1\":606290984,\"v2\":2246822519,\"v3\":0,\"v4\":1640531535},\"seed\":0,\"total_len\":14}
+32={\"buffer\":[72,101,108,108,111,44,32,119,111,114,108,100,33,0,0,0],\"buffer_usage\":14,\"core\":{\"v1\":606290984,\"v2\":2246822519,\"v3\":4294967296,\"v4\":1640531535},\"seed\":0,\"total_len\":14}
+32={\"buffer\":[72,101,108,108,111,44,32,119,111,114,108,100,33,0,0,0],\"buffer_usage\":14,\"seed\":0,\"total_len\":14}
+32={\"buffer\":[72,101,108,108,111,44,32,119,111,114,108,100,33,0,0,0],\"buffer_usage\":14,\"core\":{\"v1\":606290984,\"v2\":2246822519,\"v3\":0,\"v4\":1640531535},\"seed\":0,\"total_len\":14
+32={\"buffer\":[72,101,108,108,111,44,32,119,111,114,108,100,33,0,0,0,0,0,0,0,0,0,0,0,0,0,0,0,0,0,0,0],\"buffer_usage\":14,\"core\":{\"v1\":6983438078262162902,\"v2\":14029467366897019727,\"v3\":0,\"v4\":7046029288634856825},\"seed\":0,\"total_len\":14}
+64={\"buffer\":[72,101,108,108,111,44,32,119,111,114,108,100,33,0,0,0],\"buffer_usage\":14,\"core\":{\"v1\":606290984,\"v2\":2246822519,\"v3\":0,\"v4\":1640531535},\"seed\":0,\"total_len\":14}
+64={}
+64=[]
+64=
+64=eab55659a496d78b";
+
+#[test]
+fn texts_that_are_no_states(rt: HostRuntime) -> Result<(), Fail> {
+    for row in NO_STATES.lines() {
+        let (kind, text) = row.split_once('=').ok_or("a row has two parts")?;
+        let resumed = resume(rt.alloc(), kind, text, b"some bytes")?;
+        assert_eq!(rt; resumed.status, 2, "{row}");
+        assert_eq!(rt; resumed.out.len(), 0, "{row}");
+        assert_eq!(rt;
+            resumed.err.as_slice(),
+            b"xxh: bad state\n".as_slice(),
+            "{row}"
+        );
+        assert_eq!(rt; resumed.unread, 10, "{row}");
+    }
+    Ok(())
+}
+
+// The status of a run over ends of which one fails, how much it printed, and what it told.
+fn scripted(alloc: Global, words: &[&str], read_fails: usize, room: usize) -> (u8, usize, Vec<u8>) {
+    let mut r = Pieces::new(b"some bytes", &[4, 6], read_fails);
+    let mut out = Taken::new(alloc, room, 1000, 0);
+    let mut err = Taken::new(alloc, 1000, 1000, 0);
+    let status = run(alloc, words, &mut r, &mut out, &mut err);
+    (status, out.into_bytes().len(), err.into_bytes())
+}
+
+#[test]
+fn ends_that_fail(rt: HostRuntime) {
+    for words in [
+        ["save", "32", "0"],
+        ["save", "64", "0"],
+        ["resume", "32", HELLO_32],
+        ["resume", "64", HELLO_64],
+    ] {
+        for at in 1..4 {
+            let (status, printed, told) = scripted(rt.alloc(), &words, at, 1000);
+            assert_eq!(rt; (status, printed), (1, 0));
+            assert_eq!(rt; told.as_slice(), b"xxh: read failed\n".as_slice());
+        }
+        let (status, printed, told) = scripted(rt.alloc(), &words, 0, 8);
+        assert_eq!(rt; (status, printed), (1, 8));
+        assert_eq!(rt; told.as_slice(), b"xxh: write failed\n".as_slice());
+    }
+}
