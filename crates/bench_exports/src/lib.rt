@@ -4,3 +4,4 @@
 #![tactic(auto)]
 
 mod plain;
+mod xxhash3;

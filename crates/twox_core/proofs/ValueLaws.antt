@@ -10,7 +10,7 @@ use Rattle.twox_core.specs.Short.{empty64, empty128_low, empty128_high, combined
 use Rattle.twox_core.specs.Long.{merged, long_low, long_high}
 use Rattle.twox_core.specs.Value.{Empty, Tiny, Four, Nine, Long, range_of, value64_in, low_in, high_in, xxh3_64, xxh3_128, effective_secret}
 use Rattle.twox_core.specs.Secret.{default_secret}
-use Rattle.twox_core.specs.Apart.{IsOtherShort64, IsOtherShort128}
+use Rattle.twox_core.specs.OtherBytes.{IsOtherShort64, IsOtherShort128}
 use Rattle.twox_core.proofs.ShortLaws.{empty64_in_seed, empty128_in_seed, tiny_one_to_one, tiny_in_seed, four64_one_to_one, four64_in_seed, four128_told, four128_in_seed, nine128_told, nine128_in_seed}
 
 -- ---- the ranges of lengths

@@ -8,7 +8,7 @@ pub mod Short
 pub mod Middle
 pub mod Long
 pub mod Value
-pub mod Apart
+pub mod OtherBytes
 pub mod Kernel
 pub mod Stripes
 pub mod Ending

@@ -17,3 +17,4 @@ pub use Rattle.twox_core.specs.Short
 pub use Rattle.twox_core.specs.Secret
 pub use Rattle.twox_core.specs.SecretBytes
 pub use Rattle.twox_core.specs.Value
+pub use Rattle.twox_core.specs.OtherBytes

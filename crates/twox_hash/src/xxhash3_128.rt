@@ -3,7 +3,7 @@
 ghost use Rattle.std.specs.Prelude.{◌≡◌, ◌≢◌, ◌↔◌, ◌⊎◌, ◌+◌, ◌-◌, ◌*◌, ◌/◌, ◌^◌, ◌<◌, ◌≤◌, ℕ, List, bit_xor, length, MatchResult, IfOk, IsErr};
 ghost use Rattle.std.specs.Int.{w64};
 ghost use Rattle.twox_plain.specs.Word.{low64, high64};
-ghost use Rattle.twox_core.specs.Apart.{IsOtherShort128};
+ghost use Rattle.twox_core.specs.OtherBytes.{IsOtherShort128};
 ghost use Rattle.twox_core.specs.Ending.{finalized_128};
 ghost use Rattle.twox_core.specs.Long.{long_low, long_high};
 ghost use Rattle.twox_core.specs.Middle.{lanes_high, lanes_low, medium_first, medium_second};

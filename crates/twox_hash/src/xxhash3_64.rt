@@ -1,7 +1,7 @@
 //! XXH3 of 64 bits.
 
 ghost use Rattle.std.specs.Prelude.{◌≡◌, ◌≢◌, ◌↔◌, ◌+◌, ◌*◌, ◌^◌, ◌<◌, ◌≤◌, ℕ, List, length, MatchResult, IfOk, IsErr};
-ghost use Rattle.twox_core.specs.Apart.{IsOtherShort64};
+ghost use Rattle.twox_core.specs.OtherBytes.{IsOtherShort64};
 ghost use Rattle.twox_core.specs.Ending.{finalized_64};
 ghost use Rattle.twox_core.specs.Long.{long_low};
 ghost use Rattle.twox_core.specs.Middle.{large64, medium64};

@@ -1,0 +1,59 @@
+//! XXH3 of both widths.
+
+ghost use Rattle.std.specs.Prelude.{◌≡◌, ◌≤◌, length};
+ghost use Rattle.twox_hash.specs.Secret.{default_secret, derived_secret};
+ghost use Rattle.twox_hash.specs.Value.{effective_secret, xxh3_64, xxh3_128};
+ghost use Rattle.twox_hash.specs.Word.{low64, high64};
+
+use twox_hash::words::Halves;
+use twox_hash::{XxHash3_64, XxHash3_128};
+
+/// A value of 128 bits, as C has it.
+#[repr(C)]
+pub struct WideValue {
+    pub low: u64,
+    pub high: u64,
+}
+
+fn split(value: u128) -> WideValue {
+    WideValue {
+        low: value.lower_half(),
+        high: value.upper_half(),
+    }
+}
+
+#[unsafe(no_mangle)]
+pub extern "C" fn twox_xxh3_64(input: &[u8]) -> u64
+    ensures { result ≡ xxh3_64 0 default_secret input.now }
+{
+    XxHash3_64::oneshot(input)
+}
+
+#[unsafe(no_mangle)]
+pub extern "C" fn twox_xxh3_64_with_seed(seed: u64, input: &[u8]) -> u64
+    ensures { result ≡ xxh3_64 seed (effective_secret (derived_secret seed) input.now) input.now }
+{
+    XxHash3_64::oneshot_with_seed(seed, input)
+}
+
+/// The hash under a secret, which the caller shows to have at least 136 bytes.
+#[unsafe(no_mangle)]
+pub extern "C" fn twox_xxh3_64_with_secret(secret: &[u8], input: &[u8]) -> u64
+    requires { 136 ≤ length secret.now }
+    ensures { result ≡ xxh3_64 0 secret.now input.now }
+{
+    match XxHash3_64::oneshot_with_secret(secret, input) {
+        Ok(value) => value,
+        Err(_) => 0,
+    }
+}
+
+#[unsafe(no_mangle)]
+pub extern "C" fn twox_xxh3_128(input: &[u8]) -> WideValue {
+    split(XxHash3_128::oneshot(input))
+}
+
+#[unsafe(no_mangle)]
+pub extern "C" fn twox_xxh3_128_with_seed(seed: u64, input: &[u8]) -> WideValue {
+    split(XxHash3_128::oneshot_with_seed(seed, input))
+}
