@@ -5,7 +5,7 @@ use twox_hash::{XxHash3_128, XxHash32, XxHash64};
 fn bytes_below<const N: usize>() -> [u8; N] {
     let mut bytes = [0; N];
     for i in 0..N {
-        bytes[i] = i as u8;
+        bytes[i] = (i % 256) as u8;
     }
     bytes
 }
