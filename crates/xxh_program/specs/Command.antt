@@ -1,5 +1,5 @@
 -- What the words of the command line ask for.
-use Rattle.std.specs.Prelude.{ℕ, ◌<◌, List, [], ◌∷◌, length, ◌&&◌, nat_lt, bytes_eq, codes, if◌then◌else◌}
+use Rattle.std.specs.Prelude.{ℕ, ◌<◌, ◌^◌, List, [], ◌∷◌, length, ◌&&◌, nat_lt, bytes_eq, codes, if◌then◌else◌}
 use Rattle.std.specs.Borrow.{Bor}
 use Rattle.std.specs.Str.{all_ascii_digits}
 use Rattle.std.specs.Str.Parse.{digits_value}
@@ -8,6 +8,8 @@ use Rattle.std.specs.declared.result.Result.TheVariants.{Ok, Err}
 use Rattle.xxh_program.specs.Kind.{seed_limit}
 use Rattle.xxh_program.specs.declared.program.kind.Kind.{Kind}
 use Rattle.xxh_program.specs.declared.program.kind.Kind.TheVariants.{X32, X64}
+use Rattle.xxh_program.specs.declared.program.kind.SavedKind.{SavedKind}
+use Rattle.xxh_program.specs.declared.program.kind.SavedKind.TheVariants as Saved
 use Rattle.xxh_program.specs.declared.program.fault.Fault.{Fault}
 use Rattle.xxh_program.specs.declared.program.fault.Fault.TheVariants.{Usage, BadSeed}
 use Rattle.xxh_program.specs.declared.program.command.Command.{Command}
@@ -38,26 +40,37 @@ hash_of (Err fault) seed = Err fault
 abbrev pub hash_command : List ℕ → List ℕ → Result Command Fault
 hash_command kind seed = hash_of (kind_named kind) seed
 
-abbrev pub save_with : Kind → Result ℕ Fault → Result Command Fault
-save_with X32 (Ok seed) = Ok (Save32 seed)
-save_with X64 (Ok seed) = Ok (Save64 seed)
-save_with kind (Err fault) = Err fault
+-- the kind of this name, of those whose hashers have saved states
+abbrev pub saved_kind_named : List ℕ → Result SavedKind Fault
+saved_kind_named name =
+    if bytes_eq name (codes "32") then Ok Saved.X32
+    else if bytes_eq name (codes "64") then Ok Saved.X64
+    else Err Usage
 
-abbrev pub save_of : Result Kind Fault → List ℕ → Result Command Fault
-save_of (Ok kind) seed = save_with kind (seed_named (seed_limit kind) seed)
+abbrev pub save_32 : Result ℕ Fault → Result Command Fault
+save_32 (Ok seed) = Ok (Save32 seed)
+save_32 (Err fault) = Err fault
+
+abbrev pub save_64 : Result ℕ Fault → Result Command Fault
+save_64 (Ok seed) = Ok (Save64 seed)
+save_64 (Err fault) = Err fault
+
+abbrev pub save_of : Result SavedKind Fault → List ℕ → Result Command Fault
+save_of (Ok Saved.X32) seed = save_32 (seed_named (2 ^ 32) seed)
+save_of (Ok Saved.X64) seed = save_64 (seed_named (2 ^ 64) seed)
 save_of (Err fault) seed = Err fault
 
 abbrev pub save_command : List ℕ → List ℕ → Result Command Fault
-save_command kind seed = save_of (kind_named kind) seed
+save_command kind seed = save_of (saved_kind_named kind) seed
 
--- the state is tested later
-abbrev pub resume_of : Result Kind Fault → Bor (List ℕ) → Result Command Fault
-resume_of (Ok X32) json = Ok (Resume32 json)
-resume_of (Ok X64) json = Ok (Resume64 json)
+-- the text is read later
+abbrev pub resume_of : Result SavedKind Fault → Bor (List ℕ) → Result Command Fault
+resume_of (Ok Saved.X32) json = Ok (Resume32 json)
+resume_of (Ok Saved.X64) json = Ok (Resume64 json)
 resume_of (Err fault) json = Err fault
 
 abbrev pub resume_command : List ℕ → Bor (List ℕ) → Result Command Fault
-resume_command kind json = resume_of (kind_named kind) json
+resume_command kind json = resume_of (saved_kind_named kind) json
 
 -- a command that takes a seed
 abbrev pub seeded_command : List ℕ → List ℕ → List ℕ → Result Command Fault

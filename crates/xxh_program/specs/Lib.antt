@@ -1,9 +1,10 @@
-pub mod Adapters
 pub mod Buffered
 pub mod Command
 pub mod Digest
 pub mod Fault
 pub mod Feeding
+pub mod FromRead
+pub mod FromWrite
 pub mod Hex
 pub mod Kind
 pub mod Pieces

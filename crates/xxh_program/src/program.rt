@@ -1,6 +1,5 @@
-//! Digest lines: the value of all that a source gives, written to a sink as hexadecimal digits.
+//! Digest lines of what a source gives, and the program `xxh` over any ends.
 
-mod adapters;
 mod buffered;
 mod command;
 mod command_line;
@@ -8,14 +7,22 @@ mod ends;
 mod engine;
 mod error;
 mod fault;
+mod feed;
+mod from_read;
+mod from_write;
+mod hasher_32;
+mod hasher_64;
 mod hex;
 mod kind;
 mod states;
 
-pub use adapters::{FromRead, FromWrite, reader_pieces, writer_pieces};
 pub use buffered::Buffered;
 pub use command_line::run;
 pub use ends::{Failed, Sink, Source};
-pub use engine::{digest, digest_from_32, digest_from_64, read_on_32, read_on_64};
+pub use engine::digest;
 pub use error::DigestError;
+pub use from_read::{FromRead, reader_pieces};
+pub use from_write::{FromWrite, writer_pieces};
+pub use hasher_32::{digest_from_32, read_on_32};
+pub use hasher_64::{digest_from_64, read_on_64};
 pub use kind::Kind;

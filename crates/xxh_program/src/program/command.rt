@@ -1,10 +1,10 @@
 //! What the words of the command line ask for.
 
 ghost use Rattle.std.specs.Prelude.{◌≡◌, ◌+◌, IfOk};
-ghost use Rattle.xxh_program.specs.Command.{command_of, hash_command, kind_named, last_command, resume_command, save_command, seed_named, seeded_command, SeedFits};
+ghost use Rattle.xxh_program.specs.Command.{command_of, hash_command, kind_named, last_command, resume_command, save_command, saved_kind_named, seed_named, seeded_command, SeedFits};
 
 use crate::program::fault::Fault;
-use crate::program::kind::Kind;
+use crate::program::kind::{Kind, SavedKind};
 
 /// What the words ask for.
 #[derive(Clone, Copy, Debug, PartialEq, Eq)]
@@ -70,21 +70,25 @@ fn save(kind: &str, seed: &str) -> Result<Command<'static>, Fault>
     ensures command { result ≡ save_command kind.now seed.now }
     ensures seed { IfOk result SeedFits }
 {
-    let kind = kind_from(kind)?;
-    let seed = seed_from(seed, kind.most_seed())?;
-    Ok(match kind {
-        Kind::X32 => Command::Save32 { seed: seed as u32 },
-        Kind::X64 => Command::Save64 { seed },
-    })
+    match saved_kind_from(kind)? {
+        SavedKind::X32 => {
+            let seed = seed_from(seed, u64::from(u32::MAX))?;
+            Ok(Command::Save32 { seed: seed as u32 })
+        }
+        SavedKind::X64 => {
+            let seed = seed_from(seed, u64::MAX)?;
+            Ok(Command::Save64 { seed })
+        }
+    }
 }
 
 fn resume<'w>(kind: &str, json: &'w str) -> Result<Command<'w>, Fault>
     ensures command { result ≡ resume_command kind.now json.entry }
     ensures seed { IfOk result SeedFits }
 {
-    Ok(match kind_from(kind)? {
-        Kind::X32 => Command::Resume32 { json },
-        Kind::X64 => Command::Resume64 { json },
+    Ok(match saved_kind_from(kind)? {
+        SavedKind::X32 => Command::Resume32 { json },
+        SavedKind::X64 => Command::Resume64 { json },
     })
 }
 
@@ -95,6 +99,17 @@ fn kind_from(name: &str) -> Result<Kind, Fault>
     match name {
         "32" => Ok(Kind::X32),
         "64" => Ok(Kind::X64),
+        _ => Err(Fault::Usage),
+    }
+}
+
+// The kind of this name, of those whose hashers have saved states.
+fn saved_kind_from(name: &str) -> Result<SavedKind, Fault>
+    ensures { result ≡ saved_kind_named name.now }
+{
+    match name {
+        "32" => Ok(SavedKind::X32),
+        "64" => Ok(SavedKind::X64),
         _ => Err(Fault::Usage),
     }
 }

@@ -1,6 +1,6 @@
 //! The program `xxh` over any ends: what the words ask for is done, and a fault is told.
 
-ghost use Rattle.std.specs.Prelude.{◌≡◌, false, map, Result, Ok};
+ghost use Rattle.std.specs.Prelude.{◌≡◌, false, Result, Ok};
 ghost use Rattle.xxh_program.specs.Command.{command_of, SeedFits};
 ghost use Rattle.xxh_program.specs.Run.{Performs, Tells, status_after};
 ghost use Rattle.xxh_program.specs.declared.program.fault.Fault.{Fault};

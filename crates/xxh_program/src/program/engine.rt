@@ -2,10 +2,6 @@
 
 ghost use Rattle.std.specs.Prelude.{◌≡◌, ◌≢◌, ◌↔◌, ◌<◌, ◌≤◌, ◌^◌, ◌⊎◌, ◌++◌, [], true, false, List, ℕ, length, Err, IfErr, IfOk};
 ghost use Rattle.std.specs.List.{concat};
-ghost use Rattle.twox_hash.specs.Xxh32.{xxh32};
-ghost use Rattle.twox_hash.specs.Record32.{StandsFor as StandsFor32};
-ghost use Rattle.twox_hash.specs.Xxh64.{xxh64};
-ghost use Rattle.twox_hash.specs.Record64.{StandsFor as StandsFor64};
 ghost use Rattle.xxh_program.specs.Pieces.{NoneEmpty};
 ghost use Rattle.xxh_program.specs.Feeding.{IsFed};
 ghost use Rattle.xxh_program.specs.Digest.{ReadsOn, Writes};
@@ -14,6 +10,7 @@ ghost use Rattle.xxh_program.specs.Kind.{digits_of, value_of};
 
 use crate::program::ends::{Failed, Sink, Source};
 use crate::program::error::DigestError;
+use crate::program::feed::Feed;
 use crate::program::hex::write_digits;
 use crate::program::kind::Kind;
 use twox_hash::{XxHash32, XxHash64};
@@ -24,58 +21,12 @@ const OFFERED: usize = 4096;
 // The most digits that a line has.
 const MOST_DIGITS: usize = 32;
 
-// A hasher of any kind, as the engine uses it.
-trait Feed: Drop {
-    // The hasher stands for these bytes.
-    ghost stands_for: { Self → List ℕ → Type 0 };
-
-    // The hasher's seed, which stays.
-    ghost seed_of: { Self → ℕ };
-
-    // What a hasher with this seed answers where it stands for these bytes.
-    ghost value_at: { ℕ → List ℕ → ℕ };
-
-    fn feed(&mut self, piece: &[u8])
-        ensures { IsFed stands_for seed_of self.old piece.now self.new };
-
-    fn value(&self) -> u128
-        ensures { (m : List ℕ) → stands_for self.now m → result ≡ value_at (seed_of self.now) m };
-}
-
-impl Feed for XxHash32 {
-    ghost stands_for = { StandsFor32 };
-
-    ghost seed_of = { λ h. h.seed };
-
-    ghost value_at = { xxh32 };
-
-    fn feed(&mut self, piece: &[u8]) {
-        self.write(piece);
-    }
-
-    fn value(&self) -> u128 {
-        u128::from(self.finish_32())
-    }
-}
-
-impl Feed for XxHash64 {
-    ghost stands_for = { StandsFor64 };
-
-    ghost seed_of = { λ h. h.seed };
-
-    ghost value_at = { xxh64 };
-
-    fn feed(&mut self, piece: &[u8]) {
-        self.write(piece);
-    }
-
-    fn value(&self) -> u128 {
-        u128::from(self.finish())
-    }
-}
-
 // Feeds the hasher what is read, until a read gives nothing.
-fn read_all<H: Feed, R: Source>(hasher: H, max_reads: u64, r: &mut R) -> Result<H, DigestError>
+pub(crate) fn read_all<H: Feed, R: Source>(
+    hasher: H,
+    max_reads: u64,
+    r: &mut R,
+) -> Result<H, DigestError>
     requires { R.has_failed r.old ≡ false }
     ensures reads { (pieces : List (List ℕ)) × NoneEmpty pieces
         × ReadsOn R.gives R.fails max_reads pieces r.old r.new result
@@ -127,7 +78,7 @@ fn write_line<W: Sink>(value: u128, digits: usize, w: &mut W) -> Result<(), Dige
 }
 
 // Feeds the hasher what is read, and writes the line of what it then answers.
-fn digest_on<H: Feed, R: Source, W: Sink>(
+pub(crate) fn digest_on<H: Feed, R: Source, W: Sink>(
     hasher: H,
     digits: usize,
     max_reads: u64,
@@ -223,95 +174,4 @@ pub fn digest<R: Source, W: Sink>(
             digest_by(kind, seed, hasher, max_reads, r, w)
         }
     }
-}
-
-/// Goes on from the hasher as [`digest`] goes on from a fresh one, with the same errors: the line is that
-/// of the bytes that the hasher was given, followed by what is read.
-pub fn digest_from_32<R: Source, W: Sink>(
-    hasher: XxHash32,
-    max_reads: u64,
-    r: &mut R,
-    w: &mut W,
-) -> Result<(), DigestError>
-    requires reader { R.has_failed r.old ≡ false }
-    requires writer { W.has_failed w.old ≡ false }
-
-    // What was read and what was written, for every list of bytes that the hasher stands for.
-    ensures digests { (pieces : List (List ℕ)) × NoneEmpty pieces
-        × ReadsOn R.gives R.fails max_reads pieces r.old r.new result
-        × ((result ≡ Err DigestError.TooLong) ↔ (length pieces ≡ max_reads))
-        × ((m : List ℕ) → StandsFor32 hasher m
-        → Writes W.takes W.refuses (hex_line 8 (xxh32 hasher.seed (m ++ concat pieces))) w.old w.new result) }
-
-    // When each end fails, and when nothing is written, whatever the hasher stands for.
-    ensures read_failed { (result ≡ Err DigestError.ReadFailed) ↔ (R.has_failed r.new ≡ true) }
-    ensures write_failed { (result ≡ Err DigestError.WriteFailed) ↔ (W.has_failed w.new ≡ true) }
-    ensures unwritten { (result ≡ Err DigestError.ReadFailed) ⊎ (result ≡ Err DigestError.TooLong) → w.new ≡ w.old }
-{
-    digest_on(hasher, 8, max_reads, r, w)
-}
-
-/// The same as [`digest_from_32`], from a hasher of XXH64.
-pub fn digest_from_64<R: Source, W: Sink>(
-    hasher: XxHash64,
-    max_reads: u64,
-    r: &mut R,
-    w: &mut W,
-) -> Result<(), DigestError>
-    requires reader { R.has_failed r.old ≡ false }
-    requires writer { W.has_failed w.old ≡ false }
-
-    // What was read and what was written, for every list of bytes that the hasher stands for.
-    ensures digests { (pieces : List (List ℕ)) × NoneEmpty pieces
-        × ReadsOn R.gives R.fails max_reads pieces r.old r.new result
-        × ((result ≡ Err DigestError.TooLong) ↔ (length pieces ≡ max_reads))
-        × ((m : List ℕ) → StandsFor64 hasher m
-        → Writes W.takes W.refuses (hex_line 16 (xxh64 hasher.seed (m ++ concat pieces))) w.old w.new result) }
-
-    // When each end fails, and when nothing is written, whatever the hasher stands for.
-    ensures read_failed { (result ≡ Err DigestError.ReadFailed) ↔ (R.has_failed r.new ≡ true) }
-    ensures write_failed { (result ≡ Err DigestError.WriteFailed) ↔ (W.has_failed w.new ≡ true) }
-    ensures unwritten { (result ≡ Err DigestError.ReadFailed) ⊎ (result ≡ Err DigestError.TooLong) → w.new ≡ w.old }
-{
-    digest_on(hasher, 16, max_reads, r, w)
-}
-
-/// Reads as [`digest`] does, with the same errors of reading, and answers the hasher after what was read.
-pub fn read_on_32<R: Source>(
-    hasher: XxHash32,
-    max_reads: u64,
-    r: &mut R,
-) -> Result<XxHash32, DigestError>
-    requires { R.has_failed r.old ≡ false }
-
-    // What was read, and what the hasher then stands for.
-    ensures reads { (pieces : List (List ℕ)) × NoneEmpty pieces
-        × ReadsOn R.gives R.fails max_reads pieces r.old r.new result
-        × ((result ≡ Err DigestError.TooLong) ↔ (length pieces ≡ max_reads))
-        × IfOk result (λ after. (after.seed ≡ hasher.seed)
-        × ((m : List ℕ) → StandsFor32 hasher m → StandsFor32 after (m ++ concat pieces))) }
-    ensures read_failed { (result ≡ Err DigestError.ReadFailed) ↔ (R.has_failed r.new ≡ true) }
-    ensures never_writes { result ≢ Err DigestError.WriteFailed }
-{
-    read_all(hasher, max_reads, r)
-}
-
-/// The same as [`read_on_32`], from a hasher of XXH64.
-pub fn read_on_64<R: Source>(
-    hasher: XxHash64,
-    max_reads: u64,
-    r: &mut R,
-) -> Result<XxHash64, DigestError>
-    requires { R.has_failed r.old ≡ false }
-
-    // What was read, and what the hasher then stands for.
-    ensures reads { (pieces : List (List ℕ)) × NoneEmpty pieces
-        × ReadsOn R.gives R.fails max_reads pieces r.old r.new result
-        × ((result ≡ Err DigestError.TooLong) ↔ (length pieces ≡ max_reads))
-        × IfOk result (λ after. (after.seed ≡ hasher.seed)
-        × ((m : List ℕ) → StandsFor64 hasher m → StandsFor64 after (m ++ concat pieces))) }
-    ensures read_failed { (result ≡ Err DigestError.ReadFailed) ↔ (R.has_failed r.new ≡ true) }
-    ensures never_writes { result ≢ Err DigestError.WriteFailed }
-{
-    read_all(hasher, max_reads, r)
 }

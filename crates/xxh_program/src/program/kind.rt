@@ -36,3 +36,10 @@ impl Kind {
         }
     }
 }
+
+/// The kinds whose hashers have saved states.
+#[derive(Clone, Copy, Debug, PartialEq, Eq)]
+pub(crate) enum SavedKind {
+    X32,
+    X64,
+}

@@ -4,8 +4,10 @@ ghost use Rattle.std.specs.Prelude.{◌≡◌, [], ◌∷◌, ◌++◌, false, s
 ghost use Rattle.xxh_program.specs.States.{Prints, Restores32, Restores64, Resumes32, Resumes64, Saves32, Saves64};
 
 use crate::program::ends::{Sink, Source};
-use crate::program::engine::{digest_from_32, digest_from_64, read_on_32, read_on_64, write_all};
+use crate::program::engine::write_all;
 use crate::program::fault::Fault;
+use crate::program::hasher_32::{digest_from_32, read_on_32};
+use crate::program::hasher_64::{digest_from_64, read_on_64};
 use std::alloc::Global;
 use twox_hash::{XxHash32, XxHash64, xxhash32, xxhash64};
 

@@ -1,0 +1,77 @@
+//! XXH64 in the digest engine.
+
+ghost use Rattle.std.specs.Prelude.{◌≡◌, ◌≢◌, ◌↔◌, ◌⊎◌, ◌++◌, true, false, List, ℕ, length, Err, IfOk};
+ghost use Rattle.std.specs.List.{concat};
+ghost use Rattle.twox_hash.specs.Xxh64.{xxh64};
+ghost use Rattle.twox_hash.specs.Record64.{StandsFor};
+ghost use Rattle.xxh_program.specs.Pieces.{NoneEmpty};
+ghost use Rattle.xxh_program.specs.Digest.{ReadsOn, Writes};
+ghost use Rattle.xxh_program.specs.Hex.{hex_line};
+
+use crate::program::ends::{Sink, Source};
+use crate::program::engine::{digest_on, read_all};
+use crate::program::error::DigestError;
+use crate::program::feed::Feed;
+use twox_hash::XxHash64;
+
+impl Feed for XxHash64 {
+    ghost stands_for = { StandsFor };
+
+    ghost seed_of = { λ h. h.seed };
+
+    ghost value_at = { xxh64 };
+
+    fn feed(&mut self, piece: &[u8]) {
+        self.write(piece);
+    }
+
+    fn value(&self) -> u128 {
+        u128::from(self.finish())
+    }
+}
+
+/// Goes on from the hasher as `digest` goes on from a fresh one, with the same errors: the line is that of
+/// the bytes that the hasher was given, followed by what is read.
+pub fn digest_from_64<R: Source, W: Sink>(
+    hasher: XxHash64,
+    max_reads: u64,
+    r: &mut R,
+    w: &mut W,
+) -> Result<(), DigestError>
+    requires reader { R.has_failed r.old ≡ false }
+    requires writer { W.has_failed w.old ≡ false }
+
+    // What was read and what was written, for every list of bytes that the hasher stands for.
+    ensures digests { (pieces : List (List ℕ)) × NoneEmpty pieces
+        × ReadsOn R.gives R.fails max_reads pieces r.old r.new result
+        × ((result ≡ Err DigestError.TooLong) ↔ (length pieces ≡ max_reads))
+        × ((m : List ℕ) → StandsFor hasher m
+        → Writes W.takes W.refuses (hex_line 16 (xxh64 hasher.seed (m ++ concat pieces))) w.old w.new result) }
+
+    // When each end fails, and when nothing is written, whatever the hasher stands for.
+    ensures read_failed { (result ≡ Err DigestError.ReadFailed) ↔ (R.has_failed r.new ≡ true) }
+    ensures write_failed { (result ≡ Err DigestError.WriteFailed) ↔ (W.has_failed w.new ≡ true) }
+    ensures unwritten { (result ≡ Err DigestError.ReadFailed) ⊎ (result ≡ Err DigestError.TooLong) → w.new ≡ w.old }
+{
+    digest_on(hasher, 16, max_reads, r, w)
+}
+
+/// Reads as `digest` does, with the same errors of reading, and answers the hasher after what was read.
+pub fn read_on_64<R: Source>(
+    hasher: XxHash64,
+    max_reads: u64,
+    r: &mut R,
+) -> Result<XxHash64, DigestError>
+    requires { R.has_failed r.old ≡ false }
+
+    // What was read, and what the hasher then stands for.
+    ensures reads { (pieces : List (List ℕ)) × NoneEmpty pieces
+        × ReadsOn R.gives R.fails max_reads pieces r.old r.new result
+        × ((result ≡ Err DigestError.TooLong) ↔ (length pieces ≡ max_reads))
+        × IfOk result (λ after. (after.seed ≡ hasher.seed)
+        × ((m : List ℕ) → StandsFor hasher m → StandsFor after (m ++ concat pieces))) }
+    ensures read_failed { (result ≡ Err DigestError.ReadFailed) ↔ (R.has_failed r.new ≡ true) }
+    ensures never_writes { result ≢ Err DigestError.WriteFailed }
+{
+    read_all(hasher, max_reads, r)
+}
