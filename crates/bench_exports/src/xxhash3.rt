@@ -6,7 +6,8 @@ ghost use Rattle.twox_hash.specs.Value.{effective_secret, xxh3_64, xxh3_128};
 ghost use Rattle.twox_hash.specs.Word.{low64, high64};
 
 use twox_hash::words::Halves;
-use twox_hash::{XxHash3_64, XxHash3_128};
+use twox_hash::xxhash3::SecretBuffer;
+use twox_hash::{XxHash3_64, XxHash3_128, xxhash3_64, xxhash3_128};
 
 /// A value of 128 bits, as C has it.
 #[repr(C)]
@@ -56,4 +57,24 @@ pub extern "C" fn twox_xxh3_128(input: &[u8]) -> WideValue {
 #[unsafe(no_mangle)]
 pub extern "C" fn twox_xxh3_128_with_seed(seed: u64, input: &[u8]) -> WideValue {
     split(XxHash3_128::oneshot_with_seed(seed, input))
+}
+
+/// The hash under the seed 0 of the input in pieces of that many bytes.
+#[unsafe(no_mangle)]
+pub extern "C" fn twox_xxh3_64_stream(input: &[u8], piece: usize) -> u64 {
+    let mut hasher = xxhash3_64::RawHasher::new(SecretBuffer::default());
+    for part in input.chunks(piece.max(1)) {
+        hasher.write(part);
+    }
+    hasher.finish()
+}
+
+/// The hash under the seed 0 of the input in pieces of that many bytes.
+#[unsafe(no_mangle)]
+pub extern "C" fn twox_xxh3_128_stream(input: &[u8], piece: usize) -> WideValue {
+    let mut hasher = xxhash3_128::RawHasher::new(SecretBuffer::default());
+    for part in input.chunks(piece.max(1)) {
+        hasher.write(part);
+    }
+    split(hasher.finish_128())
 }

@@ -2,7 +2,6 @@
 
 use crate::rows::{Kind, Recipe, Row, next_number};
 use std::alloc::{AllocError, Global};
-use std::hash::Hasher;
 use twox_hash::xxhash3::large::{Algorithm, scalar};
 use twox_hash::xxhash3::{DEFAULT_SECRET_RAW, Secret, derive_secret};
 use twox_hash::{XxHash3_64, XxHash3_128, XxHash32, XxHash64, xxhash3_64, xxhash3_128};
@@ -15,66 +14,30 @@ pub fn agree(alloc: Global, row: &Row) -> Result<bool, AllocError> {
         start: 0,
     };
     let secret = row.secret.unwrap_or(none).bytes(alloc)?;
+    let answer = Some(row.answer);
+    if at_once(row, &input, &secret) != answer || over_kernel(row, &input, &secret) != answer {
+        return Ok(false);
+    }
+    if has_no_stream(row) {
+        return Ok(true);
+    }
+    let bytes: Vec<&[u8]> = input.chunks(1).collect(alloc)?;
+    let pieces = cut_at_random(alloc, &input)?;
+    Ok(
+        in_pieces(alloc, row, &secret, &bytes)? == answer
+            && in_pieces(alloc, row, &secret, &pieces)? == answer,
+    )
+}
+
+// By the one-shot that the row's seed and secret ask for.
+fn at_once(row: &Row, input: &[u8], secret: &[u8]) -> Option<u128> {
     let seed = row.seed.unwrap_or(0);
-    Ok(match row.kind {
-        Kind::X32 => agree_32(seed, &input, row.answer),
-        Kind::X64 => agree_64(seed, &input, row.answer),
-        Kind::X3_64 | Kind::X3_128 => agree_3(row, &input, &secret),
-    })
-}
-
-fn agree_32(seed: u64, input: &[u8], answer: u128) -> bool {
-    let Ok(seed) = u32::try_from(seed) else {
-        return false;
-    };
-    let Ok(answer) = u64::try_from(answer) else {
-        return false;
-    };
-    u64::from(XxHash32::oneshot(seed, input)) == answer
-        && byte_by_byte(XxHash32::with_seed(seed), input) == answer
-        && cut_at_random(XxHash32::with_seed(seed), input) == answer
-}
-
-fn agree_64(seed: u64, input: &[u8], answer: u128) -> bool {
-    let Ok(answer) = u64::try_from(answer) else {
-        return false;
-    };
-    XxHash64::oneshot(seed, input) == answer
-        && byte_by_byte(XxHash64::with_seed(seed), input) == answer
-        && cut_at_random(XxHash64::with_seed(seed), input) == answer
-}
-
-fn byte_by_byte<H: Hasher + Drop>(mut hasher: H, input: &[u8]) -> u64 {
-    for piece in input.chunks(1) {
-        hasher.write(piece);
+    match row.kind {
+        Kind::X32 => Some(u128::from(XxHash32::oneshot(u32::try_from(seed).ok()?, input))),
+        Kind::X64 => Some(u128::from(XxHash64::oneshot(seed, input))),
+        Kind::X3_64 => at_once_64(row, input, secret),
+        Kind::X3_128 => at_once_128(row, input, secret),
     }
-    hasher.finish()
-}
-
-// Pieces of 0 to 299 bytes, as the input's length gives them.
-fn cut_at_random<H: Hasher + Drop>(mut hasher: H, input: &[u8]) -> u64 {
-    let mut rest = input;
-    let mut x = input.len() as u64;
-    for _ in 0..input.len() {
-        x = next_number(x);
-        let length = ((x >> 33) % 300) as usize;
-        let (piece, after) = rest.split_at(length.min(rest.len()));
-        hasher.write(piece);
-        rest = after;
-    }
-    hasher.write(rest);
-    hasher.finish()
-}
-
-// XXH3 at once, by the one-shot that the row's seed and secret ask for, and over the scalar kernel.
-fn agree_3(row: &Row, input: &[u8], secret: &[u8]) -> bool {
-    let wide = matches!(row.kind, Kind::X3_128);
-    let at_once = if wide {
-        at_once_128(row, input, secret)
-    } else {
-        at_once_64(row, input, secret)
-    };
-    at_once == Some(row.answer) && over_kernel(row, input, secret) == Some(row.answer)
 }
 
 fn at_once_64(row: &Row, input: &[u8], secret: &[u8]) -> Option<u128> {
@@ -100,7 +63,8 @@ fn at_once_128(row: &Row, input: &[u8], secret: &[u8]) -> Option<u128> {
     }
 }
 
-// Above 240 bytes, over the scalar kernel by name, whichever kernel the one-shots run; below, no kernel runs.
+// XXH3 above 240 bytes over the scalar kernel by name, whichever kernel the one-shots run; elsewhere no kernel
+// runs.
 fn over_kernel(row: &Row, input: &[u8], secret: &[u8]) -> Option<u128> {
     if input.len() <= 240 {
         return Some(row.answer);
@@ -114,6 +78,103 @@ fn over_kernel(row: &Row, input: &[u8], secret: &[u8]) -> Option<u128> {
     let algorithm = Algorithm(scalar::Impl {});
     Some(match row.kind {
         Kind::X3_64 => u128::from(algorithm.oneshot(secret, input, xxhash3_64::Finalize64)),
-        _ => algorithm.oneshot(secret, input, xxhash3_128::Finalize128),
+        Kind::X3_128 => algorithm.oneshot(secret, input, xxhash3_128::Finalize128),
+        Kind::X32 | Kind::X64 => row.answer,
     })
+}
+
+// A secret alone takes effect on short inputs too, and no stream does that.
+fn has_no_stream(row: &Row) -> bool {
+    row.seed.is_none() && row.secret.is_some() && row.input.length <= 240
+}
+
+// Pieces of 0 to 299 bytes, as the input's length gives them.
+fn cut_at_random(alloc: Global, input: &[u8]) -> Result<Vec<&[u8]>, AllocError> {
+    let mut pieces = Vec::new(alloc);
+    let mut rest = input;
+    let mut x = input.len() as u64;
+    for _ in 0..input.len() {
+        x = next_number(x);
+        let length = ((x >> 33) % 300) as usize;
+        let (piece, after) = rest.split_at(length.min(rest.len()));
+        pieces.push(piece)?;
+        rest = after;
+    }
+    pieces.push(rest)?;
+    Ok(pieces)
+}
+
+fn in_pieces(
+    alloc: Global,
+    row: &Row,
+    secret: &[u8],
+    pieces: &[&[u8]],
+) -> Result<Option<u128>, AllocError> {
+    let seed = row.seed.unwrap_or(0);
+    Ok(match row.kind {
+        Kind::X32 => plain_32(seed, pieces),
+        Kind::X64 => Some(plain_64(seed, pieces)),
+        Kind::X3_64 => stream_64(alloc, row, secret, pieces)?,
+        Kind::X3_128 => stream_128(alloc, row, secret, pieces)?,
+    })
+}
+
+fn plain_32(seed: u64, pieces: &[&[u8]]) -> Option<u128> {
+    let mut hasher = XxHash32::with_seed(u32::try_from(seed).ok()?);
+    for piece in pieces.iter() {
+        hasher.write(piece);
+    }
+    Some(u128::from(hasher.finish_32()))
+}
+
+fn plain_64(seed: u64, pieces: &[&[u8]]) -> u128 {
+    let mut hasher = XxHash64::with_seed(seed);
+    for piece in pieces.iter() {
+        hasher.write(piece);
+    }
+    u128::from(hasher.finish())
+}
+
+fn stream_64(
+    alloc: Global,
+    row: &Row,
+    secret: &[u8],
+    pieces: &[&[u8]],
+) -> Result<Option<u128>, AllocError> {
+    let seed = row.seed.unwrap_or(0);
+    let mut hasher = if row.secret.is_some() {
+        let boxed = secret.to_vec(alloc)?.into_boxed_slice();
+        match XxHash3_64::with_seed_and_secret(seed, boxed) {
+            Ok(hasher) => hasher,
+            Err(_) => return Ok(None),
+        }
+    } else {
+        XxHash3_64::with_seed(alloc, seed)?
+    };
+    for piece in pieces.iter() {
+        hasher.write(piece);
+    }
+    Ok(Some(u128::from(hasher.finish())))
+}
+
+fn stream_128(
+    alloc: Global,
+    row: &Row,
+    secret: &[u8],
+    pieces: &[&[u8]],
+) -> Result<Option<u128>, AllocError> {
+    let seed = row.seed.unwrap_or(0);
+    let mut hasher = if row.secret.is_some() {
+        let boxed = secret.to_vec(alloc)?.into_boxed_slice();
+        match XxHash3_128::with_seed_and_secret(seed, boxed) {
+            Ok(hasher) => hasher,
+            Err(_) => return Ok(None),
+        }
+    } else {
+        XxHash3_128::with_seed(alloc, seed)?
+    };
+    for piece in pieces.iter() {
+        hasher.write(piece);
+    }
+    Ok(Some(hasher.finish_128()))
 }
