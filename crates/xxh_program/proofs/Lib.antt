@@ -1,4 +1,5 @@
 pub mod BufferedFacts
+pub mod DerivedFacts
 pub mod HexPlace
 pub mod HexValue
 pub mod HexVectors

@@ -7,7 +7,7 @@ use Rattle.std.specs.declared.result.Result.{Result}
 use Rattle.std.specs.declared.result.Result.TheVariants.{Ok, Err}
 use Rattle.xxh_program.specs.Kind.{seed_limit}
 use Rattle.xxh_program.specs.declared.program.kind.Kind.{Kind}
-use Rattle.xxh_program.specs.declared.program.kind.Kind.TheVariants.{X32, X64}
+use Rattle.xxh_program.specs.declared.program.kind.Kind.TheVariants.{X32, X64, X3_64, X3_128}
 use Rattle.xxh_program.specs.declared.program.kind.SavedKind.{SavedKind}
 use Rattle.xxh_program.specs.declared.program.kind.SavedKind.TheVariants as Saved
 use Rattle.xxh_program.specs.declared.program.fault.Fault.{Fault}
@@ -20,6 +20,8 @@ abbrev pub kind_named : List ℕ → Result Kind Fault
 kind_named name =
     if bytes_eq name (codes "32") then Ok X32
     else if bytes_eq name (codes "64") then Ok X64
+    else if bytes_eq name (codes "3-64") then Ok X3_64
+    else if bytes_eq name (codes "3-128") then Ok X3_128
     else Err Usage
 
 -- the number that one or more decimal digits write, leading zeros among them, where it is below the limit

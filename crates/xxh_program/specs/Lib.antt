@@ -1,5 +1,6 @@
 pub mod Buffered
 pub mod Command
+pub mod Derived
 pub mod Digest
 pub mod Fault
 pub mod Feeding

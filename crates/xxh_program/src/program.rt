@@ -10,6 +10,7 @@ mod fault;
 mod feed;
 mod from_read;
 mod from_write;
+mod hasher_3;
 mod hasher_32;
 mod hasher_64;
 mod hex;

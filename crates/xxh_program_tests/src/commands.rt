@@ -19,7 +19,11 @@ hash 64 0,,ef46db3751d8e999
 hash 64 12539502615675809169,,4b6a04fcdf7a4672
 hash 32,,02cc5d05
 hash 32 0,*,e0fe705f
-hash 32 1120475511,,d6bf8459";
+hash 32 1120475511,,d6bf8459
+hash 3-64,,2d06800538d394c2
+hash 3-64 3735931646,,4aede68389c0e311
+hash 3-128,,99aa06d3014798d86001c324468d497f
+hash 3-128 0,,99aa06d3014798d86001c324468d497f";
 
 #[test]
 fn digest_lines(rt: HostRuntime) -> Result<(), Fail> {
@@ -57,8 +61,7 @@ digest 64
 Hash 64
 hash 65
 hash 
-hash 3-64
-hash 3-128 1x
+hash 3-256
 save 3-64
 save 3-128 x
 resume 64
@@ -87,6 +90,8 @@ hash 64 -1
 hash 64 1x
 hash 64 0x1
 hash 64 ١
+hash 3-64 18446744073709551616
+hash 3-128 1x
 save 32 4294967296
 save 64 18446744073709551616";
 

@@ -99,6 +99,8 @@ fn kind_from(name: &str) -> Result<Kind, Fault>
     match name {
         "32" => Ok(Kind::X32),
         "64" => Ok(Kind::X64),
+        "3-64" => Ok(Kind::X3_64),
+        "3-128" => Ok(Kind::X3_128),
         _ => Err(Fault::Usage),
     }
 }

@@ -11,6 +11,7 @@ ghost use Rattle.xxh_program.specs.Kind.{digits_of, value_of};
 use crate::program::ends::{Failed, Sink, Source};
 use crate::program::error::DigestError;
 use crate::program::feed::Feed;
+use crate::program::hasher_3::{with_seed_64, with_seed_128};
 use crate::program::hex::write_digits;
 use crate::program::kind::Kind;
 use twox_hash::{XxHash32, XxHash64};
@@ -171,6 +172,14 @@ pub fn digest<R: Source, W: Sink>(
         }
         Kind::X64 => {
             let hasher = XxHash64::with_seed(seed);
+            digest_by(kind, seed, hasher, max_reads, r, w)
+        }
+        Kind::X3_64 => {
+            let hasher = with_seed_64(seed);
+            digest_by(kind, seed, hasher, max_reads, r, w)
+        }
+        Kind::X3_128 => {
+            let hasher = with_seed_128(seed);
             digest_by(kind, seed, hasher, max_reads, r, w)
         }
     }

@@ -9,6 +9,10 @@ pub enum Kind {
     X32,
     /// XXH64, in 16 digits.
     X64,
+    /// XXH3 of 64 bits, in 16 digits.
+    X3_64,
+    /// XXH3 of 128 bits, in 32 digits.
+    X3_128,
 }
 
 impl Kind {
@@ -22,7 +26,8 @@ impl Kind {
     {
         match self {
             Kind::X32 => 8,
-            Kind::X64 => 16,
+            Kind::X64 | Kind::X3_64 => 16,
+            Kind::X3_128 => 32,
         }
     }
 
@@ -32,7 +37,7 @@ impl Kind {
     {
         match self {
             Kind::X32 => u64::from(u32::MAX),
-            Kind::X64 => u64::MAX,
+            Kind::X64 | Kind::X3_64 | Kind::X3_128 => u64::MAX,
         }
     }
 }
