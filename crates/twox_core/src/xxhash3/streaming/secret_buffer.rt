@@ -2,8 +2,8 @@
 
 use super::{ClonedBuffer, FixedBuffer, FixedMutBuffer};
 use crate::xxhash3::{
-    DEFAULT_SECRET_LENGTH, DEFAULT_SECRET_RAW, DEFAULT_SEED, DefaultSecret,
-    SECRET_MINIMUM_LENGTH, Secret, derived_secret,
+    DEFAULT_SECRET_LENGTH, DEFAULT_SECRET_RAW, DEFAULT_SEED, DefaultSecret, SECRET_MINIMUM_LENGTH,
+    Secret, derived_secret,
 };
 use std::alloc::{AllocError, Allocator};
 use std::boxed::BoxedSlice;
