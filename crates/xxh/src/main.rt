@@ -1,4 +1,4 @@
-//! The program `xxh`: hashes standard input by XXH32 or XXH64, as the words of the command line ask.
+//! The program `xxh`: hashes standard input, as the words of the command line ask.
 #![tactic(auto)]
 
 use std::alloc::{AllocError, Global};
