@@ -3,6 +3,7 @@
 
 #[cfg(test)]
 mod long;
-
 #[cfg(test)]
 mod short;
+#[cfg(test)]
+mod streams;
