@@ -1,0 +1,21 @@
+use Rattle.std.proofs.Common.{rules, ◌≡◌, length, nat_lt, true, false, refl, arith}
+use Rattle.std.proofs.lemmas.Bool.Decides.{nat_tests}
+use Rattle.twox_plain.specs.Word.{counted}
+use Rattle.twox_plain.specs.Xxh32.{start}
+use Rattle.textbook.proofs.xxhash32.start.Goals as goal
+
+pub returns-then-m-lt16 : goal.returns-then-m-lt16
+unfolding start
+returns-then-m-lt16 c =
+    let m = c.args.m.now in
+    let count : length m ≡ counted (length m) = search rules in
+    let test : nat_lt (length m) 16 ≡ true = grind (arith, nat_tests, c.if-m-lt16.true) in
+    rw (test, ← count) refl
+
+pub returns : goal.returns
+unfolding start
+returns c =
+    let m = c.args.m.now in
+    let count : length m ≡ counted (length m) = search rules in
+    let test : nat_lt (length m) 16 ≡ false = grind (arith, nat_tests, c.if-m-lt16.false) in
+    rw (test, ← count, c.converged.ensures, c.lane-a.ensures, c.lane-b.ensures, c.lane-c.ensures, c.lane-d.ensures) refl

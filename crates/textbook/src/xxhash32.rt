@@ -1,0 +1,129 @@
+//! XXH32 (the xxHash specification, "XXH32 algorithm description", steps 1 to 6). Each function is named for
+//! the definition's line that it computes.
+
+ghost use Rattle.std.specs.Prelude.{◌≡◌, ◌+◌, ◌*◌, ◌/◌, ◌<◌, ◌≤◌, length};
+ghost use Rattle.std.specs.Int.{w32};
+ghost use Rattle.twox_plain.specs.Word.{word_at};
+ghost use Rattle.twox_plain.specs.Xxh32.{round, lane, converged, start, take_word, take_byte, after_words, after_tail, avalanche, xxh32};
+
+const P1: u32 = 0x9E3779B1;
+
+const P2: u32 = 0x85EBCA77;
+
+const P3: u32 = 0xC2B2AE3D;
+
+const P4: u32 = 0x27D4EB2F;
+
+const P5: u32 = 0x165667B1;
+
+fn word(m: &[u8], i: usize) -> u32
+    requires { i + 4 ≤ length m.now }
+    ensures { result ≡ word_at w32 m.now i }
+{
+    u32::from_le_bytes([m[i], m[i + 1], m[i + 2], m[i + 3]])
+}
+
+fn round(a: u32, word: u32) -> u32
+    ensures { result ≡ round a word }
+{
+    let sum = a.wrapping_add(word.wrapping_mul(P2));
+    sum.rotate_left(13).wrapping_mul(P1)
+}
+
+// Lane j after every whole stripe.
+fn lane(seed: u32, m: &[u8], j: usize) -> u32
+    requires { j < 4 }
+    ensures { result ≡ lane seed m.now j (length m.now / 16) }
+{
+    let initial = [
+        seed.wrapping_add(P1).wrapping_add(P2),
+        seed.wrapping_add(P2),
+        seed,
+        seed.wrapping_sub(P1),
+    ];
+    let mut a = initial[j];
+    'stripes: for i in 0..m.len() / 16 {
+        a = round(a, word(m, i * 16 + j * 4));
+    }
+    a
+}
+
+// The four lanes as one value.
+fn converged(a: u32, b: u32, c: u32, d: u32) -> u32
+    ensures { result ≡ converged a b c d }
+{
+    let sum = a.rotate_left(1).wrapping_add(b.rotate_left(7));
+    let sum = sum.wrapping_add(c.rotate_left(12));
+    sum.wrapping_add(d.rotate_left(18))
+}
+
+// The lanes, or the seed where there is no stripe, and the low 32 bits of the length.
+fn start(seed: u32, m: &[u8]) -> u32
+    ensures { result ≡ start seed m.now }
+{
+    let len = (m.len() % 0x1_0000_0000) as u32;
+    if m.len() < 16 {
+        return seed.wrapping_add(P5).wrapping_add(len);
+    }
+    let (a, b) = (lane(seed, m, 0), lane(seed, m, 1));
+    let (c, d) = (lane(seed, m, 2), lane(seed, m, 3));
+    converged(a, b, c, d).wrapping_add(len)
+}
+
+fn take_word(x: u32, word: u32) -> u32
+    ensures { result ≡ take_word x word }
+{
+    let sum = x.wrapping_add(word.wrapping_mul(P3));
+    sum.rotate_left(17).wrapping_mul(P4)
+}
+
+fn take_byte(x: u32, byte: u8) -> u32
+    ensures { result ≡ take_byte x byte }
+{
+    let sum = x.wrapping_add(u32::from(byte).wrapping_mul(P5));
+    sum.rotate_left(11).wrapping_mul(P1)
+}
+
+// What x becomes by the words, then the bytes of the n bytes from byte i on.
+fn after_words(m: &[u8], i: usize, x: u32, n: usize) -> u32
+    requires { i + n ≤ length m.now }
+    ensures { result ≡ after_words m.now i x n }
+{
+    let mut value = x;
+    'words: for u in 0..n / 4 {
+        value = take_word(value, word(m, i + u * 4));
+    }
+    value
+}
+
+fn after_tail(m: &[u8], i: usize, x: u32, n: usize) -> u32
+    requires { i + n ≤ length m.now }
+    ensures { result ≡ after_tail m.now i x n }
+{
+    let mut value = after_words(m, i, x, n);
+    'bytes: for u in 0..n % 4 {
+        value = take_byte(value, m[i + n / 4 * 4 + u]);
+    }
+    value
+}
+
+fn avalanche(x: u32) -> u32
+    ensures { result ≡ avalanche x }
+{
+    let x = (x ^ (x >> 15)).wrapping_mul(P2);
+    let x = (x ^ (x >> 13)).wrapping_mul(P3);
+    x ^ (x >> 16)
+}
+
+/// XXH32 of the whole input under a seed.
+///
+/// ```
+/// textbook::xxh32(0, b"Hello, world!\0") // 0x9e5e7e93
+/// ```
+#[tactic(auto, unfolding(twox_plain::specs::Xxh32::xxh32))]
+pub fn xxh32(seed: u32, input: &[u8]) -> u32
+    ensures { result ≡ xxh32 seed input.now }
+{
+    let n = input.len();
+    avalanche(after_tail(input, n / 16 * 16, start(seed, input), n % 16))
+}

@@ -1,0 +1,172 @@
+//! XXH64 (the xxHash specification, "XXH64 algorithm description", steps 1 to 6). Each function is named for
+//! the definition's line that it computes.
+
+ghost use Rattle.std.specs.Prelude.{◌≡◌, ◌+◌, ◌*◌, ◌/◌, ◌<◌, ◌≤◌, length};
+ghost use Rattle.std.specs.Int.{w32, w64};
+ghost use Rattle.twox_plain.specs.Word.{word_at};
+ghost use Rattle.twox_plain.specs.Xxh64.{round, lane, merge, converged, start, take_eight, take_four, take_byte, after_eights, after_words, after_tail, avalanche, xxh64};
+
+const P1: u64 = 0x9E3779B185EBCA87;
+
+const P2: u64 = 0xC2B2AE3D27D4EB4F;
+
+const P3: u64 = 0x165667B19E3779F9;
+
+const P4: u64 = 0x85EBCA77C2B2AE63;
+
+const P5: u64 = 0x27D4EB2F165667C5;
+
+fn word(m: &[u8], i: usize) -> u64
+    requires { i + 8 ≤ length m.now }
+    ensures { result ≡ word_at w64 m.now i }
+{
+    u64::from_le_bytes([
+        m[i],
+        m[i + 1],
+        m[i + 2],
+        m[i + 3],
+        m[i + 4],
+        m[i + 5],
+        m[i + 6],
+        m[i + 7],
+    ])
+}
+
+fn half_word(m: &[u8], i: usize) -> u32
+    requires { i + 4 ≤ length m.now }
+    ensures { result ≡ word_at w32 m.now i }
+{
+    u32::from_le_bytes([m[i], m[i + 1], m[i + 2], m[i + 3]])
+}
+
+fn round(a: u64, word: u64) -> u64
+    ensures { result ≡ round a word }
+{
+    let sum = a.wrapping_add(word.wrapping_mul(P2));
+    sum.rotate_left(31).wrapping_mul(P1)
+}
+
+// Lane j after every whole stripe.
+fn lane(seed: u64, m: &[u8], j: usize) -> u64
+    requires { j < 4 }
+    ensures { result ≡ lane seed m.now j (length m.now / 32) }
+{
+    let initial = [
+        seed.wrapping_add(P1).wrapping_add(P2),
+        seed.wrapping_add(P2),
+        seed,
+        seed.wrapping_sub(P1),
+    ];
+    let mut a = initial[j];
+    'stripes: for i in 0..m.len() / 32 {
+        a = round(a, word(m, i * 32 + j * 8));
+    }
+    a
+}
+
+fn merge(x: u64, a: u64) -> u64
+    ensures { result ≡ merge x a }
+{
+    (x ^ round(0, a)).wrapping_mul(P1).wrapping_add(P4)
+}
+
+// The four lanes as one value.
+fn converged(a: u64, b: u64, c: u64, d: u64) -> u64
+    ensures { result ≡ converged a b c d }
+{
+    let sum = a.rotate_left(1).wrapping_add(b.rotate_left(7));
+    let sum = sum.wrapping_add(c.rotate_left(12));
+    let sum = sum.wrapping_add(d.rotate_left(18));
+    merge(merge(merge(merge(sum, a), b), c), d)
+}
+
+// The lanes, or the seed where there is no stripe, and the length.
+fn start(seed: u64, m: &[u8]) -> u64
+    ensures { result ≡ start seed m.now }
+{
+    let len = m.len() as u64;
+    if len < 32 {
+        return seed.wrapping_add(P5).wrapping_add(len);
+    }
+    let (a, b) = (lane(seed, m, 0), lane(seed, m, 1));
+    let (c, d) = (lane(seed, m, 2), lane(seed, m, 3));
+    converged(a, b, c, d).wrapping_add(len)
+}
+
+fn take_eight(x: u64, word: u64) -> u64
+    ensures { result ≡ take_eight x word }
+{
+    let mixed = (x ^ round(0, word)).rotate_left(27);
+    mixed.wrapping_mul(P1).wrapping_add(P4)
+}
+
+fn take_four(x: u64, word: u32) -> u64
+    ensures { result ≡ take_four x word }
+{
+    let mixed = (x ^ u64::from(word).wrapping_mul(P1)).rotate_left(23);
+    mixed.wrapping_mul(P2).wrapping_add(P3)
+}
+
+fn take_byte(x: u64, byte: u8) -> u64
+    ensures { result ≡ take_byte x byte }
+{
+    let mixed = (x ^ u64::from(byte).wrapping_mul(P5)).rotate_left(11);
+    mixed.wrapping_mul(P1)
+}
+
+// What x becomes by the eight-byte words, then the four-byte word, then the bytes of the n bytes from byte i on.
+fn after_eights(m: &[u8], i: usize, x: u64, n: usize) -> u64
+    requires { i + n ≤ length m.now }
+    ensures { result ≡ after_eights m.now i x n }
+{
+    let mut value = x;
+    'eights: for u in 0..n / 8 {
+        value = take_eight(value, word(m, i + u * 8));
+    }
+    value
+}
+
+#[tactic(auto, unfolding(twox_plain::specs::Xxh64::after_words))]
+fn after_words(m: &[u8], i: usize, x: u64, n: usize) -> u64
+    requires { i + n ≤ length m.now }
+    ensures { result ≡ after_words m.now i x n }
+{
+    let value = after_eights(m, i, x, n);
+    if n % 8 < 4 {
+        value
+    } else {
+        take_four(value, half_word(m, i + n / 8 * 8))
+    }
+}
+
+fn after_tail(m: &[u8], i: usize, x: u64, n: usize) -> u64
+    requires { i + n ≤ length m.now }
+    ensures { result ≡ after_tail m.now i x n }
+{
+    let mut value = after_words(m, i, x, n);
+    'bytes: for u in 0..n % 4 {
+        value = take_byte(value, m[i + n / 4 * 4 + u]);
+    }
+    value
+}
+
+fn avalanche(x: u64) -> u64
+    ensures { result ≡ avalanche x }
+{
+    let x = (x ^ (x >> 33)).wrapping_mul(P2);
+    let x = (x ^ (x >> 29)).wrapping_mul(P3);
+    x ^ (x >> 32)
+}
+
+/// XXH64 of the whole input under a seed.
+///
+/// ```
+/// textbook::xxh64(1234, b"some bytes") // 0xeab55659a496d78b
+/// ```
+#[tactic(auto, unfolding(twox_plain::specs::Xxh64::xxh64))]
+pub fn xxh64(seed: u64, input: &[u8]) -> u64
+    ensures { result ≡ xxh64 seed input.now }
+{
+    let n = input.len();
+    avalanche(after_tail(input, n / 32 * 32, start(seed, input), n % 32))
+}
