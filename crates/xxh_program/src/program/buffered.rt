@@ -1,6 +1,6 @@
 //! A fixed buffer in front of a reader.
 
-ghost use Rattle.std.specs.Prelude.{◌≡◌, ◌<◌, ◌≤◌, [], OnOk};
+ghost use Rattle.std.specs.Prelude.{◌≡◌, ◌<◌, ◌≤◌, [], OnOk, OnErr};
 ghost use Rattle.std.specs.Io.KnownBytes.{Keeps, IsAtEnd};
 
 use std::io;
@@ -43,6 +43,7 @@ impl<R: Read, const N: usize> Buffered<R, N> {
     // Reads once into the whole buffer, unless bytes wait there.
     fn fill(&mut self) -> io::Result<()>
         ensures bytes { Keeps (buffered_remaining R.remaining self.old) (buffered_remaining R.remaining self.new) }
+        ensures err { OnErr result (buffered_bytes self.old ≡ []) }
         ensures end { OnOk result (self.new.end ≤ self.new.start → IsAtEnd (R.remaining self.new.inner)) }
     {
         if self.start < self.end {
@@ -56,11 +57,17 @@ impl<R: Read, const N: usize> Buffered<R, N> {
 }
 
 impl<R: Read, const N: usize> Read for Buffered<R, N> {
-    ghost use Rattle.xxh_program.specs.Buffered.{buffered_remaining};
+    ghost use Rattle.std.specs.Io.{ReadsAtMost};
+    ghost use Rattle.std.specs.Io.KnownBytes.{ReadConsumes};
+    ghost use Rattle.xxh_program.specs.Buffered.{buffered_bytes, buffered_remaining};
 
     ghost remaining = { buffered_remaining R.remaining };
 
-    fn read(&mut self, buf: &mut [u8]) -> io::Result<usize> {
+    fn read(&mut self, buf: &mut [u8]) -> io::Result<usize>
+        ensures bound { ReadsAtMost result buf.new }
+        ensures bytes { ReadConsumes (buffered_remaining R.remaining self.old) (buffered_remaining R.remaining self.new) result buf.new }
+        ensures err { OnErr result (buffered_bytes self.old ≡ []) }
+    {
         self.fill()?;
         let filled = &self.buf[..];
         let waiting = &filled[self.start..self.end];
