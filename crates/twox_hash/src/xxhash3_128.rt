@@ -55,6 +55,10 @@ impl<A: Allocator> Model for Hasher<A> {
 
 impl Hasher<Global> {
     /// The hash of all bytes at once, with the default secret and the seed 0.
+    ///
+    /// Other bytes are noticed: no two different inputs of one length up to 16 bytes have the same hash. So is
+    /// another seed, up to 16 bytes. Of 1 to 3 bytes and above 240 the low half is the hash of 64 bits. All that
+    /// holds of the other one-shots too, under their secrets.
     #[inline]
     #[tactic(auto, unfolding(twox_core::specs::Value::xxh3_128, twox_core::specs::Value::range_of, twox_core::specs::Value::low_in, twox_core::specs::Value::high_in))]
     pub fn oneshot(input: &[u8]) -> u128

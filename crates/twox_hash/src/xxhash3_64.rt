@@ -52,6 +52,10 @@ impl<A: Allocator> Model for Hasher<A> {
 
 impl Hasher<Global> {
     /// The hash of all bytes at once, with the default secret and the seed 0.
+    ///
+    /// Other bytes are noticed: of two different inputs of 1 to 3 bytes, and of two of one length from 4 to 8,
+    /// no two have the same hash. So is another seed, up to 8 bytes. All that holds of the other one-shots
+    /// too, under their secrets.
     #[inline]
     #[tactic(auto, unfolding(twox_core::specs::Value::xxh3_64, twox_core::specs::Value::range_of, twox_core::specs::Value::value64_in))]
     pub fn oneshot(input: &[u8]) -> u64
