@@ -2,6 +2,8 @@
 #![tactic(auto)]
 
 #[cfg(test)]
+mod fast_and_slow;
+#[cfg(test)]
 mod laws;
 #[cfg(test)]
 mod long;

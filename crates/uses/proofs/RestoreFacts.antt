@@ -1,0 +1,23 @@
+-- The record of a hasher that stands for a list is accepted.
+use Rattle.std.proofs.Common.{◌≡◌, ◌/◌, ◌%◌, ℕ, List, [], length, refl, ap, ◌∙◌, arith}
+use Rattle.twox_plain.specs.Word.{counted}
+use Rattle.twox_plain.specs.Units.{after_units}
+use Rattle.twox_plain.specs.Xxh64.{lane}
+use Rattle.twox_plain.specs.Core64.{core_after}
+use Rattle.twox_plain.specs.Record64.{StandsFor, UsageFits, CoreFits}
+use Rattle.twox_plain.specs.declared.xxhash64.SavedState.{SavedState}
+
+core_none : (seed : ℕ) (m : List ℕ) → core_after seed m 0 ≡ core_after seed [] 0
+unfolding core_after lane after_units
+core_none seed m = refl
+
+pub stands_fits : (s : SavedState) (m : List ℕ) → StandsFor s m → UsageFits s × CoreFits s
+unfolding StandsFor
+stands_fits s m stands =
+    let count : s.total_len ≡ counted (length m) = stands.0 in
+    let left : s.buffer_usage ≡ length m % 32 = stands.1.left in (
+      record { known = λ low. left ∙ omega (arith, count, low); lost = λ full. omega (arith, left) },
+      λ short.
+          let none : length m / 32 ≡ 0 = omega (arith, count, short) in
+          stands.1.whole ∙ ap (core_after s.seed m) none ∙ core_none s.seed m,
+    )
