@@ -1,10 +1,10 @@
 -- The record of a hasher that stands for a list is accepted.
 use Rattle.std.proofs.Common.{◌≡◌, ◌/◌, ◌%◌, ℕ, List, [], length, refl, ap, ◌∙◌, arith}
-use Rattle.twox_plain.specs.Word.{counted}
-use Rattle.twox_plain.specs.Units.{after_units}
-use Rattle.twox_plain.specs.Xxh64.{lane}
-use Rattle.twox_plain.specs.Core64.{core_after}
-use Rattle.twox_plain.specs.Record64.{StandsFor, UsageFits, CoreFits}
+use Rattle.twox_hash.specs.Word.{counted}
+use Rattle.twox_hash.specs.Units.{after_units}
+use Rattle.twox_hash.specs.Xxh64.{lane}
+use Rattle.twox_hash.specs.Core64.{core_after}
+use Rattle.twox_hash.specs.Record64.{StandsFor, UsageFits, CoreFits}
 use Rattle.twox_plain.specs.declared.xxhash64.SavedState.{SavedState}
 
 core_none : (seed : ℕ) (m : List ℕ) → core_after seed m 0 ≡ core_after seed [] 0

@@ -2,8 +2,8 @@
 
 ghost use Rattle.std.specs.Prelude.{◌≡◌, ◌++◌, ◌≤◌, length, map};
 ghost use Rattle.std.specs.List.{concat};
-ghost use Rattle.twox_plain.specs.Xxh64.{xxh64};
-ghost use Rattle.twox_core.specs.Value.{effective_secret, xxh3_64};
+ghost use Rattle.twox_hash.specs.Xxh64.{xxh64};
+ghost use Rattle.twox_hash.specs.Value.{effective_secret, xxh3_64};
 
 use twox_hash::XxHash64;
 use twox_hash::xxhash3::{FixedBuffer, SecretBuffer};

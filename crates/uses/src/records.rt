@@ -1,8 +1,8 @@
 //! Equality, copies, and hashers that are kept as records.
 
 ghost use Rattle.std.specs.Prelude.{◌≡◌, ◌↔◌, ◌++◌, ℕ, List, IsTrue, Ok, IfOk, MatchResult};
-ghost use Rattle.twox_plain.specs.Xxh64.{xxh64};
-ghost use Rattle.twox_plain.specs.Record64.{StandsFor, finished, written};
+ghost use Rattle.twox_hash.specs.Xxh64.{xxh64};
+ghost use Rattle.twox_hash.specs.Record64.{StandsFor, finished, written};
 
 use std::alloc::AllocError;
 use twox_hash::XxHash64;

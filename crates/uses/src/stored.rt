@@ -1,12 +1,12 @@
 //! Hashes that were stored beside blocks, and what they notice.
 
 ghost use Rattle.std.specs.Prelude.{◌≡◌, ◌≢◌, ◌↔◌, ◌^◌, ◌<◌, ◌≤◌, ℕ, List, length, IsTrue};
-ghost use Rattle.twox_plain.specs.Word.{IsBytes};
-ghost use Rattle.twox_plain.specs.Apart.{DiffersWithin, IsUnit32};
-ghost use Rattle.twox_plain.specs.Xxh32.{xxh32};
-ghost use Rattle.twox_core.specs.OtherBytes.{IsOtherShort128};
-ghost use Rattle.twox_core.specs.Secret.{default_secret};
-ghost use Rattle.twox_core.specs.Value.{xxh3_128};
+ghost use Rattle.twox_hash.specs.Word.{IsBytes};
+ghost use Rattle.twox_hash.specs.Apart.{DiffersWithin, IsUnit32};
+ghost use Rattle.twox_hash.specs.Xxh32.{xxh32};
+ghost use Rattle.twox_hash.specs.OtherBytes.{IsOtherShort128};
+ghost use Rattle.twox_hash.specs.Secret.{default_secret};
+ghost use Rattle.twox_hash.specs.Value.{xxh3_128};
 
 use twox_hash::{XxHash3_128, XxHash32};
 

@@ -1,6 +1,6 @@
 use Rattle.std.proofs.Common.{◌≡◌, map, take}
 use Rattle.std.specs.List.{concat}
-use Rattle.twox_plain.specs.Record64.{StandsFor}
+use Rattle.twox_hash.specs.Record64.{StandsFor}
 use Rattle.uses.proofs.pieces.of_pieces.Given as goal
 
 -- the hasher stands for the pieces so far

@@ -1,6 +1,6 @@
 use Rattle.std.proofs.Common.{map, take}
 use Rattle.std.specs.List.{concat}
-use Rattle.twox_core.specs.Stands.{StandsFor}
+use Rattle.twox_hash.specs.Stands.{StandsFor}
 use Rattle.uses.proofs.pieces.of_pieces_with_secret.Given as goal
 
 -- the hasher stands for the pieces so far, under the seed and the secret

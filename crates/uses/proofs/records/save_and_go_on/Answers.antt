@@ -1,6 +1,6 @@
 use Rattle.std.proofs.Common.{sym, subst}
 use Rattle.std.proofs.lemmas.Bool.{false≢true}
-use Rattle.twox_plain.specs.Record64.{StandsFor}
+use Rattle.twox_hash.specs.Record64.{StandsFor}
 use Rattle.uses.proofs.RestoreFacts.{stands_fits}
 use Rattle.uses.proofs.records.save_and_go_on.Goals as goal
 
