@@ -12,7 +12,7 @@ use Rattle.twox_core.specs.Parts.{stripe_at}
 use Rattle.twox_core.specs.Long.{lane_after, last_lane, stripes_of, pair_fold, merged, long_low, long_high}
 use Rattle.twox_core.specs.Kernel.{lanes8, accumulate}
 use Rattle.twox_core.specs.Stripes.{at_start, stripe_taken, stripes_taken}
-use Rattle.twox_core.specs.Ending.{lanes_after, stripes_before, block_lanes, last_block, last_stripe, accumulated_block, lanes_at_end, finalized_64, finalized_high, finalized_128}
+use Rattle.twox_core.specs.Ending.{lanes_after, stripes_before, block_lanes, last_block, stream_lanes, stream_block, last_stripe, accumulated_block, lanes_at_end, finalized_64, finalized_high, finalized_128}
 use Rattle.twox_core.proofs.StripeFacts.{stripes_taken-take}
 use Rattle.twox_core.proofs.LaneFacts.{accumulates, same_lanes, stripe_done, next_without}
 
@@ -96,9 +96,8 @@ block_ended s m some long =
     let count : (length (drop (64 * k) m) - 1) / 64 ≡ r = omega (arith, length-drop (64 * k) m) in
     lanes_ended s m _ _ long (rw count (block_more s m ((length m - 1) / (64 * q)) r (mod_below ((length m - 1) / 64) q some)) ∙ ap (lanes_after s m) all)
 
-stripe_ended : (s m : List ℕ) → 64 ≤ length m
-    → lanes_at_end (lanes_after s m ((length m - 1) / 64)) (drop (64 * ((length m - 1) / 64)) m) (last_stripe m) s ≡ lanes8 (last_lane s m)
-unfolding accumulated_block
+stripe_ended : (s m : List ℕ) → 64 ≤ length m → lanes_at_end (stream_lanes s m) (stream_block m) (last_stripe m) s ≡ lanes8 (last_lane s m)
+unfolding stream_lanes stream_block accumulated_block
 stripe_ended s m long =
     let k = (length m - 1) / 64 in
     let count : (length (drop (64 * k) m) - 1) / 64 ≡ 0 = omega (arith, length-drop (64 * k) m) in
@@ -148,11 +147,11 @@ block_both s m some long low =
 
 -- of a stream, which has taken all stripes but the last
 pub stream_low : (s m : List ℕ) → 64 ≤ length m
-    → finalized_64 (lanes_after s m ((length m - 1) / 64)) (drop (64 * ((length m - 1) / 64)) m) (last_stripe m) s (counted (length m)) ≡ long_low s m
+    → finalized_64 (stream_lanes s m) (stream_block m) (last_stripe m) s (counted (length m)) ≡ long_low s m
 stream_low s m long = low_of s m _ _ (counted (length m)) (stripe_ended s m long) refl
 
 pub stream_both : (s m : List ℕ) → 64 ≤ length m
-    → finalized_128 (lanes_after s m ((length m - 1) / 64)) (drop (64 * ((length m - 1) / 64)) m) (last_stripe m) s (counted (length m)) ≡ long_high s m * 2 ^ 64 + long_low s m
+    → finalized_128 (stream_lanes s m) (stream_block m) (last_stripe m) s (counted (length m)) ≡ long_high s m * 2 ^ 64 + long_low s m
 unfolding finalized_128
 stream_both s m long =
     ap₂ (λ (x y : ℕ). x * 2 ^ 64 + y) (high_of s m _ _ (counted (length m)) (stripe_ended s m long) refl) (stream_low s m long)

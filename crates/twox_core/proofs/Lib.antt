@@ -5,6 +5,7 @@ pub mod MixFacts
 pub mod PartFacts
 pub mod ShortLaws
 pub mod StepLaws
+pub mod StreamFacts
 pub mod StripeFacts
 pub mod ValueLaws
 pub mod Vectors

@@ -16,13 +16,21 @@ lanes_after s m k = lanes8 (λ i. lane_after s m i k)
 abbrev pub stripes_before : List ℕ → List ℕ → ℕ
 stripes_before s m = stripes_of s * ((length m - 1) / (64 * stripes_of s))
 
--- the lanes after those, the bytes after those, and the last 64 bytes
+-- the lanes after those, and the bytes after those
 unfoldable pub block_lanes : List ℕ → List ℕ → List ℕ
 block_lanes s m = lanes_after s m (stripes_before s m)
 
 unfoldable pub last_block : List ℕ → List ℕ → List ℕ
 last_block s m = drop (64 * stripes_before s m) m
 
+-- where all stripes but the last were taken: the lanes after those, and the bytes after those
+unfoldable pub stream_lanes : List ℕ → List ℕ → List ℕ
+stream_lanes s m = lanes_after s m ((length m - 1) / 64)
+
+unfoldable pub stream_block : List ℕ → List ℕ
+stream_block m = drop (64 * ((length m - 1) / 64)) m
+
+-- the last 64 bytes
 unfoldable pub last_stripe : List ℕ → List ℕ
 last_stripe m = drop (length m - 64) m
 

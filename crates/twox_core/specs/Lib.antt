@@ -10,5 +10,10 @@ pub mod Long
 pub mod Value
 pub mod OtherBytes
 pub mod Kernel
+pub mod Held
 pub mod Stripes
 pub mod Ending
+pub mod Core
+pub mod Written
+pub mod Finished
+pub mod Stands

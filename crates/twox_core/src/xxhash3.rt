@@ -20,7 +20,10 @@ pub use large::{Algorithm, Finalize, INITIAL_ACCUMULATORS, Kernel, Vector};
 use parts::array_at;
 use primes::{PRIME_MX1, PRIME64_2, PRIME64_3};
 pub use secret::{SECRET_MINIMUM_LENGTH, Secret};
-pub use streaming::StripeAccumulator;
+pub use streaming::{
+    AllocRawHasher, BUFFERED_BYTES, ClonedBuffer, FixedBuffer, FixedMutBuffer, RawHasherCore,
+    SecretBuffer, SecretTooShortError, SecretWithSeedError, StripeAccumulator,
+};
 use thiserror::Error;
 use twox_plain::words::{Halves, IntoU32, IntoU128, bp_as_chunks, u64_at};
 

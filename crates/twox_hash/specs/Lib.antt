@@ -18,3 +18,10 @@ pub use Rattle.twox_core.specs.Secret
 pub use Rattle.twox_core.specs.SecretBytes
 pub use Rattle.twox_core.specs.Value
 pub use Rattle.twox_core.specs.OtherBytes
+pub use Rattle.twox_core.specs.Ending
+pub use Rattle.twox_core.specs.Held
+pub use Rattle.twox_core.specs.Core
+pub use Rattle.twox_core.specs.Written
+pub use Rattle.twox_core.specs.Finished
+pub use Rattle.twox_core.specs.Stands
+pub mod Streams

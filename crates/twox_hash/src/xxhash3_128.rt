@@ -14,21 +14,43 @@ ghost use Rattle.twox_core.specs.Short.{combined, empty128_high, empty128_low, f
 ghost use Rattle.twox_core.specs.Steps.{add64, avalanche, mix, mul64, word64};
 ghost use Rattle.twox_core.specs.Value.{effective_secret, high_in, low_in, steps_of, xxh3_64, xxh3_128, Range};
 
-use std::alloc::{Allocator, Global};
+use std::alloc::{AllocError, Allocator, Global};
+use std::boxed::BoxedSlice;
+use std::marker::Model;
 use twox_core::xxhash3::primes::{PRIME_MX2, PRIME32_2, PRIME64_1, PRIME64_2, PRIME64_4};
 pub use twox_core::xxhash3::{
-    DEFAULT_SECRET_LENGTH, OneshotWithSecretError, SECRET_MINIMUM_LENGTH,
+    ClonedBuffer, DEFAULT_SECRET_LENGTH, FixedBuffer, FixedMutBuffer, OneshotWithSecretError,
+    SECRET_MINIMUM_LENGTH, SecretBuffer, SecretTooShortError, SecretWithSeedError,
 };
 use twox_core::xxhash3::{
-    Algorithm, CUTOFF, DEFAULT_SEED, Finalize, Kernel, Secret, Vector, avalanche, avalanche_xxh64,
-    chunks_17_to_128, default_secret, derived_secret, full_product, impl_1_to_3_bytes_combined,
-    mix_step, pairs_of_u64_bytes, to_u64s,
+    Algorithm, AllocRawHasher, CUTOFF, DEFAULT_SEED, Finalize, Kernel, RawHasherCore, Secret,
+    Vector, avalanche, avalanche_xxh64, chunks_17_to_128, default_secret, derived_secret,
+    full_product, impl_1_to_3_bytes_combined, mix_step, pairs_of_u64_bytes, to_u64s,
 };
 use twox_plain::words::{Halves, IntoU64, IntoU128, bp_as_chunks, u32_at, u64_at};
 
-/// Calculates the 128-bit hash.
+/// Calculates the 128-bit hash: of all bytes at once, or of bytes that come in pieces. The secret of a stream
+/// is in memory of its own.
+///
+/// ```text
+/// let mut hasher = Hasher::with_seed(alloc, 7)?;
+/// hasher.write(b"some ");
+/// hasher.write(b"bytes");
+/// assert_eq!(hasher.finish_128(), Hasher::oneshot_with_seed(7, b"some bytes"));
+/// ```
+#[derive(Drop)]
 pub struct Hasher<A: Allocator = Global> {
-    allocator: A,
+    inner: AllocRawHasher<A>,
+}
+
+impl<A: Allocator> Model for Hasher<A> {
+    ghost use Rattle.std.specs.Prelude.{ℕ};
+    ghost use Rattle.std.specs.declared.boxed.BoxedSlice.{BoxedSlice};
+    ghost use Rattle.twox_core.specs.Core.{Core};
+
+    ghost Value = { Core (BoxedSlice ℕ A) };
+
+    ghost view = { λ h. h.inner };
 }
 
 impl Hasher<Global> {
@@ -109,6 +131,187 @@ impl Hasher<Global> {
             return Ok(impl_oneshot(default_secret(), seed, input));
         }
         Ok(impl_oneshot_long(Secret::new(secret)?, input))
+    }
+}
+
+impl<A: Allocator> Hasher<A> {
+    ghost use Rattle.std.specs.Prelude.{◌≡◌, ℕ, List, [], ◌++◌, ◌<◌, ◌≤◌, length, IfOk, MatchResult};
+    ghost use Rattle.std.specs.Box.{boxed_slice_items};
+    ghost use Rattle.twox_core.specs.Secret.{default_secret, derived_secret};
+    ghost use Rattle.twox_core.specs.Value.{effective_secret, xxh3_128};
+    ghost use Rattle.twox_core.specs.Core.{Core};
+    ghost use Rattle.twox_core.specs.Written.{written};
+    ghost use Rattle.twox_core.specs.Stands.{StandsFor};
+    ghost use Rattle.twox_hash.specs.Streams.{value_128};
+
+    /// A stream with the seed 0 and the default secret.
+    ///
+    /// # Errors
+    ///
+    /// There is no memory for the secret.
+    pub fn new(alloc: A) -> Result<Hasher<A>, AllocError>
+        ensures { IfOk result (λ h. StandsFor boxed_slice_items h 0 default_secret []) }
+    {
+        let inner = AllocRawHasher::allocate_default(alloc)?;
+        Ok(Hasher { inner })
+    }
+
+    /// The same as `new`.
+    ///
+    /// # Errors
+    ///
+    /// There is no memory for the secret.
+    pub fn default(alloc: A) -> Result<Hasher<A>, AllocError>
+        ensures { IfOk result (λ h. StandsFor boxed_slice_items h 0 default_secret []) }
+    {
+        Hasher::new(alloc)
+    }
+
+    /// A stream with the seed and the secret that it derives.
+    ///
+    /// # Errors
+    ///
+    /// There is no memory for the secret.
+    pub fn with_seed(alloc: A, seed: u64) -> Result<Hasher<A>, AllocError>
+        ensures { IfOk result (λ h. StandsFor boxed_slice_items h seed (derived_secret seed) []) }
+    {
+        let inner = AllocRawHasher::allocate_with_seed(alloc, seed)?;
+        Ok(Hasher { inner })
+    }
+
+    /// A stream with the seed and the secret, which takes no memory.
+    ///
+    /// # Errors
+    ///
+    /// The secret has fewer than 136 bytes; it is handed back.
+    pub fn with_seed_and_secret(
+        seed: u64,
+        secret: BoxedSlice<u8, A>,
+    ) -> Result<Hasher<A>, SecretTooShortError<BoxedSlice<u8, A>>>
+        ensures { MatchResult result
+            (λ h. (136 ≤ length (boxed_slice_items secret)) × StandsFor boxed_slice_items h seed (boxed_slice_items secret) [])
+            (λ e. (length (boxed_slice_items secret) < 136) × (e ≡ secret)) }
+    {
+        let inner = AllocRawHasher::allocate_with_seed_and_secret(seed, secret)?;
+        Ok(Hasher { inner })
+    }
+
+    /// Takes the bytes of a piece after those taken before.
+    #[inline]
+    pub fn write(&mut self, input: &[u8])
+        ensures message { (seed : ℕ) (s m : List ℕ) → StandsFor boxed_slice_items self.old seed s m → StandsFor boxed_slice_items self.new seed s (m ++ input.now) }
+        ensures exact { self.new ≡ written boxed_slice_items self.old input.now }
+    {
+        self.inner.write(input);
+    }
+
+    /// The hash of the bytes taken so far, which stay: up to 240 bytes with the default secret and the seed,
+    /// above with the secret that is held, where no seed enters.
+    #[inline]
+    #[tactic(auto, unfolding(crate::specs::Streams::value_128))]
+    pub fn finish_128(&self) -> u128
+        ensures message { (seed : ℕ) (s m : List ℕ) → StandsFor boxed_slice_items self.now seed s m → result ≡ xxh3_128 seed (effective_secret s m) m }
+        ensures exact { result ≡ value_128 boxed_slice_items self.now }
+    {
+        self.inner.finish(Finalize128)
+    }
+
+    /// The secret that is held.
+    pub fn into_secret(self) -> BoxedSlice<u8, A>
+        ensures exact { result ≡ self.held.secret }
+        ensures message { (seed : ℕ) (s m : List ℕ) → StandsFor boxed_slice_items self seed s m → boxed_slice_items result ≡ s }
+    {
+        self.inner.into_secret()
+    }
+}
+
+impl<A: Allocator + Clone> Clone for Hasher<A> {
+    ghost use Rattle.std.specs.Box.{boxed_slice_items};
+    ghost use Rattle.twox_core.specs.Stands.{IsCopy};
+
+    ghost is_clone = { λ a b. IsCopy boxed_slice_items a b };
+
+    fn clone(&self) -> Result<Hasher<A>, AllocError> {
+        let inner = self.inner.clone()?;
+        Ok(Hasher { inner })
+    }
+}
+
+/// A stream over a secret of the caller's, which takes no memory.
+///
+/// ```text
+/// let secret = SecretBuffer::with_seed(7, [0; DEFAULT_SECRET_LENGTH])?;
+/// let mut hasher = RawHasher::new(secret);
+/// hasher.write(b"some bytes");
+/// assert_eq!(hasher.finish_128(), Hasher::oneshot_with_seed(7, b"some bytes"));
+/// ```
+#[derive(Drop)]
+pub struct RawHasher<S: FixedBuffer> {
+    inner: RawHasherCore<S>,
+}
+
+impl<S: FixedBuffer> Model for RawHasher<S> {
+    ghost use Rattle.twox_core.specs.Core.{Core};
+
+    ghost Value = { Core S };
+
+    ghost view = { λ h. h.inner };
+}
+
+impl<S: FixedBuffer> RawHasher<S> {
+    ghost use Rattle.std.specs.Prelude.{◌≡◌, ℕ, List, [], ◌++◌};
+    ghost use Rattle.twox_core.specs.Value.{effective_secret, xxh3_128};
+    ghost use Rattle.twox_core.specs.Core.{Core};
+    ghost use Rattle.twox_core.specs.Written.{written};
+    ghost use Rattle.twox_core.specs.Stands.{StandsFor};
+    ghost use Rattle.twox_hash.specs.Streams.{value_128};
+
+    /// A stream of no bytes yet, with the seed and the secret that are held.
+    pub fn new(secret_buffer: SecretBuffer<S>) -> RawHasher<S>
+        ensures { StandsFor S.bytes result secret_buffer.seed (S.bytes secret_buffer.secret) [] }
+    {
+        RawHasher {
+            inner: RawHasherCore::new(secret_buffer),
+        }
+    }
+
+    /// Takes the bytes of a piece after those taken before.
+    #[inline]
+    pub fn write(&mut self, input: &[u8])
+        ensures message { (seed : ℕ) (s m : List ℕ) → StandsFor S.bytes self.old seed s m → StandsFor S.bytes self.new seed s (m ++ input.now) }
+        ensures exact { self.new ≡ written S.bytes self.old input.now }
+    {
+        self.inner.write(input);
+    }
+
+    /// The hash of the bytes taken so far, which stay: up to 240 bytes with the default secret and the seed,
+    /// above with the secret that is held, where no seed enters.
+    #[inline]
+    #[tactic(auto, unfolding(crate::specs::Streams::value_128))]
+    pub fn finish_128(&self) -> u128
+        ensures message { (seed : ℕ) (s m : List ℕ) → StandsFor S.bytes self.now seed s m → result ≡ xxh3_128 seed (effective_secret s m) m }
+        ensures exact { result ≡ value_128 S.bytes self.now }
+    {
+        self.inner.finish(Finalize128)
+    }
+
+    /// The secret that is held.
+    pub fn into_secret(self) -> S
+        ensures exact { result ≡ self.held.secret }
+        ensures message { (seed : ℕ) (s m : List ℕ) → StandsFor S.bytes self seed s m → S.bytes result ≡ s }
+    {
+        self.inner.into_secret()
+    }
+}
+
+impl<S: ClonedBuffer> Clone for RawHasher<S> {
+    ghost use Rattle.twox_core.specs.Stands.{IsCopy};
+
+    ghost is_clone = { λ a b. IsCopy S.FixedBuffer.bytes a b };
+
+    fn clone(&self) -> Result<RawHasher<S>, AllocError> {
+        let inner = self.inner.clone()?;
+        Ok(RawHasher { inner })
     }
 }
 

@@ -1,5 +1,13 @@
-//! Streams of XXH3: bytes that come in pieces.
+//! Streams of XXH3: bytes that come in pieces, hashed under a secret that the stream holds.
 
-pub mod stripes;
+mod buffers;
+mod core_state;
+mod raw;
+mod secret_buffer;
+mod stripes;
 
+pub use buffers::{ClonedBuffer, FixedBuffer, FixedMutBuffer};
+pub use core_state::BUFFERED_BYTES;
+pub use raw::{AllocRawHasher, RawHasherCore};
+pub use secret_buffer::{SecretBuffer, SecretTooShortError, SecretWithSeedError};
 pub use stripes::StripeAccumulator;

@@ -1,0 +1,14 @@
+use Rattle.std.proofs.Common.{◌≡◌, ◌+◌, ◌-◌, List, ℕ, ◌++◌, take, drop, nat_lt, true, arith, ap, ◌∙◌, length-drop}
+use Rattle.std.proofs.lemmas.Bool.Decides.{nat_tests}
+use Rattle.std.proofs.lemmas.List.{take_all}
+use Rattle.twox_core.specs.Finished.{last_bytes}
+use Rattle.twox_core.proofs.xxhash3.streaming.core_state.CoreState.last_stripe.Goals as goal
+
+pub returns-then-used-lt64 : goal.returns-then-used-lt64
+unfolding last_bytes
+returns-then-used-lt64 c =
+    let u = c.args.self.now.buffer_usage in
+    let b = c.args.self.now.buffer in
+    let test : nat_lt u 64 ≡ true = grind (arith, nat_tests, c.if-used-lt64.true) in
+    let kept = take_all (256 - (192 + u)) (drop (192 + u) b) (omega (arith, length-drop (192 + u) b)) in
+    rw test (c.joined.ensures ∙ ap (λ (x : List ℕ). x ++ take u b) kept)

@@ -1,0 +1,209 @@
+//! The streaming core of both widths.
+
+ghost use Rattle.std.specs.Prelude.{◌≡◌, ℕ, List, [], ◌++◌, ◌+◌, ◌*◌, ◌^◌, ◌<◌, ◌≤◌, length};
+
+use super::core_state::CoreState;
+use super::{BUFFERED_BYTES, ClonedBuffer, FixedBuffer, SecretBuffer, SecretTooShortError};
+use crate::xxhash3::large::{Finalize, Kernel, Vector};
+use std::alloc::{AllocError, Allocator};
+use std::boxed::BoxedSlice;
+use std::marker::Model;
+
+/// A stream of bytes, of which any end that is a `Finalize` can be asked at any moment.
+///
+/// Its size is fixed by its type, beside the secret.
+#[derive(Drop)]
+pub struct RawHasherCore<S: FixedBuffer> {
+    secret_buffer: SecretBuffer<S>,
+    state: CoreState,
+}
+
+impl<S: FixedBuffer> Model for RawHasherCore<S> {
+    ghost use Rattle.std.specs.Prelude.{◌≤◌, ◌<◌, min, length};
+    ghost use Rattle.twox_core.specs.Long.{stripes_of};
+    ghost use Rattle.twox_core.specs.Core.{Core};
+
+    ghost Value = { Core S };
+
+    ghost view = { λ h. record { held = h.secret_buffer; state = h.state } };
+
+    ghost invariant = { λ h. (136 ≤ length (S.bytes h.secret_buffer.secret) → h.state.stripes.current_stripe < stripes_of (S.bytes h.secret_buffer.secret))
+        × (h.state.buffer_usage ≤ 256) × (min h.state.total_bytes 1 ≤ h.state.buffer_usage) };
+}
+
+impl<S: FixedBuffer> RawHasherCore<S> {
+    ghost use Rattle.std.specs.Prelude.{◌≡◌, ℕ, List, [], ◌++◌, ◌+◌, ◌*◌, ◌^◌, ◌<◌, ◌≤◌, length};
+    ghost use Rattle.twox_plain.specs.Word.{counted};
+    ghost use Rattle.twox_core.specs.Secret.{default_secret};
+    ghost use Rattle.twox_core.specs.Ending.{stream_lanes, stream_block, last_stripe};
+    ghost use Rattle.twox_core.specs.Core.{total_of, done_of, buffered_of};
+    ghost use Rattle.twox_core.specs.Written.{written};
+    ghost use Rattle.twox_core.specs.Finished.{finished};
+    ghost use Rattle.twox_core.specs.Stands.{StandsFor};
+
+    /// A stream of no bytes yet.
+    #[tactic(auto, using(crate::proofs::StreamFacts::stands_fresh))]
+    pub fn new(secret_buffer: SecretBuffer<S>) -> RawHasherCore<S>
+        ensures { StandsFor S.bytes result secret_buffer.seed (S.bytes secret_buffer.secret) [] }
+    {
+        RawHasherCore {
+            secret_buffer,
+            state: CoreState::new(),
+        }
+    }
+
+    /// Takes the bytes of a piece after those taken before.
+    #[inline]
+    pub fn write(&mut self, input: &[u8])
+        ensures message { (seed : ℕ) (s m : List ℕ) → StandsFor S.bytes self.old seed s m → StandsFor S.bytes self.new seed s (m ++ input.now) }
+        ensures exact { self.new ≡ written S.bytes self.old input.now }
+    {
+        self.write_with(Kernel {}, input);
+    }
+
+    /// Takes the bytes of a piece after those taken before, by a kernel. Each call may have another kernel.
+    #[inline]
+    pub fn write_with(&mut self, v: impl Vector, input: &[u8])
+        ensures message { (seed : ℕ) (s m : List ℕ) → StandsFor S.bytes self.old seed s m → StandsFor S.bytes self.new seed s (m ++ input.now) }
+        ensures exact { self.new ≡ written S.bytes self.old input.now }
+    {
+        self.state.write(v, input, self.secret_buffer.secret());
+    }
+
+    /// What `finalize` makes of the bytes taken so far. Up to 240 bytes it is given the default secret and the
+    /// seed, and above the held secret; the stream isn't changed.
+    #[inline]
+    pub fn finish<F: Finalize + Drop>(&self, finalize: F) -> F::Output
+        ensures short { (seed : ℕ) (s m : List ℕ) → StandsFor S.bytes self.now seed s m → length m ≤ 240
+            → result ≡ F.small_of finalize default_secret seed m }
+        ensures long { (seed : ℕ) (s m : List ℕ) → StandsFor S.bytes self.now seed s m → 240 < length m
+            → result ≡ F.large_of finalize (stream_lanes s m) (stream_block m) (last_stripe m) s (counted (length m)) }
+        ensures exact { result ≡ finished (F.small_of finalize) (F.large_of finalize) S.bytes self.now }
+    {
+        self.finish_with(Kernel {}, finalize)
+    }
+
+    /// The same by a kernel. Each call may have another kernel.
+    #[inline]
+    pub fn finish_with<F: Finalize + Drop>(&self, v: impl Vector, finalize: F) -> F::Output
+        ensures short { (seed : ℕ) (s m : List ℕ) → StandsFor S.bytes self.now seed s m → length m ≤ 240
+            → result ≡ F.small_of finalize default_secret seed m }
+        ensures long { (seed : ℕ) (s m : List ℕ) → StandsFor S.bytes self.now seed s m → 240 < length m
+            → result ≡ F.large_of finalize (stream_lanes s m) (stream_block m) (last_stripe m) s (counted (length m)) }
+        ensures exact { result ≡ finished (F.small_of finalize) (F.large_of finalize) S.bytes self.now }
+    {
+        let secret = self.secret_buffer.secret();
+        self.state.finish(v, &finalize, self.secret_buffer.seed(), secret)
+    }
+
+    /// The number of bytes taken so far; from 2^64 - 1 on it stays there.
+    #[tactic(auto, using(crate::proofs::StreamFacts::stands_count))]
+    pub fn total_len(&self) -> u64
+        ensures exact { result ≡ total_of self.now }
+        ensures message { (seed : ℕ) (s m : List ℕ) → StandsFor S.bytes self.now seed s m → result ≡ counted (length m) }
+    {
+        self.state.total_bytes
+    }
+
+    /// The number of stripes that the lanes have taken; from 2^64 - 1 on it stays there.
+    ///
+    /// With the bytes that `buffered` counts, these are all bytes taken so far.
+    #[tactic(auto, using(crate::proofs::StreamFacts::stands_all))]
+    pub fn stripes_done(&self) -> u64
+        ensures exact { result ≡ done_of self.now }
+        ensures all { (seed : ℕ) (s m : List ℕ) → StandsFor S.bytes self.now seed s m → length m < 2 ^ 64
+            → 64 * result + buffered_of self.now ≡ length m }
+    {
+        self.state.stripes_done
+    }
+
+    /// The number of bytes that are kept for later: none before the first byte, and then from 1 to
+    /// `BUFFERED_BYTES`.
+    #[tactic(auto, using(crate::proofs::StreamFacts::stands_none, crate::proofs::StreamFacts::stands_some, crate::proofs::StreamFacts::stands_all))]
+    pub fn buffered(&self) -> usize
+        ensures exact { result ≡ buffered_of self.now }
+        ensures within { result ≤ BUFFERED_BYTES }
+        ensures none { (seed : ℕ) (s : List ℕ) → StandsFor S.bytes self.now seed s [] → result ≡ 0 }
+        ensures some { (seed : ℕ) (s m : List ℕ) → StandsFor S.bytes self.now seed s m → 0 < length m → 0 < result }
+        ensures all { (seed : ℕ) (s m : List ℕ) → StandsFor S.bytes self.now seed s m → length m < 2 ^ 64
+            → 64 * done_of self.now + result ≡ length m }
+    {
+        self.state.buffer_usage
+    }
+
+    /// The secret that is held.
+    #[tactic(auto, using(crate::proofs::StreamFacts::stands_secret))]
+    pub fn into_secret(self) -> S
+        ensures exact { result ≡ self.held.secret }
+        ensures message { (seed : ℕ) (s m : List ℕ) → StandsFor S.bytes self seed s m → S.bytes result ≡ s }
+    {
+        let RawHasherCore {
+            secret_buffer,
+            state: _,
+        } = self;
+        secret_buffer.into_secret()
+    }
+}
+
+impl<S: ClonedBuffer> Clone for RawHasherCore<S> {
+    ghost use Rattle.twox_core.specs.Stands.{IsCopy};
+
+    ghost is_clone = { λ a b. IsCopy S.FixedBuffer.bytes a b };
+
+    fn clone(&self) -> Result<RawHasherCore<S>, AllocError> {
+        let secret_buffer = self.secret_buffer.clone()?;
+        Ok(RawHasherCore {
+            secret_buffer,
+            state: self.state,
+        })
+    }
+}
+
+/// A stream whose secret is in memory of its own.
+pub type AllocRawHasher<A> = RawHasherCore<BoxedSlice<u8, A>>;
+
+impl<A: Allocator> AllocRawHasher<A> {
+    ghost use Rattle.std.specs.Prelude.{◌≡◌, [], ◌<◌, ◌≤◌, length, IfOk, MatchResult};
+    ghost use Rattle.std.specs.Box.{boxed_slice_items};
+    ghost use Rattle.twox_core.specs.Secret.{default_secret, derived_secret};
+    ghost use Rattle.twox_core.specs.Stands.{StandsFor};
+
+    /// A stream with the seed 0 and the default secret.
+    ///
+    /// # Errors
+    ///
+    /// There is no memory for the secret.
+    pub fn allocate_default(alloc: A) -> Result<AllocRawHasher<A>, AllocError>
+        ensures { IfOk result (λ h. StandsFor boxed_slice_items h 0 default_secret []) }
+    {
+        Ok(RawHasherCore::new(SecretBuffer::allocate_default(alloc)?))
+    }
+
+    /// A stream with the seed and the secret that it derives.
+    ///
+    /// # Errors
+    ///
+    /// There is no memory for the secret.
+    pub fn allocate_with_seed(alloc: A, seed: u64) -> Result<AllocRawHasher<A>, AllocError>
+        ensures { IfOk result (λ h. StandsFor boxed_slice_items h seed (derived_secret seed) []) }
+    {
+        Ok(RawHasherCore::new(SecretBuffer::allocate_with_seed(alloc, seed)?))
+    }
+
+    /// A stream with the seed and the secret, which takes no memory.
+    ///
+    /// # Errors
+    ///
+    /// The secret has fewer than 136 bytes; it is handed back.
+    pub fn allocate_with_seed_and_secret(
+        seed: u64,
+        secret: BoxedSlice<u8, A>,
+    ) -> Result<AllocRawHasher<A>, SecretTooShortError<BoxedSlice<u8, A>>>
+        ensures { MatchResult result
+            (λ h. (136 ≤ length (boxed_slice_items secret)) × StandsFor boxed_slice_items h seed (boxed_slice_items secret) [])
+            (λ e. (length (boxed_slice_items secret) < 136) × (e ≡ secret)) }
+    {
+        let secret_buffer = SecretBuffer::allocate_with_seed_and_secret(seed, secret)?;
+        Ok(RawHasherCore::new(secret_buffer))
+    }
+}

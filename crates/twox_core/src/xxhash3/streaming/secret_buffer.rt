@@ -1,0 +1,268 @@
+//! A secret that is held, with its seed, and what is answered where it hasn't the right length.
+
+use super::{ClonedBuffer, FixedBuffer, FixedMutBuffer};
+use crate::xxhash3::{
+    DEFAULT_SECRET_LENGTH, DEFAULT_SECRET_RAW, DEFAULT_SEED, DefaultSecret,
+    SECRET_MINIMUM_LENGTH, Secret, derived_secret,
+};
+use std::alloc::{AllocError, Allocator};
+use std::boxed::BoxedSlice;
+use std::error::Error;
+use std::fmt;
+use std::marker::Model;
+
+/// A seed, and a secret of at least 136 bytes.
+#[derive(Drop)]
+pub struct SecretBuffer<S: FixedBuffer> {
+    seed: u64,
+    secret: S,
+}
+
+impl<S: FixedBuffer> Model for SecretBuffer<S> {
+    ghost use Rattle.std.specs.Prelude.{◌≤◌, length};
+    ghost use Rattle.twox_core.specs.Held.{Held};
+
+    ghost Value = { Held S };
+
+    ghost view = { λ b. record { seed = b.seed; secret = b.secret } };
+
+    ghost invariant = { λ b. 136 ≤ length (S.bytes b.secret) };
+}
+
+impl<S: FixedBuffer> SecretBuffer<S> {
+    ghost use Rattle.std.specs.Prelude.{◌≡◌, ◌<◌, ◌≤◌, length, MatchResult};
+    ghost use Rattle.twox_core.specs.Held.{Held};
+    ghost use Rattle.twox_core.specs.SecretBytes.{secret_bytes};
+
+    /// Holds the seed and the secret as they are.
+    ///
+    /// # Errors
+    ///
+    /// The secret has fewer than 136 bytes; it is handed back.
+    pub fn new(seed: u64, secret: S) -> Result<SecretBuffer<S>, SecretTooShortError<S>>
+        ensures { MatchResult result (λ b. (136 ≤ length (S.bytes secret)) × (b.seed ≡ seed) × (b.secret ≡ secret))
+            (λ e. (length (S.bytes secret) < 136) × (e ≡ secret)) }
+    {
+        if secret.as_ref().len() < SECRET_MINIMUM_LENGTH {
+            return Err(SecretTooShortError { secret });
+        }
+        Ok(SecretBuffer { seed, secret })
+    }
+
+    /// The secret, as it is held.
+    pub fn into_secret(self) -> S
+        ensures { result ≡ self.secret }
+    {
+        let SecretBuffer { seed: _, secret } = self;
+        secret
+    }
+
+    // The seed.
+    #[inline(always)]
+    pub(super) fn seed(&self) -> u64
+        ensures { result ≡ self.now.seed }
+    {
+        self.seed
+    }
+
+    // The secret, lent.
+    #[inline(always)]
+    pub(super) fn secret(&self) -> Secret<'_>
+        ensures { secret_bytes result ≡ S.bytes self.now.secret }
+    {
+        Secret::new(self.secret.as_ref()).unwrap()
+    }
+}
+
+impl<S: FixedMutBuffer> SecretBuffer<S> {
+    ghost use Rattle.std.specs.Prelude.{◌≡◌, ◌≢◌, length, MatchResult};
+    ghost use Rattle.twox_core.specs.Secret.{derived_secret};
+    ghost use Rattle.twox_core.specs.Held.{Held};
+
+    /// Overwrites the buffer with the secret that the seed derives, and holds it.
+    ///
+    /// # Errors
+    ///
+    /// The buffer hasn't exactly 192 bytes; it is handed back as it was.
+    pub fn with_seed(seed: u64, mut secret: S) -> Result<SecretBuffer<S>, SecretWithSeedError<S>>
+        ensures { MatchResult result (λ b. (length (S.FixedBuffer.bytes secret) ≡ 192) × (b.seed ≡ seed) × (S.FixedBuffer.bytes b.secret ≡ derived_secret seed))
+            (λ e. (length (S.FixedBuffer.bytes secret) ≢ 192) × (e ≡ secret)) }
+    {
+        if secret.as_ref().len() != DEFAULT_SECRET_LENGTH {
+            return Err(SecretWithSeedError { secret });
+        }
+        secret.as_mut().copy_from_slice(&derived_secret(seed));
+        Ok(SecretBuffer { seed, secret })
+    }
+}
+
+impl SecretBuffer<DefaultSecret> {
+    ghost use Rattle.std.specs.Prelude.{◌≡◌};
+    ghost use Rattle.twox_core.specs.Secret.{default_secret};
+    ghost use Rattle.twox_core.specs.Held.{Held};
+
+    /// The seed 0 and the default secret.
+    #[tactic(auto, unfolding(crate::specs::Secret::default_secret))]
+    pub fn default() -> SecretBuffer<DefaultSecret>
+        ensures seed { result.seed ≡ 0 }
+        ensures secret { result.secret ≡ default_secret }
+    {
+        SecretBuffer {
+            seed: DEFAULT_SEED,
+            secret: DEFAULT_SECRET_RAW,
+        }
+    }
+}
+
+impl<A: Allocator> SecretBuffer<BoxedSlice<u8, A>> {
+    ghost use Rattle.std.specs.Prelude.{◌≡◌, ◌<◌, ◌≤◌, length, IfOk, MatchResult};
+    ghost use Rattle.std.specs.Box.{boxed_slice_items};
+    ghost use Rattle.twox_core.specs.Secret.{default_secret, derived_secret};
+    ghost use Rattle.twox_core.specs.Held.{Held};
+
+    /// The seed 0 and the default secret, in memory of its own.
+    ///
+    /// # Errors
+    ///
+    /// There is no memory for the secret.
+    #[tactic(auto, unfolding(crate::specs::Secret::default_secret))]
+    pub fn allocate_default(alloc: A) -> Result<SecretBuffer<BoxedSlice<u8, A>>, AllocError>
+        ensures { IfOk result (λ b. (b.seed ≡ 0) × (boxed_slice_items b.secret ≡ default_secret)) }
+    {
+        Ok(SecretBuffer {
+            seed: DEFAULT_SEED,
+            secret: BoxedSlice::from_slice(alloc, &DEFAULT_SECRET_RAW)?,
+        })
+    }
+
+    /// The seed and the secret that it derives, in memory of its own.
+    ///
+    /// # Errors
+    ///
+    /// There is no memory for the secret.
+    pub fn allocate_with_seed(
+        alloc: A,
+        seed: u64,
+    ) -> Result<SecretBuffer<BoxedSlice<u8, A>>, AllocError>
+        ensures { IfOk result (λ b. (b.seed ≡ seed) × (boxed_slice_items b.secret ≡ derived_secret seed)) }
+    {
+        Ok(SecretBuffer {
+            seed,
+            secret: BoxedSlice::from_slice(alloc, &derived_secret(seed))?,
+        })
+    }
+
+    /// Holds the seed and the secret as they are, and takes no memory.
+    ///
+    /// # Errors
+    ///
+    /// The secret has fewer than 136 bytes; it is handed back.
+    pub fn allocate_with_seed_and_secret(
+        seed: u64,
+        secret: BoxedSlice<u8, A>,
+    ) -> Result<SecretBuffer<BoxedSlice<u8, A>>, SecretTooShortError<BoxedSlice<u8, A>>>
+        ensures { MatchResult result (λ b. (136 ≤ length (boxed_slice_items secret)) × (b.seed ≡ seed) × (b.secret ≡ secret))
+            (λ e. (length (boxed_slice_items secret) < 136) × (e ≡ secret)) }
+    {
+        SecretBuffer::new(seed, secret)
+    }
+}
+
+impl<S: ClonedBuffer> Clone for SecretBuffer<S> {
+    ghost use Rattle.std.specs.Prelude.{◌≡◌};
+    ghost use Rattle.twox_core.specs.Held.{Held};
+
+    ghost is_clone = { λ a b. (b.seed ≡ a.seed) × (S.FixedBuffer.bytes b.secret ≡ S.FixedBuffer.bytes a.secret) };
+
+    fn clone(&self) -> Result<SecretBuffer<S>, AllocError> {
+        let secret = self.secret.clone()?;
+        Ok(SecretBuffer {
+            seed: self.seed,
+            secret,
+        })
+    }
+}
+
+/// The secret has fewer than 136 bytes.
+#[derive(Drop)]
+pub struct SecretTooShortError<S> {
+    secret: S,
+}
+
+impl<S> Model for SecretTooShortError<S> {
+    ghost Value = { S };
+
+    ghost view = { λ e. e.secret };
+}
+
+impl<S> SecretTooShortError<S> {
+    ghost use Rattle.std.specs.Prelude.{◌≡◌};
+
+    /// The secret, as it was handed in.
+    pub fn into_secret(self) -> S
+        ensures { result ≡ self }
+    {
+        let SecretTooShortError { secret } = self;
+        secret
+    }
+}
+
+impl<S> fmt::Debug for SecretTooShortError<S> {
+    fn fmt<W: fmt::Write>(&self, f: &mut fmt::Formatter<W>) -> fmt::Result {
+        f.write_str("SecretTooShortError")
+    }
+}
+
+impl<S> fmt::Display for SecretTooShortError<S> {
+    ghost use Rattle.std.specs.Prelude.{Some, codes};
+
+    ghost output = { λ _. Some (codes "The secret must have at least 136 bytes") };
+
+    fn fmt<W: fmt::Write>(&self, f: &mut fmt::Formatter<W>) -> fmt::Result {
+        f.write_str("The secret must have at least 136 bytes")
+    }
+}
+
+impl<S: Drop> Error for SecretTooShortError<S> {}
+
+/// The buffer for a derived secret hasn't exactly 192 bytes.
+#[derive(Drop)]
+pub struct SecretWithSeedError<S> {
+    secret: S,
+}
+
+impl<S> Model for SecretWithSeedError<S> {
+    ghost Value = { S };
+
+    ghost view = { λ e. e.secret };
+}
+
+impl<S> SecretWithSeedError<S> {
+    ghost use Rattle.std.specs.Prelude.{◌≡◌};
+
+    /// The buffer, as it was handed in.
+    pub fn into_secret(self) -> S
+        ensures { result ≡ self }
+    {
+        let SecretWithSeedError { secret } = self;
+        secret
+    }
+}
+
+impl<S> fmt::Debug for SecretWithSeedError<S> {
+    fn fmt<W: fmt::Write>(&self, f: &mut fmt::Formatter<W>) -> fmt::Result {
+        f.write_str("SecretWithSeedError")
+    }
+}
+
+impl<S> fmt::Display for SecretWithSeedError<S> {
+    ghost use Rattle.std.specs.Prelude.{Some, codes};
+
+    ghost output = { λ _. Some (codes "The secret must be exactly 192 bytes") };
+
+    fn fmt<W: fmt::Write>(&self, f: &mut fmt::Formatter<W>) -> fmt::Result {
+        f.write_str("The secret must be exactly 192 bytes")
+    }
+}
+
+impl<S: Drop> Error for SecretWithSeedError<S> {}
