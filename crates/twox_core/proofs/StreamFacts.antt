@@ -10,7 +10,7 @@ use Rattle.twox_core.specs.Stripes.{Folded, stripes_taken}
 use Rattle.twox_core.specs.Ending.{lanes_after, stream_lanes, stream_block, last_stripe}
 use Rattle.twox_core.specs.Held.{Held}
 use Rattle.twox_core.specs.Core.{Core, total_of, done_of, buffered_of}
-use Rattle.twox_core.specs.Written.{fresh, in_place, restarted, written_state, written}
+use Rattle.twox_core.specs.Written.{fresh, in_place, restarted, written_through, written_state, written}
 use Rattle.twox_core.specs.Finished.{last_bytes, buffered_bytes, stripes_left, end_lanes, end_block, finished_state, finished}
 use Rattle.twox_core.specs.Stands.{Holds, Late, Follows, StandsFor, IsCopy}
 use Rattle.twox_core.specs.declared.xxhash3.streaming.stripes.StripeAccumulator.{StripeAccumulator}
@@ -94,7 +94,7 @@ late_more m d k u held = record { left = λ some. omega (arith, held.left some);
 
 written_in : (b : Bool) (s m d : List ℕ) (c : CoreState) → nat_le (length d) (256 - c.buffer_usage) ≡ b → 0 < stripes_of s → length c.buffer ≡ 256 → c.buffer_usage ≤ 256
     → Follows s c m → Follows s (written_state s c d) (m ++ d)
-unfolding Follows written_state restarted
+unfolding Follows written_state written_through restarted
 written_in true s m d c e some size within held =
     let fits : length d ≤ 256 - c.buffer_usage = grind (arith, nat_tests, e) in
     rw e (

@@ -42,12 +42,17 @@ restarted s c r =
 abbrev pub longer : CoreState → List ℕ → CoreState
 longer c d = record c { total_bytes = min (c.total_bytes + length d) (2 ^ 64 - 1) }
 
+-- the piece d fills the buffer, its stripes are taken, and the rest of d comes after them
+unfoldable pub written_through : List ℕ → CoreState → List ℕ → CoreState
+written_through s c d =
+    let room = 256 - c.buffer_usage in
+    restarted s (emptied s (added c (take room d))) (drop room d)
+
 -- the state after the piece d, under the secret s
 unfoldable pub written_state : List ℕ → CoreState → List ℕ → CoreState
 written_state s c d =
-    let room = 256 - c.buffer_usage in
-    if nat_le (length d) room then added (longer c d) d
-    else restarted s (emptied s (added (longer c d) (take room d))) (drop room d)
+    if nat_le (length d) (256 - c.buffer_usage) then added (longer c d) d
+    else written_through s (longer c d) d
 
 -- the core after the piece d, where `bytes` gives those of its secret
 unfoldable pub written : {S : Type 0} → (S → List ℕ) → Core S → List ℕ → Core S

@@ -26,7 +26,7 @@ pub(crate) struct CoreState {
 }
 
 impl CoreState {
-    ghost use Rattle.twox_core.specs.Written.{added, emptied, fresh, restarted, written_state};
+    ghost use Rattle.twox_core.specs.Written.{added, emptied, fresh, restarted, written_state, written_through};
     ghost use Rattle.twox_core.specs.Finished.{finished_state, last_bytes};
 
     pub(crate) fn new() -> CoreState
@@ -54,12 +54,25 @@ impl CoreState {
         ensures left { min self.new.total_bytes 1 ≤ self.new.buffer_usage }
     {
         self.total_bytes = self.total_bytes.saturating_add(input.len().into_u64());
-        let room = BUFFERED_BYTES - self.buffer_usage;
-        if input.len() <= room {
+        if input.len() <= BUFFERED_BYTES - self.buffer_usage {
             self.add(input);
-            return;
+        } else {
+            self.write_through(v, input, secret);
         }
-        let (head, rest) = input.split_at(room);
+    }
+
+    // Fills the buffer, takes it, and goes on with the rest. Apart, so that small pieces pay no frame.
+    #[inline(never)]
+    fn write_through<V: Vector>(&mut self, v: V, input: &[u8], secret: Secret<'_>)
+        requires place { self.old.stripes.current_stripe < stripes_of (secret_bytes secret) }
+        requires in_range { self.old.buffer_usage ≤ 256 }
+        requires more { 256 - self.old.buffer_usage < length input.now }
+        ensures exact { self.new ≡ written_through (secret_bytes secret.entry) self.old input.now }
+        ensures place { self.new.stripes.current_stripe < stripes_of (secret_bytes secret.entry) }
+        ensures in_range { self.new.buffer_usage ≤ 256 }
+        ensures some { 1 ≤ self.new.buffer_usage }
+    {
+        let (head, rest) = input.split_at(BUFFERED_BYTES - self.buffer_usage);
         self.add(head);
         self.empty(v, secret);
         self.restart(v, rest, secret);

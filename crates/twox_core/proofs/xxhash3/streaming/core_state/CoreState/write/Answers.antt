@@ -3,14 +3,14 @@ use Rattle.std.proofs.lemmas.Bool.Decides.{nat_tests}
 use Rattle.twox_core.specs.Written.{written_state}
 use Rattle.twox_core.proofs.xxhash3.streaming.core_state.CoreState.write.Goals as goal
 
-pub returns-then-input-room-clause-exact : goal.returns-then-input-room-clause-exact
+pub returns-then-input-self-clause-exact : goal.returns-then-input-self-clause-exact
 unfolding written_state
-returns-then-input-room-clause-exact g c =
+returns-then-input-self-clause-exact g c =
     let test : nat_le (length c.args.input.now) (256 - c.args.self.now.buffer_usage) ≡ true = grind (arith, nat_tests) in
     rw (test, c.add.ensures, c.saturating_add-self.ensures, c.into_u64.ensures) refl
 
-pub returns-clause-exact : goal.returns-clause-exact
+pub returns-else-input-self-clause-exact : goal.returns-else-input-self-clause-exact
 unfolding written_state
-returns-clause-exact g c =
+returns-else-input-self-clause-exact g c =
     let test : nat_le (length c.args.input.now) (256 - c.args.self.now.buffer_usage) ≡ false = grind (arith, nat_tests) in
-    rw (test, c.restart.ensures.exact, c.empty.ensures.exact, c.add-2.ensures, c.split_at.ensures.front, c.split_at.ensures.back, c.saturating_add-self.ensures, c.into_u64.ensures) refl
+    rw (test, c.write_through.ensures.exact, c.saturating_add-self.ensures, c.into_u64.ensures) refl
