@@ -9,3 +9,5 @@ mod long;
 mod plain;
 #[cfg(test)]
 mod short;
+#[cfg(test)]
+mod streams;

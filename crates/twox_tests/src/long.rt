@@ -33,7 +33,7 @@ pub(crate) fn first(bytes: &[u8; 10240], n: usize) -> &[u8]
     &bytes[..n]
 }
 
-const SEED: u64 = 0xdead_cafe;
+pub(crate) const SEED: u64 = 0xdead_cafe;
 
 #[test]
 fn vectors_64(rt: HostRuntime) {

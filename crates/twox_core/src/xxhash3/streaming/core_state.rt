@@ -29,6 +29,7 @@ impl CoreState {
     ghost use Rattle.twox_core.specs.Written.{added, emptied, fresh, restarted, written_state, written_through};
     ghost use Rattle.twox_core.specs.Finished.{finished_state, last_bytes};
 
+    #[inline(always)]
     pub(crate) fn new() -> CoreState
         ensures { result ≡ fresh }
     {
