@@ -93,7 +93,8 @@ impl<S: FixedBuffer> RawHasherCore<S> {
         ensures exact { result ≡ finished (F.small_of finalize) (F.large_of finalize) S.bytes self.now }
     {
         let secret = self.secret_buffer.secret();
-        self.state.finish(v, &finalize, self.secret_buffer.seed(), secret)
+        self.state
+            .finish(v, &finalize, self.secret_buffer.seed(), secret)
     }
 
     /// The number of bytes taken so far; from 2^64 - 1 on it stays there.

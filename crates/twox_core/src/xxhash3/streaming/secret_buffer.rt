@@ -2,8 +2,8 @@
 
 use super::{ClonedBuffer, FixedBuffer, FixedMutBuffer};
 use crate::xxhash3::{
-    DEFAULT_SECRET_LENGTH, DEFAULT_SECRET_RAW, DEFAULT_SEED, DefaultSecret,
-    SECRET_MINIMUM_LENGTH, Secret, derived_secret,
+    DEFAULT_SECRET_LENGTH, DEFAULT_SECRET_RAW, DEFAULT_SEED, DefaultSecret, SECRET_MINIMUM_LENGTH,
+    Secret, derived_secret,
 };
 use std::alloc::{AllocError, Allocator};
 use std::boxed::BoxedSlice;
@@ -43,10 +43,11 @@ impl<S: FixedBuffer> SecretBuffer<S> {
         ensures { MatchResult result (λ b. (136 ≤ length (S.bytes secret)) × (b.seed ≡ seed) × (b.secret ≡ secret))
             (λ e. (length (S.bytes secret) < 136) × (e ≡ secret)) }
     {
-        if secret.as_ref().len() < SECRET_MINIMUM_LENGTH {
-            return Err(SecretTooShortError { secret });
+        if secret.as_ref().len() >= SECRET_MINIMUM_LENGTH {
+            Ok(SecretBuffer { seed, secret })
+        } else {
+            Err(SecretTooShortError { secret })
         }
-        Ok(SecretBuffer { seed, secret })
     }
 
     /// The secret, as it is held.
