@@ -6,7 +6,7 @@ use Rattle.std.proofs.lemmas.List.{append-nil, append_assoc, drop-append-le, tak
 use Rattle.twox_plain.specs.Word.{counted}
 use Rattle.twox_core.specs.Secret.{default_secret}
 use Rattle.twox_core.specs.Long.{stripes_of}
-use Rattle.twox_core.specs.Stripes.{Folded, stripes_taken}
+use Rattle.twox_core.specs.Stripes.{stripes_taken}
 use Rattle.twox_core.specs.Ending.{lanes_after, stream_lanes, stream_block, last_stripe}
 use Rattle.twox_core.specs.Held.{Held}
 use Rattle.twox_core.specs.Core.{Core, total_of, done_of, buffered_of}

@@ -1,9 +1,9 @@
 -- The value of a stream is that of the list that it stands for.
-use Rattle.std.proofs.Common.{◌≡◌, ℕ, ◌+◌, ◌*◌, ◌^◌, ◌<◌, ◌≤◌, nat_lt, Bool, true, false, List, length, refl, sym, ◌∙◌, arith}
+use Rattle.std.proofs.Common.{◌≡◌, ℕ, ◌<◌, ◌≤◌, nat_lt, Bool, true, false, List, length, refl, ◌∙◌, arith}
 use Rattle.std.proofs.lemmas.Bool.Decides.{nat_tests}
 use Rattle.twox_plain.specs.Word.{counted}
 use Rattle.twox_core.specs.Secret.{default_secret}
-use Rattle.twox_core.specs.Value.{Range, range_of, value64_in, low_in, high_in, xxh3_64, xxh3_128, effective_secret}
+use Rattle.twox_core.specs.Value.{range_of, value64_in, low_in, high_in, xxh3_64, xxh3_128, effective_secret}
 use Rattle.twox_core.specs.Value.Range.{Long}
 use Rattle.twox_core.specs.Ending.{stream_lanes, stream_block, last_stripe, finalized_64, finalized_128}
 use Rattle.twox_core.proofs.EndingFacts.{stream_low, stream_both}

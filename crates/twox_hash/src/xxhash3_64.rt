@@ -262,7 +262,7 @@ impl<A: Allocator + Clone> Clone for Hasher<A> {
 /// ```
 #[derive(Drop)]
 pub struct RawHasher<S: FixedBuffer> {
-    inner: RawHasherCore<S>,
+    core: RawHasherCore<S>,
 }
 
 impl<S: FixedBuffer> Model for RawHasher<S> {
@@ -270,7 +270,7 @@ impl<S: FixedBuffer> Model for RawHasher<S> {
 
     ghost Value = { Core S };
 
-    ghost view = { λ h. h.inner };
+    ghost view = { λ h. h.core };
 }
 
 impl<S: FixedBuffer> RawHasher<S> {
@@ -286,7 +286,7 @@ impl<S: FixedBuffer> RawHasher<S> {
         ensures { StandsFor S.bytes result secret_buffer.seed (S.bytes secret_buffer.secret) [] }
     {
         RawHasher {
-            inner: RawHasherCore::new(secret_buffer),
+            core: RawHasherCore::new(secret_buffer),
         }
     }
 
@@ -296,7 +296,7 @@ impl<S: FixedBuffer> RawHasher<S> {
         ensures message { (seed : ℕ) (s m : List ℕ) → StandsFor S.bytes self.old seed s m → StandsFor S.bytes self.new seed s (m ++ input.now) }
         ensures exact { self.new ≡ written S.bytes self.old input.now }
     {
-        self.inner.write(input);
+        self.core.write(input);
     }
 
     /// The hash of the bytes taken so far, which stay: up to 240 bytes with the default secret and the seed,
@@ -307,7 +307,7 @@ impl<S: FixedBuffer> RawHasher<S> {
         ensures message { (seed : ℕ) (s m : List ℕ) → StandsFor S.bytes self.now seed s m → result ≡ xxh3_64 seed (effective_secret s m) m }
         ensures exact { result ≡ value_64 S.bytes self.now }
     {
-        self.inner.finish(Finalize64)
+        self.core.finish(Finalize64)
     }
 
     /// The secret that is held.
@@ -315,7 +315,7 @@ impl<S: FixedBuffer> RawHasher<S> {
         ensures exact { result ≡ self.held.secret }
         ensures message { (seed : ℕ) (s m : List ℕ) → StandsFor S.bytes self seed s m → S.bytes result ≡ s }
     {
-        self.inner.into_secret()
+        self.core.into_secret()
     }
 }
 
@@ -342,8 +342,8 @@ impl<S: ClonedBuffer> Clone for RawHasher<S> {
     ghost is_clone = { λ a b. IsCopy S.FixedBuffer.bytes a b };
 
     fn clone(&self) -> Result<RawHasher<S>, AllocError> {
-        let inner = self.inner.clone()?;
-        Ok(RawHasher { inner })
+        let core = self.core.clone()?;
+        Ok(RawHasher { core })
     }
 }
 

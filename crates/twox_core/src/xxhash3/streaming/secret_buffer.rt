@@ -43,10 +43,11 @@ impl<S: FixedBuffer> SecretBuffer<S> {
         ensures { MatchResult result (λ b. (136 ≤ length (S.bytes secret)) × (b.seed ≡ seed) × (b.secret ≡ secret))
             (λ e. (length (S.bytes secret) < 136) × (e ≡ secret)) }
     {
-        if secret.as_ref().len() < SECRET_MINIMUM_LENGTH {
-            return Err(SecretTooShortError { secret });
+        if secret.as_ref().len() >= SECRET_MINIMUM_LENGTH {
+            Ok(SecretBuffer { seed, secret })
+        } else {
+            Err(SecretTooShortError { secret })
         }
-        Ok(SecretBuffer { seed, secret })
     }
 
     /// The secret, as it is held.

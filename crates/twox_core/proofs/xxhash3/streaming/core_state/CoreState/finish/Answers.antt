@@ -1,4 +1,4 @@
-use Rattle.std.proofs.Common.{◌≡◌, ◌-◌, ◌*◌, ◌/◌, nat_le, true, false, length, arith, ◌∙◌}
+use Rattle.std.proofs.Common.{◌≡◌, ◌*◌, ◌/◌, nat_le, true, false, length, arith, ◌∙◌}
 use Rattle.std.proofs.lemmas.Bool.Decides.{nat_tests}
 use Rattle.std.proofs.lemmas.List.{length-take-le}
 use Rattle.twox_core.specs.SecretBytes.{secret_bytes}

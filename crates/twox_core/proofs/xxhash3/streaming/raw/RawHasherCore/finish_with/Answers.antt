@@ -1,4 +1,4 @@
-use Rattle.std.proofs.Common.{◌≡◌, ℕ, List, length, ap, subst, ◌∙◌, arith}
+use Rattle.std.proofs.Common.{◌≡◌, length, ap, subst, ◌∙◌, arith}
 use Rattle.twox_plain.specs.Word.{counted}
 use Rattle.twox_core.specs.Ending.{stream_lanes, stream_block, last_stripe}
 use Rattle.twox_core.specs.Stands.{StandsFor}

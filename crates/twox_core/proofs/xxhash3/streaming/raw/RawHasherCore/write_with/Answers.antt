@@ -1,5 +1,4 @@
-use Rattle.std.proofs.Common.{ℕ, List, ◌++◌, ap, subst, ◌∙◌, arith}
-use Rattle.twox_core.specs.Core.{Core}
+use Rattle.std.proofs.Common.{◌++◌, ap, subst, arith}
 use Rattle.twox_core.specs.Written.{written}
 use Rattle.twox_core.specs.Stands.{StandsFor}
 use Rattle.twox_core.proofs.StreamFacts.{stands_written}
