@@ -80,16 +80,14 @@ const HELLO_LINE: &[u8] = b"9e5e7e93\n";
 
 #[test]
 fn each_read_fails_in_turn(rt: HostRuntime) {
-    for (case, _) in [(SOME, SOME_LINE), (HELLO, HELLO_LINE)] {
+    for case in [SOME, HELLO] {
         for at in 1..5 {
-            let done = digested(
-                rt.alloc(),
-                Case {
-                    read_fails: at,
-                    max_reads: 4,
-                    ..case
-                },
-            );
+            let script = Case {
+                read_fails: at,
+                max_reads: 4,
+                ..case
+            };
+            let done = digested(rt.alloc(), script);
             assert_eq!(rt; done.answer, Err(DigestError::ReadFailed), "{at}");
             assert_eq!(rt; done.written.len(), 0, "{at}");
             assert_eq!(rt; done.reads, at);
@@ -101,14 +99,12 @@ fn each_read_fails_in_turn(rt: HostRuntime) {
 fn too_long_where_each_allowed_read_gave_bytes(rt: HostRuntime) {
     for (case, line) in [(SOME, SOME_LINE), (HELLO, HELLO_LINE)] {
         for max_reads in 0..5 {
-            let done = digested(
-                rt.alloc(),
-                Case {
-                    max_reads,
-                    take: 1,
-                    ..case
-                },
-            );
+            let script = Case {
+                max_reads,
+                take: 1,
+                ..case
+            };
+            let done = digested(rt.alloc(), script);
             if max_reads < 4 {
                 assert_eq!(rt; done.answer, Err(DigestError::TooLong), "{max_reads}");
                 assert_eq!(rt; done.written.len(), 0, "{max_reads}");
@@ -121,26 +117,53 @@ fn too_long_where_each_allowed_read_gave_bytes(rt: HostRuntime) {
     }
 }
 
+// What a sink takes a write, so that the line is this many writes.
 #[test]
 fn each_write_fails_in_turn(rt: HostRuntime) {
-    for (case, line) in [(SOME, SOME_LINE), (HELLO, HELLO_LINE)] {
-        for at in 1..4 {
-            let done = digested(
-                rt.alloc(),
-                Case {
-                    take: 3,
-                    write_fails: at,
-                    ..case
-                },
-            );
+    for (case, line, take, writes) in [(SOME, SOME_LINE, 5, 4), (HELLO, HELLO_LINE, 3, 3)] {
+        for at in 1..writes + 1 {
+            let script = Case {
+                take,
+                write_fails: at,
+                ..case
+            };
+            let done = digested(rt.alloc(), script);
             assert_eq!(rt; done.answer, Err(DigestError::WriteFailed), "{at}");
-            let held = 3 * (at - 1);
+            let held = take * (at - 1);
             assert_eq!(rt;
                 done.written.as_slice(),
                 &line[..held.min(line.len())],
                 "{at}"
             );
         }
+    }
+}
+
+// One byte a read: what comes of so many bytes, of which three reads are allowed.
+#[test]
+fn one_byte_a_read(rt: HostRuntime) {
+    for case in [SOME, HELLO] {
+        for count in 0..5 {
+            let script = Case {
+                bytes: &case.bytes[..count],
+                sizes: &[1, 1, 1, 1],
+                max_reads: 3,
+                ..case
+            };
+            let done = digested(rt.alloc(), script);
+            let fits = count < 3;
+            assert_eq!(rt; done.answer == Ok(()), fits, "{count}");
+            assert_eq!(rt; done.answer == Err(DigestError::TooLong), !fits, "{count}");
+            assert_eq!(rt; done.written.is_empty(), !fits, "{count}");
+        }
+        let script = Case {
+            sizes: &[1, 1],
+            read_fails: 2,
+            ..case
+        };
+        let done = digested(rt.alloc(), script);
+        assert_eq!(rt; done.answer, Err(DigestError::ReadFailed));
+        assert_eq!(rt; done.written.len(), 0);
     }
 }
 
@@ -152,13 +175,11 @@ fn a_sink_with_too_little_room(rt: HostRuntime) {
             assert_eq!(rt; done.answer, Err(DigestError::WriteFailed), "{room}");
             assert_eq!(rt; done.written.as_slice(), &line[..room], "{room}");
         }
-        let done = digested(
-            rt.alloc(),
-            Case {
-                room: line.len(),
-                ..case
-            },
-        );
+        let script = Case {
+            room: line.len(),
+            ..case
+        };
+        let done = digested(rt.alloc(), script);
         assert_eq!(rt; done.answer, Ok(()));
         assert_eq!(rt; done.written.as_slice(), line);
     }
