@@ -117,10 +117,13 @@ text = [
     "best one. `c_gcc` and `c_clang` are the reference library's header build (`XXH_INLINE_ALL`) at the same instruction "
     "set by gcc and by clang, `c_shared` is Debian's shared library, `xxhash_rust` is the Rust crate.",
     "",
-    "What isn't like for like: the header's code is inlined into a driver that knows the seed, while ours is called through "
-    "an `extern \"C\"` function of a static library; the shared library is called through the procedure linkage table and "
-    "is built for plain x86-64; the Rust crate's calls are `extern \"C\"` as ours are. The Rust compiler and ours have "
-    "versions of LLVM of their own.",
+    "What isn't like for like: each peer is called through a pointer to one function of the same signature. The header's "
+    "code is compiled into that function, and the seed 0 and the default secret into its code; Debian's shared library is "
+    "one call further away, through the procedure linkage table, and is built for plain x86-64. The Rust compiler, clang "
+    "and ours have versions of LLVM of their own.",
+    "",
+    f"The machine's load average was {os.getloadavg()[0]:.1f} when the run ended, of which the run itself is 1. On a busy "
+    "machine single rows are off by far more than the differences between peers: where the spread is large, run it again.",
     "",
     "![throughput over the length](speed.svg)",
 ]
