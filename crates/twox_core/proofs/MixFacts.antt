@@ -61,3 +61,8 @@ pub pairs_second-next : (seed : ℕ) (s m : List ℕ) (i j a t : ℕ) → pairs_
     ≡ lane_step seed s m (pairs_second seed s m i j a t) (i + 32 * t + 16) (j + 32 * t + 16) (i + 32 * t)
 unfolding pairs_second
 pairs_second-next seed s m i j a t = rw (add-one t) refl
+
+-- a mix under the secret that k is
+pub mix-of_key : (m s k : List ℕ) (i j seed : ℕ) → k ≡ chunk_at s j → mix m i k 0 seed ≡ mix m i s j seed
+unfolding mix
+mix-of_key m s k i j seed f = rw (chunk-first s k j f, chunk-second s k j f) refl

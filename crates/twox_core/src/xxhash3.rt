@@ -1,6 +1,6 @@
 //! The parts of XXH3 that both widths share: constants, mixing steps, secrets, and the parts of an input.
 
-ghost use Rattle.std.specs.Prelude.{◌≡◌, ◌+◌, ◌-◌, ◌*◌, ◌/◌, ◌<◌, ◌≤◌, [], ◌∷◌, length, drop};
+ghost use Rattle.std.specs.Prelude.{◌≡◌, ◌+◌, ◌-◌, ◌*◌, ◌/◌, ◌<◌, ◌≤◌, [], ◌∷◌, ℕ, List, length, drop};
 ghost use Rattle.std.specs.Int.{w64};
 ghost use Rattle.std.specs.Simd.{first_chunks};
 ghost use Rattle.twox_plain.specs.Word.{word_at};
@@ -8,7 +8,7 @@ ghost use Rattle.twox_core.specs.Parts.{chunk_at, pair_at, pairs_at};
 ghost use Rattle.twox_core.specs.Secret.{default_secret, derived_pairs, derived_secret};
 ghost use Rattle.twox_core.specs.SecretBytes.{secret_bytes};
 ghost use Rattle.twox_core.specs.Short.{combined};
-ghost use Rattle.twox_core.specs.Steps.{avalanche, avalanche_xxh64, fold, mix};
+ghost use Rattle.twox_core.specs.Steps.{avalanche, avalanche_xxh64, fold, mix, word64};
 
 pub mod large;
 mod parts;
@@ -146,10 +146,19 @@ pub fn chunks_17_to_128<'a>(
 pub fn mix_step(bytes: &[u8; 16], secret: &[u8; 16], seed: u64) -> u64
     ensures { result ≡ mix bytes.now 0 secret.now 0 seed }
 {
-    let words = to_u64s(bytes);
-    let secret_words = to_u64s(secret);
-    let a = words[0] ^ secret_words[0].wrapping_add(seed);
-    let b = words[1] ^ secret_words[1].wrapping_sub(seed);
+    let [first, second] = to_u64s(bytes);
+    mix_words(first, second, secret, seed)
+}
+
+/// The same of 16 bytes that were read as their two words.
+#[inline(always)]
+#[tactic(auto, unfolding(crate::specs::Steps::mix))]
+pub fn mix_words(first: u64, second: u64, secret: &[u8; 16], seed: u64) -> u64
+    ensures { (m : List ℕ) (i : ℕ) → first ≡ word64 m i → second ≡ word64 m (i + 8) → result ≡ mix m i secret.now 0 seed }
+{
+    let words = to_u64s(secret);
+    let a = first ^ words[0].wrapping_add(seed);
+    let b = second ^ words[1].wrapping_sub(seed);
     fold(a, b)
 }
 

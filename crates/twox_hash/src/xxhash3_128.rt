@@ -12,7 +12,7 @@ ghost use Rattle.twox_core.specs.Secret.{default_secret, derived_secret};
 ghost use Rattle.twox_core.specs.SecretBytes.{secret_bytes};
 ghost use Rattle.twox_core.specs.Short.{combined, empty128_high, empty128_low, four128_high, four128_low, four_product, nine_product, tiny_high, tiny_low};
 ghost use Rattle.twox_core.specs.Steps.{add64, avalanche, mix, mul64, word64};
-ghost use Rattle.twox_core.specs.Value.{effective_secret, high_in, low_in, steps_of, xxh3_64, xxh3_128, Range};
+ghost use Rattle.twox_core.specs.Value.{effective_secret, high_in, low_in, range_of, steps_of, xxh3_64, xxh3_128, Range};
 
 use std::alloc::{AllocError, Allocator, Global};
 use std::boxed::BoxedSlice;
@@ -395,13 +395,28 @@ fn impl_oneshot(secret: Secret<'_>, seed: u64, input: &[u8]) -> u128
     requires { length input.now ≤ 240 }
     ensures { result ≡ xxh3_128 seed (secret_bytes secret.entry) input.now }
 {
+    let halves = if input.len() <= 16 {
+        impl_0_to_16_bytes(secret, seed, input)
+    } else if input.len() <= 128 {
+        impl_17_to_128_bytes(secret, seed, input)
+    } else {
+        impl_129_to_240_bytes(secret, seed, input)
+    };
+    halves.into_u128()
+}
+
+#[inline(always)]
+#[tactic(auto, unfolding(twox_core::specs::Value::range_of, twox_core::specs::Value::low_in, twox_core::specs::Value::high_in))]
+fn impl_0_to_16_bytes(secret: Secret<'_>, seed: u64, input: &[u8]) -> X128
+    requires { length input.now ≤ 16 }
+    ensures low { result.low ≡ low_in (range_of (length input.now)) seed (secret_bytes secret.entry) input.now }
+    ensures high { result.high ≡ high_in (range_of (length input.now)) seed (secret_bytes secret.entry) input.now }
+{
     match input.len() {
-        0 => impl_0_bytes(secret, seed).into_u128(),
-        1..=3 => impl_1_to_3_bytes(secret, seed, input).into_u128(),
-        4..=8 => impl_4_to_8_bytes(secret, seed, input).into_u128(),
-        9..=16 => impl_9_to_16_bytes(secret, seed, input).into_u128(),
-        17..=128 => impl_17_to_128_bytes(secret, seed, input).into_u128(),
-        _ => impl_129_to_240_bytes(secret, seed, input).into_u128(),
+        9..=16 => impl_9_to_16_bytes(secret, seed, input),
+        4..=8 => impl_4_to_8_bytes(secret, seed, input),
+        1..=3 => impl_1_to_3_bytes(secret, seed, input),
+        _ => impl_0_bytes(secret, seed),
     }
 }
 
@@ -553,11 +568,10 @@ fn impl_17_to_128_bytes(secret: Secret<'_>, seed: u64, input: &[u8]) -> X128
     ensures low { result.low ≡ low_in Range.Medium seed (secret_bytes secret.entry) input.now }
     ensures high { result.high ≡ high_in Range.Medium seed (secret_bytes secret.entry) input.now }
 {
-    let lanes = initial_lanes(input);
-    let lanes = mix_two_chunks(lanes, secret, seed, input, 3);
-    let lanes = mix_two_chunks(lanes, secret, seed, input, 2);
-    let lanes = mix_two_chunks(lanes, secret, seed, input, 1);
-    let lanes = mix_two_chunks(lanes, secret, seed, input, 0);
+    let mut lanes = initial_lanes(input);
+    for step in 0..4 {
+        lanes = mix_two_chunks(lanes, secret, seed, input, 3 - step);
+    }
     finalize_medium(lanes, input.len().into_u64(), seed)
 }
 

@@ -1,13 +1,15 @@
 //! XXH3 of 64 bits.
 
-ghost use Rattle.std.specs.Prelude.{◌≡◌, ◌≢◌, ◌↔◌, ◌+◌, ◌*◌, ◌^◌, ◌<◌, ◌≤◌, ℕ, List, length, MatchResult, IfOk, IsErr};
+ghost use Rattle.std.specs.Prelude.{◌≡◌, ◌≢◌, ◌↔◌, ◌+◌, ◌-◌, ◌*◌, ◌/◌, ◌%◌, ◌^◌, ◌<◌, ◌≤◌, ℕ, List, length, drop, MatchResult, IfOk, IsErr};
+ghost use Rattle.twox_core.specs.Primes.{prime64_1};
 ghost use Rattle.twox_core.specs.OtherBytes.{IsOtherShort64};
 ghost use Rattle.twox_core.specs.Ending.{finalized_64};
 ghost use Rattle.twox_core.specs.Long.{long_low};
-ghost use Rattle.twox_core.specs.Middle.{large64, medium64};
+ghost use Rattle.twox_core.specs.Middle.{both_ends, large64, medium64};
 ghost use Rattle.twox_core.specs.Secret.{default_secret, derived_secret};
 ghost use Rattle.twox_core.specs.SecretBytes.{secret_bytes};
 ghost use Rattle.twox_core.specs.Short.{combined, empty64, four64, nine64, strong, tiny_low};
+ghost use Rattle.twox_core.specs.Steps.{mix, sum_below};
 ghost use Rattle.twox_core.specs.Value.{effective_secret, xxh3_64};
 
 use std::alloc::{AllocError, Allocator, Global};
@@ -22,9 +24,9 @@ pub use twox_core::xxhash3::{
 use twox_core::xxhash3::{
     Algorithm, AllocRawHasher, CUTOFF, DEFAULT_SEED, Finalize, Kernel, RawHasherCore, Secret,
     Vector, avalanche, avalanche_xxh64, chunks_17_to_128, default_secret, derived_secret, fold,
-    impl_1_to_3_bytes_combined, mix_step,
+    impl_1_to_3_bytes_combined, mix_step, mix_words,
 };
-use twox_plain::words::{Halves, IntoU64, bp_as_chunks, u32_at, u64_at};
+use twox_plain::words::{Halves, IntoU64, u32_at, u64_at};
 
 /// Calculates the 64-bit hash: of all bytes at once, or of bytes that come in pieces. The secret of a stream
 /// is in memory of its own.
@@ -407,13 +409,26 @@ fn impl_oneshot(secret: Secret<'_>, seed: u64, input: &[u8]) -> u64
     requires { length input.now ≤ 240 }
     ensures { result ≡ xxh3_64 seed (secret_bytes secret.entry) input.now }
 {
+    if input.len() <= 16 {
+        impl_0_to_16_bytes(secret, seed, input)
+    } else if input.len() <= 128 {
+        impl_17_to_128_bytes(secret, seed, input)
+    } else {
+        impl_129_to_240_bytes(secret, seed, input, &input[8..])
+    }
+}
+
+#[inline(always)]
+#[tactic(auto, unfolding(twox_core::specs::Value::xxh3_64, twox_core::specs::Value::range_of, twox_core::specs::Value::value64_in))]
+fn impl_0_to_16_bytes(secret: Secret<'_>, seed: u64, input: &[u8]) -> u64
+    requires { length input.now ≤ 16 }
+    ensures { result ≡ xxh3_64 seed (secret_bytes secret.entry) input.now }
+{
     match input.len() {
-        0 => impl_0_bytes(secret, seed),
-        1..=3 => impl_1_to_3_bytes(secret, seed, input),
-        4..=8 => impl_4_to_8_bytes(secret, seed, input),
         9..=16 => impl_9_to_16_bytes(secret, seed, input),
-        17..=128 => impl_17_to_128_bytes(secret, seed, input),
-        _ => impl_129_to_240_bytes(secret, seed, input),
+        4..=8 => impl_4_to_8_bytes(secret, seed, input),
+        1..=3 => impl_1_to_3_bytes(secret, seed, input),
+        _ => impl_0_bytes(secret, seed),
     }
 }
 
@@ -494,42 +509,83 @@ fn impl_17_to_128_bytes(secret: Secret<'_>, seed: u64, input: &[u8]) -> u64
     requires few { length input.now ≤ 128 }
     ensures { result ≡ medium64 seed (secret_bytes secret.entry) input.now }
 {
-    let mut acc = input.len().into_u64().wrapping_mul(PRIME64_1);
-    for c in 0..(input.len() - 1) / 32 + 1 {
-        let (forward, backward, words) = chunks_17_to_128(secret, input, c);
-        acc = acc.wrapping_add(mix_step(forward, &words[0], seed));
-        acc = acc.wrapping_add(mix_step(backward, &words[1], seed));
-    }
-    avalanche(acc)
+    avalanche(sum_17_to_128(secret, seed, input))
 }
 
+// No loop: so the secret's words are constants of the code where the secret is the default one.
+#[inline(always)]
+fn sum_17_to_128(secret: Secret<'_>, seed: u64, input: &[u8]) -> u64
+    requires some { 17 ≤ length input.now }
+    requires few { length input.now ≤ 128 }
+    ensures { result ≡ (length input.now * prime64_1 + sum_below (both_ends seed (secret_bytes secret.entry) input.now) ((length input.now - 1) / 32 + 1)) % 2 ^ 64 }
+{
+    let sum = input.len().into_u64().wrapping_mul(PRIME64_1);
+    let sum = add_both_ends(sum, secret, seed, input, 0);
+    if input.len() <= 32 {
+        return sum;
+    }
+    let sum = add_both_ends(sum, secret, seed, input, 1);
+    if input.len() <= 64 {
+        return sum;
+    }
+    let sum = add_both_ends(sum, secret, seed, input, 2);
+    if input.len() <= 96 {
+        return sum;
+    }
+    add_both_ends(sum, secret, seed, input, 3)
+}
+
+// The sum of the first `c` steps and of step `c`: chunk `c` from the front, and from the back.
+#[inline(always)]
+fn add_both_ends(sum: u64, secret: Secret<'_>, seed: u64, input: &[u8], c: usize) -> u64
+    requires some { 17 ≤ length input.now }
+    requires few { length input.now ≤ 128 }
+    requires chunk { c ≤ (length input.now - 1) / 32 }
+    ensures { let before = both_ends seed (secret_bytes secret.entry) input.now in
+        (start : ℕ) → sum ≡ (start + sum_below before c) % 2 ^ 64 → result ≡ (start + sum_below before (c + 1)) % 2 ^ 64 }
+{
+    let (forward, backward, words) = chunks_17_to_128(secret, input, c);
+    let sum = sum.wrapping_add(mix_step(forward, &words[0], seed));
+    sum.wrapping_add(mix_step(backward, &words[1], seed))
+}
+
+// The 16 bytes at `i`, of which `from_8` gives the second word, mixed with 16 bytes of the secret.
+#[inline(always)]
+fn mix_at(input: &[u8], from_8: &[u8], i: usize, words: &[u8; 16], seed: u64) -> u64
+    requires there { i + 16 ≤ length input.now }
+    requires from_8 { from_8.now ≡ drop 8 input.now }
+    ensures { result ≡ mix input.now i words.now 0 seed }
+{
+    mix_words(u64_at(input, i), u64_at(from_8, i), words, seed)
+}
+
+// `from_8` is the input from byte 8 on. In a function apart LLVM can't tell that the two words of a chunk are
+// neighbours; it would make vectors of them, and taking the words out again costs more than it saves.
 #[inline(never)]
-fn impl_129_to_240_bytes(secret: Secret<'_>, seed: u64, input: &[u8]) -> u64
+fn impl_129_to_240_bytes(secret: Secret<'_>, seed: u64, input: &[u8], from_8: &[u8]) -> u64
     requires some { 129 ≤ length input.now }
     requires few { length input.now ≤ 240 }
+    requires from_8 { from_8.now ≡ drop 8 input.now }
     ensures { result ≡ large64 seed (secret_bytes secret.entry) input.now }
 {
-    let (_, tail) = input.split_at(128);
-    let (tail, _) = bp_as_chunks(tail);
-    let (chunks, _) = bp_as_chunks(input);
     let mut acc = input.len().into_u64().wrapping_mul(PRIME64_1);
 
-    // These are eight, in a form that LLVM can't count: it would make vectors of them, which are slower.
-    let head = chunks.len() - tail.len();
     let words = secret.for_64().words_for_129_to_240_part1();
-    'early: for c in 0..head {
-        acc = acc.wrapping_add(mix_step(&chunks[c], &words[c], seed));
+    'early: for c in 0..8 {
+        acc = acc.wrapping_add(mix_at(input, from_8, 16 * c, &words[c], seed));
     }
     acc = avalanche(acc);
 
+    // A number of turns that LLVM knows, so that it makes no vectors of them either.
     let words = secret.for_64().words_for_129_to_240_part2();
-    'later: for c in 0..tail.len() {
-        acc = acc.wrapping_add(mix_step(&tail[c], &words[c], seed));
+    let count = input.len() / 16 - 8;
+    'later: for c in 0..7 {
+        if c < count {
+            acc = acc.wrapping_add(mix_at(input, from_8, 128 + 16 * c, &words[c], seed));
+        }
     }
 
-    let (_, last) = input.split_at(input.len() - 16);
-    let (last, _) = bp_as_chunks(last);
     let words = secret.for_64().words_for_129_to_240_part3();
-    acc = acc.wrapping_add(mix_step(&last[0], words, seed));
+    acc = acc.wrapping_add(mix_at(input, from_8, input.len() - 16, words, seed));
     avalanche(acc)
 }

@@ -12,7 +12,7 @@ use std::slice::from_raw_parts_mut;
 /// The eight-byte word at byte `i`, low byte first.
 ///
 /// The caller shows that the slice has eight bytes from `i` on, so the load has no test.
-#[inline(always)]
+#[inline]
 pub fn u64_at(bytes: &[u8], i: usize) -> u64
     requires { i + 8 ≤ length bytes.now }
     ensures { result ≡ word_at w64 bytes.now i }
@@ -32,7 +32,7 @@ pub fn u64_at(bytes: &[u8], i: usize) -> u64
 /// The four-byte word at byte `i`, low byte first.
 ///
 /// The caller shows that the slice has four bytes from `i` on, so the load has no test.
-#[inline(always)]
+#[inline]
 pub fn u32_at(bytes: &[u8], i: usize) -> u32
     requires { i + 4 ≤ length bytes.now }
     ensures { result ≡ word_at w32 bytes.now i }
