@@ -1,13 +1,13 @@
 //! XXH3 of both widths.
 
-ghost use Rattle.std.specs.Prelude.{◌≡◌, ◌^◌, ◌≤◌, length, take};
+ghost use Rattle.std.specs.Prelude.{◌≡◌, ◌^◌, ◌≤◌, take};
 ghost use Rattle.twox_hash.specs.Secret.{default_secret, derived_secret};
 ghost use Rattle.twox_hash.specs.Value.{effective_secret, xxh3_64, xxh3_128};
 ghost use Rattle.twox_hash.specs.Word.{low64, high64};
 
 use crate::Input;
 use twox_hash::words::Halves;
-use twox_hash::xxhash3::SecretBuffer;
+use twox_hash::xxhash3::{DefaultSecret, SecretBuffer};
 use twox_hash::{XxHash3_64, XxHash3_128, xxhash3_64, xxhash3_128};
 
 /// A value of 128 bits, as C has it.
@@ -40,14 +40,20 @@ pub extern "C" fn twox_xxh3_64_with_seed(seed: u64, input: &Input, len: usize) -
     XxHash3_64::oneshot_with_seed(seed, &input[..len])
 }
 
-/// The hash under a secret, which the caller shows to have at least 136 bytes.
+/// The hash under a secret of that many bytes, which the caller shows to be at least 136.
 #[unsafe(no_mangle)]
-pub extern "C" fn twox_xxh3_64_with_secret(secret: &[u8], input: &Input, len: usize) -> u64
+pub extern "C" fn twox_xxh3_64_with_secret(
+    secret: &DefaultSecret,
+    secret_len: usize,
+    input: &Input,
+    len: usize,
+) -> u64
+    requires long_enough { 136 ≤ secret_len }
+    requires secret_there { secret_len ≤ 192 }
     requires there { len ≤ 2 ^ 26 }
-    requires long_enough { 136 ≤ length secret.now }
-    ensures { result ≡ xxh3_64 0 secret.now (take len input.now) }
+    ensures { result ≡ xxh3_64 0 (take secret_len secret.now) (take len input.now) }
 {
-    match XxHash3_64::oneshot_with_secret(secret, &input[..len]) {
+    match XxHash3_64::oneshot_with_secret(&secret[..secret_len], &input[..len]) {
         Ok(value) => value,
         Err(_) => 0,
     }

@@ -424,11 +424,14 @@ fn impl_0_to_16_bytes(secret: Secret<'_>, seed: u64, input: &[u8]) -> u64
     requires { length input.now ≤ 16 }
     ensures { result ≡ xxh3_64 seed (secret_bytes secret.entry) input.now }
 {
-    match input.len() {
-        9..=16 => impl_9_to_16_bytes(secret, seed, input),
-        4..=8 => impl_4_to_8_bytes(secret, seed, input),
-        1..=3 => impl_1_to_3_bytes(secret, seed, input),
-        _ => impl_0_bytes(secret, seed),
+    if input.len() >= 9 {
+        impl_9_to_16_bytes(secret, seed, input)
+    } else if input.len() >= 4 {
+        impl_4_to_8_bytes(secret, seed, input)
+    } else if input.len() >= 1 {
+        impl_1_to_3_bytes(secret, seed, input)
+    } else {
+        impl_0_bytes(secret, seed)
     }
 }
 
