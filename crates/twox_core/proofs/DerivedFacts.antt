@@ -34,25 +34,22 @@ derived_pairs-length seed s (suc k) =
     omega (arith, length-append (derived_pairs seed s k ++ f) g, length-append (derived_pairs seed s k) f)
 
 -- one pair of words written over the old ones
-pub pair_written : (seed : ℕ) (s cur : List ℕ) (k n m : ℕ) (f g : List ℕ) → n ≡ 8 → m ≡ 8 → cur ≡ derived_pairs seed s k ++ drop (16 * k) s
-    → f ≡ to_le_bytes w64 (add64 (word64 cur (16 * k)) seed) → g ≡ to_le_bytes w64 (sub64 (word64 cur (16 * k + 8)) seed)
-    → put_mid (16 * k + 8) m (put_mid (16 * k) n cur f) g ≡ derived_pairs seed s (k + 1) ++ drop (16 * (k + 1)) s
-pair_written seed s cur k n m f g en em ecur ef eg =
+pub pair_written : (seed : ℕ) (s cur : List ℕ) (k n : ℕ) (f : List ℕ) → n ≡ 16 → cur ≡ derived_pairs seed s k ++ drop (16 * k) s
+    → f ≡ to_le_bytes w64 (add64 (word64 cur (16 * k)) seed) ++ to_le_bytes w64 (sub64 (word64 cur (16 * k + 8)) seed)
+    → put_mid (16 * k) n cur f ≡ derived_pairs seed s (k + 1) ++ drop (16 * (k + 1)) s
+pair_written seed s cur k n f en ecur ef =
     let done = derived_pairs seed s k in
     let len = derived_pairs-length seed s k in
-    let fl : length f ≡ 8 = ap length ef in
     let w0 : word64 cur (16 * k) ≡ word64 s (16 * k) =
     ap₂ word64 ecur (sym (add-zero (16 * k))) ∙ word_after done s (16 * k) 0 len ∙ ap (word64 s) (add-zero (16 * k)) in
     let w8 : word64 cur (16 * k + 8) ≡ word64 s (16 * k + 8) =
     ap (λ (l : List ℕ). word64 l (16 * k + 8)) ecur ∙ word_after done s (16 * k) 8 len in
-    let ff : f ≡ to_le_bytes w64 (add64 (word64 s (16 * k)) seed) = ef ∙ ap (λ (x : ℕ). to_le_bytes w64 (add64 x seed)) w0 in
-    let gg : g ≡ to_le_bytes w64 (sub64 (word64 s (16 * k + 8)) seed) = eg ∙ ap (λ (x : ℕ). to_le_bytes w64 (sub64 x seed)) w8 in
-    let inner : put_mid (16 * k) n cur f ≡ (done ++ f) ++ drop 8 (drop (16 * k) s) =
-    ap₂ (λ (a : ℕ) (l : List ℕ). put_mid (16 * k) a l f) en ecur ∙ put_next (16 * k) 8 done (drop (16 * k) s) f len in
-    let far : length (done ++ f) ≡ 16 * k + 8 = length-append done f ∙ ap₂ (λ (x y : ℕ). x + y) len fl in
-    let place : 16 * k + 8 + 8 ≡ 16 * (k + 1) = omega arith in
-    ap₂ (λ (a : ℕ) (l : List ℕ). put_mid (16 * k + 8) a l g) em inner
-    ∙ put_next (16 * k + 8) 8 (done ++ f) (drop 8 (drop (16 * k) s)) g far
+    let pair : ℕ → ℕ → List ℕ = λ x y. to_le_bytes w64 (add64 x seed) ++ to_le_bytes w64 (sub64 y seed) in
+    let place : 16 * k + 16 ≡ 16 * (k + 1) = omega arith in
+    ap₂ (λ (a : ℕ) (l : List ℕ). put_mid (16 * k) a l f) en ecur
+    ∙ put_next (16 * k) 16 done (drop (16 * k) s) f len
     ∙ ap₂ (λ (x y : List ℕ). x ++ y)
-    (ap₂ (λ (x y : List ℕ). done ++ x ++ y) ff gg ∙ sym (derived_pairs-next seed s k))
-    (ap (drop 8) (drop-drop 8 (16 * k) s) ∙ drop-drop 8 (16 * k + 8) s ∙ ap (λ (a : ℕ). drop a s) place)
+    (ap (λ (x : List ℕ). done ++ x) (ef ∙ ap₂ pair w0 w8)
+    ∙ sym (append_assoc done (to_le_bytes w64 (add64 (word64 s (16 * k)) seed)) (to_le_bytes w64 (sub64 (word64 s (16 * k + 8)) seed)))
+    ∙ sym (derived_pairs-next seed s k))
+    (drop-drop 16 (16 * k) s ∙ ap (λ (a : ℕ). drop a s) place)

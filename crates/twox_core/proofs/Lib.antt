@@ -2,6 +2,7 @@ pub mod DerivedFacts
 pub mod EndingFacts
 pub mod LaneFacts
 pub mod MixFacts
+pub mod PairBytes
 pub mod PartFacts
 pub mod ShortLaws
 pub mod StepLaws

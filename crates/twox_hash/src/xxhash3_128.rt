@@ -87,7 +87,7 @@ impl Hasher<Global> {
         if input.len() <= CUTOFF {
             impl_oneshot(default_secret(), seed, input)
         } else {
-            impl_oneshot_derived(seed, input)
+            impl_oneshot_long_seeded(seed, input)
         }
     }
 
@@ -359,16 +359,26 @@ fn impl_oneshot_long(secret: Secret<'_>, input: &[u8]) -> u128
     Algorithm(Kernel {}).oneshot(secret, input, Finalize128)
 }
 
-// The same with the secret that a seed derives, which stands on the stack.
-#[inline(never)]
+// The same with the secret that a seed derives. The seed 0 derives the default one.
+#[inline(always)]
 #[tactic(auto, using(twox_core::proofs::Vectors::derived_secret_none))]
-fn impl_oneshot_derived(seed: u64, input: &[u8]) -> u128
+fn impl_oneshot_long_seeded(seed: u64, input: &[u8]) -> u128
     requires { 240 < length input.now }
     ensures { let s = derived_secret seed in result ≡ long_high s input.now * 2 ^ 64 + long_low s input.now }
 {
     if seed == DEFAULT_SEED {
-        return impl_oneshot_long(default_secret(), input);
+        impl_oneshot_long(default_secret(), input)
+    } else {
+        impl_oneshot_long_derived(seed, input)
     }
+}
+
+// The derived secret stands on the stack.
+#[inline(never)]
+fn impl_oneshot_long_derived(seed: u64, input: &[u8]) -> u128
+    requires { 240 < length input.now }
+    ensures { let s = derived_secret seed in result ≡ long_high s input.now * 2 ^ 64 + long_low s input.now }
+{
     let secret = derived_secret(seed);
     impl_oneshot_long(Secret::new(&secret).unwrap(), input)
 }

@@ -1,9 +1,10 @@
-use Rattle.std.proofs.Common.{◌≡◌, ◌*◌, ◌++◌, List, [], ℕ, length, drop, refl, ap, ◌∙◌, arith}
+use Rattle.std.proofs.Common.{◌≡◌, ◌+◌, ◌*◌, ◌%◌, ◌^◌, ◌++◌, List, [], ℕ, length, drop, refl, ap, ap₂, ◌∙◌, arith}
 use Rattle.std.specs.Int.{w64, to_le_bytes}
 use Rattle.std.proofs.lemmas.List.{append-nil}
 use Rattle.std.proofs.Math.ListN.{drop_of_length-le}
 use Rattle.twox_core.specs.Steps.{add64, sub64}
 use Rattle.twox_core.specs.Secret.{derived_pairs, derived_secret}
+use Rattle.twox_core.proofs.PairBytes.{pair_bytes}
 use Rattle.twox_core.proofs.DerivedFacts.{pair_written}
 use Rattle.twox_core.proofs.xxhash3.derive_secret.Goals as goal
 
@@ -17,9 +18,14 @@ loop-k-preserved c =
     let k = c.loop-k.k in
     let cur = c.loop-k.secret in
     let seed = c.args.seed in
-    pair_written seed s cur k _ _ _ _ (omega arith) (omega arith) c.loop-k.invariant
-    (c.copy_from_slice.ensures.after ∙ c.to_le_bytes.ensures ∙ ap (λ (x : ℕ). to_le_bytes w64 (add64 x seed)) c.u64_at.ensures)
-    (c.copy_from_slice-in-loop-k.ensures.after ∙ c.to_le_bytes-in-loop-k.ensures ∙ ap (λ (x : ℕ). to_le_bytes w64 (sub64 x seed)) c.u64_at-in-loop-k.ensures)
+    let first = c.u64_at.result in
+    let second = c.u64_at-in-loop-k.result in
+    let minus : (second + c.wrapping_neg.result) % 2 ^ 64 ≡ sub64 second seed = omega (arith, c.wrapping_neg.ensures) in
+    pair_written seed s cur k _ _ (omega arith) c.loop-k.invariant
+    (c.copy_from_slice.ensures.after
+    ∙ pair_bytes (add64 first seed) ((second + c.wrapping_neg.result) % 2 ^ 64) (omega arith) (omega arith)
+    ∙ ap (λ (x : ℕ). to_le_bytes w64 (add64 first seed) ++ to_le_bytes w64 x) minus
+    ∙ ap₂ (λ (x y : ℕ). to_le_bytes w64 (add64 x seed) ++ to_le_bytes w64 (sub64 y seed)) c.u64_at.ensures c.u64_at-in-loop-k.ensures)
 
 pub returns : goal.returns
 unfolding derived_secret

@@ -22,4 +22,4 @@ returns-then-input-le-CUTOFF-clause-low_half c =
 
 pub returns-else-input-le-CUTOFF-clause-low_half : goal.returns-else-input-le-CUTOFF-clause-low_half
 returns-else-input-le-CUTOFF-clause-low_half c =
-    λ range. low_half_long c.args.seed c.impl_oneshot_derived.result _ (effective_secret (derived_secret c.args.seed) c.args.input.now) c.args.input.now (omega arith) (sym (effective_long (derived_secret c.args.seed) c.args.input.now (omega arith))) c.impl_oneshot_derived.ensures
+    λ range. low_half_long c.args.seed c.impl_oneshot_long_seeded.result _ (effective_secret (derived_secret c.args.seed) c.args.input.now) c.args.input.now (omega arith) (sym (effective_long (derived_secret c.args.seed) c.args.input.now (omega arith))) c.impl_oneshot_long_seeded.ensures
