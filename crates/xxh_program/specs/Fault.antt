@@ -22,7 +22,7 @@ text_of (Digest TooLong) = codes "too long"
 abbrev pub line_of : Fault → List ℕ
 line_of fault = codes "xxh: " ++ (text_of fault ++ 10 ∷ [])
 
--- 1 where reading or writing failed, 2 where the words are at fault, 3 where memory is
+-- 1 where reading or writing is at fault, 2 where the words are, 3 where memory is
 abbrev pub status_of : Fault → ℕ
 status_of Usage = 2
 status_of BadSeed = 2

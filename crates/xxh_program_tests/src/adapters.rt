@@ -19,7 +19,12 @@ fn over_memory(rt: HostRuntime) {
 // A slice as a writer takes what it has room for, and then nothing.
 #[test]
 fn a_writer_that_takes_three_bytes_and_then_nothing(rt: HostRuntime) {
-    for (kind, want) in [(Kind::X32, b"02c"), (Kind::X64, b"ef4")] {
+    for (kind, want) in [
+        (Kind::X32, b"02c"),
+        (Kind::X64, b"ef4"),
+        (Kind::X3_64, b"2d0"),
+        (Kind::X3_128, b"99a"),
+    ] {
         let mut room = [0; 3];
         let mut r = FromRead::new(b"".as_slice());
         let mut w = FromWrite::new(room.as_mut_slice());

@@ -10,7 +10,7 @@ const USAGE: &[u8] = b"xxh: usage: xxh hash|save|resume 32|64|3-64|3-128 [SEED|J
 
 const BAD_SEED: &[u8] = b"xxh: bad seed\n";
 
-// Words, the input and the digits that are printed.
+// Words, the input and the digits that are printed, which the C library answers too.
 const DIGESTS: &str = "\
 hash 64 1234,some bytes,eab55659a496d78b
 hash 64 0001234,some bytes,eab55659a496d78b
@@ -23,7 +23,20 @@ hash 32 1120475511,,d6bf8459
 hash 3-64,,2d06800538d394c2
 hash 3-64 3735931646,,4aede68389c0e311
 hash 3-128,,99aa06d3014798d86001c324468d497f
-hash 3-128 0,,99aa06d3014798d86001c324468d497f";
+hash 3-128 0,,99aa06d3014798d86001c324468d497f
+hash 32,some bytes,29f97ecd
+hash 64,some bytes,55cfd3deadcabb2a
+hash 3-64,some bytes,45c97cf9b0447624
+hash 3-128,some bytes,99736577b441a1bbd3ec197fe371e984
+hash 32 1234,some bytes,92f68bd9
+hash 3-64 1234,some bytes,582ee33d9ad8c6e9
+hash 3-128 1234,some bytes,d13af43e9c4507cfc327b2ddc4f87078
+hash 32 4294967295,,9061da9d
+hash 32 4294967295,some bytes,17343bb3
+hash 64 18446744073709551615,,298f4c84b24f5380
+hash 64 18446744073709551615,some bytes,68cffc67a3e39e33
+hash 3-64 18446744073709551615,some bytes,f2bedbe5c1d104be
+hash 3-128 18446744073709551615,some bytes,bff237cde472fcf2e98c75f91e037435";
 
 #[test]
 fn digest_lines(rt: HostRuntime) -> Result<(), Fail> {
@@ -43,32 +56,36 @@ fn digest_lines(rt: HostRuntime) -> Result<(), Fail> {
     Ok(())
 }
 
-#[test]
-fn the_greatest_seeds(rt: HostRuntime) -> Result<(), Fail> {
-    let ran = run_line(rt.alloc(), "hash 32 4294967295", b"")?;
-    assert_eq!(rt; ran.status, 0);
-    let ran = run_line(rt.alloc(), "hash 64 18446744073709551615", b"")?;
-    assert_eq!(rt; ran.status, 0);
-    Ok(())
-}
-
 // Too few and too many words, no command, and kinds that the command does not have.
 const MISUSES: &str = "\
 
 hash
 64
 digest 64
+digest 64 1
 Hash 64
 hash 65
 hash 
 hash 3-256
+save
+save 65
 save 3-64
+save 3-64 1
+save 3-128
 save 3-128 x
+save 64 1 2
+resume
+resume 32
 resume 64
+resume 65 {}
+resume 3-64
 resume 3-64 {}
+resume 3-128 {}
 resume 64 {} 1
 hash 64 1234 
-hash 64 1 2 3";
+hash 64 1 2 3
+hash 3-64 1 2
+hash 3-128 1 2";
 
 #[test]
 fn words_that_are_no_command(rt: HostRuntime) -> Result<(), Fail> {
@@ -91,9 +108,14 @@ hash 64 1x
 hash 64 0x1
 hash 64 ١
 hash 3-64 18446744073709551616
+hash 3-64 -1
+hash 3-128 18446744073709551616
 hash 3-128 1x
 save 32 4294967296
-save 64 18446744073709551616";
+save 32 x
+save 32 
+save 64 18446744073709551616
+save 64 +1";
 
 #[test]
 fn words_that_are_no_seed(rt: HostRuntime) -> Result<(), Fail> {

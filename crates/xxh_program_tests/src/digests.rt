@@ -1,5 +1,5 @@
 //! Digest lines and refusals. Each expected value is published by xxHash or twox-hash, or comes from the C
-//! library's `xxhsum` 0.8.1.
+//! library 0.8.1.
 
 use crate::ends::{Pieces, Taken};
 use std::alloc::{AllocError, Global};
@@ -63,6 +63,21 @@ const SOME: Case<'static> = Case {
 
 const SOME_LINE: &[u8] = b"eab55659a496d78b\n";
 
+// The same under XXH3.
+const SOME_3_64: Case<'static> = Case {
+    kind: Kind::X3_64,
+    ..SOME
+};
+
+const SOME_3_64_LINE: &[u8] = b"582ee33d9ad8c6e9\n";
+
+const SOME_3_128: Case<'static> = Case {
+    kind: Kind::X3_128,
+    ..SOME
+};
+
+const SOME_3_128_LINE: &[u8] = b"d13af43e9c4507cfc327b2ddc4f87078\n";
+
 // Four, one and nine bytes, and the digest line of XXH32.
 const HELLO: Case<'static> = Case {
     kind: Kind::X32,
@@ -80,7 +95,7 @@ const HELLO_LINE: &[u8] = b"9e5e7e93\n";
 
 #[test]
 fn each_read_fails_in_turn(rt: HostRuntime) {
-    for case in [SOME, HELLO] {
+    for case in [SOME, SOME_3_64, SOME_3_128, HELLO] {
         for at in 1..5 {
             let script = Case {
                 read_fails: at,
@@ -97,7 +112,12 @@ fn each_read_fails_in_turn(rt: HostRuntime) {
 
 #[test]
 fn too_long_where_each_allowed_read_gave_bytes(rt: HostRuntime) {
-    for (case, line) in [(SOME, SOME_LINE), (HELLO, HELLO_LINE)] {
+    for (case, line) in [
+        (SOME, SOME_LINE),
+        (SOME_3_64, SOME_3_64_LINE),
+        (SOME_3_128, SOME_3_128_LINE),
+        (HELLO, HELLO_LINE),
+    ] {
         for max_reads in 0..5 {
             let script = Case {
                 max_reads,
@@ -120,7 +140,12 @@ fn too_long_where_each_allowed_read_gave_bytes(rt: HostRuntime) {
 // What a sink takes a write, so that the line is this many writes.
 #[test]
 fn each_write_fails_in_turn(rt: HostRuntime) {
-    for (case, line, take, writes) in [(SOME, SOME_LINE, 5, 4), (HELLO, HELLO_LINE, 3, 3)] {
+    for (case, line, take, writes) in [
+        (SOME, SOME_LINE, 5, 4),
+        (SOME_3_64, SOME_3_64_LINE, 5, 4),
+        (SOME_3_128, SOME_3_128_LINE, 11, 3),
+        (HELLO, HELLO_LINE, 3, 3),
+    ] {
         for at in 1..writes + 1 {
             let script = Case {
                 take,
@@ -142,7 +167,7 @@ fn each_write_fails_in_turn(rt: HostRuntime) {
 // One byte a read: what comes of so many bytes, of which three reads are allowed.
 #[test]
 fn one_byte_a_read(rt: HostRuntime) {
-    for case in [SOME, HELLO] {
+    for case in [SOME, SOME_3_64, SOME_3_128, HELLO] {
         for count in 0..5 {
             let script = Case {
                 bytes: &case.bytes[..count],
@@ -169,7 +194,12 @@ fn one_byte_a_read(rt: HostRuntime) {
 
 #[test]
 fn a_sink_with_too_little_room(rt: HostRuntime) {
-    for (case, line) in [(SOME, SOME_LINE), (HELLO, HELLO_LINE)] {
+    for (case, line) in [
+        (SOME, SOME_LINE),
+        (SOME_3_64, SOME_3_64_LINE),
+        (SOME_3_128, SOME_3_128_LINE),
+        (HELLO, HELLO_LINE),
+    ] {
         for room in 0..line.len() {
             let done = digested(rt.alloc(), Case { room, ..case });
             assert_eq!(rt; done.answer, Err(DigestError::WriteFailed), "{room}");
@@ -198,13 +228,25 @@ fn cycling(alloc: Global, len: usize) -> Result<Vec<u8>, AllocError> {
 fn each_read_is_offered_the_whole_buffer(rt: HostRuntime) -> Result<(), Fail> {
     let bytes = cycling(rt.alloc(), 10000)?;
     let sizes = [9999; 3];
-    for (kind, line) in [
-        (Kind::X32, b"96bf9b9b\n".as_slice()),
-        (Kind::X64, b"b3dba2084c8288c4\n".as_slice()),
+    for (kind, seed, line) in [
+        (Kind::X32, 0, b"96bf9b9b\n".as_slice()),
+        (Kind::X64, 0, b"b3dba2084c8288c4\n".as_slice()),
+        (Kind::X3_64, 0, b"1cb3abee1c2fc1c4\n".as_slice()),
+        (Kind::X3_64, 1234, b"cfb79922e0953cfc\n".as_slice()),
+        (
+            Kind::X3_128,
+            0,
+            b"89dec82a789965e61cb3abee1c2fc1c4\n".as_slice(),
+        ),
+        (
+            Kind::X3_128,
+            1234,
+            b"acddaf73bf3f9d4ccfb79922e0953cfc\n".as_slice(),
+        ),
     ] {
         let case = Case {
             kind,
-            seed: 0,
+            seed,
             bytes: bytes.as_slice(),
             sizes: &sizes,
             ..SOME

@@ -15,6 +15,11 @@ const HELLO_32: &str =
 const HELLO_64: &str =
     "{\"buffer\":[72,101,108,108,111,44,32,119,111,114,108,100,33,0,0,0,0,0,0,0,0,0,0,0,0,0,0,0,0,0,0,0],\"buffer_usage\":14,\"core\":{\"v1\":6983438078262162902,\"v2\":14029467366897019727,\"v3\":0,\"v4\":7046029288634856825},\"seed\":0,\"total_len\":14}";
 
+// Words, and the text that is saved of `some bytes`: the C library's state.
+const SAVED: &str = "\
+save 32 4294967295={\"buffer\":[115,111,109,101,32,98,121,116,101,115,0,0,0,0,0,0],\"buffer_usage\":10,\"core\":{\"v1\":606290983,\"v2\":2246822518,\"v3\":4294967295,\"v4\":1640531534},\"seed\":4294967295,\"total_len\":10}
+save 64 18446744073709551615={\"buffer\":[115,111,109,101,32,98,121,116,101,115,0,0,0,0,0,0,0,0,0,0,0,0,0,0,0,0,0,0,0,0,0,0],\"buffer_usage\":10,\"core\":{\"v1\":6983438078262162901,\"v2\":14029467366897019726,\"v3\":18446744073709551615,\"v4\":7046029288634856824},\"seed\":18446744073709551615,\"total_len\":10}";
+
 #[test]
 fn a_saved_text(rt: HostRuntime) -> Result<(), Fail> {
     let saved = run_line(rt.alloc(), "save 32", HELLO)?;
@@ -23,17 +28,34 @@ fn a_saved_text(rt: HostRuntime) -> Result<(), Fail> {
     let saved = run_line(rt.alloc(), "save 64 0", HELLO)?;
     assert_eq!(rt; saved.status, 0);
     assert_eq!(rt; saved.out.split_last(), Some((&b'\n', HELLO_64.as_bytes())));
+    for row in SAVED.lines() {
+        let (words, text) = row.split_once('=').ok_or("a row has two parts")?;
+        let saved = run_line(rt.alloc(), words, b"some bytes")?;
+        assert_eq!(rt; saved.status, 0, "{row}");
+        assert_eq!(rt;
+            saved.out.split_last(),
+            Some((&b'\n', text.as_bytes())),
+            "{row}"
+        );
+        assert_eq!(rt; saved.err.len(), 0, "{row}");
+    }
     Ok(())
 }
 
 #[test]
 fn a_digest_over_two_runs(rt: HostRuntime) -> Result<(), Fail> {
-    let saved = run_line(rt.alloc(), "save 64 1234", b"some")?;
-    assert_eq!(rt; saved.status, 0);
-    let text = str::from_utf8(saved.out.as_slice())?;
-    let resumed = resume(rt.alloc(), "64", text, b" bytes")?;
-    assert_eq!(rt; resumed.status, 0);
-    assert_eq!(rt; resumed.out.as_slice(), b"eab55659a496d78b\n".as_slice());
+    for (kind, words, line) in [
+        ("32", "save 32 1234", b"92f68bd9\n".as_slice()),
+        ("64", "save 64 1234", b"eab55659a496d78b\n".as_slice()),
+    ] {
+        let saved = run_line(rt.alloc(), words, b"some")?;
+        assert_eq!(rt; saved.status, 0, "{kind}");
+        let text = str::from_utf8(saved.out.as_slice())?;
+        let resumed = resume(rt.alloc(), kind, text, b" bytes")?;
+        assert_eq!(rt; resumed.status, 0, "{kind}");
+        assert_eq!(rt; resumed.out.as_slice(), line, "{kind}");
+        assert_eq!(rt; resumed.err.len(), 0, "{kind}");
+    }
     let resumed = resume(rt.alloc(), "64", HELLO_64, b"")?;
     assert_eq!(rt; resumed.out.as_slice(), b"7b06c531ea43e89f\n".as_slice());
     Ok(())
@@ -58,7 +80,7 @@ fn texts_that_are_states(rt: HostRuntime) -> Result<(), Fail> {
 
 // A kind and a text: a usage that does not fit, lanes that do not, both; too few bytes, a number that is too
 // great for a byte, negative, a fraction, too great for a lane; no core; the end cut off; the other kind's
-// text, both ways; and other JSON and none.
+// text, both ways; a usage and lanes that do not fit XXH64; and other JSON and none.
 const NO_STATES: &str = "\
 32={\"buffer\":[72,101,108,108,111,44,32,119,111,114,108,100,33,0,0,0],\"buffer_usage\":17,\"core\":{\"v1\":606290984,\"v2\":2246822519,\"v3\":0,\"v4\":1640531535},\"seed\":0,\"total_len\":14}
 32={\"buffer\":[72,101,108,108,111,44,32,119,111,114,108,100,33,0,0,0],\"buffer_usage\":14,\"core\":{\"v1\":606290985,\"v2\":2246822519,\"v3\":0,\"v4\":1640531535},\"seed\":0,\"total_len\":14}
@@ -72,6 +94,8 @@ const NO_STATES: &str = "\
 32={\"buffer\":[72,101,108,108,111,44,32,119,111,114,108,100,33,0,0,0],\"buffer_usage\":14,\"core\":{\"v1\":606290984,\"v2\":2246822519,\"v3\":0,\"v4\":1640531535},\"seed\":0,\"total_len\":14
 32={\"buffer\":[72,101,108,108,111,44,32,119,111,114,108,100,33,0,0,0,0,0,0,0,0,0,0,0,0,0,0,0,0,0,0,0],\"buffer_usage\":14,\"core\":{\"v1\":6983438078262162902,\"v2\":14029467366897019727,\"v3\":0,\"v4\":7046029288634856825},\"seed\":0,\"total_len\":14}
 64={\"buffer\":[72,101,108,108,111,44,32,119,111,114,108,100,33,0,0,0],\"buffer_usage\":14,\"core\":{\"v1\":606290984,\"v2\":2246822519,\"v3\":0,\"v4\":1640531535},\"seed\":0,\"total_len\":14}
+64={\"buffer\":[72,101,108,108,111,44,32,119,111,114,108,100,33,0,0,0,0,0,0,0,0,0,0,0,0,0,0,0,0,0,0,0],\"buffer_usage\":33,\"core\":{\"v1\":6983438078262162902,\"v2\":14029467366897019727,\"v3\":0,\"v4\":7046029288634856825},\"seed\":0,\"total_len\":14}
+64={\"buffer\":[72,101,108,108,111,44,32,119,111,114,108,100,33,0,0,0,0,0,0,0,0,0,0,0,0,0,0,0,0,0,0,0],\"buffer_usage\":14,\"core\":{\"v1\":6983438078262162903,\"v2\":14029467366897019727,\"v3\":0,\"v4\":7046029288634856825},\"seed\":0,\"total_len\":14}
 64={}
 64=[]
 64=

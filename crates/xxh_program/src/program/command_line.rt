@@ -20,9 +20,10 @@ use std::alloc::Global;
 /// | `save KIND [SEED]` | prints the saved text of the input's hasher, and a line feed |
 /// | `resume KIND JSON` | goes on from a saved text, and prints the digest line |
 ///
-/// KIND is `32` or `64`. SEED is one or more decimal digits, below 2^32 for `32` and below 2^64 otherwise;
-/// without it the seed is 0. JSON is a saved text. The words are tested first: their number, the command and
-/// the kind, and then the seed or the state. Where they are at fault, nothing is read.
+/// KIND is `32`, `64`, `3-64` or `3-128` for `hash`, and `32` or `64` for `save` and `resume`. SEED is one or
+/// more decimal digits, below 2^32 for `32` and below 2^64 otherwise; without it the seed is 0. JSON is a
+/// saved text. The words are tested first: their number, the command and the kind, and then the seed or the
+/// state. Where they are at fault, nothing is read.
 ///
 /// | status | line on `err` |
 /// |---|---|

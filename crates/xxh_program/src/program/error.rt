@@ -2,7 +2,7 @@
 
 use thiserror::Error;
 
-/// Why a call that reads to the end of a source ends without a digest.
+/// Why a call that reads to the end of a source fails.
 #[derive(Clone, Copy, Debug, PartialEq, Eq, Error)]
 pub enum DigestError {
     /// A read failed.

@@ -17,7 +17,7 @@ pub(crate) enum Fault {
     BadState,
     /// There was no memory.
     OutOfMemory,
-    /// Reading or writing ended without a digest.
+    /// A read or a write failed, or the input was too long.
     Digest(DigestError),
 }
 
