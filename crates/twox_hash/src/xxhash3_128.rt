@@ -67,7 +67,10 @@ impl Hasher<Global> {
         ensures changed_seed { (other : ℕ) → other < 2 ^ 64 → other ≢ 0 → length input.now ≤ 16 → xxh3_128 other default_secret input.now ≢ result }
         ensures low_half { ((1 ≤ length input.now) × (length input.now ≤ 3)) ⊎ (240 < length input.now) → low64 result ≡ xxh3_64 0 default_secret input.now }
     {
-        if input.len() <= CUTOFF {
+        // The shortest come first: they then pay for no room that others take.
+        if input.len() <= 16 {
+            impl_oneshot(default_secret(), DEFAULT_SEED, input)
+        } else if input.len() <= CUTOFF {
             impl_oneshot(default_secret(), DEFAULT_SEED, input)
         } else {
             impl_oneshot_long(default_secret(), input)
@@ -84,7 +87,10 @@ impl Hasher<Global> {
         ensures changed_seed { (other : ℕ) → other < 2 ^ 64 → other ≢ seed → length input.now ≤ 16 → xxh3_128 other default_secret input.now ≢ result }
         ensures low_half { ((1 ≤ length input.now) × (length input.now ≤ 3)) ⊎ (240 < length input.now) → low64 result ≡ xxh3_64 seed (effective_secret (derived_secret seed) input.now) input.now }
     {
-        if input.len() <= CUTOFF {
+        // The shortest come first here too.
+        if input.len() <= 16 {
+            impl_oneshot(default_secret(), seed, input)
+        } else if input.len() <= CUTOFF {
             impl_oneshot(default_secret(), seed, input)
         } else {
             impl_oneshot_long_seeded(seed, input)

@@ -65,7 +65,10 @@ impl Hasher<Global> {
         ensures changed_bytes { (n : List ℕ) → IsOtherShort64 input.now n → xxh3_64 0 default_secret n ≢ result }
         ensures changed_seed { (other : ℕ) → other < 2 ^ 64 → other ≢ 0 → length input.now ≤ 8 → xxh3_64 other default_secret input.now ≢ result }
     {
-        if input.len() <= CUTOFF {
+        // The shortest come first: they then pay for no room that others take.
+        if input.len() <= 16 {
+            impl_oneshot(default_secret(), DEFAULT_SEED, input)
+        } else if input.len() <= CUTOFF {
             impl_oneshot(default_secret(), DEFAULT_SEED, input)
         } else {
             impl_oneshot_long(default_secret(), input)
@@ -81,7 +84,10 @@ impl Hasher<Global> {
         ensures changed_bytes { (n : List ℕ) → IsOtherShort64 input.now n → xxh3_64 seed default_secret n ≢ result }
         ensures changed_seed { (other : ℕ) → other < 2 ^ 64 → other ≢ seed → length input.now ≤ 8 → xxh3_64 other default_secret input.now ≢ result }
     {
-        if input.len() <= CUTOFF {
+        // The shortest come first here too.
+        if input.len() <= 16 {
+            impl_oneshot(default_secret(), seed, input)
+        } else if input.len() <= CUTOFF {
             impl_oneshot(default_secret(), seed, input)
         } else {
             impl_oneshot_long_seeded(seed, input)
