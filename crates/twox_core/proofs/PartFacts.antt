@@ -38,16 +38,6 @@ chunks_at-chunk m cs i n c j d e low at =
     let place : i + c * 16 ≡ j = omega arith in
     ap (λ (l : List (List ℕ)). get_or l c d) e ∙ first_chunks_at 16 n (drop i m) c d low ∙ rw (drop-drop (c * 16) i m, place) refl
 
--- chunk c of all whole chunks
-pub whole-chunk : (m : List ℕ) (cs : List (List ℕ)) (n c j : ℕ) (d : List ℕ) → cs ≡ first_chunks 16 n m → c < n → 16 * c ≡ j → get_or cs c d ≡ chunk_at m j
-unfolding chunks_at
-whole-chunk m cs n c j d e low at = chunks_at-chunk m cs 0 n c j d e low (omega arith)
-
--- the one chunk of the last 16 bytes c
-pub last-chunk : (m c : List ℕ) (cs : List (List ℕ)) (k : ℕ) (d : List ℕ) → 16 ≤ length m → c ≡ drop (length m - 16) m → cs ≡ first_chunks 16 k c → k ≡ 1 → get_or cs 0 d ≡ chunk_at m (length m - 16)
-last-chunk m c cs k d enough e chunks count =
-    whole-chunk (drop (length m - 16) m) cs 1 0 0 d (chunks ∙ ap₂ (first_chunks 16) count e) (omega arith) (omega arith)
-
 -- two chunks from a part of two
 pub pair_at-part : (m : List ℕ) (i : ℕ) → first_chunks 16 2 (drop i m) ≡ pair_at m i
 pair_at-part m i = rw (drop-drop 16 i m) refl

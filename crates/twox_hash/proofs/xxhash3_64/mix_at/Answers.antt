@@ -1,4 +1,4 @@
-use Rattle.std.proofs.Common.{◌≡◌, ◌+◌, arith, ap, refl, ◌∙◌}
+use Rattle.std.proofs.Common.{◌≡◌, ◌+◌, arith, ap, ◌∙◌}
 use Rattle.std.specs.Int.{w64}
 use Rattle.twox_plain.proofs.WordFacts.{word_at-drop}
 use Rattle.twox_core.specs.Steps.{word64}
