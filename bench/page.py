@@ -120,7 +120,7 @@ text = [
     "What isn't like for like: each peer is called through a pointer to one function of the same signature. The header's "
     "code is compiled into that function, and the seed 0 and the default secret into its code; Debian's shared library is "
     "one call further away, through the procedure linkage table, and is built for plain x86-64. The Rust compiler, clang "
-    "and ours have versions of LLVM of their own. Ours takes the input as the address of a room of 64 MiB and a length: a "
+    "and ours have versions of LLVM of their own. Ours takes the input as the address of a room of 64 MiB and a length, which it compares with the room: a "
     "slice from C would be tested for the null address, which no caller in Rattle pays.",
     "",
     f"The machine's load average was {os.getloadavg()[0]:.1f} when the run ended, of which the run itself is 1. On a busy "

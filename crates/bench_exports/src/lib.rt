@@ -7,5 +7,8 @@
 mod plain;
 mod xxhash3;
 
+/// The bytes of the room that holds the input; of a longer one the front is hashed.
+pub const ROOM: usize = 67_108_864;
+
 /// The room that holds the input.
-pub type Input = [u8; 67_108_864];
+pub type Input = [u8; ROOM];

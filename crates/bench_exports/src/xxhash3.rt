@@ -1,13 +1,13 @@
 //! XXH3 of both widths.
 
-ghost use Rattle.std.specs.Prelude.{◌≡◌, ◌^◌, ◌≤◌, take};
+ghost use Rattle.std.specs.Prelude.{◌≡◌, ◌^◌, ◌≤◌, min, take};
 ghost use Rattle.twox_hash.specs.Secret.{default_secret, derived_secret};
 ghost use Rattle.twox_hash.specs.Value.{effective_secret, xxh3_64, xxh3_128};
 ghost use Rattle.twox_hash.specs.Word.{low64, high64};
 
-use crate::Input;
+use crate::{Input, ROOM};
 use twox_hash::words::Halves;
-use twox_hash::xxhash3::{DefaultSecret, SecretBuffer};
+use twox_hash::xxhash3::{DEFAULT_SECRET_LENGTH, DefaultSecret, SecretBuffer};
 use twox_hash::{XxHash3_64, XxHash3_128, xxhash3_64, xxhash3_128};
 
 /// A value of 128 bits, as C has it.
@@ -26,21 +26,19 @@ fn split(value: u128) -> WideValue {
 
 #[unsafe(no_mangle)]
 pub extern "C" fn twox_xxh3_64(input: &Input, len: usize) -> u64
-    requires there { len ≤ 2 ^ 26 }
-    ensures { result ≡ xxh3_64 0 default_secret (take len input.now) }
+    ensures { result ≡ xxh3_64 0 default_secret (take (min len (2 ^ 26)) input.now) }
 {
-    XxHash3_64::oneshot(&input[..len])
+    XxHash3_64::oneshot(&input[..len.min(ROOM)])
 }
 
 #[unsafe(no_mangle)]
 pub extern "C" fn twox_xxh3_64_with_seed(seed: u64, input: &Input, len: usize) -> u64
-    requires there { len ≤ 2 ^ 26 }
-    ensures { result ≡ xxh3_64 seed (effective_secret (derived_secret seed) (take len input.now)) (take len input.now) }
+    ensures { result ≡ xxh3_64 seed (effective_secret (derived_secret seed) (take (min len (2 ^ 26)) input.now)) (take (min len (2 ^ 26)) input.now) }
 {
-    XxHash3_64::oneshot_with_seed(seed, &input[..len])
+    XxHash3_64::oneshot_with_seed(seed, &input[..len.min(ROOM)])
 }
 
-/// The hash under a secret of that many bytes, which the caller shows to be at least 136.
+/// The hash under a secret of that many bytes, 136 to 192; 0 of fewer.
 #[unsafe(no_mangle)]
 pub extern "C" fn twox_xxh3_64_with_secret(
     secret: &DefaultSecret,
@@ -48,38 +46,32 @@ pub extern "C" fn twox_xxh3_64_with_secret(
     input: &Input,
     len: usize,
 ) -> u64
-    requires long_enough { 136 ≤ secret_len }
-    requires secret_there { secret_len ≤ 192 }
-    requires there { len ≤ 2 ^ 26 }
-    ensures { result ≡ xxh3_64 0 (take secret_len secret.now) (take len input.now) }
+    ensures { 136 ≤ secret_len → result ≡ xxh3_64 0 (take (min secret_len 192) secret.now) (take (min len (2 ^ 26)) input.now) }
 {
-    match XxHash3_64::oneshot_with_secret(&secret[..secret_len], &input[..len]) {
+    match XxHash3_64::oneshot_with_secret(
+        &secret[..secret_len.min(DEFAULT_SECRET_LENGTH)],
+        &input[..len.min(ROOM)],
+    ) {
         Ok(value) => value,
         Err(_) => 0,
     }
 }
 
 #[unsafe(no_mangle)]
-pub extern "C" fn twox_xxh3_128(input: &Input, len: usize) -> WideValue
-    requires there { len ≤ 2 ^ 26 }
-{
-    split(XxHash3_128::oneshot(&input[..len]))
+pub extern "C" fn twox_xxh3_128(input: &Input, len: usize) -> WideValue {
+    split(XxHash3_128::oneshot(&input[..len.min(ROOM)]))
 }
 
 #[unsafe(no_mangle)]
-pub extern "C" fn twox_xxh3_128_with_seed(seed: u64, input: &Input, len: usize) -> WideValue
-    requires there { len ≤ 2 ^ 26 }
-{
-    split(XxHash3_128::oneshot_with_seed(seed, &input[..len]))
+pub extern "C" fn twox_xxh3_128_with_seed(seed: u64, input: &Input, len: usize) -> WideValue {
+    split(XxHash3_128::oneshot_with_seed(seed, &input[..len.min(ROOM)]))
 }
 
 /// The hash under the seed 0 of the input in pieces of that many bytes.
 #[unsafe(no_mangle)]
-pub extern "C" fn twox_xxh3_64_stream(input: &Input, len: usize, piece: usize) -> u64
-    requires there { len ≤ 2 ^ 26 }
-{
+pub extern "C" fn twox_xxh3_64_stream(input: &Input, len: usize, piece: usize) -> u64 {
     let mut hasher = xxhash3_64::RawHasher::new(SecretBuffer::default());
-    for part in input[..len].chunks(piece.max(1)) {
+    for part in input[..len.min(ROOM)].chunks(piece.max(1)) {
         hasher.write(part);
     }
     hasher.finish()
@@ -87,11 +79,9 @@ pub extern "C" fn twox_xxh3_64_stream(input: &Input, len: usize, piece: usize) -
 
 /// The hash under the seed 0 of the input in pieces of that many bytes.
 #[unsafe(no_mangle)]
-pub extern "C" fn twox_xxh3_128_stream(input: &Input, len: usize, piece: usize) -> WideValue
-    requires there { len ≤ 2 ^ 26 }
-{
+pub extern "C" fn twox_xxh3_128_stream(input: &Input, len: usize, piece: usize) -> WideValue {
     let mut hasher = xxhash3_128::RawHasher::new(SecretBuffer::default());
-    for part in input[..len].chunks(piece.max(1)) {
+    for part in input[..len.min(ROOM)].chunks(piece.max(1)) {
         hasher.write(part);
     }
     split(hasher.finish_128())
