@@ -1,5 +1,6 @@
 pub mod DerivedFacts
 pub mod EndingFacts
+pub mod KernelFacts
 pub mod LaneFacts
 pub mod MixFacts
 pub mod PairBytes

@@ -28,6 +28,15 @@ stripes_taken-take s a xs w (suc n) fits =
     let cut : drop (64 * n) (take w xs) ≡ take (w - 64 * n) (drop (64 * n) xs) = rw there at (drop-take (64 * n) (w - 64 * n) xs) in
     ap₂ (stripe_taken s) (stripes_taken-take s a xs w n (omega arith)) (rw cut (take-take 64 (w - 64 * n) (drop (64 * n) xs) (omega arith)))
 
+-- n stripes, and then k of what follows them
+pub stripes_taken-more : (s : List ℕ) (a : StripeAccumulator) (xs : List ℕ) (n k : ℕ) → stripes_taken s (stripes_taken s a xs n) (drop (64 * n) xs) k ≡ stripes_taken s a xs (n + k)
+unfolding stripes_taken
+stripes_taken-more s a xs n zero = rw (add-zero n) refl
+stripes_taken-more s a xs n (suc k) =
+    let next : n + suc k ≡ suc (n + k) = omega arith in
+    let place : 64 * (n + k) ≡ 64 * n + 64 * k = omega arith in
+    rw next (ap₂ (stripe_taken s) (stripes_taken-more s a xs n k) (rw place (ap (take 64) (drop-drop (64 * k) (64 * n) xs))))
+
 -- ---- one stripe more of m
 
 place_on : (k q : ℕ) → k % q + 1 < q → (k + 1) % q ≡ k % q + 1

@@ -47,7 +47,7 @@ module _ {X : Type 0} (block : ℕ) (from : X → List ℕ → ℕ → X) where
 
 module _ {X : Type 0} (block : ℕ) (after : List ℕ → ℕ → X) where
   -- any number of blocks that leaves less than one is the quotient
-  follows_from : (m : List ℕ) (h : Held X) (q : ℕ) → length m ≡ q * block + h.usage → h.usage < block → h.lanes ≡ after m q → take h.usage h.buffer ≡ drop (q * block) m → Follows block after m h
+  pub follows_from : (m : List ℕ) (h : Held X) (q : ℕ) → length m ≡ q * block + h.usage → h.usage < block → h.lanes ≡ after m q → take h.usage h.buffer ≡ drop (q * block) m → Follows block after m h
   follows_from m h q len short lanes bytes =
       let whole : length m / block ≡ q = ap (λ (n : ℕ). n / block) len ∙ div-mul-add q block h.usage short in
       let left : length m % block ≡ h.usage = ap (λ (n : ℕ). n % block) len ∙ mod-mul-add q block h.usage short in

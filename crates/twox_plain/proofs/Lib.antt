@@ -9,6 +9,9 @@ pub mod Laws64
 pub mod Message32
 pub mod Message64
 pub mod OneToOne
+pub mod Reached32
+pub mod Reached64
+pub mod Reaching
 pub mod Rotations
 pub mod SavedTexts32
 pub mod SavedTexts64

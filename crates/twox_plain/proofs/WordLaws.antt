@@ -13,7 +13,7 @@ use Rattle.twox_plain.specs.Apart.{DiffersWithin}
 at_part : (n i k : ℕ) (m : List ℕ) → k < n → slice_index (take n (drop i m)) k ≡ slice_index m (i + k)
 at_part n i k m low = get_or-take n (drop i m) k 0 low ∙ get_or-drop i m k 0
 
-IsBytes-part : (n i : ℕ) (m : List ℕ) → IsBytes m → IsBytes (take n (drop i m))
+pub IsBytes-part : (n i : ℕ) (m : List ℕ) → IsBytes m → IsBytes (take n (drop i m))
 IsBytes-part n i m bytes k = elim (cases_lt k n) [
   | inl low ↦ subst (λ (x : ℕ). x < 2 ^ 8) (sym (at_part n i k m low)) (bytes (i + k))
   | inr high ↦

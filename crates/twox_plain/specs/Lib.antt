@@ -11,3 +11,5 @@ pub mod Units
 pub mod Word
 pub mod Xxh32
 pub mod Xxh64
+pub mod Kept64
+pub mod Kept32

@@ -4,6 +4,8 @@
 #[cfg(test)]
 mod fast_and_slow;
 #[cfg(test)]
+mod kernels;
+#[cfg(test)]
 mod laws;
 #[cfg(test)]
 mod long;

@@ -196,6 +196,11 @@ fn kernel_is_called(rt: HostRuntime) {
     );
     assert_eq!(rt; (accumulates.get(), scrambles.get()), (3, 0));
     assert_eq!(rt; (both & 0xffff_ffff_ffff_ffff) as u64, low);
+
+    accumulates.set(0);
+    let value = Algorithm(v).oneshot(default_secret(), &bytes, Finalize128);
+    assert_eq!(rt; value, 0x4f63_75cc_a7ec_e1e1_bcd6_3266_df6e_2244);
+    assert_eq!(rt; (accumulates.get(), scrambles.get()), (160, 9));
 }
 
 // What a caller makes of the parts: how long the last block is, and the input.

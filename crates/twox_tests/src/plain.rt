@@ -295,3 +295,40 @@ fn maps(rt: HostRuntime) -> Result<(), Fail> {
     assert_eq!(rt; map.get(&42), Some(&"the answer"));
     Ok(())
 }
+
+// Hashers whose records differ in one field are unequal.
+#[test]
+fn hashers_of_32_bits_that_differ(rt: HostRuntime) -> Result<(), Fail> {
+    let mut record = record_32();
+    record.total_len = 46;
+    let hasher = XxHash32::from_state(record)?;
+    let mut other = record;
+    other.seed = 1;
+    assert!(rt; XxHash32::from_state(other)? != hasher);
+    let mut other = record;
+    other.total_len = 62;
+    assert!(rt; XxHash32::from_state(other)? != hasher);
+    let mut other = record;
+    other.core.v3 = 1;
+    assert!(rt; XxHash32::from_state(other)? != hasher);
+    Ok(())
+}
+
+#[test]
+fn saved_texts_past_a_stripe(rt: HostRuntime) -> Result<(), Fail> {
+    let mut hasher = XxHash32::with_seed(u32::MAX);
+    hasher.write(&[255; 47]);
+    let text = hasher.to_state().to_json(rt.alloc())?;
+    assert_eq!(rt;
+        xxhash32::SavedState::from_json(rt.alloc(), text.as_str())?,
+        hasher.to_state()
+    );
+    let mut hasher = XxHash64::with_seed(u64::MAX);
+    hasher.write(&[255; 95]);
+    let text = hasher.to_state().to_json(rt.alloc())?;
+    assert_eq!(rt;
+        xxhash64::SavedState::from_json(rt.alloc(), text.as_str())?,
+        hasher.to_state()
+    );
+    Ok(())
+}

@@ -1,3 +1,6 @@
+pub mod BlockFacts
+pub mod BlockEndFacts
+pub mod BlockPlace
 pub mod BufferedFacts
 pub mod DerivedFacts
 pub mod HexPlace

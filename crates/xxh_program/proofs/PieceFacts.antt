@@ -14,7 +14,7 @@ pub NoneEmpty-push : (pieces : List (List ℕ)) (piece : List ℕ) → NoneEmpty
 NoneEmpty-push [] piece none some = (some, tt)
 NoneEmpty-push (x ∷ xs) piece none some = (none.0, NoneEmpty-push xs piece none.1 some)
 
-concat-push : (pieces : List (List ℕ)) (piece : List ℕ) → concat (pieces ++ piece ∷ []) ≡ concat pieces ++ piece
+pub concat-push : (pieces : List (List ℕ)) (piece : List ℕ) → concat (pieces ++ piece ∷ []) ≡ concat pieces ++ piece
 concat-push pieces piece = concat-append pieces (piece ∷ []) ∙ ap (λ bytes. concat pieces ++ bytes) (append-nil piece)
 
 -- a hasher that was fed the pieces, and then one more

@@ -16,10 +16,18 @@ ReadsOn gives fails max_reads pieces old new (Err WriteFailed) = (length pieces 
 ReadsOn {S} gives fails max_reads pieces old new (Err ReadFailed) = (length pieces < max_reads) × ((met : S) × Pieces gives old pieces met × fails met new)
 ReadsOn gives fails max_reads pieces old new (Err TooLong) = (length pieces ≡ max_reads) × Pieces gives old pieces new
 
--- What was written: the whole line; where a write failed, a beginning of the line and not all of it, up to
--- the sink that the failing write met; otherwise nothing.
+-- these bytes were taken, in some pieces
+abbrev pub Took : {S : Type 0} → (S → List ℕ → S → Type 0) → List ℕ → S → S → Type 0
+Took takes bytes old new = (taken : List (List ℕ)) × Pieces takes old taken new × (concat taken ≡ bytes)
+
+-- a beginning of the bytes was taken, and not all of them, up to the sink that the failing write met
+abbrev pub Refused : {S : Type 0} → (S → List ℕ → S → Type 0) → (S → S → Type 0) → List ℕ → S → S → Type 0
+Refused {S} takes refuses bytes old new =
+    (taken : List (List ℕ)) × (met : S) × Pieces takes old taken met × refuses met new × IsProperBeginning (concat taken) bytes
+
+-- what was written: the whole line; where a write failed, a beginning of it; otherwise nothing
 abbrev pub Writes : {S T : Type 0} → (S → List ℕ → S → Type 0) → (S → S → Type 0) → List ℕ → S → S → Result T DigestError → Type 0
-Writes takes refuses line old new (Ok _) = (taken : List (List ℕ)) × Pieces takes old taken new × (concat taken ≡ line)
-Writes {S} takes refuses line old new (Err WriteFailed) = (taken : List (List ℕ)) × (met : S) × Pieces takes old taken met × refuses met new × IsProperBeginning (concat taken) line
+Writes takes refuses line old new (Ok _) = Took takes line old new
+Writes takes refuses line old new (Err WriteFailed) = Refused takes refuses line old new
 Writes takes refuses line old new (Err ReadFailed) = new ≡ old
 Writes takes refuses line old new (Err TooLong) = new ≡ old

@@ -1,5 +1,9 @@
+pub mod BlockEnds
+pub mod BlockState
+pub mod Blocks
 pub mod Buffered
 pub mod Command
+pub mod DefaultStream
 pub mod Derived
 pub mod Digest
 pub mod Fault

@@ -1,5 +1,6 @@
 //! Digest lines of what a source gives, and the program `xxh` over any ends.
 
+mod blocks;
 mod buffered;
 mod command;
 mod command_line;
@@ -17,6 +18,7 @@ mod hex;
 mod kind;
 mod states;
 
+pub use blocks::{block_counts, digest_blocks};
 pub use buffered::Buffered;
 pub use command_line::run;
 pub use ends::{Failed, Sink, Source};

@@ -85,3 +85,31 @@ fn a_write_that_takes_nothing_is_a_failure(rt: HostRuntime) {
     let answer = digest(Kind::X64, 0, MANY, &mut r, &mut w);
     assert_eq!(rt; answer, Err(DigestError::WriteFailed));
 }
+
+/// Fails at its first write, and takes all bytes afterwards.
+#[derive(Drop)]
+struct FailsOnce {
+    has_failed: bool,
+}
+
+impl Write for FailsOnce {
+    fn write(&mut self, buf: &[u8]) -> io::Result<usize> {
+        if self.has_failed {
+            return Ok(buf.len());
+        }
+        self.has_failed = true;
+        Err(io::Error::from(ErrorKind::Interrupted))
+    }
+
+    fn flush(&mut self) -> io::Result<()> {
+        Ok(())
+    }
+}
+
+#[test]
+fn a_write_that_fails_once_is_a_failure(rt: HostRuntime) {
+    let mut r = FromRead::new(b"some bytes".as_slice());
+    let mut w = FromWrite::new(FailsOnce { has_failed: false });
+    let answer = digest(Kind::X64, 0, MANY, &mut r, &mut w);
+    assert_eq!(rt; answer, Err(DigestError::WriteFailed));
+}

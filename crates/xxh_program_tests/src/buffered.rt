@@ -3,7 +3,7 @@
 use std::io;
 use std::io::{ErrorKind, Read};
 use std::test::Fail;
-use xxh_program::program::Buffered;
+use xxh_program::program::{Buffered, DigestError, FromRead, FromWrite, Kind, digest};
 
 /// Gives up to three bytes a read, and fails once, at its second read.
 #[derive(Drop)]
@@ -50,5 +50,34 @@ fn bytes_in_order_and_an_error_after_those_that_wait(rt: HostRuntime) -> Result<
     }
     assert_eq!(rt; rest.as_slice(), b"e bytes".as_slice());
     assert_eq!(rt; r.read(&mut two)?, 0);
+    Ok(())
+}
+
+// A buffer that each read of the reader fills, and more bytes than one read is offered.
+#[test]
+fn a_full_buffer_is_filled_again(rt: HostRuntime) -> Result<(), Fail> {
+    let mut bytes = Vec::new(rt.alloc());
+    for i in 0..10000u64 {
+        bytes.push((i % 251) as u8)?;
+    }
+    let mut r = FromRead::new(Buffered::<_, 64>::new(bytes.as_slice()));
+    let mut w = FromWrite::new(Vec::new(rt.alloc()));
+    let answer = digest(Kind::X64, 0, u64::MAX, &mut r, &mut w);
+    assert_eq!(rt; answer, Ok(()));
+    assert_eq!(rt; w.into_inner().as_slice(), b"b3dba2084c8288c4\n".as_slice());
+    let mut r = FromRead::new(bytes.as_slice());
+    let mut w = FromWrite::new(Vec::new(rt.alloc()));
+    let answer = digest(Kind::X64, 0, u64::MAX, &mut r, &mut w);
+    assert_eq!(rt; answer, Ok(()));
+    assert_eq!(rt; w.into_inner().as_slice(), b"b3dba2084c8288c4\n".as_slice());
+    // One error, and bytes at the next read: a failure all the same.
+    let mut r = FromRead::new(Stumbling {
+        left: b"some bytes",
+        reads: 0,
+    });
+    let mut w = FromWrite::new(Vec::new(rt.alloc()));
+    let answer = digest(Kind::X64, 1234, u64::MAX, &mut r, &mut w);
+    assert_eq!(rt; answer, Err(DigestError::ReadFailed));
+    assert_eq!(rt; w.into_inner().len(), 0);
     Ok(())
 }

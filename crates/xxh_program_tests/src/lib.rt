@@ -5,6 +5,8 @@
 #[cfg(test)]
 mod adapters;
 #[cfg(test)]
+mod blocks;
+#[cfg(test)]
 mod buffered;
 #[cfg(test)]
 mod commands;

@@ -145,3 +145,26 @@ fn ends_that_fail(rt: HostRuntime) {
         assert_eq!(rt; told.as_slice(), b"xxh: write failed\n".as_slice());
     }
 }
+
+// States past the first stripes, of bytes and lanes with as many digits as there can be.
+#[test]
+fn a_digest_of_long_parts_over_two_runs(rt: HostRuntime) -> Result<(), Fail> {
+    let input = [255; 100];
+    for (kind, save, hash) in [
+        ("32", "save 32 4294967295", "hash 32 4294967295"),
+        ("64", "save 64 18446744073709551615", "hash 64 18446744073709551615"),
+    ] {
+        let whole = run_line(rt.alloc(), hash, &input)?;
+        assert_eq!(rt; whole.status, 0, "{kind}");
+        for cut in [31, 63, 95] {
+            let (first, then) = input.split_at(cut);
+            let saved = run_line(rt.alloc(), save, first)?;
+            assert_eq!(rt; saved.status, 0, "{kind}");
+            let text = str::from_utf8(saved.out.as_slice())?;
+            let resumed = resume(rt.alloc(), kind, text, then)?;
+            assert_eq!(rt; resumed.status, 0, "{kind}");
+            assert_eq!(rt; resumed.out.as_slice(), whole.out.as_slice(), "{kind}");
+        }
+    }
+    Ok(())
+}

@@ -7,7 +7,10 @@ ghost use Rattle.twox_core.specs.Long.{merged, stripes_of};
 ghost use Rattle.twox_core.specs.Ending.{accumulated_block, block_lanes, last_block, last_stripe, lanes_at_end, finalized_64, finalized_128};
 ghost use Rattle.twox_core.specs.SecretBytes.{secret_bytes};
 
+pub mod lanes2;
+pub mod lanes4;
 pub mod scalar;
+pub mod split2;
 
 use super::parts::array_at;
 use super::primes::{
@@ -29,7 +32,7 @@ pub trait Vector: Copy {
 }
 
 /// The kernel of this program.
-pub type Kernel = scalar::Impl;
+pub type Kernel = lanes4::Impl;
 
 /// The lanes before the first stripe.
 pub const INITIAL_ACCUMULATORS: [u64; 8] = [
@@ -190,7 +193,7 @@ impl<V: Vector> Algorithm<V> {
         let last_place = secret.n_stripes() - 1;
         let (front, rest) = block.split_at(64 * count.min(last_place));
         let mut stripes = StripeAccumulator::starting_with(acc);
-        stripes.process_stripes(self.0, front, secret);
+        stripes.process_near(self.0, front, secret);
         let mut acc = stripes.accumulators();
         if count > last_place {
             self.0

@@ -17,7 +17,7 @@ use crate::program::kind::Kind;
 use twox_hash::{XxHash32, XxHash64};
 
 // How many bytes each read is offered.
-const OFFERED: usize = 4096;
+pub(crate) const OFFERED: usize = 4096;
 
 // The most digits that a line has.
 const MOST_DIGITS: usize = 32;

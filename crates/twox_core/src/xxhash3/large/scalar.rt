@@ -80,7 +80,7 @@ fn scrambled(lane: u64, secret_end: &[u8; 64], i: usize) -> u64
 
 // Word `i`, read whole, so that the compiler can load several words at once.
 #[inline(always)]
-fn word(bytes: &[u8; 64], i: usize) -> u64
+pub(super) fn word(bytes: &[u8; 64], i: usize) -> u64
     requires { i < 8 }
     ensures { result ≡ word64 bytes.now (8 * i) }
 {

@@ -5,6 +5,7 @@ ghost use Rattle.twox_core.specs.Long.{stripes_of};
 ghost use Rattle.twox_core.specs.SecretBytes.{secret_bytes};
 
 use super::StripeAccumulator;
+use super::stripes::BYTES_TO_READ_AHEAD;
 use crate::xxhash3::large::{Finalize, Vector};
 use crate::xxhash3::parts::array_at;
 use crate::xxhash3::{CUTOFF, Secret, default_secret};
@@ -57,8 +58,10 @@ impl CoreState {
         self.total_bytes = self.total_bytes.saturating_add(input.len().into_u64());
         if input.len() <= BUFFERED_BYTES - self.buffer_usage {
             self.add(input);
-        } else {
+        } else if input.len() < BYTES_TO_READ_AHEAD {
             self.write_through(v, input, secret);
+        } else {
+            self.write_far(v, input, secret);
         }
     }
 
@@ -74,9 +77,26 @@ impl CoreState {
         ensures some { 1 ≤ self.new.buffer_usage }
     {
         let (head, rest) = input.split_at(BUFFERED_BYTES - self.buffer_usage);
-        self.add(head);
+        self.add_any(head);
         self.empty(v, secret);
         self.restart(v, rest, secret);
+    }
+
+    // The same of a piece of many bytes.
+    #[inline(never)]
+    fn write_far<V: Vector>(&mut self, v: V, input: &[u8], secret: Secret<'_>)
+        requires place { self.old.stripes.current_stripe < stripes_of (secret_bytes secret) }
+        requires in_range { self.old.buffer_usage ≤ 256 }
+        requires more { 256 - self.old.buffer_usage < length input.now }
+        ensures exact { self.new ≡ written_through (secret_bytes secret.entry) self.old input.now }
+        ensures place { self.new.stripes.current_stripe < stripes_of (secret_bytes secret.entry) }
+        ensures in_range { self.new.buffer_usage ≤ 256 }
+        ensures some { 1 ≤ self.new.buffer_usage }
+    {
+        let (head, rest) = input.split_at(BUFFERED_BYTES - self.buffer_usage);
+        self.add(head);
+        self.empty(v, secret);
+        self.restart_far(v, rest, secret);
     }
 
     // Puts `input` after the buffered bytes.
@@ -90,6 +110,17 @@ impl CoreState {
         self.buffer_usage = used + input.len();
     }
 
+    // The same, with no call where there are no bytes.
+    #[inline(always)]
+    fn add_any(&mut self, input: &[u8])
+        requires { self.old.buffer_usage + length input.now ≤ 256 }
+        ensures { self.new ≡ added self.old input.now }
+    {
+        if !input.is_empty() {
+            self.add(input);
+        }
+    }
+
     // Takes the stripes of a full buffer.
     #[inline(always)]
     fn empty<V: Vector>(&mut self, v: V, secret: Secret<'_>)
@@ -97,7 +128,7 @@ impl CoreState {
         ensures exact { self.new ≡ emptied (secret_bytes secret.entry) self.old }
         ensures place { self.new.stripes.current_stripe < stripes_of (secret_bytes secret.entry) }
     {
-        self.stripes.process_stripes(v, &self.buffer, secret);
+        self.stripes.process_near(v, &self.buffer, secret);
         self.stripes_done = self.stripes_done.saturating_add(4);
         self.buffer_usage = 0;
     }
@@ -113,7 +144,24 @@ impl CoreState {
     {
         let count = rest.len().saturating_sub(64) / 64;
         let (whole, last) = rest.split_at(64 * count);
-        self.stripes.process_stripes(v, whole, secret);
+        self.stripes.process_near(v, whole, secret);
+        self.stripes_done = self.stripes_done.saturating_add(count.into_u64());
+        self.buffer[..last.len()].copy_from_slice(last);
+        self.buffer_usage = last.len();
+    }
+
+    // The same of many bytes.
+    #[inline(always)]
+    fn restart_far<V: Vector>(&mut self, v: V, rest: &[u8], secret: Secret<'_>)
+        requires { self.old.stripes.current_stripe < stripes_of (secret_bytes secret) }
+        ensures exact { self.new ≡ restarted (secret_bytes secret.entry) self.old rest.now }
+        ensures place { self.new.stripes.current_stripe < stripes_of (secret_bytes secret.entry) }
+        ensures in_range { self.new.buffer_usage ≤ 256 }
+        ensures some { min (length rest.now) 1 ≤ self.new.buffer_usage }
+    {
+        let count = rest.len().saturating_sub(64) / 64;
+        let (whole, last) = rest.split_at(64 * count);
+        self.stripes.process_far(v, whole, secret);
         self.stripes_done = self.stripes_done.saturating_add(count.into_u64());
         self.buffer[..last.len()].copy_from_slice(last);
         self.buffer_usage = last.len();
@@ -142,7 +190,7 @@ impl CoreState {
         let count = (self.buffer_usage - 1) / 64;
         let (whole, last_block) = self.buffer[..self.buffer_usage].split_at(64 * count);
         let mut stripes = self.stripes;
-        stripes.process_stripes(v, whole, secret);
+        stripes.process_near(v, whole, secret);
         finalize.large(
             v,
             stripes.accumulators(),

@@ -3,10 +3,18 @@
 ghost use Rattle.std.specs.Prelude.{◌≡◌, ◌/◌, ◌<◌, length};
 ghost use Rattle.twox_core.specs.Long.{stripes_of};
 ghost use Rattle.twox_core.specs.SecretBytes.{secret_bytes};
+ghost use Rattle.twox_core.specs.Stripes.{current_stripe_of, stripes_taken};
 
 use crate::xxhash3::Secret;
 use crate::xxhash3::large::{INITIAL_ACCUMULATORS, Vector};
-use twox_plain::words::bp_as_chunks;
+use crate::xxhash3::primes::PRIME64_1;
+use twox_plain::words::{bp_as_chunks, u64_at};
+
+/// From how many bytes on a stripe further on is read ahead.
+pub(crate) const BYTES_TO_READ_AHEAD: usize = 49_152;
+
+/// How many stripes further on is read.
+const STRIPES_AHEAD: usize = 16;
 
 /// The lanes, and how many stripes they have taken since the last scramble.
 #[derive(Clone, Copy)]
@@ -82,9 +90,33 @@ impl StripeAccumulator {
         }
     }
 
-    // Takes the whole stripes of `bytes`. The lanes are a copy in the loop, so that they stay in registers.
+    // Takes the whole stripes of `bytes`.
     #[inline(always)]
     pub(crate) fn process_stripes<V: Vector>(&mut self, v: V, bytes: &[u8], secret: Secret<'_>)
+        requires { current_stripe_of self.old < stripes_of (secret_bytes secret) }
+        ensures exact { self.new ≡ stripes_taken (secret_bytes secret.entry) self.old bytes.now (length bytes.now / 64) }
+        ensures place { current_stripe_of self.new < stripes_of (secret_bytes secret.entry) }
+    {
+        if bytes.len() < BYTES_TO_READ_AHEAD {
+            self.process_near(v, bytes, secret);
+        } else {
+            *self = taken_far(*self, v, bytes, secret);
+        }
+    }
+
+    // The same of many bytes.
+    #[inline(always)]
+    pub(crate) fn process_far<V: Vector>(&mut self, v: V, bytes: &[u8], secret: Secret<'_>)
+        requires { current_stripe_of self.old < stripes_of (secret_bytes secret) }
+        ensures exact { self.new ≡ stripes_taken (secret_bytes secret.entry) self.old bytes.now (length bytes.now / 64) }
+        ensures place { current_stripe_of self.new < stripes_of (secret_bytes secret.entry) }
+    {
+        *self = taken_far(*self, v, bytes, secret);
+    }
+
+    // Takes the stripes. The lanes are a copy in the loop, so that they stay in registers.
+    #[inline(always)]
+    pub(crate) fn process_near<V: Vector>(&mut self, v: V, bytes: &[u8], secret: Secret<'_>)
         requires { current_stripe_of self.old < stripes_of (secret_bytes secret) }
         ensures exact { self.new ≡ stripes_taken (secret_bytes secret.entry) self.old bytes.now (length bytes.now / 64) }
         ensures place { current_stripe_of self.new < stripes_of (secret_bytes secret.entry) }
@@ -97,4 +129,51 @@ impl StripeAccumulator {
         }
         *self = taken;
     }
+}
+
+// The lanes with the stripes taken, out of line.
+#[inline(never)]
+fn taken_near<V: Vector>(
+    from: StripeAccumulator,
+    v: V,
+    bytes: &[u8],
+    secret: Secret<'_>,
+) -> StripeAccumulator
+    requires { current_stripe_of from < stripes_of (secret_bytes secret) }
+    ensures exact { result ≡ stripes_taken (secret_bytes secret.entry) from bytes.now (length bytes.now / 64) }
+    ensures place { current_stripe_of result < stripes_of (secret_bytes secret.entry) }
+{
+    let mut taken = from;
+    taken.process_near(v, bytes, secret);
+    taken
+}
+
+// The same of bytes that may lie outside the first cache: while a stripe is taken, a word of the stripe
+// `STRIPES_AHEAD` further on is read, so that it is there in time. What is read decides nothing but which of
+// two ways to the same lanes is gone, since the compiler reads nothing that isn't needed.
+#[inline(never)]
+fn taken_far<V: Vector>(
+    from: StripeAccumulator,
+    v: V,
+    bytes: &[u8],
+    secret: Secret<'_>,
+) -> StripeAccumulator
+    requires { current_stripe_of from < stripes_of (secret_bytes secret) }
+    ensures exact { result ≡ stripes_taken (secret_bytes secret.entry) from bytes.now (length bytes.now / 64) }
+    ensures place { current_stripe_of result < stripes_of (secret_bytes secret.entry) }
+{
+    let n_stripes = secret.n_stripes();
+    let (stripes, _) = bp_as_chunks::<u8, 64>(bytes);
+    let count = stripes.len().saturating_sub(STRIPES_AHEAD);
+    let mut taken = from;
+    let mut seen = 0;
+    'stripes: for i in 0..count {
+        seen ^= u64_at(&stripes[i + STRIPES_AHEAD], 0);
+        taken.process_stripe(v, &stripes[i], n_stripes, secret);
+    }
+    if seen == PRIME64_1 {
+        return taken_near(from, v, bytes, secret);
+    }
+    let (_, rest) = bytes.split_at(64 * count);
+    taken_near(taken, v, rest, secret)
 }

@@ -5,4 +5,4 @@ use Rattle.twox_plain.proofs.xxhash64.Hasher.finish.Goals as goal
 
 pub returns-clause-message : goal.returns-clause-message
 returns-clause-message c = λ m stands.
-    c.finish_with.ensures ∙ ap finished c.self.view_is ∙ finished_message c.args.self.now m stands
+    (rw c.core.ensures at c.finish_with.ensures) ∙ ap finished c.self.view_is ∙ finished_message c.args.self.now m stands

@@ -10,7 +10,7 @@ returns-then-count-last_place g c =
     let k = c.min.result in
     let more : k + 1 ≡ c.args.count = omega arith in
     let place : c.n_stripes-last_place.result - 1 ≡ k = omega arith in
-    let taken = rw (c.split_at.ensures.front, c.starting_with-stripes.ensures) at c.process_stripes.ensures.exact ∙ front_taken s c.args.acc b k (omega arith) (omega arith) in
+    let taken = rw (c.split_at.ensures.front, c.starting_with-stripes.ensures) at c.process_near.ensures.exact ∙ front_taken s c.args.acc b k (omega arith) (omega arith) in
     let lanes = rw taken at c.accumulators-acc.ensures in
     let stripe = rw c.split_at.ensures.back at c.array_at.ensures in
     rw lanes at c.accumulate.ensures ∙ rw more at (accumulated_block-next s c.args.acc b _ _ k stripe (rw place at c.stripe.ensures))
@@ -21,5 +21,5 @@ returns-else-count-last_place g c =
     let b = c.args.block.now in
     let k = c.min.result in
     let all : k ≡ c.args.count = omega arith in
-    let taken = rw (c.split_at.ensures.front, c.starting_with-stripes.ensures) at c.process_stripes.ensures.exact ∙ front_taken s c.args.acc b k (omega arith) (omega arith) in
+    let taken = rw (c.split_at.ensures.front, c.starting_with-stripes.ensures) at c.process_near.ensures.exact ∙ front_taken s c.args.acc b k (omega arith) (omega arith) in
     rw (taken, all) at c.accumulators-acc.ensures

@@ -16,6 +16,6 @@ returns-clause-exact g c =
     let width : length (take (64 * n) r) / 64 ≡ n = omega (arith, length-take-le (64 * n) r (omega arith)) in
     let part = rw c.saturating_sub-count.ensures at c.split_at.ensures.front in
     let back = rw c.saturating_sub-count.ensures at c.split_at.ensures.back in
-    let taken : c.process_stripes.new.self ≡ stripes_taken s a r n =
-    rw (part, width) at c.process_stripes.ensures.exact ∙ stripes_taken-take s a r (64 * n) n (omega arith) in
+    let taken : c.process_near.new.self ≡ stripes_taken s a r n =
+    rw (part, width) at c.process_near.ensures.exact ∙ stripes_taken-take s a r (64 * n) n (omega arith) in
     rw (taken, c.saturating_add-self.ensures, c.into_u64.ensures, c.saturating_sub-count.ensures, c.copy_from_slice.ensures.after, back, length-drop (64 * n) r) refl

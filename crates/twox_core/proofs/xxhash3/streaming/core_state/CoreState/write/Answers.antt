@@ -9,8 +9,14 @@ returns-then-input-self-clause-exact g c =
     let test : nat_le (length c.args.input.now) (256 - c.args.self.now.buffer_usage) ≡ true = grind (arith, nat_tests) in
     rw (test, c.add.ensures, c.saturating_add-self.ensures, c.into_u64.ensures) refl
 
-pub returns-else-input-self-clause-exact : goal.returns-else-input-self-clause-exact
+pub returns-then-input-lt-BYTES_TO_READ_AHEAD-clause-exact : goal.returns-then-input-lt-BYTES_TO_READ_AHEAD-clause-exact
 unfolding written_state
-returns-else-input-self-clause-exact g c =
+returns-then-input-lt-BYTES_TO_READ_AHEAD-clause-exact g c =
     let test : nat_le (length c.args.input.now) (256 - c.args.self.now.buffer_usage) ≡ false = grind (arith, nat_tests) in
     rw (test, c.write_through.ensures.exact, c.saturating_add-self.ensures, c.into_u64.ensures) refl
+
+pub returns-else-input-lt-BYTES_TO_READ_AHEAD-clause-exact : goal.returns-else-input-lt-BYTES_TO_READ_AHEAD-clause-exact
+unfolding written_state
+returns-else-input-lt-BYTES_TO_READ_AHEAD-clause-exact g c =
+    let test : nat_le (length c.args.input.now) (256 - c.args.self.now.buffer_usage) ≡ false = grind (arith, nat_tests) in
+    rw (test, c.write_far.ensures.exact, c.saturating_add-self.ensures, c.into_u64.ensures) refl

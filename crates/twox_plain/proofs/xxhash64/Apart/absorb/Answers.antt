@@ -2,16 +2,17 @@ use Rattle.std.proofs.Common.{◌≡◌, ◌+◌, ◌-◌, ◌++◌, length, tak
 use Rattle.std.proofs.lemmas.List.{take_rest, length-take-le}
 use Rattle.twox_plain.specs.Core64.{core_from}
 use Rattle.twox_plain.specs.Record64.{StandsFor, held, written}
+use Rattle.twox_plain.specs.Kept64.{record_of}
 use Rattle.twox_plain.specs.declared.xxhash64.SavedState.{SavedState}
 use Rattle.twox_plain.proofs.Buffering.{held_short, held_full, held_empty}
 use Rattle.twox_plain.proofs.Message64.{written_stands}
-use Rattle.twox_plain.proofs.xxhash64.SavedState.absorb.Goals as goal
-use Rattle.twox_plain.proofs.xxhash64.SavedState.absorb.Goals.{then-used-gt0+else-input-room, else-used-gt0}
+use Rattle.twox_plain.proofs.xxhash64.Apart.absorb.Goals as goal
+use Rattle.twox_plain.proofs.xxhash64.Apart.absorb.Goals.{then-used-gt0+else-input-room, else-used-gt0}
 
 pub returns-then-input-room-clause-exact : goal.returns-then-input-room-clause-exact
 unfolding written
 returns-then-input-room-clause-exact c =
-    let old = c.args.self.now in
+    let old = record_of c.args.self.now in
     let d = c.args.input.now in
     let width : old.buffer_usage + length d - old.buffer_usage ≡ length d = omega arith in
     rw (held_short 32 core_from (held old) d c.if-used-gt0.true c.if-input-room.true, c.saturating_add-self.ensures, c.into_u64.ensures, width, c.copy_from_slice.ensures.after) refl
@@ -19,23 +20,23 @@ returns-then-input-room-clause-exact c =
 pub returns-clause-exact : goal.returns-clause-exact
 unfolding written
 returns-clause-exact c =
-    let old = c.args.self.now in
+    let old = record_of c.args.self.now in
     let d = c.args.input.now in
     let all = take_rest d c.if-used-gt0.taken in
-    let taken = rw all at c.write_many-rest.ensures.lanes in
+    let taken = rw (all, c.core-core-2.ensures) at c.write_many-rest.ensures.lanes in
     let cut = rw all at c.write_many-rest.ensures.rest in
     elim c.if-used-gt0.branch [
       | then-used-gt0+else-input-room w ↦
           let room : length (take (32 - old.buffer_usage) d) ≡ 32 - old.buffer_usage = length-take-le (32 - old.buffer_usage) d (omega arith) in
-          rw (held_full 32 core_from (held old) d w.if-used-gt0.true (omega arith), rw w.taken-is at taken, c.put_front.ensures, rw w.taken-is at cut, w.self-is, w.write.ensures, w.copy_from_slice-then-used-gt0.ensures.after, room, c.saturating_add-self.ensures, c.into_u64.ensures) refl
+          rw (held_full 32 core_from (held old) d w.if-used-gt0.true (omega arith), c.put_front.ensures, c.set_core-2.ensures, rw w.taken-is at taken, rw w.taken-is at cut, w.self-is, w.set_core.ensures, w.write.ensures, w.core-core.ensures, w.copy_from_slice-then-used-gt0.ensures.after, room, c.saturating_add-self.ensures, c.into_u64.ensures) refl
       | else-used-gt0 w ↦
-          rw (held_empty 32 core_from (held old) d (omega arith), rw w.taken-is at taken, c.put_front.ensures, rw w.taken-is at cut, w.self-is, c.saturating_add-self.ensures, c.into_u64.ensures) refl
+          rw (held_empty 32 core_from (held old) d (omega arith), c.put_front.ensures, c.set_core-2.ensures, rw w.taken-is at taken, rw w.taken-is at cut, w.self-is, c.saturating_add-self.ensures, c.into_u64.ensures) refl
     ]
 
 pub returns-then-input-room-clause-message : goal.returns-then-input-room-clause-message
 returns-then-input-room-clause-message c = λ m stands.
-    subst (λ (s : SavedState). StandsFor s (m ++ c.args.input.now)) (sym (returns-then-input-room-clause-exact c)) (written_stands c.args.self.now m c.args.input.now (omega arith) stands)
+    subst (λ (s : SavedState). StandsFor s (m ++ c.args.input.now)) (sym (returns-then-input-room-clause-exact c)) (written_stands (record_of c.args.self.now) m c.args.input.now (omega arith) stands)
 
 pub returns-clause-message : goal.returns-clause-message
 returns-clause-message c = λ m stands.
-    subst (λ (s : SavedState). StandsFor s (m ++ c.args.input.now)) (sym (returns-clause-exact c)) (written_stands c.args.self.now m c.args.input.now (omega arith) stands)
+    subst (λ (s : SavedState). StandsFor s (m ++ c.args.input.now)) (sym (returns-clause-exact c)) (written_stands (record_of c.args.self.now) m c.args.input.now (omega arith) stands)

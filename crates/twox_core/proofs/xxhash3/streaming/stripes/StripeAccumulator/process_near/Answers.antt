@@ -3,7 +3,7 @@ use Rattle.twox_plain.proofs.WordFacts.{first_chunks_at}
 use Rattle.twox_core.specs.SecretBytes.{secret_bytes}
 use Rattle.twox_core.specs.Stripes.{stripes_taken}
 use Rattle.twox_core.proofs.StripeFacts.{stripes_taken-next}
-use Rattle.twox_core.proofs.xxhash3.streaming.stripes.StripeAccumulator.process_stripes.Goals as goal
+use Rattle.twox_core.proofs.xxhash3.streaming.stripes.StripeAccumulator.process_near.Goals as goal
 
 pub stripes-init : goal.stripes-init
 unfolding stripes_taken

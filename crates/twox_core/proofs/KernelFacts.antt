@@ -1,0 +1,14 @@
+-- A product of a word of 64 bits from two products of 32 bits by 32 bits.
+use Rattle.std.proofs.Common.{◌≡◌, ℕ, ◌+◌, ◌-◌, ◌*◌, ◌/◌, ◌%◌, ◌^◌, bit_and, arith, ap, ◌∙◌}
+use Rattle.std.proofs.lemmas.Nat.{and_mask}
+
+parts : (p q : ℕ) → (p % 2 ^ 64 + q % 2 ^ 64 * 2 ^ 32 % 2 ^ 64) % 2 ^ 64 ≡ (q * 2 ^ 32 + p) % 2 ^ 64
+parts p q = omega arith
+
+pub split_product : (x f : ℕ) → (bit_and x (2 ^ 32 - 1) * f % 2 ^ 64 + x / 2 ^ 32 * f % 2 ^ 64 * 2 ^ 32 % 2 ^ 64) % 2 ^ 64 ≡ x * f % 2 ^ 64
+split_product x f =
+    let whole : x / 2 ^ 32 * 2 ^ 32 + x % 2 ^ 32 ≡ x = omega arith in
+    let multiplied : (x / 2 ^ 32 * 2 ^ 32 + x % 2 ^ 32) * f ≡ x * f = ap (λ (z : ℕ). z * f) whole in
+    let out : x / 2 ^ 32 * f * 2 ^ 32 + x % 2 ^ 32 * f ≡ x * f = omega arith in
+    ap (λ (z : ℕ). (z * f % 2 ^ 64 + x / 2 ^ 32 * f % 2 ^ 64 * 2 ^ 32 % 2 ^ 64) % 2 ^ 64) (and_mask x 32)
+    ∙ parts (x % 2 ^ 32 * f) (x / 2 ^ 32 * f) ∙ ap (λ (z : ℕ). z % 2 ^ 64) out

@@ -1,0 +1,80 @@
+//! The kernel that works on four lanes at a time, by `std::simd`.
+
+ghost use Rattle.std.specs.Prelude.{◌≡◌, List, [], ◌∷◌, ◌+◌, ◌≤◌, ◌*◌, slice_index};
+ghost use Rattle.twox_core.specs.Steps.{word64};
+ghost use Rattle.twox_core.specs.Kernel.{lane_sum, lane_mixed};
+
+use super::Vector;
+use super::scalar::word;
+use crate::xxhash3::primes::PRIME32_1;
+use std::simd::u64x4;
+
+/// The kernel of four lanes at a time.
+#[derive(Clone, Copy)]
+pub struct Impl;
+
+impl Vector for Impl {
+    #[inline(always)]
+    fn round_scramble(&self, acc: &mut [u64; 8], secret_end: &[u8; 64]) {
+        let [a, b, c, d, e, f, g, h] = *acc;
+        let [a, b, c, d] = scrambled([a, b, c, d], words(secret_end, 0));
+        let [e, f, g, h] = scrambled([e, f, g, h], words(secret_end, 4));
+        *acc = [a, b, c, d, e, f, g, h];
+    }
+
+    #[inline(always)]
+    fn accumulate(&self, acc: &mut [u64; 8], stripe: &[u8; 64], secret: &[u8; 64]) {
+        let [a, b, c, d, e, f, g, h] = *acc;
+        let [a, b, c, d] = accumulated([a, b, c, d], words(stripe, 0), words(secret, 0));
+        let [e, f, g, h] = accumulated([e, f, g, h], words(stripe, 4), words(secret, 4));
+        *acc = [a, b, c, d, e, f, g, h];
+    }
+}
+
+// Four lanes: each gains its neighbour's word and the product of the halves of its own word under its key.
+// The neighbours come first, so that the lanes before are done with and their registers are free.
+#[inline]
+fn accumulated(acc: [u64; 4], words: [u64; 4], keys: [u64; 4]) -> [u64; 4]
+    ensures a { slice_index result 0 ≡ lane_sum (slice_index acc 0) (slice_index words 0) (slice_index words 1) (slice_index keys 0) }
+    ensures b { slice_index result 1 ≡ lane_sum (slice_index acc 1) (slice_index words 1) (slice_index words 0) (slice_index keys 1) }
+    ensures c { slice_index result 2 ≡ lane_sum (slice_index acc 2) (slice_index words 2) (slice_index words 3) (slice_index keys 2) }
+    ensures d { slice_index result 3 ≡ lane_sum (slice_index acc 3) (slice_index words 3) (slice_index words 2) (slice_index keys 3) }
+{
+    let [a0, a1, a2, a3] = acc;
+    let [w0, w1, w2, w3] = words;
+    let [k0, k1, k2, k3] = keys;
+    let words = u64x4::from_array([w0, w1, w2, w3]);
+    let sums = u64x4::from_array([a0, a1, a2, a3]) + words.swizzle([1, 0, 3, 2]);
+    let values = words ^ u64x4::from_array([k0, k1, k2, k3]);
+    let high = values >> u64x4::splat(32);
+    let low = values & u64x4::splat(0xffff_ffff);
+    (sums + low * high).to_array()
+}
+
+#[inline]
+fn scrambled(acc: [u64; 4], keys: [u64; 4]) -> [u64; 4]
+    ensures a { slice_index result 0 ≡ lane_mixed (slice_index acc 0) (slice_index keys 0) }
+    ensures b { slice_index result 1 ≡ lane_mixed (slice_index acc 1) (slice_index keys 1) }
+    ensures c { slice_index result 2 ≡ lane_mixed (slice_index acc 2) (slice_index keys 2) }
+    ensures d { slice_index result 3 ≡ lane_mixed (slice_index acc 3) (slice_index keys 3) }
+{
+    let [a0, a1, a2, a3] = acc;
+    let [k0, k1, k2, k3] = keys;
+    let acc = u64x4::from_array([a0, a1, a2, a3]);
+    let keys = u64x4::from_array([k0, k1, k2, k3]);
+    ((acc ^ (acc >> u64x4::splat(47)) ^ keys) * u64x4::splat(PRIME32_1)).to_array()
+}
+
+// Four words from word `i` on.
+#[inline]
+fn words(bytes: &[u8; 64], i: usize) -> [u64; 4]
+    requires { i + 4 ≤ 8 }
+    ensures { result ≡ word64 bytes.now (8 * i) ∷ word64 bytes.now (8 * (i + 1)) ∷ word64 bytes.now (8 * (i + 2)) ∷ word64 bytes.now (8 * (i + 3)) ∷ [] }
+{
+    [
+        word(bytes, i),
+        word(bytes, i + 1),
+        word(bytes, i + 2),
+        word(bytes, i + 3),
+    ]
+}

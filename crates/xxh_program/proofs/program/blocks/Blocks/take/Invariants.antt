@@ -1,0 +1,19 @@
+use Rattle.std.proofs.Common.{◌≡◌, ◌++◌, ℕ, List, length, false}
+use Rattle.xxh_program.specs.Blocks.{added_lines}
+use Rattle.xxh_program.specs.Digest.{Took}
+use Rattle.xxh_program.specs.BlockState.{HasTaken}
+use Rattle.xxh_program.proofs.program.blocks.Blocks.take.Given as goal
+
+-- the bytes before the rest were taken, the lines of the blocks that they end were written, and no write has failed
+abbrev pub invariant-loop-rest : goal.invariant-loop-rest
+invariant-loop-rest g l = record {
+  works : g.W.Sink.has_failed l.w ≡ false;
+  same : l.self.block ≡ l.fn.self.block;
+  done : List ℕ;
+  cut : l.fn.piece ≡ done ++ l.rest;
+  taken : (m : List ℕ) → HasTaken l.fn.self m → HasTaken l.self (m ++ done);
+  wrote : (m : List ℕ) → HasTaken l.fn.self m → Took g.W.Sink.takes (added_lines l.fn.self.block m done) l.fn.w l.w;
+}
+
+abbrev pub decreases-loop-rest : goal.decreases-loop-rest
+decreases-loop-rest g l = length l.rest

@@ -1,0 +1,30 @@
+-- What block digests have read and written by the time that they answer.
+use Rattle.std.specs.Prelude.{ℕ, ◌≤◌, ◌⊎◌, List, length}
+use Rattle.std.specs.List.{concat}
+use Rattle.std.specs.declared.result.Result.{Result}
+use Rattle.std.specs.declared.result.Result.TheVariants.{Ok, Err}
+use Rattle.xxh_program.specs.declared.program.error.DigestError.{DigestError}
+use Rattle.xxh_program.specs.declared.program.error.DigestError.TheVariants.{ReadFailed, WriteFailed, TooLong}
+use Rattle.xxh_program.specs.Pieces.{Pieces}
+use Rattle.xxh_program.specs.Digest.{ReadsOn, Took, Refused}
+use Rattle.xxh_program.specs.Blocks.{block_lines, whole_block_lines}
+
+-- What was read and what was written, `pieces` being the pieces that are not empty: where the reading came to
+-- its end, the lines of all blocks of what was read; where a read failed or it was too long, those of the
+-- whole blocks; where a write failed, a beginning, and not all, of the lines of all blocks after the end, and
+-- else of those of the whole blocks, after at most max_reads pieces.
+abbrev pub DigestsBlocks : {R W : Type 0} → (R → List ℕ → R → Type 0) → (R → R → Type 0) → (W → List ℕ → W → Type 0) → (W → W → Type 0) → ℕ → ℕ → List (List ℕ) → R → R → W → W → Result (Unit {0}) DigestError → Type 0
+DigestsBlocks gives fails takes refuses block max_reads pieces r_old r_new w_old w_new (Ok x) =
+    ReadsOn {T = Unit {0}} gives fails max_reads pieces r_old r_new (Ok x)
+    × Took takes (block_lines block (concat pieces)) w_old w_new
+DigestsBlocks gives fails takes refuses block max_reads pieces r_old r_new w_old w_new (Err ReadFailed) =
+    ReadsOn {T = Unit {0}} gives fails max_reads pieces r_old r_new (Err ReadFailed)
+    × Took takes (whole_block_lines block (concat pieces)) w_old w_new
+DigestsBlocks gives fails takes refuses block max_reads pieces r_old r_new w_old w_new (Err TooLong) =
+    ReadsOn {T = Unit {0}} gives fails max_reads pieces r_old r_new (Err TooLong)
+    × Took takes (whole_block_lines block (concat pieces)) w_old w_new
+DigestsBlocks gives fails takes refuses block max_reads pieces r_old r_new w_old w_new (Err WriteFailed) =
+    (ReadsOn {T = Unit {0}} gives fails max_reads pieces r_old r_new (Err WriteFailed)
+    × Refused takes refuses (block_lines block (concat pieces)) w_old w_new)
+    ⊎ ((length pieces ≤ max_reads) × Pieces gives r_old pieces r_new
+    × Refused takes refuses (whole_block_lines block (concat pieces)) w_old w_new)
