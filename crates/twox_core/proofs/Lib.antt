@@ -1,7 +1,7 @@
 pub mod DerivedFacts
 pub mod EndingFacts
 pub mod KernelFacts
-pub mod LaneFacts
+pub mod AccumulatorFacts
 pub mod MixFacts
 pub mod PairBytes
 pub mod PartFacts

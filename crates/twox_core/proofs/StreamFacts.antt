@@ -6,13 +6,13 @@ use Rattle.std.proofs.lemmas.List.{append-nil, append_assoc, drop-append-le, tak
 use Rattle.twox_plain.specs.Word.{counted}
 use Rattle.twox_core.specs.Secret.{default_secret}
 use Rattle.twox_core.specs.Long.{stripes_of}
-use Rattle.twox_core.specs.Stripes.{stripes_taken}
-use Rattle.twox_core.specs.Ending.{lanes_after, stream_lanes, stream_block, last_stripe}
-use Rattle.twox_core.specs.Held.{Held}
-use Rattle.twox_core.specs.Core.{Core, total_of, done_of, buffered_of}
-use Rattle.twox_core.specs.Written.{fresh, in_place, restarted, written_through, written_state, written}
-use Rattle.twox_core.specs.Finished.{last_bytes, buffered_bytes, stripes_left, end_lanes, end_block, finished_state, finished}
-use Rattle.twox_core.specs.Stands.{Holds, Late, Follows, StandsFor, IsCopy}
+use Rattle.twox_core.specs.Stripes.{after_stripes}
+use Rattle.twox_core.specs.Ending.{accumulators_after, stream_accumulators, stream_block, last_stripe}
+use Rattle.twox_core.specs.StreamKey.{StreamKey}
+use Rattle.twox_core.specs.CoreView.{CoreView, total_of, done_of, buffered_of}
+use Rattle.twox_core.specs.AfterWrite.{empty_state, in_place, restarted, written_through, state_after_write, core_after_write}
+use Rattle.twox_core.specs.Finish.{last_bytes, buffered_bytes, stripes_left, end_accumulators, end_block, state_finish, core_finish}
+use Rattle.twox_core.specs.StandsFor.{Holds, Late, Follows, StandsFor, IsCopy}
 use Rattle.twox_core.specs.declared.xxhash3.streaming.stripes.StripeAccumulator.{StripeAccumulator}
 use Rattle.twox_core.specs.declared.xxhash3.streaming.core_state.CoreState.{CoreState}
 use Rattle.twox_core.proofs.StripeFacts.{folded_none, folded_more, folded_longer}
@@ -47,7 +47,7 @@ holds_added s m d b k u a held size fits =
 -- ---- a full buffer
 
 holds_emptied : (s m b : List ℕ) (k : ℕ) (a : StripeAccumulator) → 0 < stripes_of s → Holds s m k a b 256 → length b ≡ 256
-    → Holds s m (k + 4) (stripes_taken s a b 4) b 0
+    → Holds s m (k + 4) (after_stripes s a b 4) b 0
 holds_emptied s m b k a some held size =
     let all = held.all in
     let whole : b ≡ drop (64 * k) m = sym (take_all 256 b (omega arith)) ∙ held.bytes in
@@ -64,7 +64,7 @@ holds_emptied s m b k a some held size =
 -- ---- a piece that finds the buffer empty
 
 holds_restarted : (s m r b : List ℕ) (k n : ℕ) (a : StripeAccumulator) → 0 < stripes_of s → Holds s m k a b 0 → length b ≡ 256 → n ≡ in_place (length r)
-    → Holds s (m ++ r) (k + n) (stripes_taken s a r n) (drop (64 * n) r ++ drop (length r - 64 * n) b) (length r - 64 * n)
+    → Holds s (m ++ r) (k + n) (after_stripes s a r n) (drop (64 * n) r ++ drop (length r - 64 * n) b) (length r - 64 * n)
 holds_restarted s m r b k n a some held size count =
     let all = held.all in
     let here : drop (64 * k) (m ++ r) ≡ r = drop_at m r (64 * k) (omega arith) in
@@ -93,8 +93,8 @@ late_more : (m d : List ℕ) (k u : ℕ) → Late m k u → Late (m ++ d) k (u +
 late_more m d k u held = record { left = λ some. omega (arith, held.left some); long = λ some. omega (arith, held.long some, length-append m d) }
 
 written_in : (b : Bool) (s m d : List ℕ) (c : CoreState) → nat_le (length d) (256 - c.buffer_usage) ≡ b → 0 < stripes_of s → length c.buffer ≡ 256 → c.buffer_usage ≤ 256
-    → Follows s c m → Follows s (written_state s c d) (m ++ d)
-unfolding Follows written_state written_through restarted
+    → Follows s c m → Follows s (state_after_write s c d) (m ++ d)
+unfolding Follows state_after_write written_through restarted
 written_in true s m d c e some size within held =
     let fits : length d ≤ 256 - c.buffer_usage = grind (arith, nat_tests, e) in
     rw e (
@@ -129,7 +129,7 @@ written_in false s m d c e some size within held =
     )
 
 written_follows : (s m d : List ℕ) (c : CoreState) → 0 < stripes_of s → length c.buffer ≡ 256 → c.buffer_usage ≤ 256
-    → Follows s c m → Follows s (written_state s c d) (m ++ d)
+    → Follows s c m → Follows s (state_after_write s c d) (m ++ d)
 written_follows s m d c some size within held = written_in (nat_le (length d) (256 - c.buffer_usage)) s m d c refl some size within held
 
 -- ---- the end
@@ -155,10 +155,10 @@ short_bytes s m c held short =
     let start : 64 * held.0 ≡ 0 = omega arith in
     rw used (held.4.bytes ∙ rw start refl)
 
-end_lanes_follow : (s m : List ℕ) (c : CoreState) → 0 < stripes_of s → length c.buffer ≡ 256 → c.buffer_usage ≤ 256
-    → Follows s c m → 240 < length m → end_lanes s c ≡ stream_lanes s m
-unfolding Follows end_lanes stream_lanes lanes_after
-end_lanes_follow s m c some size within held long =
+end_accumulators_follow : (s m : List ℕ) (c : CoreState) → 0 < stripes_of s → length c.buffer ≡ 256 → c.buffer_usage ≤ 256
+    → Follows s c m → 240 < length m → end_accumulators s c ≡ stream_accumulators s m
+unfolding Follows end_accumulators stream_accumulators accumulators_after
+end_accumulators_follow s m c some size within held long =
     let k = held.0 in
     let n = stripes_left c in
     let all = held.4.all in
@@ -166,7 +166,7 @@ end_lanes_follow s m c some size within held long =
     let last : k + n ≡ (length m - 1) / 64 = omega arith in
     let width : length (buffered_bytes c) ≡ c.buffer_usage = length-take-le c.buffer_usage c.buffer (omega arith) in
     let done = folded_more s m (buffered_bytes c) [] k n c.stripes some held.4.folded (sym held.4.bytes ∙ sym (append-nil (buffered_bytes c))) (omega arith) in
-    rw (sym last) done.lanes
+    rw (sym last) done.accumulators
 
 end_block_follows : (s m : List ℕ) (c : CoreState) → Follows s c m → 240 < length m → end_block c ≡ stream_block m
 unfolding Follows end_block stream_block
@@ -207,7 +207,7 @@ end_stripe_follows s m c held long = last_in (nat_lt c.buffer_usage 64) s m c.bu
 
 -- ---- what the core's clauses say
 
-pub stands_fresh : {S : Type 0} (bytes : S → List ℕ) (h : Held S) → StandsFor bytes (record { held = h; state = fresh }) h.seed (bytes h.secret) []
+pub stands_fresh : {S : Type 0} (bytes : S → List ℕ) (h : StreamKey S) → StandsFor bytes (record { key = h; state = empty_state }) h.seed (bytes h.secret) []
 unfolding StandsFor Follows
 stands_fresh bytes h = (
   refl,
@@ -221,59 +221,59 @@ stands_fresh bytes h = (
   ),
 )
 
-pub stands_written : {S : Type 0} (bytes : S → List ℕ) (h : Core S) (seed : ℕ) (s m d : List ℕ)
-    → 0 < stripes_of (bytes h.held.secret) → length h.state.buffer ≡ 256 → h.state.buffer_usage ≤ 256
-    → StandsFor bytes h seed s m → StandsFor bytes (written bytes h d) seed s (m ++ d)
-unfolding StandsFor written
+pub stands_written : {S : Type 0} (bytes : S → List ℕ) (h : CoreView S) (seed : ℕ) (s m d : List ℕ)
+    → 0 < stripes_of (bytes h.key.secret) → length h.state.buffer ≡ 256 → h.state.buffer_usage ≤ 256
+    → StandsFor bytes h seed s m → StandsFor bytes (core_after_write bytes h d) seed s (m ++ d)
+unfolding StandsFor core_after_write
 stands_written bytes h seed s m d some size within held =
     (held.0, held.1, rw held.1 (written_follows s m d h.state (rw held.1 at some) size within held.2))
 
-pub stands_count : {S : Type 0} (bytes : S → List ℕ) (h : Core S) (seed : ℕ) (s m : List ℕ) → StandsFor bytes h seed s m → total_of h ≡ counted (length m)
+pub stands_count : {S : Type 0} (bytes : S → List ℕ) (h : CoreView S) (seed : ℕ) (s m : List ℕ) → StandsFor bytes h seed s m → total_of h ≡ counted (length m)
 unfolding StandsFor
 stands_count bytes h seed s m held = follows_count s m h.state held.2
 
-pub stands_none : {S : Type 0} (bytes : S → List ℕ) (h : Core S) (seed : ℕ) (s : List ℕ) → StandsFor bytes h seed s [] → buffered_of h ≡ 0
+pub stands_none : {S : Type 0} (bytes : S → List ℕ) (h : CoreView S) (seed : ℕ) (s : List ℕ) → StandsFor bytes h seed s [] → buffered_of h ≡ 0
 unfolding StandsFor Follows
 stands_none bytes h seed s held = omega (arith, held.2.4.all)
 
-pub stands_some : {S : Type 0} (bytes : S → List ℕ) (h : Core S) (seed : ℕ) (s m : List ℕ) → StandsFor bytes h seed s m → 0 < length m → 0 < buffered_of h
+pub stands_some : {S : Type 0} (bytes : S → List ℕ) (h : CoreView S) (seed : ℕ) (s m : List ℕ) → StandsFor bytes h seed s m → 0 < length m → 0 < buffered_of h
 unfolding StandsFor Follows
 stands_some bytes h seed s m held some = some_left held.2.0 h.state.buffer_usage held.2.3.left (omega (arith, held.2.4.all))
 
-pub stands_all : {S : Type 0} (bytes : S → List ℕ) (h : Core S) (seed : ℕ) (s m : List ℕ) → StandsFor bytes h seed s m → length m < 2 ^ 64
+pub stands_all : {S : Type 0} (bytes : S → List ℕ) (h : CoreView S) (seed : ℕ) (s m : List ℕ) → StandsFor bytes h seed s m → length m < 2 ^ 64
     → 64 * done_of h + buffered_of h ≡ length m
 unfolding StandsFor Follows
 stands_all bytes h seed s m held low = omega (arith, held.2.4.all, held.2.2)
 
-pub stands_secret : {S : Type 0} (bytes : S → List ℕ) (h : Core S) (seed : ℕ) (s m : List ℕ) → StandsFor bytes h seed s m → bytes h.held.secret ≡ s
+pub stands_secret : {S : Type 0} (bytes : S → List ℕ) (h : CoreView S) (seed : ℕ) (s m : List ℕ) → StandsFor bytes h seed s m → bytes h.key.secret ≡ s
 unfolding StandsFor
 stands_secret bytes h seed s m held = held.1
 
 finished_in : {R : Type 0} (b : Bool) (small : List ℕ → ℕ → List ℕ → R) (large : List ℕ → List ℕ → List ℕ → List ℕ → ℕ → R) (seed : ℕ) (s : List ℕ) (c : CoreState)
-    → nat_le c.total_bytes 240 ≡ b → finished_state small large seed s c
-    ≡ (if b then small default_secret seed (take c.total_bytes c.buffer) else large (end_lanes s c) (end_block c) (last_bytes c.buffer c.buffer_usage) s c.total_bytes)
-unfolding finished_state
+    → nat_le c.total_bytes 240 ≡ b → state_finish small large seed s c
+    ≡ (if b then small default_secret seed (take c.total_bytes c.buffer) else large (end_accumulators s c) (end_block c) (last_bytes c.buffer c.buffer_usage) s c.total_bytes)
+unfolding state_finish
 finished_in b small large seed s c e = rw e refl
 
-pub stands_finished_short : {S R : Type 0} (small : List ℕ → ℕ → List ℕ → R) (large : List ℕ → List ℕ → List ℕ → List ℕ → ℕ → R) (bytes : S → List ℕ) (h : Core S) (seed : ℕ) (s m : List ℕ)
-    → StandsFor bytes h seed s m → length m ≤ 240 → finished small large bytes h ≡ small default_secret seed m
-unfolding StandsFor finished
+pub stands_finished_short : {S R : Type 0} (small : List ℕ → ℕ → List ℕ → R) (large : List ℕ → List ℕ → List ℕ → List ℕ → ℕ → R) (bytes : S → List ℕ) (h : CoreView S) (seed : ℕ) (s m : List ℕ)
+    → StandsFor bytes h seed s m → length m ≤ 240 → core_finish small large bytes h ≡ small default_secret seed m
+unfolding StandsFor core_finish
 stands_finished_short small large bytes h seed s m held short =
     let test : nat_le h.state.total_bytes 240 ≡ true = grind (arith, nat_tests, follows_count s m h.state held.2) in
-    finished_in true small large h.held.seed (bytes h.held.secret) h.state test
+    finished_in true small large h.key.seed (bytes h.key.secret) h.state test
     ∙ rw (held.0, short_bytes s m h.state held.2 short) refl
 
-pub stands_finished_long : {S R : Type 0} (small : List ℕ → ℕ → List ℕ → R) (large : List ℕ → List ℕ → List ℕ → List ℕ → ℕ → R) (bytes : S → List ℕ) (h : Core S) (seed : ℕ) (s m : List ℕ)
-    → 0 < stripes_of (bytes h.held.secret) → length h.state.buffer ≡ 256 → h.state.buffer_usage ≤ 256
-    → StandsFor bytes h seed s m → 240 < length m → finished small large bytes h ≡ large (stream_lanes s m) (stream_block m) (last_stripe m) s (counted (length m))
-unfolding StandsFor finished
+pub stands_finished_long : {S R : Type 0} (small : List ℕ → ℕ → List ℕ → R) (large : List ℕ → List ℕ → List ℕ → List ℕ → ℕ → R) (bytes : S → List ℕ) (h : CoreView S) (seed : ℕ) (s m : List ℕ)
+    → 0 < stripes_of (bytes h.key.secret) → length h.state.buffer ≡ 256 → h.state.buffer_usage ≤ 256
+    → StandsFor bytes h seed s m → 240 < length m → core_finish small large bytes h ≡ large (stream_accumulators s m) (stream_block m) (last_stripe m) s (counted (length m))
+unfolding StandsFor core_finish
 stands_finished_long small large bytes h seed s m some size within held long =
     let test : nat_le h.state.total_bytes 240 ≡ false = grind (arith, nat_tests, follows_count s m h.state held.2) in
-    finished_in false small large h.held.seed (bytes h.held.secret) h.state test
-    ∙ rw (held.1, end_lanes_follow s m h.state (rw held.1 at some) size within held.2 long, end_block_follows s m h.state held.2 long, end_stripe_follows s m h.state held.2 long, follows_count s m h.state held.2) refl
+    finished_in false small large h.key.seed (bytes h.key.secret) h.state test
+    ∙ rw (held.1, end_accumulators_follow s m h.state (rw held.1 at some) size within held.2 long, end_block_follows s m h.state held.2 long, end_stripe_follows s m h.state held.2 long, follows_count s m h.state held.2) refl
 
 -- a copy
-pub stands_copied : {S : Type 0} (bytes : S → List ℕ) (a b : Core S) → b.held.seed ≡ a.held.seed → bytes b.held.secret ≡ bytes a.held.secret → b.state ≡ a.state
+pub stands_copied : {S : Type 0} (bytes : S → List ℕ) (a b : CoreView S) → b.key.seed ≡ a.key.seed → bytes b.key.secret ≡ bytes a.key.secret → b.state ≡ a.state
     → IsCopy bytes a b
 unfolding StandsFor
 stands_copied bytes a b seed secret state = record {

@@ -7,7 +7,7 @@ ghost use Rattle.twox_plain.specs.Word.{word_at};
 ghost use Rattle.twox_core.specs.Parts.{chunk_at, pair_at, pairs_at};
 ghost use Rattle.twox_core.specs.Secret.{default_secret, derived_pairs, derived_secret};
 ghost use Rattle.twox_core.specs.SecretBytes.{secret_bytes};
-ghost use Rattle.twox_core.specs.Short.{combined};
+ghost use Rattle.twox_core.specs.Short.{combined_bytes};
 ghost use Rattle.twox_core.specs.Steps.{avalanche, avalanche_xxh64, fold, mix, word64};
 
 pub mod large;
@@ -108,11 +108,11 @@ impl From<secret::Error> for OneshotWithSecretError {
 ///
 /// The caller shows that there are 1 to 3 bytes.
 #[inline(always)]
-#[tactic(auto, unfolding(crate::specs::Short::combined))]
+#[tactic(auto, unfolding(crate::specs::Short::combined_bytes))]
 pub fn impl_1_to_3_bytes_combined(input: &[u8]) -> u32
     requires some { 1 ≤ length input.now }
     requires few { length input.now ≤ 3 }
-    ensures { result ≡ combined input.now }
+    ensures { result ≡ combined_bytes input.now }
 {
     let input_length = input.len() as u8;
     input[input.len() - 1].into_u32()

@@ -4,13 +4,13 @@ ghost use Rattle.std.specs.Prelude.{◌≡◌, ◌≢◌, ◌↔◌, ◌⊎◌, 
 ghost use Rattle.std.specs.Int.{w64};
 ghost use Rattle.twox_plain.specs.Word.{low64, high64};
 ghost use Rattle.twox_core.specs.OtherBytes.{IsOtherShort128};
-ghost use Rattle.twox_core.specs.Ending.{finalized_128};
-ghost use Rattle.twox_core.specs.Long.{long_low, long_high};
-ghost use Rattle.twox_core.specs.Middle.{lanes_high, lanes_low, medium_first, medium_second};
+ghost use Rattle.twox_core.specs.Ending.{finalize_128};
+ghost use Rattle.twox_core.specs.Long.{low_above_240, high_above_240};
+ghost use Rattle.twox_core.specs.Middle.{merge_high, merge_low, first_17_to_128, second_17_to_128};
 ghost use Rattle.twox_core.specs.Primes.{prime64_1};
 ghost use Rattle.twox_core.specs.Secret.{default_secret, derived_secret};
 ghost use Rattle.twox_core.specs.SecretBytes.{secret_bytes};
-ghost use Rattle.twox_core.specs.Short.{combined, empty128_high, empty128_low, four128_high, four128_low, four_product, nine_product, tiny_high, tiny_low};
+ghost use Rattle.twox_core.specs.Short.{combined_bytes, high_0, low_0, high_4_to_8, low_4_to_8, product_4_to_8, product_9_to_16, high_1_to_3, low_1_to_3};
 ghost use Rattle.twox_core.specs.Steps.{add64, avalanche, mix, mul64, word64};
 ghost use Rattle.twox_core.specs.Value.{effective_secret, high_in, low_in, range_of, steps_of, xxh3_64, xxh3_128, Range};
 
@@ -46,9 +46,9 @@ pub struct Hasher<A: Allocator = Global> {
 impl<A: Allocator> Model for Hasher<A> {
     ghost use Rattle.std.specs.Prelude.{ℕ};
     ghost use Rattle.std.specs.declared.boxed.BoxedSlice.{BoxedSlice};
-    ghost use Rattle.twox_core.specs.Core.{Core};
+    ghost use Rattle.twox_core.specs.CoreView.{CoreView};
 
-    ghost Value = { Core (BoxedSlice ℕ A) };
+    ghost Value = { CoreView (BoxedSlice ℕ A) };
 
     ghost view = { λ h. h.inner };
 }
@@ -149,9 +149,9 @@ impl<A: Allocator> Hasher<A> {
     ghost use Rattle.std.specs.Box.{boxed_slice_items};
     ghost use Rattle.twox_core.specs.Secret.{default_secret, derived_secret};
     ghost use Rattle.twox_core.specs.Value.{effective_secret, xxh3_128};
-    ghost use Rattle.twox_core.specs.Core.{Core};
-    ghost use Rattle.twox_core.specs.Written.{written};
-    ghost use Rattle.twox_core.specs.Stands.{StandsFor};
+    ghost use Rattle.twox_core.specs.CoreView.{CoreView};
+    ghost use Rattle.twox_core.specs.AfterWrite.{core_after_write};
+    ghost use Rattle.twox_core.specs.StandsFor.{StandsFor};
     ghost use Rattle.twox_hash.specs.Streams.{value_128};
 
     /// A stream with the seed 0 and the default secret.
@@ -210,7 +210,7 @@ impl<A: Allocator> Hasher<A> {
     #[inline]
     pub fn write(&mut self, input: &[u8])
         ensures message { (seed : ℕ) (s m : List ℕ) → StandsFor boxed_slice_items self.old seed s m → StandsFor boxed_slice_items self.new seed s (m ++ input.now) }
-        ensures exact { self.new ≡ written boxed_slice_items self.old input.now }
+        ensures exact { self.new ≡ core_after_write boxed_slice_items self.old input.now }
     {
         self.inner.write(input);
     }
@@ -228,7 +228,7 @@ impl<A: Allocator> Hasher<A> {
 
     /// The secret that is held.
     pub fn into_secret(self) -> BoxedSlice<u8, A>
-        ensures exact { result ≡ self.held.secret }
+        ensures exact { result ≡ self.key.secret }
         ensures message { (seed : ℕ) (s m : List ℕ) → StandsFor boxed_slice_items self seed s m → boxed_slice_items result ≡ s }
     {
         self.inner.into_secret()
@@ -237,7 +237,7 @@ impl<A: Allocator> Hasher<A> {
 
 impl<A: Allocator + Clone> Clone for Hasher<A> {
     ghost use Rattle.std.specs.Box.{boxed_slice_items};
-    ghost use Rattle.twox_core.specs.Stands.{IsCopy};
+    ghost use Rattle.twox_core.specs.StandsFor.{IsCopy};
 
     ghost is_clone = { λ a b. IsCopy boxed_slice_items a b };
 
@@ -261,9 +261,9 @@ pub struct RawHasher<S: FixedBuffer> {
 }
 
 impl<S: FixedBuffer> Model for RawHasher<S> {
-    ghost use Rattle.twox_core.specs.Core.{Core};
+    ghost use Rattle.twox_core.specs.CoreView.{CoreView};
 
-    ghost Value = { Core S };
+    ghost Value = { CoreView S };
 
     ghost view = { λ h. h.core };
 }
@@ -271,9 +271,9 @@ impl<S: FixedBuffer> Model for RawHasher<S> {
 impl<S: FixedBuffer> RawHasher<S> {
     ghost use Rattle.std.specs.Prelude.{◌≡◌, ℕ, List, [], ◌++◌};
     ghost use Rattle.twox_core.specs.Value.{effective_secret, xxh3_128};
-    ghost use Rattle.twox_core.specs.Core.{Core};
-    ghost use Rattle.twox_core.specs.Written.{written};
-    ghost use Rattle.twox_core.specs.Stands.{StandsFor};
+    ghost use Rattle.twox_core.specs.CoreView.{CoreView};
+    ghost use Rattle.twox_core.specs.AfterWrite.{core_after_write};
+    ghost use Rattle.twox_core.specs.StandsFor.{StandsFor};
     ghost use Rattle.twox_hash.specs.Streams.{value_128};
 
     /// A stream of no bytes yet, with the seed and the secret that are held.
@@ -289,7 +289,7 @@ impl<S: FixedBuffer> RawHasher<S> {
     #[inline]
     pub fn write(&mut self, input: &[u8])
         ensures message { (seed : ℕ) (s m : List ℕ) → StandsFor S.bytes self.old seed s m → StandsFor S.bytes self.new seed s (m ++ input.now) }
-        ensures exact { self.new ≡ written S.bytes self.old input.now }
+        ensures exact { self.new ≡ core_after_write S.bytes self.old input.now }
     {
         self.core.write(input);
     }
@@ -307,7 +307,7 @@ impl<S: FixedBuffer> RawHasher<S> {
 
     /// The secret that is held.
     pub fn into_secret(self) -> S
-        ensures exact { result ≡ self.held.secret }
+        ensures exact { result ≡ self.key.secret }
         ensures message { (seed : ℕ) (s m : List ℕ) → StandsFor S.bytes self seed s m → S.bytes result ≡ s }
     {
         self.core.into_secret()
@@ -315,7 +315,7 @@ impl<S: FixedBuffer> RawHasher<S> {
 }
 
 impl<S: ClonedBuffer> Clone for RawHasher<S> {
-    ghost use Rattle.twox_core.specs.Stands.{IsCopy};
+    ghost use Rattle.twox_core.specs.StandsFor.{IsCopy};
 
     ghost is_clone = { λ a b. IsCopy S.FixedBuffer.bytes a b };
 
@@ -334,7 +334,7 @@ impl Finalize for Finalize128 {
 
     ghost small_of = { λ _ s seed m. xxh3_128 seed s m };
 
-    ghost large_of = { λ _ a b t s n. finalized_128 a b t s n };
+    ghost large_of = { λ _ a b t s n. finalize_128 a b t s n };
 
     #[inline(always)]
     fn small(&self, secret: Secret<'_>, seed: u64, input: &[u8]) -> u128 {
@@ -360,7 +360,7 @@ impl Finalize for Finalize128 {
 #[tactic(auto, using(twox_core::proofs::EndingFacts::block_both))]
 fn impl_oneshot_long(secret: Secret<'_>, input: &[u8]) -> u128
     requires { 240 < length input.now }
-    ensures { let s = secret_bytes secret.entry in result ≡ long_high s input.now * 2 ^ 64 + long_low s input.now }
+    ensures { let s = secret_bytes secret.entry in result ≡ high_above_240 s input.now * 2 ^ 64 + low_above_240 s input.now }
 {
     Algorithm(Kernel {}).oneshot(secret, input, Finalize128)
 }
@@ -370,7 +370,7 @@ fn impl_oneshot_long(secret: Secret<'_>, input: &[u8]) -> u128
 #[tactic(auto, using(twox_core::proofs::Vectors::derived_secret_none))]
 fn impl_oneshot_long_seeded(seed: u64, input: &[u8]) -> u128
     requires { 240 < length input.now }
-    ensures { let s = derived_secret seed in result ≡ long_high s input.now * 2 ^ 64 + long_low s input.now }
+    ensures { let s = derived_secret seed in result ≡ high_above_240 s input.now * 2 ^ 64 + low_above_240 s input.now }
 {
     if seed == DEFAULT_SEED {
         impl_oneshot_long(default_secret(), input)
@@ -383,7 +383,7 @@ fn impl_oneshot_long_seeded(seed: u64, input: &[u8]) -> u128
 #[inline(never)]
 fn impl_oneshot_long_derived(seed: u64, input: &[u8]) -> u128
     requires { 240 < length input.now }
-    ensures { let s = derived_secret seed in result ≡ long_high s input.now * 2 ^ 64 + long_low s input.now }
+    ensures { let s = derived_secret seed in result ≡ high_above_240 s input.now * 2 ^ 64 + low_above_240 s input.now }
 {
     let secret = derived_secret(seed);
     impl_oneshot_long(Secret::new(&secret).unwrap(), input)
@@ -440,10 +440,10 @@ fn impl_0_to_16_bytes(secret: Secret<'_>, seed: u64, input: &[u8]) -> X128
 }
 
 #[inline(always)]
-#[tactic(auto, unfolding(twox_core::specs::Short::empty128_low, twox_core::specs::Short::empty128_high))]
+#[tactic(auto, unfolding(twox_core::specs::Short::low_0, twox_core::specs::Short::high_0))]
 fn impl_0_bytes(secret: Secret<'_>, seed: u64) -> X128
-    ensures low { result.low ≡ empty128_low seed (secret_bytes secret.entry) }
-    ensures high { result.high ≡ empty128_high seed (secret_bytes secret.entry) }
+    ensures low { result.low ≡ low_0 seed (secret_bytes secret.entry) }
+    ensures high { result.high ≡ high_0 seed (secret_bytes secret.entry) }
 {
     let words = secret.for_128().words_for_0();
     let low = avalanche_xxh64(seed ^ words[0] ^ words[1]);
@@ -452,19 +452,19 @@ fn impl_0_bytes(secret: Secret<'_>, seed: u64) -> X128
 }
 
 #[inline(always)]
-#[tactic(auto, unfolding(twox_core::specs::Short::tiny_low, twox_core::specs::Short::tiny_high))]
+#[tactic(auto, unfolding(twox_core::specs::Short::low_1_to_3, twox_core::specs::Short::high_1_to_3))]
 fn impl_1_to_3_bytes(secret: Secret<'_>, seed: u64, input: &[u8]) -> X128
     requires some { 1 ≤ length input.now }
     requires few { length input.now ≤ 3 }
-    ensures low { result.low ≡ tiny_low seed (secret_bytes secret.entry) (combined input.now) }
-    ensures high { result.high ≡ tiny_high seed (secret_bytes secret.entry) (combined input.now) }
+    ensures low { result.low ≡ low_1_to_3 seed (secret_bytes secret.entry) (combined_bytes input.now) }
+    ensures high { result.high ≡ high_1_to_3 seed (secret_bytes secret.entry) (combined_bytes input.now) }
 {
-    let combined = impl_1_to_3_bytes_combined(input);
+    let combined_bytes = impl_1_to_3_bytes_combined(input);
     let words = secret.for_128().words_for_1_to_3();
     let low_key = (words[0] ^ words[1]).into_u64();
     let high_key = (words[2] ^ words[3]).into_u64();
-    let low = low_key.wrapping_add(seed) ^ combined.into_u64();
-    let high = high_key.wrapping_sub(seed) ^ combined.swap_bytes().rotate_left(13).into_u64();
+    let low = low_key.wrapping_add(seed) ^ combined_bytes.into_u64();
+    let high = high_key.wrapping_sub(seed) ^ combined_bytes.swap_bytes().rotate_left(13).into_u64();
     X128 {
         low: avalanche_xxh64(low),
         high: avalanche_xxh64(high),
@@ -472,19 +472,19 @@ fn impl_1_to_3_bytes(secret: Secret<'_>, seed: u64, input: &[u8]) -> X128
 }
 
 #[inline(always)]
-#[tactic(auto, unfolding(twox_core::specs::Short::four128_low, twox_core::specs::Short::four128_high, twox_core::specs::Short::four_product, twox_core::specs::Short::mixed_seed))]
+#[tactic(auto, unfolding(twox_core::specs::Short::low_4_to_8, twox_core::specs::Short::high_4_to_8, twox_core::specs::Short::product_4_to_8, twox_core::specs::Short::mixed_seed))]
 fn impl_4_to_8_bytes(secret: Secret<'_>, seed: u64, input: &[u8]) -> X128
     requires some { 4 ≤ length input.now }
     requires few { length input.now ≤ 8 }
-    ensures low { result.low ≡ four128_low (four_product seed (secret_bytes secret.entry) input.now) }
-    ensures high { result.high ≡ four128_high (four_product seed (secret_bytes secret.entry) input.now) }
+    ensures low { result.low ≡ low_4_to_8 (product_4_to_8 seed (secret_bytes secret.entry) input.now) }
+    ensures high { result.high ≡ high_4_to_8 (product_4_to_8 seed (secret_bytes secret.entry) input.now) }
 {
     let first = u32_at(input, 0);
     let last = u32_at(input, input.len() - 4);
     let mixed_seed = seed ^ (seed.lower_half().swap_bytes().into_u64() << 32);
     let words = secret.for_128().words_for_4_to_8();
-    let combined = first.into_u64() | (last.into_u64() << 32);
-    let lhs = (words[0] ^ words[1]).wrapping_add(mixed_seed) ^ combined;
+    let combined_bytes = first.into_u64() | (last.into_u64() << 32);
+    let lhs = (words[0] ^ words[1]).wrapping_add(mixed_seed) ^ combined_bytes;
     let rhs = PRIME64_1.wrapping_add(input.len().into_u64() << 2);
     let product = full_product(lhs, rhs);
 
@@ -499,12 +499,12 @@ fn impl_4_to_8_bytes(secret: Secret<'_>, seed: u64, input: &[u8]) -> X128
 }
 
 #[inline(always)]
-#[tactic(auto, unfolding(twox_core::specs::Short::nine_product, twox_core::specs::Short::nine_both, twox_core::specs::Short::nine_high, twox_core::specs::Short::nine_low, twox_core::specs::Short::nine_first, twox_core::specs::Short::nine_second))]
+#[tactic(auto, unfolding(twox_core::specs::Short::product_9_to_16, twox_core::specs::Short::both_words_9_to_16, twox_core::specs::Short::high_word_9_to_16, twox_core::specs::Short::low_word_9_to_16, twox_core::specs::Short::first_9_to_16, twox_core::specs::Short::second_9_to_16))]
 fn impl_9_to_16_bytes(secret: Secret<'_>, seed: u64, input: &[u8]) -> X128
     requires some { 9 ≤ length input.now }
     requires few { length input.now ≤ 16 }
-    ensures low { result.low ≡ avalanche (low64 (nine_product seed (secret_bytes secret.entry) input.now)) }
-    ensures high { result.high ≡ avalanche (high64 (nine_product seed (secret_bytes secret.entry) input.now)) }
+    ensures low { result.low ≡ avalanche (low64 (product_9_to_16 seed (secret_bytes secret.entry) input.now)) }
+    ensures high { result.high ≡ avalanche (high64 (product_9_to_16 seed (secret_bytes secret.entry) input.now)) }
 {
     let first = u64_at(input, 0);
     let last = u64_at(input, input.len() - 8);
@@ -529,54 +529,54 @@ fn impl_9_to_16_bytes(secret: Secret<'_>, seed: u64, input: &[u8]) -> X128
     }
 }
 
-// The two lanes of 17 to 240 bytes.
+// The two accumulators of 17 to 240 bytes.
 #[derive(Clone, Copy)]
-struct Lanes {
+struct Accumulators {
     first: u64,
     second: u64,
 }
 
-// The lanes before the first chunk.
+// The accumulators before the first chunk.
 #[inline(always)]
-fn initial_lanes(input: &[u8]) -> Lanes
+fn initial_accumulators(input: &[u8]) -> Accumulators
     ensures first { result.first ≡ mul64 (length input.now) prime64_1 }
     ensures second { result.second ≡ 0 }
 {
-    Lanes {
+    Accumulators {
         first: input.len().into_u64().wrapping_mul(PRIME64_1),
         second: 0,
     }
 }
 
-// A lane after the 16 bytes `own` under the secret's, and then the words of the 16 bytes `other`.
+// A accumulator after the 16 bytes `own` under the secret's, and then the words of the 16 bytes `other`.
 #[inline(always)]
-fn lane_step(lane: u64, own: &[u8; 16], words: &[u8; 16], other: &[u8; 16], seed: u64) -> u64
-    ensures { result ≡ bit_xor (add64 lane (mix own.now 0 words.now 0 seed)) (add64 (word64 other.now 0) (word64 other.now 8)) }
+fn accumulator_step(accumulator: u64, own: &[u8; 16], words: &[u8; 16], other: &[u8; 16], seed: u64) -> u64
+    ensures { result ≡ bit_xor (add64 accumulator (mix own.now 0 words.now 0 seed)) (add64 (word64 other.now 0) (word64 other.now 8)) }
 {
     let other = to_u64s(other);
-    lane.wrapping_add(mix_step(own, words, seed)) ^ other[0].wrapping_add(other[1])
+    accumulator.wrapping_add(mix_step(own, words, seed)) ^ other[0].wrapping_add(other[1])
 }
 
-// The lanes after chunk `c` from the front and from the back, where there is one.
+// The accumulators after chunk `c` from the front and from the back, where there is one.
 #[inline(always)]
-fn mix_two_chunks(lanes: Lanes, secret: Secret<'_>, seed: u64, input: &[u8], c: usize) -> Lanes
+fn mix_two_chunks(accumulators: Accumulators, secret: Secret<'_>, seed: u64, input: &[u8], c: usize) -> Accumulators
     requires some { 17 ≤ length input.now }
     requires few { length input.now ≤ 128 }
     requires chunk { c < 4 }
     ensures first { let s = secret_bytes secret.entry in
         let n = steps_of input.now in
-        lanes.first ≡ medium_first seed s input.now n (n - 1 - c) → result.first ≡ medium_first seed s input.now n (n - c) }
+        accumulators.first ≡ first_17_to_128 seed s input.now n (n - 1 - c) → result.first ≡ first_17_to_128 seed s input.now n (n - c) }
     ensures second { let s = secret_bytes secret.entry in
         let n = steps_of input.now in
-        lanes.second ≡ medium_second seed s input.now n (n - 1 - c) → result.second ≡ medium_second seed s input.now n (n - c) }
+        accumulators.second ≡ second_17_to_128 seed s input.now n (n - 1 - c) → result.second ≡ second_17_to_128 seed s input.now n (n - c) }
 {
     if input.len() <= 32 * c {
-        return lanes;
+        return accumulators;
     }
     let (forward, backward, words) = chunks_17_to_128(secret, input, c);
-    Lanes {
-        first: lane_step(lanes.first, forward, &words[0], backward, seed),
-        second: lane_step(lanes.second, backward, &words[1], forward, seed),
+    Accumulators {
+        first: accumulator_step(accumulators.first, forward, &words[0], backward, seed),
+        second: accumulator_step(accumulators.second, backward, &words[1], forward, seed),
     }
 }
 
@@ -584,47 +584,47 @@ fn mix_two_chunks(lanes: Lanes, secret: Secret<'_>, seed: u64, input: &[u8], c: 
 fn impl_17_to_128_bytes(secret: Secret<'_>, seed: u64, input: &[u8]) -> X128
     requires some { 17 ≤ length input.now }
     requires few { length input.now ≤ 128 }
-    ensures low { result.low ≡ low_in Range.Medium seed (secret_bytes secret.entry) input.now }
-    ensures high { result.high ≡ high_in Range.Medium seed (secret_bytes secret.entry) input.now }
+    ensures low { result.low ≡ low_in Range.Bytes17To128 seed (secret_bytes secret.entry) input.now }
+    ensures high { result.high ≡ high_in Range.Bytes17To128 seed (secret_bytes secret.entry) input.now }
 {
-    let mut lanes = initial_lanes(input);
+    let mut accumulators = initial_accumulators(input);
     for step in 0..4 {
-        lanes = mix_two_chunks(lanes, secret, seed, input, 3 - step);
+        accumulators = mix_two_chunks(accumulators, secret, seed, input, 3 - step);
     }
-    finalize_medium(lanes, input.len().into_u64(), seed)
+    finalize_medium(accumulators, input.len().into_u64(), seed)
 }
 
 #[inline(never)]
 fn impl_129_to_240_bytes(secret: Secret<'_>, seed: u64, input: &[u8]) -> X128
     requires some { 129 ≤ length input.now }
     requires few { length input.now ≤ 240 }
-    ensures low { result.low ≡ low_in Range.Large seed (secret_bytes secret.entry) input.now }
-    ensures high { result.high ≡ high_in Range.Large seed (secret_bytes secret.entry) input.now }
+    ensures low { result.low ≡ low_in Range.Bytes129To240 seed (secret_bytes secret.entry) input.now }
+    ensures high { result.high ≡ high_in Range.Bytes129To240 seed (secret_bytes secret.entry) input.now }
 {
     let pairs = pairs_of_u64_bytes(input);
-    let Lanes {
+    let Accumulators {
         mut first,
         mut second,
-    } = initial_lanes(input);
+    } = initial_accumulators(input);
 
     let words = secret.for_128().words_for_129_to_240_part1();
     'early: for p in 0..4 {
-        first = lane_step(first, &pairs[p][0], &words[p][0], &pairs[p][1], seed);
-        second = lane_step(second, &pairs[p][1], &words[p][1], &pairs[p][0], seed);
+        first = accumulator_step(first, &pairs[p][0], &words[p][0], &pairs[p][1], seed);
+        second = accumulator_step(second, &pairs[p][1], &words[p][1], &pairs[p][0], seed);
     }
     first = avalanche(first);
     second = avalanche(second);
 
     let words = secret.for_128().words_for_129_to_240_part2();
     'later: for p in 0..pairs.len() - 4 {
-        first = lane_step(
+        first = accumulator_step(
             first,
             &pairs[4 + p][0],
             &words[p][0],
             &pairs[4 + p][1],
             seed,
         );
-        second = lane_step(
+        second = accumulator_step(
             second,
             &pairs[4 + p][1],
             &words[p][1],
@@ -638,25 +638,25 @@ fn impl_129_to_240_bytes(secret: Secret<'_>, seed: u64, input: &[u8]) -> X128
     let (tail, _) = bp_as_chunks(tail);
     let words = secret.for_128().words_for_129_to_240_part3();
     let negated = seed.wrapping_neg();
-    let lanes = Lanes {
-        first: lane_step(first, &tail[1], &words[0], &tail[0], negated),
-        second: lane_step(second, &tail[0], &words[1], &tail[1], negated),
+    let accumulators = Accumulators {
+        first: accumulator_step(first, &tail[1], &words[0], &tail[0], negated),
+        second: accumulator_step(second, &tail[0], &words[1], &tail[1], negated),
     };
-    finalize_medium(lanes, input.len().into_u64(), seed)
+    finalize_medium(accumulators, input.len().into_u64(), seed)
 }
 
-// The value of the lanes.
+// The value of the accumulators.
 #[inline(always)]
-#[tactic(auto, unfolding(twox_core::specs::Middle::lanes_low, twox_core::specs::Middle::lanes_high))]
-fn finalize_medium(lanes: Lanes, input_len: u64, seed: u64) -> X128
-    ensures low { result.low ≡ lanes_low lanes.first lanes.second }
-    ensures high { result.high ≡ lanes_high seed input_len lanes.first lanes.second }
+#[tactic(auto, unfolding(twox_core::specs::Middle::merge_low, twox_core::specs::Middle::merge_high))]
+fn finalize_medium(accumulators: Accumulators, input_len: u64, seed: u64) -> X128
+    ensures low { result.low ≡ merge_low accumulators.first accumulators.second }
+    ensures high { result.high ≡ merge_high seed input_len accumulators.first accumulators.second }
 {
-    let low = lanes.first.wrapping_add(lanes.second);
-    let high = lanes
+    let low = accumulators.first.wrapping_add(accumulators.second);
+    let high = accumulators
         .first
         .wrapping_mul(PRIME64_1)
-        .wrapping_add(lanes.second.wrapping_mul(PRIME64_4))
+        .wrapping_add(accumulators.second.wrapping_mul(PRIME64_4))
         .wrapping_add(input_len.wrapping_sub(seed).wrapping_mul(PRIME64_2));
     X128 {
         low: avalanche(low),

@@ -3,12 +3,12 @@
 ghost use Rattle.std.specs.Prelude.{◌≡◌, ◌≢◌, ◌↔◌, ◌+◌, ◌-◌, ◌*◌, ◌/◌, ◌%◌, ◌^◌, ◌<◌, ◌≤◌, ℕ, List, length, drop, MatchResult, IfOk, IsErr};
 ghost use Rattle.twox_core.specs.Primes.{prime64_1};
 ghost use Rattle.twox_core.specs.OtherBytes.{IsOtherShort64};
-ghost use Rattle.twox_core.specs.Ending.{finalized_64};
-ghost use Rattle.twox_core.specs.Long.{long_low};
-ghost use Rattle.twox_core.specs.Middle.{both_ends, large64, medium64};
+ghost use Rattle.twox_core.specs.Ending.{finalize_64};
+ghost use Rattle.twox_core.specs.Long.{low_above_240};
+ghost use Rattle.twox_core.specs.Middle.{both_ends, value64_129_to_240, value64_17_to_128};
 ghost use Rattle.twox_core.specs.Secret.{default_secret, derived_secret};
 ghost use Rattle.twox_core.specs.SecretBytes.{secret_bytes};
-ghost use Rattle.twox_core.specs.Short.{combined, empty64, four64, nine64, strong, tiny_low};
+ghost use Rattle.twox_core.specs.Short.{combined_bytes, value64_0, value64_4_to_8, value64_9_to_16, strong, low_1_to_3};
 ghost use Rattle.twox_core.specs.Steps.{mix, sum_below};
 ghost use Rattle.twox_core.specs.Value.{effective_secret, xxh3_64};
 
@@ -45,9 +45,9 @@ pub struct Hasher<A: Allocator = Global> {
 impl<A: Allocator> Model for Hasher<A> {
     ghost use Rattle.std.specs.Prelude.{ℕ};
     ghost use Rattle.std.specs.declared.boxed.BoxedSlice.{BoxedSlice};
-    ghost use Rattle.twox_core.specs.Core.{Core};
+    ghost use Rattle.twox_core.specs.CoreView.{CoreView};
 
-    ghost Value = { Core (BoxedSlice ℕ A) };
+    ghost Value = { CoreView (BoxedSlice ℕ A) };
 
     ghost view = { λ h. h.inner };
 }
@@ -144,9 +144,9 @@ impl<A: Allocator> Hasher<A> {
     ghost use Rattle.std.specs.Box.{boxed_slice_items};
     ghost use Rattle.twox_core.specs.Secret.{default_secret, derived_secret};
     ghost use Rattle.twox_core.specs.Value.{effective_secret, xxh3_64};
-    ghost use Rattle.twox_core.specs.Core.{Core};
-    ghost use Rattle.twox_core.specs.Written.{written};
-    ghost use Rattle.twox_core.specs.Stands.{StandsFor};
+    ghost use Rattle.twox_core.specs.CoreView.{CoreView};
+    ghost use Rattle.twox_core.specs.AfterWrite.{core_after_write};
+    ghost use Rattle.twox_core.specs.StandsFor.{StandsFor};
     ghost use Rattle.twox_hash.specs.Streams.{value_64};
 
     /// A stream with the seed 0 and the default secret.
@@ -205,7 +205,7 @@ impl<A: Allocator> Hasher<A> {
     #[inline]
     pub fn write(&mut self, input: &[u8])
         ensures message { (seed : ℕ) (s m : List ℕ) → StandsFor boxed_slice_items self.old seed s m → StandsFor boxed_slice_items self.new seed s (m ++ input.now) }
-        ensures exact { self.new ≡ written boxed_slice_items self.old input.now }
+        ensures exact { self.new ≡ core_after_write boxed_slice_items self.old input.now }
     {
         self.inner.write(input);
     }
@@ -223,7 +223,7 @@ impl<A: Allocator> Hasher<A> {
 
     /// The secret that is held.
     pub fn into_secret(self) -> BoxedSlice<u8, A>
-        ensures exact { result ≡ self.held.secret }
+        ensures exact { result ≡ self.key.secret }
         ensures message { (seed : ℕ) (s m : List ℕ) → StandsFor boxed_slice_items self seed s m → boxed_slice_items result ≡ s }
     {
         self.inner.into_secret()
@@ -232,10 +232,10 @@ impl<A: Allocator> Hasher<A> {
 
 impl<A: Allocator> hash::Hasher for Hasher<A> {
     ghost use Rattle.std.specs.Box.{boxed_slice_items};
-    ghost use Rattle.twox_core.specs.Written.{written};
+    ghost use Rattle.twox_core.specs.AfterWrite.{core_after_write};
     ghost use Rattle.twox_hash.specs.Streams.{value_64};
 
-    ghost write = { λ h bytes. written boxed_slice_items h bytes };
+    ghost write = { λ h bytes. core_after_write boxed_slice_items h bytes };
 
     ghost finish = { λ h. value_64 boxed_slice_items h };
 
@@ -250,7 +250,7 @@ impl<A: Allocator> hash::Hasher for Hasher<A> {
 
 impl<A: Allocator + Clone> Clone for Hasher<A> {
     ghost use Rattle.std.specs.Box.{boxed_slice_items};
-    ghost use Rattle.twox_core.specs.Stands.{IsCopy};
+    ghost use Rattle.twox_core.specs.StandsFor.{IsCopy};
 
     ghost is_clone = { λ a b. IsCopy boxed_slice_items a b };
 
@@ -274,9 +274,9 @@ pub struct RawHasher<S: FixedBuffer> {
 }
 
 impl<S: FixedBuffer> Model for RawHasher<S> {
-    ghost use Rattle.twox_core.specs.Core.{Core};
+    ghost use Rattle.twox_core.specs.CoreView.{CoreView};
 
-    ghost Value = { Core S };
+    ghost Value = { CoreView S };
 
     ghost view = { λ h. h.core };
 }
@@ -284,9 +284,9 @@ impl<S: FixedBuffer> Model for RawHasher<S> {
 impl<S: FixedBuffer> RawHasher<S> {
     ghost use Rattle.std.specs.Prelude.{◌≡◌, ℕ, List, [], ◌++◌};
     ghost use Rattle.twox_core.specs.Value.{effective_secret, xxh3_64};
-    ghost use Rattle.twox_core.specs.Core.{Core};
-    ghost use Rattle.twox_core.specs.Written.{written};
-    ghost use Rattle.twox_core.specs.Stands.{StandsFor};
+    ghost use Rattle.twox_core.specs.CoreView.{CoreView};
+    ghost use Rattle.twox_core.specs.AfterWrite.{core_after_write};
+    ghost use Rattle.twox_core.specs.StandsFor.{StandsFor};
     ghost use Rattle.twox_hash.specs.Streams.{value_64};
 
     /// A stream of no bytes yet, with the seed and the secret that are held.
@@ -302,7 +302,7 @@ impl<S: FixedBuffer> RawHasher<S> {
     #[inline]
     pub fn write(&mut self, input: &[u8])
         ensures message { (seed : ℕ) (s m : List ℕ) → StandsFor S.bytes self.old seed s m → StandsFor S.bytes self.new seed s (m ++ input.now) }
-        ensures exact { self.new ≡ written S.bytes self.old input.now }
+        ensures exact { self.new ≡ core_after_write S.bytes self.old input.now }
     {
         self.core.write(input);
     }
@@ -320,7 +320,7 @@ impl<S: FixedBuffer> RawHasher<S> {
 
     /// The secret that is held.
     pub fn into_secret(self) -> S
-        ensures exact { result ≡ self.held.secret }
+        ensures exact { result ≡ self.key.secret }
         ensures message { (seed : ℕ) (s m : List ℕ) → StandsFor S.bytes self seed s m → S.bytes result ≡ s }
     {
         self.core.into_secret()
@@ -328,10 +328,10 @@ impl<S: FixedBuffer> RawHasher<S> {
 }
 
 impl<S: FixedBuffer> hash::Hasher for RawHasher<S> {
-    ghost use Rattle.twox_core.specs.Written.{written};
+    ghost use Rattle.twox_core.specs.AfterWrite.{core_after_write};
     ghost use Rattle.twox_hash.specs.Streams.{value_64};
 
-    ghost write = { λ h bytes. written S.bytes h bytes };
+    ghost write = { λ h bytes. core_after_write S.bytes h bytes };
 
     ghost finish = { λ h. value_64 S.bytes h };
 
@@ -345,7 +345,7 @@ impl<S: FixedBuffer> hash::Hasher for RawHasher<S> {
 }
 
 impl<S: ClonedBuffer> Clone for RawHasher<S> {
-    ghost use Rattle.twox_core.specs.Stands.{IsCopy};
+    ghost use Rattle.twox_core.specs.StandsFor.{IsCopy};
 
     ghost is_clone = { λ a b. IsCopy S.FixedBuffer.bytes a b };
 
@@ -364,7 +364,7 @@ impl Finalize for Finalize64 {
 
     ghost small_of = { λ _ s seed m. xxh3_64 seed s m };
 
-    ghost large_of = { λ _ a b t s n. finalized_64 a b t s n };
+    ghost large_of = { λ _ a b t s n. finalize_64 a b t s n };
 
     #[inline(always)]
     fn small(&self, secret: Secret<'_>, seed: u64, input: &[u8]) -> u64 {
@@ -390,7 +390,7 @@ impl Finalize for Finalize64 {
 #[tactic(auto, using(twox_core::proofs::EndingFacts::block_low))]
 fn impl_oneshot_long(secret: Secret<'_>, input: &[u8]) -> u64
     requires { 240 < length input.now }
-    ensures { let s = secret_bytes secret.entry in result ≡ long_low s input.now }
+    ensures { let s = secret_bytes secret.entry in result ≡ low_above_240 s input.now }
 {
     Algorithm(Kernel {}).oneshot(secret, input, Finalize64)
 }
@@ -400,7 +400,7 @@ fn impl_oneshot_long(secret: Secret<'_>, input: &[u8]) -> u64
 #[tactic(auto, using(twox_core::proofs::Vectors::derived_secret_none))]
 fn impl_oneshot_long_seeded(seed: u64, input: &[u8]) -> u64
     requires { 240 < length input.now }
-    ensures { let s = derived_secret seed in result ≡ long_low s input.now }
+    ensures { let s = derived_secret seed in result ≡ low_above_240 s input.now }
 {
     if seed == DEFAULT_SEED {
         impl_oneshot_long(default_secret(), input)
@@ -413,7 +413,7 @@ fn impl_oneshot_long_seeded(seed: u64, input: &[u8]) -> u64
 #[inline(never)]
 fn impl_oneshot_long_derived(seed: u64, input: &[u8]) -> u64
     requires { 240 < length input.now }
-    ensures { let s = derived_secret seed in result ≡ long_low s input.now }
+    ensures { let s = derived_secret seed in result ≡ low_above_240 s input.now }
 {
     let secret = derived_secret(seed);
     impl_oneshot_long(Secret::new(&secret).unwrap(), input)
@@ -452,20 +452,20 @@ fn impl_0_to_16_bytes(secret: Secret<'_>, seed: u64, input: &[u8]) -> u64
 }
 
 #[inline(always)]
-#[tactic(auto, unfolding(twox_core::specs::Short::empty64))]
+#[tactic(auto, unfolding(twox_core::specs::Short::value64_0))]
 fn impl_0_bytes(secret: Secret<'_>, seed: u64) -> u64
-    ensures { result ≡ empty64 seed (secret_bytes secret.entry) }
+    ensures { result ≡ value64_0 seed (secret_bytes secret.entry) }
 {
     let words = secret.for_64().words_for_0();
     avalanche_xxh64(seed ^ words[0] ^ words[1])
 }
 
 #[inline(always)]
-#[tactic(auto, unfolding(twox_core::specs::Short::tiny_low))]
+#[tactic(auto, unfolding(twox_core::specs::Short::low_1_to_3))]
 fn impl_1_to_3_bytes(secret: Secret<'_>, seed: u64, input: &[u8]) -> u64
     requires some { 1 ≤ length input.now }
     requires few { length input.now ≤ 3 }
-    ensures { result ≡ tiny_low seed (secret_bytes secret.entry) (combined input.now) }
+    ensures { result ≡ low_1_to_3 seed (secret_bytes secret.entry) (combined_bytes input.now) }
 {
     let words = secret.for_64().words_for_1_to_3();
     let key = (words[0] ^ words[1]).into_u64();
@@ -473,18 +473,18 @@ fn impl_1_to_3_bytes(secret: Secret<'_>, seed: u64, input: &[u8]) -> u64
 }
 
 #[inline(always)]
-#[tactic(auto, unfolding(twox_core::specs::Short::four64, twox_core::specs::Short::mixed_seed))]
+#[tactic(auto, unfolding(twox_core::specs::Short::value64_4_to_8, twox_core::specs::Short::mixed_seed))]
 fn impl_4_to_8_bytes(secret: Secret<'_>, seed: u64, input: &[u8]) -> u64
     requires some { 4 ≤ length input.now }
     requires few { length input.now ≤ 8 }
-    ensures { result ≡ four64 seed (secret_bytes secret.entry) input.now }
+    ensures { result ≡ value64_4_to_8 seed (secret_bytes secret.entry) input.now }
 {
     let first = u32_at(input, 0);
     let last = u32_at(input, input.len() - 4);
     let mixed_seed = seed ^ (seed.lower_half().swap_bytes().into_u64() << 32);
     let words = secret.for_64().words_for_4_to_8();
-    let combined = last.into_u64() | (first.into_u64() << 32);
-    let value = (words[0] ^ words[1]).wrapping_sub(mixed_seed) ^ combined;
+    let combined_bytes = last.into_u64() | (first.into_u64() << 32);
+    let value = (words[0] ^ words[1]).wrapping_sub(mixed_seed) ^ combined_bytes;
     strong(value, input.len().into_u64())
 }
 
@@ -503,11 +503,11 @@ fn strong(value: u64, len: u64) -> u64
 }
 
 #[inline(always)]
-#[tactic(auto, unfolding(twox_core::specs::Short::nine64))]
+#[tactic(auto, unfolding(twox_core::specs::Short::value64_9_to_16))]
 fn impl_9_to_16_bytes(secret: Secret<'_>, seed: u64, input: &[u8]) -> u64
     requires some { 9 ≤ length input.now }
     requires few { length input.now ≤ 16 }
-    ensures { result ≡ nine64 seed (secret_bytes secret.entry) input.now }
+    ensures { result ≡ value64_9_to_16 seed (secret_bytes secret.entry) input.now }
 {
     let first = u64_at(input, 0);
     let last = u64_at(input, input.len() - 8);
@@ -526,7 +526,7 @@ fn impl_9_to_16_bytes(secret: Secret<'_>, seed: u64, input: &[u8]) -> u64
 fn impl_17_to_128_bytes(secret: Secret<'_>, seed: u64, input: &[u8]) -> u64
     requires some { 17 ≤ length input.now }
     requires few { length input.now ≤ 128 }
-    ensures { result ≡ medium64 seed (secret_bytes secret.entry) input.now }
+    ensures { result ≡ value64_17_to_128 seed (secret_bytes secret.entry) input.now }
 {
     avalanche(sum_17_to_128(secret, seed, input))
 }
@@ -585,7 +585,7 @@ fn impl_129_to_240_bytes(secret: Secret<'_>, seed: u64, input: &[u8], from_8: &[
     requires some { 129 ≤ length input.now }
     requires few { length input.now ≤ 240 }
     requires from_8 { from_8.now ≡ drop 8 input.now }
-    ensures { result ≡ large64 seed (secret_bytes secret.entry) input.now }
+    ensures { result ≡ value64_129_to_240 seed (secret_bytes secret.entry) input.now }
 {
     let mut acc = input.len().into_u64().wrapping_mul(PRIME64_1);
 

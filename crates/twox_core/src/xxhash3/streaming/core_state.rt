@@ -1,4 +1,4 @@
-//! What a stream holds beside its secret and its seed: the lanes, and the bytes that they haven't taken yet.
+//! What a stream holds beside its secret and its seed: the accumulators, and the bytes that they haven't taken yet.
 
 ghost use Rattle.std.specs.Prelude.{◌≡◌, ℕ, List, ◌++◌, ◌+◌, ◌-◌, ◌*◌, ◌/◌, ◌<◌, ◌≤◌, min, length};
 ghost use Rattle.twox_core.specs.Long.{stripes_of};
@@ -27,12 +27,12 @@ pub(crate) struct CoreState {
 }
 
 impl CoreState {
-    ghost use Rattle.twox_core.specs.Written.{added, emptied, fresh, restarted, written_state, written_through};
-    ghost use Rattle.twox_core.specs.Finished.{finished_state, last_bytes};
+    ghost use Rattle.twox_core.specs.AfterWrite.{added, emptied, empty_state, restarted, state_after_write, written_through};
+    ghost use Rattle.twox_core.specs.Finish.{state_finish, last_bytes};
 
     #[inline(always)]
     pub(crate) fn new() -> CoreState
-        ensures { result ≡ fresh }
+        ensures { result ≡ empty_state }
     {
         CoreState {
             stripes: StripeAccumulator::new(),
@@ -50,7 +50,7 @@ impl CoreState {
         requires place { self.old.stripes.current_stripe < stripes_of (secret_bytes secret) }
         requires in_range { self.old.buffer_usage ≤ 256 }
         requires left { min self.old.total_bytes 1 ≤ self.old.buffer_usage }
-        ensures exact { self.new ≡ written_state (secret_bytes secret.entry) self.old input.now }
+        ensures exact { self.new ≡ state_after_write (secret_bytes secret.entry) self.old input.now }
         ensures place { self.new.stripes.current_stripe < stripes_of (secret_bytes secret.entry) }
         ensures in_range { self.new.buffer_usage ≤ 256 }
         ensures left { min self.new.total_bytes 1 ≤ self.new.buffer_usage }
@@ -179,7 +179,7 @@ impl CoreState {
         requires place { self.now.stripes.current_stripe < stripes_of (secret_bytes secret) }
         requires in_range { self.now.buffer_usage ≤ 256 }
         requires left { min self.now.total_bytes 1 ≤ self.now.buffer_usage }
-        ensures exact { result ≡ finished_state (F.small_of finalize.now) (F.large_of finalize.now) seed (secret_bytes secret.entry) self.now }
+        ensures exact { result ≡ state_finish (F.small_of finalize.now) (F.large_of finalize.now) seed (secret_bytes secret.entry) self.now }
         ensures size { length self.now.buffer ≡ BUFFERED_BYTES }
     {
         if self.total_bytes <= CUTOFF.into_u64() {
@@ -203,7 +203,7 @@ impl CoreState {
 
     // The last 64 bytes taken. Where fewer are buffered, the end of the buffer still has those before them.
     #[inline(always)]
-    #[tactic(auto, unfolding(crate::specs::Finished::last_bytes))]
+    #[tactic(auto, unfolding(crate::specs::Finish::last_bytes))]
     fn last_stripe(&self) -> [u8; 64]
         requires { self.now.buffer_usage ≤ 256 }
         ensures { result ≡ last_bytes self.now.buffer self.now.buffer_usage }

@@ -1,9 +1,9 @@
-//! The lanes, and their place in the secret.
+//! The accumulators, and their place in the secret.
 
 ghost use Rattle.std.specs.Prelude.{◌≡◌, ◌/◌, ◌<◌, length};
 ghost use Rattle.twox_core.specs.Long.{stripes_of};
 ghost use Rattle.twox_core.specs.SecretBytes.{secret_bytes};
-ghost use Rattle.twox_core.specs.Stripes.{current_stripe_of, stripes_taken};
+ghost use Rattle.twox_core.specs.Stripes.{current_stripe_of, after_stripes};
 
 use crate::xxhash3::Secret;
 use crate::xxhash3::large::{INITIAL_ACCUMULATORS, Vector};
@@ -16,7 +16,7 @@ pub(crate) const BYTES_TO_READ_AHEAD: usize = 49_152;
 /// How many stripes further on is read.
 const STRIPES_AHEAD: usize = 16;
 
-/// The lanes, and how many stripes they have taken since the last scramble.
+/// The accumulators, and how many stripes they have taken since the last scramble.
 #[derive(Clone, Copy)]
 pub struct StripeAccumulator {
     accumulator: [u64; 8],
@@ -24,9 +24,9 @@ pub struct StripeAccumulator {
 }
 
 impl StripeAccumulator {
-    ghost use Rattle.twox_core.specs.Stripes.{accumulators_of, at_start, current_stripe_of, no_stripe, stripe_taken, stripes_taken};
+    ghost use Rattle.twox_core.specs.Stripes.{accumulators_of, at_start, current_stripe_of, no_stripe, after_stripe, after_stripes};
 
-    /// The lanes before the first stripe.
+    /// The accumulators before the first stripe.
     #[inline(always)]
     pub fn new() -> StripeAccumulator
         ensures { result ≡ no_stripe }
@@ -34,7 +34,7 @@ impl StripeAccumulator {
         StripeAccumulator::starting_with(INITIAL_ACCUMULATORS)
     }
 
-    // These lanes, at the secret's start.
+    // These accumulators, at the secret's start.
     #[inline(always)]
     pub(crate) fn starting_with(accumulator: [u64; 8]) -> StripeAccumulator
         ensures { result ≡ at_start accumulator }
@@ -45,7 +45,7 @@ impl StripeAccumulator {
         }
     }
 
-    /// The lanes.
+    /// The accumulators.
     #[inline(always)]
     pub fn accumulators(&self) -> [u64; 8]
         ensures { result ≡ accumulators_of self.now }
@@ -62,7 +62,7 @@ impl StripeAccumulator {
     }
 
     /// Takes a stripe, under the secret's 64 bytes at `8 * current_stripe()`. Where that makes `n_stripes`
-    /// stripes since the last scramble, the lanes are scrambled and the count begins again.
+    /// stripes since the last scramble, the accumulators are scrambled and the count begins again.
     ///
     /// The caller shows that `n_stripes` is the secret's number of places and that the count is below it.
     #[inline(always)]
@@ -75,7 +75,7 @@ impl StripeAccumulator {
     )
         requires all { n_stripes ≡ stripes_of (secret_bytes secret) }
         requires place { current_stripe_of self.old < n_stripes }
-        ensures exact { self.new ≡ stripe_taken (secret_bytes secret.entry) self.old stripe.now }
+        ensures exact { self.new ≡ after_stripe (secret_bytes secret.entry) self.old stripe.now }
         ensures place { current_stripe_of self.new < n_stripes }
     {
         v.accumulate(
@@ -94,7 +94,7 @@ impl StripeAccumulator {
     #[inline(always)]
     pub(crate) fn process_stripes<V: Vector>(&mut self, v: V, bytes: &[u8], secret: Secret<'_>)
         requires { current_stripe_of self.old < stripes_of (secret_bytes secret) }
-        ensures exact { self.new ≡ stripes_taken (secret_bytes secret.entry) self.old bytes.now (length bytes.now / 64) }
+        ensures exact { self.new ≡ after_stripes (secret_bytes secret.entry) self.old bytes.now (length bytes.now / 64) }
         ensures place { current_stripe_of self.new < stripes_of (secret_bytes secret.entry) }
     {
         if bytes.len() < BYTES_TO_READ_AHEAD {
@@ -108,17 +108,17 @@ impl StripeAccumulator {
     #[inline(always)]
     pub(crate) fn process_far<V: Vector>(&mut self, v: V, bytes: &[u8], secret: Secret<'_>)
         requires { current_stripe_of self.old < stripes_of (secret_bytes secret) }
-        ensures exact { self.new ≡ stripes_taken (secret_bytes secret.entry) self.old bytes.now (length bytes.now / 64) }
+        ensures exact { self.new ≡ after_stripes (secret_bytes secret.entry) self.old bytes.now (length bytes.now / 64) }
         ensures place { current_stripe_of self.new < stripes_of (secret_bytes secret.entry) }
     {
         *self = taken_far(*self, v, bytes, secret);
     }
 
-    // Takes the stripes. The lanes are a copy in the loop, so that they stay in registers.
+    // Takes the stripes. The accumulators are a copy in the loop, so that they stay in registers.
     #[inline(always)]
     pub(crate) fn process_near<V: Vector>(&mut self, v: V, bytes: &[u8], secret: Secret<'_>)
         requires { current_stripe_of self.old < stripes_of (secret_bytes secret) }
-        ensures exact { self.new ≡ stripes_taken (secret_bytes secret.entry) self.old bytes.now (length bytes.now / 64) }
+        ensures exact { self.new ≡ after_stripes (secret_bytes secret.entry) self.old bytes.now (length bytes.now / 64) }
         ensures place { current_stripe_of self.new < stripes_of (secret_bytes secret.entry) }
     {
         let n_stripes = secret.n_stripes();
@@ -131,7 +131,7 @@ impl StripeAccumulator {
     }
 }
 
-// The lanes with the stripes taken, out of line.
+// The accumulators with the stripes taken, out of line.
 #[inline(never)]
 fn taken_near<V: Vector>(
     from: StripeAccumulator,
@@ -140,7 +140,7 @@ fn taken_near<V: Vector>(
     secret: Secret<'_>,
 ) -> StripeAccumulator
     requires { current_stripe_of from < stripes_of (secret_bytes secret) }
-    ensures exact { result ≡ stripes_taken (secret_bytes secret.entry) from bytes.now (length bytes.now / 64) }
+    ensures exact { result ≡ after_stripes (secret_bytes secret.entry) from bytes.now (length bytes.now / 64) }
     ensures place { current_stripe_of result < stripes_of (secret_bytes secret.entry) }
 {
     let mut taken = from;
@@ -150,7 +150,7 @@ fn taken_near<V: Vector>(
 
 // The same of bytes that may lie outside the first cache: while a stripe is taken, a word of the stripe
 // `STRIPES_AHEAD` further on is read, so that it is there in time. What is read decides nothing but which of
-// two ways to the same lanes is gone, since the compiler reads nothing that isn't needed.
+// two ways to the same accumulators is gone, since the compiler reads nothing that isn't needed.
 #[inline(never)]
 fn taken_far<V: Vector>(
     from: StripeAccumulator,
@@ -159,7 +159,7 @@ fn taken_far<V: Vector>(
     secret: Secret<'_>,
 ) -> StripeAccumulator
     requires { current_stripe_of from < stripes_of (secret_bytes secret) }
-    ensures exact { result ≡ stripes_taken (secret_bytes secret.entry) from bytes.now (length bytes.now / 64) }
+    ensures exact { result ≡ after_stripes (secret_bytes secret.entry) from bytes.now (length bytes.now / 64) }
     ensures place { current_stripe_of result < stripes_of (secret_bytes secret.entry) }
 {
     let n_stripes = secret.n_stripes();

@@ -1,6 +1,6 @@
 use Rattle.std.proofs.Common.{sym, subst}
 use Rattle.std.specs.Box.{boxed_slice_items}
-use Rattle.twox_core.specs.Stands.{StandsFor}
+use Rattle.twox_core.specs.StandsFor.{StandsFor}
 use Rattle.twox_hash.proofs.StreamFacts.{value_64_stands}
 use Rattle.twox_hash.proofs.xxhash3_64.Hasher.finish.Goals as goal
 

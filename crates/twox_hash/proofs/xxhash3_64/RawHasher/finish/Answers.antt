@@ -1,5 +1,5 @@
 use Rattle.std.proofs.Common.{sym, subst}
-use Rattle.twox_core.specs.Stands.{StandsFor}
+use Rattle.twox_core.specs.StandsFor.{StandsFor}
 use Rattle.twox_hash.proofs.StreamFacts.{value_64_stands}
 use Rattle.twox_hash.proofs.xxhash3_64.RawHasher.finish.Goals as goal
 

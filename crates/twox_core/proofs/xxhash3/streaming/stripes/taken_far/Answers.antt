@@ -1,12 +1,12 @@
 use Rattle.std.proofs.Common.{◌≡◌, ℕ, ◌+◌, ◌-◌, ◌*◌, ◌/◌, length, drop, ◌∙◌, refl, ap, arith, length-drop}
 use Rattle.twox_plain.proofs.WordFacts.{first_chunks_at}
 use Rattle.twox_core.specs.SecretBytes.{secret_bytes}
-use Rattle.twox_core.specs.Stripes.{stripes_taken}
-use Rattle.twox_core.proofs.StripeFacts.{stripes_taken-next, stripes_taken-more}
+use Rattle.twox_core.specs.Stripes.{after_stripes}
+use Rattle.twox_core.proofs.StripeFacts.{after_stripes-next, after_stripes-more}
 use Rattle.twox_core.proofs.xxhash3.streaming.stripes.taken_far.Goals as goal
 
 pub stripes-init : goal.stripes-init
-unfolding stripes_taken
+unfolding after_stripes
 stripes-init g c = record { exact = refl; place = c.requires }
 
 pub stripes-preserved : goal.stripes-preserved
@@ -18,7 +18,7 @@ stripes-preserved g c =
     record {
       exact =
           rw c.stripes.invariant.exact at c.process_stripe.ensures.exact
-          ∙ stripes_taken-next s c.args.from xs _ i (rw c.bp_as_chunks.ensures.chunks (first_chunks_at 64 (length xs / 64) xs i _ (omega arith) ∙ rw place refl));
+          ∙ after_stripes-next s c.args.from xs _ i (rw c.bp_as_chunks.ensures.chunks (first_chunks_at 64 (length xs / 64) xs i _ (omega arith) ∙ rw place refl));
       place = rw c.n_stripes-n_stripes.ensures at c.process_stripe.ensures.place;
     }
 
@@ -31,6 +31,6 @@ returns-clause-exact g c =
     let at_end : c.saturating_sub-count.result ≡ n = omega arith in
     let left : length (drop (64 * n) xs) / 64 ≡ k = omega (arith, length-drop (64 * n) xs) in
     let all : n + k ≡ length xs / 64 = omega arith in
-    let taken : c.taken_near-2.result ≡ stripes_taken s (stripes_taken s c.args.from xs n) (drop (64 * n) xs) k =
+    let taken : c.taken_near-2.result ≡ after_stripes s (after_stripes s c.args.from xs n) (drop (64 * n) xs) k =
     rw (c.split_at.ensures.back, at_end, c.stripes.invariant.exact, left) at c.taken_near-2.ensures.exact in
-    rw all at (taken ∙ stripes_taken-more s c.args.from xs n k)
+    rw all at (taken ∙ after_stripes-more s c.args.from xs n k)

@@ -1,7 +1,7 @@
 use Rattle.std.proofs.Common.{◌≡◌, ◌+◌, ◌-◌, List, ℕ, ◌++◌, take, drop, nat_lt, true, arith, ap, ◌∙◌, length-drop}
 use Rattle.std.proofs.lemmas.Bool.Decides.{nat_tests}
 use Rattle.std.proofs.lemmas.List.{take_all}
-use Rattle.twox_core.specs.Finished.{last_bytes}
+use Rattle.twox_core.specs.Finish.{last_bytes}
 use Rattle.twox_core.proofs.xxhash3.streaming.core_state.CoreState.last_stripe.Goals as goal
 
 pub returns-then-used-lt64 : goal.returns-then-used-lt64

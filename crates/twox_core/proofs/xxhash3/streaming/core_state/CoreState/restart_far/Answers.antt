@@ -1,9 +1,9 @@
 use Rattle.std.proofs.Common.{◌≡◌, ◌*◌, ◌/◌, length, take, refl, arith, ◌∙◌, length-drop}
 use Rattle.std.proofs.lemmas.List.{length-take-le}
 use Rattle.twox_core.specs.SecretBytes.{secret_bytes}
-use Rattle.twox_core.specs.Stripes.{stripes_taken}
-use Rattle.twox_core.specs.Written.{restarted, in_place}
-use Rattle.twox_core.proofs.StripeFacts.{stripes_taken-take}
+use Rattle.twox_core.specs.Stripes.{after_stripes}
+use Rattle.twox_core.specs.AfterWrite.{restarted, in_place}
+use Rattle.twox_core.proofs.StripeFacts.{after_stripes-take}
 use Rattle.twox_core.proofs.xxhash3.streaming.core_state.CoreState.restart_far.Goals as goal
 
 pub returns-clause-exact : goal.returns-clause-exact
@@ -16,6 +16,6 @@ returns-clause-exact g c =
     let width : length (take (64 * n) r) / 64 ≡ n = omega (arith, length-take-le (64 * n) r (omega arith)) in
     let part = rw c.saturating_sub-count.ensures at c.split_at.ensures.front in
     let back = rw c.saturating_sub-count.ensures at c.split_at.ensures.back in
-    let taken : c.process_far.new.self ≡ stripes_taken s a r n =
-    rw (part, width) at c.process_far.ensures.exact ∙ stripes_taken-take s a r (64 * n) n (omega arith) in
+    let taken : c.process_far.new.self ≡ after_stripes s a r n =
+    rw (part, width) at c.process_far.ensures.exact ∙ after_stripes-take s a r (64 * n) n (omega arith) in
     rw (taken, c.saturating_add-self.ensures, c.into_u64.ensures, c.saturating_sub-count.ensures, c.copy_from_slice.ensures.after, back, length-drop (64 * n) r) refl

@@ -1,5 +1,5 @@
 use Rattle.std.proofs.Common.{refl}
-use Rattle.twox_core.specs.Written.{written_through}
+use Rattle.twox_core.specs.AfterWrite.{written_through}
 use Rattle.twox_core.proofs.xxhash3.streaming.core_state.CoreState.write_far.Goals as goal
 
 pub returns-clause-exact : goal.returns-clause-exact

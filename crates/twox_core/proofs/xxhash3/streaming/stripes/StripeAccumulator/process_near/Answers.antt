@@ -1,12 +1,12 @@
 use Rattle.std.proofs.Common.{◌≡◌, ◌*◌, ◌/◌, length, ◌∙◌, refl, arith}
 use Rattle.twox_plain.proofs.WordFacts.{first_chunks_at}
 use Rattle.twox_core.specs.SecretBytes.{secret_bytes}
-use Rattle.twox_core.specs.Stripes.{stripes_taken}
-use Rattle.twox_core.proofs.StripeFacts.{stripes_taken-next}
+use Rattle.twox_core.specs.Stripes.{after_stripes}
+use Rattle.twox_core.proofs.StripeFacts.{after_stripes-next}
 use Rattle.twox_core.proofs.xxhash3.streaming.stripes.StripeAccumulator.process_near.Goals as goal
 
 pub stripes-init : goal.stripes-init
-unfolding stripes_taken
+unfolding after_stripes
 stripes-init g c = record { exact = refl; place = c.requires }
 
 pub stripes-preserved : goal.stripes-preserved
@@ -18,6 +18,6 @@ stripes-preserved g c =
     record {
       exact =
           rw c.stripes.invariant.exact at c.process_stripe.ensures.exact
-          ∙ stripes_taken-next s c.args.self.now xs _ i (rw c.bp_as_chunks.ensures.chunks (first_chunks_at 64 (length xs / 64) xs i _ (omega arith) ∙ rw place refl));
+          ∙ after_stripes-next s c.args.self.now xs _ i (rw c.bp_as_chunks.ensures.chunks (first_chunks_at 64 (length xs / 64) xs i _ (omega arith) ∙ rw place refl));
       place = rw c.n_stripes-n_stripes.ensures at c.process_stripe.ensures.place;
     }

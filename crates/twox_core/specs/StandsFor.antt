@@ -1,15 +1,15 @@
 -- The lists of bytes that a stream stands for.
 use Rattle.std.specs.Prelude.{◌≡◌, ◌+◌, ◌-◌, ◌*◌, ◌^◌, ◌<◌, min, ℕ, List, take, drop, length}
 use Rattle.twox_plain.specs.Word.{counted}
-use Rattle.twox_core.specs.Stripes.{Folded}
-use Rattle.twox_core.specs.Core.{Core}
+use Rattle.twox_core.specs.Stripes.{HasTaken}
+use Rattle.twox_core.specs.CoreView.{CoreView}
 use Rattle.twox_core.specs.declared.xxhash3.streaming.stripes.StripeAccumulator.{StripeAccumulator}
 use Rattle.twox_core.specs.declared.xxhash3.streaming.core_state.CoreState.{CoreState}
 
 -- k stripes of m were taken and the buffer begins with the u bytes after them. Where these are fewer than 64,
 -- it ends with the last stripe taken.
 pub record Holds (s m : List ℕ) (k : ℕ) (a : StripeAccumulator) (buffer : List ℕ) (u : ℕ) : Type 0 where
-  pub folded : Folded s m k a
+  pub folded : HasTaken s m k a
   pub all : 64 * k + u ≡ length m
   pub bytes : take u buffer ≡ drop (64 * k) m
   pub tail : u < 64 → 0 < k → drop 192 buffer ≡ take 64 (drop (64 * k - 64) m)
@@ -25,12 +25,12 @@ Follows s c m =
     (k : ℕ) × (c.total_bytes ≡ counted (length m)) × (c.stripes_done ≡ min k (2 ^ 64 - 1)) × Late m k c.buffer_usage × Holds s m k c.stripes c.buffer c.buffer_usage
 
 -- the core h holds this seed and this secret, whose bytes `bytes` gives, and was given m
-unfoldable pub StandsFor : {S : Type 0} → (S → List ℕ) → Core S → ℕ → List ℕ → List ℕ → Type 0
-StandsFor bytes h seed s m = (h.held.seed ≡ seed) × (bytes h.held.secret ≡ s) × Follows s h.state m
+unfoldable pub StandsFor : {S : Type 0} → (S → List ℕ) → CoreView S → ℕ → List ℕ → List ℕ → Type 0
+StandsFor bytes h seed s m = (h.key.seed ≡ seed) × (bytes h.key.secret ≡ s) × Follows s h.state m
 
 -- the core b has the seed, the secret's bytes and the state of a, so that it stands for the same lists
-pub record IsCopy {S : Type 0} (bytes : S → List ℕ) (a b : Core S) : Type 0 where
-  pub seed : b.held.seed ≡ a.held.seed
-  pub secret : bytes b.held.secret ≡ bytes a.held.secret
+pub record IsCopy {S : Type 0} (bytes : S → List ℕ) (a b : CoreView S) : Type 0 where
+  pub seed : b.key.seed ≡ a.key.seed
+  pub secret : bytes b.key.secret ≡ bytes a.key.secret
   pub state : b.state ≡ a.state
   pub stands : (seed : ℕ) (s m : List ℕ) → StandsFor bytes a seed s m → StandsFor bytes b seed s m

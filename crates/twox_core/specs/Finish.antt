@@ -1,8 +1,8 @@
 -- What the end of a stream reads of it.
 use Rattle.std.specs.Prelude.{ℕ, List, ◌++◌, ◌+◌, ◌-◌, ◌*◌, ◌/◌, nat_le, nat_lt, take, drop, if◌then◌else◌}
 use Rattle.twox_core.specs.Secret.{default_secret}
-use Rattle.twox_core.specs.Stripes.{stripes_taken}
-use Rattle.twox_core.specs.Core.{Core}
+use Rattle.twox_core.specs.Stripes.{after_stripes}
+use Rattle.twox_core.specs.CoreView.{CoreView}
 use Rattle.twox_core.specs.declared.xxhash3.streaming.core_state.CoreState.{CoreState}
 
 -- the last 64 bytes, from a buffer with u bytes in use
@@ -16,20 +16,20 @@ buffered_bytes c = take c.buffer_usage c.buffer
 abbrev pub stripes_left : CoreState → ℕ
 stripes_left c = (c.buffer_usage - 1) / 64
 
--- the lanes after those, and the bytes after those
-unfoldable pub end_lanes : List ℕ → CoreState → List ℕ
-end_lanes s c = (stripes_taken s c.stripes (buffered_bytes c) (stripes_left c)).accumulator
+-- the accumulators after those, and the bytes after those
+unfoldable pub end_accumulators : List ℕ → CoreState → List ℕ
+end_accumulators s c = (after_stripes s c.stripes (buffered_bytes c) (stripes_left c)).accumulator
 
 unfoldable pub end_block : CoreState → List ℕ
 end_block c = drop (64 * stripes_left c) (buffered_bytes c)
 
 -- what an end makes of a state, from what it makes of short and of long inputs: short ones have the default
 -- secret and the seed, long ones the held secret s
-unfoldable pub finished_state : {R : Type 0} → (List ℕ → ℕ → List ℕ → R) → (List ℕ → List ℕ → List ℕ → List ℕ → ℕ → R) → ℕ → List ℕ → CoreState → R
-finished_state small large seed s c =
+unfoldable pub state_finish : {R : Type 0} → (List ℕ → ℕ → List ℕ → R) → (List ℕ → List ℕ → List ℕ → List ℕ → ℕ → R) → ℕ → List ℕ → CoreState → R
+state_finish small large seed s c =
     if nat_le c.total_bytes 240 then small default_secret seed (take c.total_bytes c.buffer)
-    else large (end_lanes s c) (end_block c) (last_bytes c.buffer c.buffer_usage) s c.total_bytes
+    else large (end_accumulators s c) (end_block c) (last_bytes c.buffer c.buffer_usage) s c.total_bytes
 
 -- of a core, where `bytes` gives those of its secret
-unfoldable pub finished : {S R : Type 0} → (List ℕ → ℕ → List ℕ → R) → (List ℕ → List ℕ → List ℕ → List ℕ → ℕ → R) → (S → List ℕ) → Core S → R
-finished small large bytes h = finished_state small large h.held.seed (bytes h.held.secret) h.state
+unfoldable pub core_finish : {S R : Type 0} → (List ℕ → ℕ → List ℕ → R) → (List ℕ → List ℕ → List ℕ → List ℕ → ℕ → R) → (S → List ℕ) → CoreView S → R
+core_finish small large bytes h = state_finish small large h.key.seed (bytes h.key.secret) h.state
