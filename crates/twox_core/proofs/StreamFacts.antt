@@ -13,7 +13,7 @@ use Rattle.twox_core.specs.CoreView.{CoreView, total_of, done_of, buffered_of}
 use Rattle.twox_core.specs.AfterWrite.{empty_state, in_place, restarted, written_through, state_after_write, core_after_write}
 use Rattle.twox_core.specs.Finish.{last_bytes, buffered_bytes, stripes_left, end_accumulators, end_block, state_finish, core_finish}
 use Rattle.twox_core.specs.StandsFor.{Holds, Late, Follows, StandsFor, IsCopy}
-use Rattle.twox_core.specs.declared.xxhash3.streaming.stripes.StripeAccumulator.{StripeAccumulator}
+use Rattle.twox_core.specs.declared.xxhash3.stripes.StripeAccumulator.{StripeAccumulator}
 use Rattle.twox_core.specs.declared.xxhash3.streaming.core_state.CoreState.{CoreState}
 use Rattle.twox_core.proofs.StripeFacts.{folded_none, folded_more, folded_longer}
 

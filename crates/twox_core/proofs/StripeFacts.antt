@@ -8,7 +8,7 @@ use Rattle.twox_core.specs.Parts.{stripe_at}
 use Rattle.twox_core.specs.Long.{accumulate_one, scramble_one, accumulator_after, stripes_of}
 use Rattle.twox_core.specs.Kernel.{eight}
 use Rattle.twox_core.specs.Stripes.{sum_at_place, no_stripe, after_stripe, after_stripes, HasTaken}
-use Rattle.twox_core.specs.declared.xxhash3.streaming.stripes.StripeAccumulator.{StripeAccumulator}
+use Rattle.twox_core.specs.declared.xxhash3.stripes.StripeAccumulator.{StripeAccumulator}
 use Rattle.twox_core.proofs.AccumulatorFacts.{accumulates, scrambles, same_accumulators, stripe_done, next_with, next_without, accumulator_after-append}
 
 -- ---- stripes of a list of bytes

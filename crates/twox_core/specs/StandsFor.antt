@@ -3,7 +3,7 @@ use Rattle.std.specs.Prelude.{◌≡◌, ◌+◌, ◌-◌, ◌*◌, ◌^◌, ◌
 use Rattle.twox_plain.specs.Word.{counted}
 use Rattle.twox_core.specs.Stripes.{HasTaken}
 use Rattle.twox_core.specs.CoreView.{CoreView}
-use Rattle.twox_core.specs.declared.xxhash3.streaming.stripes.StripeAccumulator.{StripeAccumulator}
+use Rattle.twox_core.specs.declared.xxhash3.stripes.StripeAccumulator.{StripeAccumulator}
 use Rattle.twox_core.specs.declared.xxhash3.streaming.core_state.CoreState.{CoreState}
 
 -- k stripes of m were taken and the buffer begins with the u bytes after them. Where these are fewer than 64,

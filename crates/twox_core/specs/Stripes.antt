@@ -3,7 +3,7 @@ use Rattle.std.specs.Prelude.{◌≡◌, ℕ, zero, suc, ◌+◌, ◌-◌, ◌*�
 use Rattle.twox_core.specs.Long.{stripes_of, initial_accumulators, accumulator_after}
 use Rattle.twox_core.specs.Kernel.{eight, accumulate, round_scramble}
 use Rattle.twox_core.specs.Parts.{stripe_at}
-use Rattle.twox_core.specs.declared.xxhash3.streaming.stripes.StripeAccumulator.{StripeAccumulator}
+use Rattle.twox_core.specs.declared.xxhash3.stripes.StripeAccumulator.{StripeAccumulator}
 
 abbrev pub accumulators_of : StripeAccumulator → List ℕ
 accumulators_of a = a.accumulator

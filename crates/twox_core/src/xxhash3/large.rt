@@ -2,7 +2,6 @@
 //! inputs)".
 
 ghost use Rattle.std.specs.Prelude.{◌≡◌, ◌+◌, ◌-◌, ◌*◌, ◌/◌, ◌^◌, ◌<◌, ◌≤◌, ℕ, List, length, take, drop, slice_index};
-ghost use Rattle.twox_core.specs.Kernel.{accumulate, round_scramble};
 ghost use Rattle.twox_core.specs.Long.{merge_accumulators, stripes_of};
 ghost use Rattle.twox_core.specs.Ending.{accumulate_block, block_accumulators, last_block, last_stripe, final_accumulators, finalize_64, finalize_128};
 ghost use Rattle.twox_core.specs.SecretBytes.{secret_bytes};
@@ -13,31 +12,13 @@ pub mod scalar;
 pub mod split2;
 
 use super::parts::array_at;
-use super::primes::{
-    PRIME32_1, PRIME32_2, PRIME32_3, PRIME64_1, PRIME64_2, PRIME64_3, PRIME64_4, PRIME64_5,
-};
-use super::streaming::StripeAccumulator;
-use super::{Secret, avalanche, fold};
+use super::primes::{PRIME64_1, PRIME64_2};
+use super::stripes::StripeAccumulator;
+use super::{Secret, Vector, avalanche, fold};
 use twox_plain::words::{IntoU64, IntoU128, u64_at};
-
-/// A kernel: the two operations of XXH3 on its eight accumulators. All kernels compute the same.
-pub trait Vector: Copy {
-    /// Scrambles the accumulators under the secret's last 64 bytes.
-    fn round_scramble(&self, acc: &mut [u64; 8], secret_end: &[u8; 64])
-        ensures { acc.new ≡ round_scramble acc.old secret_end.now };
-
-    /// Takes a stripe into the accumulators, under 64 bytes of the secret.
-    fn accumulate(&self, acc: &mut [u64; 8], stripe: &[u8; 64], secret: &[u8; 64])
-        ensures { acc.new ≡ accumulate acc.old stripe.now secret.now };
-}
 
 /// The kernel of this program.
 pub type Kernel = lanes4::Impl;
-
-/// The accumulators before the first stripe.
-pub const INITIAL_ACCUMULATORS: [u64; 8] = [
-    PRIME32_3, PRIME64_1, PRIME64_2, PRIME64_3, PRIME64_4, PRIME32_2, PRIME64_5, PRIME32_1,
-];
 
 /// What a hash makes of an input: one value for short ones and one for long ones.
 ///

@@ -4,7 +4,7 @@ ghost use Rattle.std.specs.Prelude.{◌≡◌, ◌*◌, ◌<◌};
 ghost use Rattle.twox_core.specs.Steps.{word64};
 ghost use Rattle.twox_core.specs.Long.{accumulate_one, halves_product, scramble_one};
 
-use super::Vector;
+use crate::xxhash3::Vector;
 use crate::xxhash3::primes::PRIME32_1;
 
 /// The scalar kernel.
@@ -51,7 +51,8 @@ fn accumulate_one(accumulator: u64, stripe: &[u8; 64], secret: &[u8; 64], i: usi
     ensures { result ≡ accumulate_one i accumulator stripe.now 0 secret.now 0 }
 {
     let value = word(stripe, i) ^ word(secret, i);
-    accumulator.wrapping_add(word(stripe, i ^ 1))
+    accumulator
+        .wrapping_add(word(stripe, i ^ 1))
         .wrapping_add(halves_product(value))
 }
 

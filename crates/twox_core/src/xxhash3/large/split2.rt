@@ -3,8 +3,8 @@
 ghost use Rattle.std.specs.Prelude.{◌≡◌, ◌*◌, ◌%◌, ◌^◌, List, [], ◌∷◌, slice_index};
 ghost use Rattle.twox_core.specs.Kernel.{scramble_with_word};
 
-use super::Vector;
 use super::lanes2::{accumulate_two, words};
+use crate::xxhash3::Vector;
 use crate::xxhash3::primes::PRIME32_1;
 use std::simd::u64x2;
 

@@ -4,11 +4,9 @@ ghost use Rattle.std.specs.Prelude.{◌≡◌, ℕ, List, ◌++◌, ◌+◌, ◌
 ghost use Rattle.twox_core.specs.Long.{stripes_of};
 ghost use Rattle.twox_core.specs.SecretBytes.{secret_bytes};
 
-use super::StripeAccumulator;
-use super::stripes::BYTES_TO_READ_AHEAD;
-use crate::xxhash3::large::{Finalize, Vector};
 use crate::xxhash3::parts::array_at;
-use crate::xxhash3::{CUTOFF, Secret, default_secret};
+use crate::xxhash3::stripes::BYTES_TO_READ_AHEAD;
+use crate::xxhash3::{CUTOFF, Finalize, Secret, StripeAccumulator, Vector, default_secret};
 use twox_plain::words::IntoU64;
 
 /// How many bytes a stream keeps for later: whole stripes, and more than the greatest length that is hashed

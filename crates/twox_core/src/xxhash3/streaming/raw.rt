@@ -4,7 +4,7 @@ ghost use Rattle.std.specs.Prelude.{◌≡◌, ℕ, List, [], ◌++◌, ◌+◌,
 
 use super::core_state::CoreState;
 use super::{BUFFERED_BYTES, ClonedBuffer, FixedBuffer, SecretBuffer, SecretTooShortError};
-use crate::xxhash3::large::{Finalize, Kernel, Vector};
+use crate::xxhash3::{Finalize, Kernel, Vector};
 use std::alloc::{AllocError, Allocator};
 use std::boxed::BoxedSlice;
 use std::marker::Model;

@@ -3,7 +3,7 @@ use Rattle.std.proofs.lemmas.Bool.Decides.{nat_tests}
 use Rattle.twox_core.specs.Long.{stripes_of}
 use Rattle.twox_core.specs.SecretBytes.{secret_bytes}
 use Rattle.twox_core.specs.Stripes.{after_stripe}
-use Rattle.twox_core.proofs.xxhash3.streaming.stripes.StripeAccumulator.process_stripe.Goals as goal
+use Rattle.twox_core.proofs.xxhash3.stripes.StripeAccumulator.process_stripe.Goals as goal
 
 pub returns-then-self-n_stripes-clause-exact : goal.returns-then-self-n_stripes-clause-exact
 unfolding after_stripe

@@ -2,7 +2,7 @@ use Rattle.std.proofs.Common.{◌≡◌, ◌<◌}
 use Rattle.twox_core.specs.Long.{stripes_of}
 use Rattle.twox_core.specs.SecretBytes.{secret_bytes}
 use Rattle.twox_core.specs.Stripes.{after_stripes}
-use Rattle.twox_core.proofs.xxhash3.streaming.stripes.StripeAccumulator.process_near.Given as goal
+use Rattle.twox_core.proofs.xxhash3.stripes.StripeAccumulator.process_near.Given as goal
 
 abbrev pub invariant-stripes : goal.invariant-stripes
 invariant-stripes g l = record {

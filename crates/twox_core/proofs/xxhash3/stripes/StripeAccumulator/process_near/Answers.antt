@@ -3,7 +3,7 @@ use Rattle.twox_plain.proofs.WordFacts.{first_chunks_at}
 use Rattle.twox_core.specs.SecretBytes.{secret_bytes}
 use Rattle.twox_core.specs.Stripes.{after_stripes}
 use Rattle.twox_core.proofs.StripeFacts.{after_stripes-next}
-use Rattle.twox_core.proofs.xxhash3.streaming.stripes.StripeAccumulator.process_near.Goals as goal
+use Rattle.twox_core.proofs.xxhash3.stripes.StripeAccumulator.process_near.Goals as goal
 
 pub stripes-init : goal.stripes-init
 unfolding after_stripes

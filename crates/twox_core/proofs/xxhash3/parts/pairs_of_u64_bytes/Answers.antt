@@ -1,7 +1,7 @@
 use Rattle.std.proofs.Common.{◌/◌, ◌≡◌, ap, arith, length, ◌∙◌}
 use Rattle.std.specs.Simd.{first_chunks}
 use Rattle.twox_core.proofs.PartFacts.{pairs_at-chunks}
-use Rattle.twox_core.proofs.xxhash3.pairs_of_u64_bytes.Goals as goal
+use Rattle.twox_core.proofs.xxhash3.parts.pairs_of_u64_bytes.Goals as goal
 
 pub returns-clause-pairs : goal.returns-clause-pairs
 returns-clause-pairs c =

@@ -1,9 +1,9 @@
-use Rattle.std.proofs.Common.{◌≡◌, ℕ, ◌+◌, ◌-◌, ◌*◌, ◌/◌, length, drop, ◌∙◌, refl, ap, arith, length-drop}
+use Rattle.std.proofs.Common.{◌≡◌, ◌+◌, ◌-◌, ◌*◌, ◌/◌, length, drop, ◌∙◌, refl, arith, length-drop}
 use Rattle.twox_plain.proofs.WordFacts.{first_chunks_at}
 use Rattle.twox_core.specs.SecretBytes.{secret_bytes}
 use Rattle.twox_core.specs.Stripes.{after_stripes}
 use Rattle.twox_core.proofs.StripeFacts.{after_stripes-next, after_stripes-more}
-use Rattle.twox_core.proofs.xxhash3.streaming.stripes.taken_far.Goals as goal
+use Rattle.twox_core.proofs.xxhash3.stripes.taken_far.Goals as goal
 
 pub stripes-init : goal.stripes-init
 unfolding after_stripes

@@ -5,9 +5,8 @@ ghost use Rattle.twox_core.specs.Long.{stripes_of};
 ghost use Rattle.twox_core.specs.SecretBytes.{secret_bytes};
 ghost use Rattle.twox_core.specs.Stripes.{current_stripe_of, after_stripes};
 
-use crate::xxhash3::Secret;
-use crate::xxhash3::large::{INITIAL_ACCUMULATORS, Vector};
-use crate::xxhash3::primes::PRIME64_1;
+use super::primes::PRIME64_1;
+use super::{INITIAL_ACCUMULATORS, Secret, Vector};
 use twox_plain::words::{bp_as_chunks, u64_at};
 
 /// From how many bytes on a stripe further on is read ahead.

@@ -1,7 +1,7 @@
 use Rattle.std.proofs.Common.{[], arith, ◌∙◌}
 use Rattle.twox_core.specs.SecretBytes.{secret_bytes}
 use Rattle.twox_core.proofs.PartFacts.{pairs_at-eight, pairs_at-pair}
-use Rattle.twox_core.proofs.xxhash3.chunks_17_to_128.Goals as goal
+use Rattle.twox_core.proofs.xxhash3.parts.chunks_17_to_128.Goals as goal
 
 pub returns-clause-words : goal.returns-clause-words
 returns-clause-words c =

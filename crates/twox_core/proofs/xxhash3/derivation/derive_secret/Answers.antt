@@ -6,7 +6,7 @@ use Rattle.twox_core.specs.Steps.{add64, sub64}
 use Rattle.twox_core.specs.Secret.{derived_pairs, derived_secret}
 use Rattle.twox_core.proofs.PairBytes.{pair_bytes}
 use Rattle.twox_core.proofs.DerivedFacts.{pair_written}
-use Rattle.twox_core.proofs.xxhash3.derive_secret.Goals as goal
+use Rattle.twox_core.proofs.xxhash3.derivation.derive_secret.Goals as goal
 
 pub loop-k-init : goal.loop-k-init
 unfolding derived_pairs
