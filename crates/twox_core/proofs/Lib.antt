@@ -3,6 +3,7 @@ pub mod EndingFacts
 pub mod KernelFacts
 pub mod AccumulatorFacts
 pub mod MixFacts
+pub mod OneshotLaws
 pub mod PairBytes
 pub mod PartFacts
 pub mod ShortLaws

@@ -9,6 +9,7 @@ pub mod Middle
 pub mod Long
 pub mod Value
 pub mod OtherBytes
+pub mod Laws
 pub mod Kernel
 pub mod StreamKey
 pub mod Stripes

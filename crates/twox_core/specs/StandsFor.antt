@@ -1,5 +1,5 @@
 -- The lists of bytes that a stream stands for.
-use Rattle.std.specs.Prelude.{◌≡◌, ◌+◌, ◌-◌, ◌*◌, ◌^◌, ◌<◌, min, ℕ, List, take, drop, length}
+use Rattle.std.specs.Prelude.{◌≡◌, ◌+◌, ◌-◌, ◌*◌, ◌^◌, ◌<◌, min, ℕ, List, ◌++◌, take, drop, length}
 use Rattle.twox_plain.specs.Word.{counted}
 use Rattle.twox_core.specs.Stripes.{HasTaken}
 use Rattle.twox_core.specs.CoreView.{CoreView}
@@ -27,6 +27,10 @@ Follows s c m =
 -- the core h holds this seed and this secret, whose bytes `bytes` gives, and was given m
 unfoldable pub StandsFor : {S : Type 0} → (S → List ℕ) → CoreView S → ℕ → List ℕ → List ℕ → Type 0
 StandsFor bytes h seed s m = (h.key.seed ≡ seed) × (bytes h.key.secret ≡ s) × Follows s h.state m
+
+-- whatever list the core a stands for, the core b stands for that list and the piece d after it
+abbrev pub TakesPiece : {S : Type 0} → (S → List ℕ) → CoreView S → CoreView S → List ℕ → Type 0
+TakesPiece bytes a b d = (seed : ℕ) (s m : List ℕ) → StandsFor bytes a seed s m → StandsFor bytes b seed s (m ++ d)
 
 -- the core b has the seed, the secret's bytes and the state of a, so that it stands for the same lists
 pub record IsCopy {S : Type 0} (bytes : S → List ℕ) (a b : CoreView S) : Type 0 where

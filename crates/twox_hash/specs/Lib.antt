@@ -18,6 +18,7 @@ pub use Rattle.twox_core.specs.Secret
 pub use Rattle.twox_core.specs.SecretBytes
 pub use Rattle.twox_core.specs.Value
 pub use Rattle.twox_core.specs.OtherBytes
+pub use Rattle.twox_core.specs.Laws
 pub use Rattle.twox_core.specs.Ending
 pub use Rattle.twox_core.specs.StreamKey
 pub use Rattle.twox_core.specs.CoreView

@@ -3,7 +3,7 @@
 ghost use Rattle.std.specs.Prelude.{◌≡◌, ◌≢◌, ◌↔◌, ◌⊎◌, ◌+◌, ◌-◌, ◌*◌, ◌/◌, ◌^◌, ◌<◌, ◌≤◌, ℕ, List, bit_xor, length, MatchResult, IfOk, IsErr};
 ghost use Rattle.std.specs.Int.{w64};
 ghost use Rattle.twox_plain.specs.Word.{low64, high64};
-ghost use Rattle.twox_core.specs.OtherBytes.{IsOtherShort128};
+ghost use Rattle.twox_core.specs.Laws.{TellsOthers128, HasLowHalf64};
 ghost use Rattle.twox_core.specs.Ending.{finalize_128};
 ghost use Rattle.twox_core.specs.Long.{low_above_240, high_above_240};
 ghost use Rattle.twox_core.specs.Middle.{merge_high, merge_low, first_17_to_128, second_17_to_128};
@@ -14,18 +14,17 @@ ghost use Rattle.twox_core.specs.Short.{combined_bytes, high_0, low_0, high_4_to
 ghost use Rattle.twox_core.specs.Steps.{add64, avalanche, mix, mul64, word64};
 ghost use Rattle.twox_core.specs.Value.{effective_secret, high_in, low_in, range_of, steps_of, xxh3_64, xxh3_128, Range};
 
-use std::alloc::{AllocError, Allocator, Global};
-use std::boxed::BoxedSlice;
-use std::marker::Model;
+use crate::streams::{BoxedStream, RawStream};
+use std::alloc::{Allocator, Global};
 use twox_core::xxhash3::primes::{PRIME_MX2, PRIME32_2, PRIME64_1, PRIME64_2, PRIME64_4};
 pub use twox_core::xxhash3::{
     ClonedBuffer, DEFAULT_SECRET_LENGTH, FixedBuffer, FixedMutBuffer, OneshotWithSecretError,
     SECRET_MINIMUM_LENGTH, SecretBuffer, SecretTooShortError, SecretWithSeedError,
 };
 use twox_core::xxhash3::{
-    Algorithm, AllocRawHasher, CUTOFF, DEFAULT_SEED, Finalize, Kernel, RawHasherCore, Secret,
-    Vector, avalanche, avalanche_xxh64, chunks_17_to_128, default_secret, derived_secret,
-    full_product, impl_1_to_3_bytes_combined, mix_step, pairs_of_u64_bytes, to_u64s,
+    Algorithm, CUTOFF, DEFAULT_SEED, Finalize, Kernel, Secret, Vector, avalanche, avalanche_xxh64,
+    chunks_17_to_128, default_secret, derived_secret, full_product, impl_1_to_3_bytes_combined,
+    mix_step, pairs_of_u64_bytes, to_u64s,
 };
 use twox_plain::words::{Halves, IntoU64, IntoU128, bp_as_chunks, u32_at, u64_at};
 
@@ -38,20 +37,17 @@ use twox_plain::words::{Halves, IntoU64, IntoU128, bp_as_chunks, u32_at, u64_at}
 /// hasher.write(b"bytes");
 /// assert_eq!(hasher.finish_128(), Hasher::oneshot_with_seed(7, b"some bytes"));
 /// ```
-#[derive(Drop)]
-pub struct Hasher<A: Allocator = Global> {
-    inner: AllocRawHasher<A>,
-}
+pub type Hasher<A = Global> = BoxedStream<Finalize128, A>;
 
-impl<A: Allocator> Model for Hasher<A> {
-    ghost use Rattle.std.specs.Prelude.{ℕ};
-    ghost use Rattle.std.specs.declared.boxed.BoxedSlice.{BoxedSlice};
-    ghost use Rattle.twox_core.specs.CoreView.{CoreView};
-
-    ghost Value = { CoreView (BoxedSlice ℕ A) };
-
-    ghost view = { λ h. h.inner };
-}
+/// A stream over a secret of the caller's, which takes no memory.
+///
+/// ```text
+/// let secret = SecretBuffer::with_seed(7, [0; DEFAULT_SECRET_LENGTH])?;
+/// let mut hasher = RawHasher::new(secret);
+/// hasher.write(b"some bytes");
+/// assert_eq!(hasher.finish_128(), Hasher::oneshot_with_seed(7, b"some bytes"));
+/// ```
+pub type RawHasher<S> = RawStream<Finalize128, S>;
 
 impl Hasher<Global> {
     /// The hash of all bytes at once, with the default secret and the seed 0.
@@ -60,41 +56,24 @@ impl Hasher<Global> {
     /// another seed, up to 16 bytes. Of 1 to 3 bytes and above 240 the low half is the hash of 64 bits. All that
     /// holds of the other one-shots too, under their secrets.
     #[inline]
-    #[tactic(auto, unfolding(twox_core::specs::Value::xxh3_128, twox_core::specs::Value::range_of, twox_core::specs::Value::low_in, twox_core::specs::Value::high_in))]
     pub fn oneshot(input: &[u8]) -> u128
         ensures value { result ≡ xxh3_128 0 default_secret input.now }
-        ensures changed_bytes { (n : List ℕ) → IsOtherShort128 input.now n → xxh3_128 0 default_secret n ≢ result }
-        ensures changed_seed { (other : ℕ) → other < 2 ^ 64 → other ≢ 0 → length input.now ≤ 16 → xxh3_128 other default_secret input.now ≢ result }
-        ensures low_half { ((1 ≤ length input.now) × (length input.now ≤ 3)) ⊎ (240 < length input.now) → low64 result ≡ xxh3_64 0 default_secret input.now }
+        ensures tells_others { TellsOthers128 0 default_secret input.now result }
+        ensures low_half { HasLowHalf64 0 default_secret input.now result }
     {
-        // The shortest come first: they then pay for no room that others take.
-        if input.len() <= 16 {
-            impl_oneshot(default_secret(), DEFAULT_SEED, input)
-        } else if input.len() <= CUTOFF {
-            impl_oneshot(default_secret(), DEFAULT_SEED, input)
-        } else {
-            impl_oneshot_long(default_secret(), input)
-        }
+        impl_oneshot_default(input)
     }
 
     /// The hash of all bytes at once, with a seed: up to 240 bytes with the default secret, above with the
     /// secret that the seed derives.
     #[inline]
-    #[tactic(auto, unfolding(twox_core::specs::Value::xxh3_128, twox_core::specs::Value::range_of, twox_core::specs::Value::low_in, twox_core::specs::Value::high_in, twox_core::specs::Value::effective_secret))]
     pub fn oneshot_with_seed(seed: u64, input: &[u8]) -> u128
-        ensures value { result ≡ xxh3_128 seed (effective_secret (derived_secret seed) input.now) input.now }
-        ensures changed_bytes { (n : List ℕ) → IsOtherShort128 input.now n → xxh3_128 seed default_secret n ≢ result }
-        ensures changed_seed { (other : ℕ) → other < 2 ^ 64 → other ≢ seed → length input.now ≤ 16 → xxh3_128 other default_secret input.now ≢ result }
-        ensures low_half { ((1 ≤ length input.now) × (length input.now ≤ 3)) ⊎ (240 < length input.now) → low64 result ≡ xxh3_64 seed (effective_secret (derived_secret seed) input.now) input.now }
+        ensures value { let s = effective_secret (derived_secret seed) input.now in
+            result ≡ xxh3_128 seed s input.now }
+        ensures tells_others { TellsOthers128 seed default_secret input.now result }
+        ensures low_half { HasLowHalf64 seed (effective_secret (derived_secret seed) input.now) input.now result }
     {
-        // The shortest come first here too.
-        if input.len() <= 16 {
-            impl_oneshot(default_secret(), seed, input)
-        } else if input.len() <= CUTOFF {
-            impl_oneshot(default_secret(), seed, input)
-        } else {
-            impl_oneshot_long_seeded(seed, input)
-        }
+        impl_oneshot_seeded(seed, input)
     }
 
     /// The hash of all bytes at once, with a secret and the seed 0, at every length.
@@ -103,19 +82,14 @@ impl Hasher<Global> {
     ///
     /// The secret has fewer than 136 bytes.
     #[inline]
-    #[tactic(auto, unfolding(twox_core::specs::Value::xxh3_128, twox_core::specs::Value::range_of, twox_core::specs::Value::low_in, twox_core::specs::Value::high_in))]
     pub fn oneshot_with_secret(secret: &[u8], input: &[u8]) -> Result<u128, OneshotWithSecretError>
-        ensures value { MatchResult result (λ x. (136 ≤ length secret.now) × (x ≡ xxh3_128 0 secret.now input.now)) (λ _. length secret.now < 136) }
-        ensures changed_bytes { IfOk result (λ x. (n : List ℕ) → IsOtherShort128 input.now n → xxh3_128 0 secret.now n ≢ x) }
-        ensures changed_seed { IfOk result (λ x. (other : ℕ) → other < 2 ^ 64 → other ≢ 0 → length input.now ≤ 16 → xxh3_128 other secret.now input.now ≢ x) }
-        ensures low_half { IfOk result (λ x. ((1 ≤ length input.now) × (length input.now ≤ 3)) ⊎ (240 < length input.now) → low64 x ≡ xxh3_64 0 secret.now input.now) }
+        ensures refused { IsErr result ↔ (length secret.now < 136) }
+        ensures value { IfOk result (λ x. x ≡ xxh3_128 0 secret.now input.now) }
+        ensures tells_others { IfOk result (λ x. TellsOthers128 0 secret.now input.now x) }
+        ensures low_half { IfOk result (λ x. HasLowHalf64 0 secret.now input.now x) }
     {
         let secret = Secret::new(secret)?;
-        if input.len() <= CUTOFF {
-            Ok(impl_oneshot(secret, DEFAULT_SEED, input))
-        } else {
-            Ok(impl_oneshot_long(secret, input))
-        }
+        Ok(impl_oneshot_keyed(secret, input))
     }
 
     /// The hash of all bytes at once, with a seed and a secret. Only one of the two has an effect: up to 240
@@ -132,200 +106,59 @@ impl Hasher<Global> {
         input: &[u8],
     ) -> Result<u128, OneshotWithSecretError>
         ensures refused { IsErr result ↔ ((240 < length input.now) × (length secret.now < 136)) }
-        ensures value { IfOk result (λ x. x ≡ xxh3_128 seed (effective_secret secret.now input.now) input.now) }
-        ensures changed_bytes { IfOk result (λ x. (n : List ℕ) → IsOtherShort128 input.now n → xxh3_128 seed default_secret n ≢ x) }
-        ensures changed_seed { IfOk result (λ x. (other : ℕ) → other < 2 ^ 64 → other ≢ seed → length input.now ≤ 16 → xxh3_128 other default_secret input.now ≢ x) }
-        ensures low_half { IfOk result (λ x. ((1 ≤ length input.now) × (length input.now ≤ 3)) ⊎ (240 < length input.now) → low64 x ≡ xxh3_64 seed (effective_secret secret.now input.now) input.now) }
+        ensures value { let s = effective_secret secret.now input.now in
+            IfOk result (λ x. x ≡ xxh3_128 seed s input.now) }
+        ensures tells_others { IfOk result (λ x. TellsOthers128 seed default_secret input.now x) }
+        ensures low_half { IfOk result (λ x. HasLowHalf64 seed (effective_secret secret.now input.now) input.now x) }
     {
         if input.len() <= CUTOFF {
             return Ok(impl_oneshot(default_secret(), seed, input));
         }
-        Ok(impl_oneshot_long(Secret::new(secret)?, input))
+        let own = Secret::new(secret)?;
+        Ok(impl_oneshot_long(own, input))
     }
 }
 
 impl<A: Allocator> Hasher<A> {
-    ghost use Rattle.std.specs.Prelude.{◌≡◌, ℕ, List, [], ◌++◌, ◌<◌, ◌≤◌, length, IfOk, MatchResult};
+    ghost use Rattle.std.specs.Prelude.{◌≡◌, ℕ, List};
     ghost use Rattle.std.specs.Box.{boxed_slice_items};
-    ghost use Rattle.twox_core.specs.Secret.{default_secret, derived_secret};
     ghost use Rattle.twox_core.specs.Value.{effective_secret, xxh3_128};
-    ghost use Rattle.twox_core.specs.CoreView.{CoreView};
-    ghost use Rattle.twox_core.specs.AfterWrite.{core_after_write};
     ghost use Rattle.twox_core.specs.StandsFor.{StandsFor};
     ghost use Rattle.twox_hash.specs.Streams.{value_128};
 
-    /// A stream with the seed 0 and the default secret.
-    ///
-    /// # Errors
-    ///
-    /// There is no memory for the secret.
-    pub fn new(alloc: A) -> Result<Hasher<A>, AllocError>
-        ensures { IfOk result (λ h. StandsFor boxed_slice_items h 0 default_secret []) }
-    {
-        let inner = AllocRawHasher::allocate_default(alloc)?;
-        Ok(Hasher { inner })
-    }
-
-    /// The same as `new`.
-    ///
-    /// # Errors
-    ///
-    /// There is no memory for the secret.
-    pub fn default(alloc: A) -> Result<Hasher<A>, AllocError>
-        ensures { IfOk result (λ h. StandsFor boxed_slice_items h 0 default_secret []) }
-    {
-        Hasher::new(alloc)
-    }
-
-    /// A stream with the seed and the secret that it derives.
-    ///
-    /// # Errors
-    ///
-    /// There is no memory for the secret.
-    pub fn with_seed(alloc: A, seed: u64) -> Result<Hasher<A>, AllocError>
-        ensures { IfOk result (λ h. StandsFor boxed_slice_items h seed (derived_secret seed) []) }
-    {
-        let inner = AllocRawHasher::allocate_with_seed(alloc, seed)?;
-        Ok(Hasher { inner })
-    }
-
-    /// A stream with the seed and the secret, which takes no memory.
-    ///
-    /// # Errors
-    ///
-    /// The secret has fewer than 136 bytes; it is handed back.
-    pub fn with_seed_and_secret(
-        seed: u64,
-        secret: BoxedSlice<u8, A>,
-    ) -> Result<Hasher<A>, SecretTooShortError<BoxedSlice<u8, A>>>
-        ensures { MatchResult result
-            (λ h. (136 ≤ length (boxed_slice_items secret)) × StandsFor boxed_slice_items h seed (boxed_slice_items secret) [])
-            (λ e. (length (boxed_slice_items secret) < 136) × (e ≡ secret)) }
-    {
-        let inner = AllocRawHasher::allocate_with_seed_and_secret(seed, secret)?;
-        Ok(Hasher { inner })
-    }
-
-    /// Takes the bytes of a piece after those taken before.
-    #[inline]
-    pub fn write(&mut self, input: &[u8])
-        ensures message { (seed : ℕ) (s m : List ℕ) → StandsFor boxed_slice_items self.old seed s m → StandsFor boxed_slice_items self.new seed s (m ++ input.now) }
-        ensures exact { self.new ≡ core_after_write boxed_slice_items self.old input.now }
-    {
-        self.inner.write(input);
-    }
-
     /// The hash of the bytes taken so far, which stay: up to 240 bytes with the default secret and the seed,
-    /// above with the secret that is held, where no seed enters.
+    /// above with the stream's secret, where no seed enters.
     #[inline]
     #[tactic(auto, unfolding(crate::specs::Streams::value_128))]
     pub fn finish_128(&self) -> u128
-        ensures message { (seed : ℕ) (s m : List ℕ) → StandsFor boxed_slice_items self.now seed s m → result ≡ xxh3_128 seed (effective_secret s m) m }
+        ensures message { (seed : ℕ) (s m : List ℕ) → StandsFor boxed_slice_items self.now seed s m
+            → result ≡ xxh3_128 seed (effective_secret s m) m }
         ensures exact { result ≡ value_128 boxed_slice_items self.now }
     {
-        self.inner.finish(Finalize128)
+        self.inner().finish(Finalize128)
     }
-
-    /// The secret that is held.
-    pub fn into_secret(self) -> BoxedSlice<u8, A>
-        ensures exact { result ≡ self.key.secret }
-        ensures message { (seed : ℕ) (s m : List ℕ) → StandsFor boxed_slice_items self seed s m → boxed_slice_items result ≡ s }
-    {
-        self.inner.into_secret()
-    }
-}
-
-impl<A: Allocator + Clone> Clone for Hasher<A> {
-    ghost use Rattle.std.specs.Box.{boxed_slice_items};
-    ghost use Rattle.twox_core.specs.StandsFor.{IsCopy};
-
-    ghost is_clone = { λ a b. IsCopy boxed_slice_items a b };
-
-    fn clone(&self) -> Result<Hasher<A>, AllocError> {
-        let inner = self.inner.clone()?;
-        Ok(Hasher { inner })
-    }
-}
-
-/// A stream over a secret of the caller's, which takes no memory.
-///
-/// ```text
-/// let secret = SecretBuffer::with_seed(7, [0; DEFAULT_SECRET_LENGTH])?;
-/// let mut hasher = RawHasher::new(secret);
-/// hasher.write(b"some bytes");
-/// assert_eq!(hasher.finish_128(), Hasher::oneshot_with_seed(7, b"some bytes"));
-/// ```
-#[derive(Drop)]
-pub struct RawHasher<S: FixedBuffer> {
-    core: RawHasherCore<S>,
-}
-
-impl<S: FixedBuffer> Model for RawHasher<S> {
-    ghost use Rattle.twox_core.specs.CoreView.{CoreView};
-
-    ghost Value = { CoreView S };
-
-    ghost view = { λ h. h.core };
 }
 
 impl<S: FixedBuffer> RawHasher<S> {
-    ghost use Rattle.std.specs.Prelude.{◌≡◌, ℕ, List, [], ◌++◌};
+    ghost use Rattle.std.specs.Prelude.{◌≡◌, ℕ, List};
     ghost use Rattle.twox_core.specs.Value.{effective_secret, xxh3_128};
-    ghost use Rattle.twox_core.specs.CoreView.{CoreView};
-    ghost use Rattle.twox_core.specs.AfterWrite.{core_after_write};
     ghost use Rattle.twox_core.specs.StandsFor.{StandsFor};
     ghost use Rattle.twox_hash.specs.Streams.{value_128};
 
-    /// A stream of no bytes yet, with the seed and the secret that are held.
-    pub fn new(secret_buffer: SecretBuffer<S>) -> RawHasher<S>
-        ensures { StandsFor S.bytes result secret_buffer.seed (S.bytes secret_buffer.secret) [] }
-    {
-        RawHasher {
-            core: RawHasherCore::new(secret_buffer),
-        }
-    }
-
-    /// Takes the bytes of a piece after those taken before.
-    #[inline]
-    pub fn write(&mut self, input: &[u8])
-        ensures message { (seed : ℕ) (s m : List ℕ) → StandsFor S.bytes self.old seed s m → StandsFor S.bytes self.new seed s (m ++ input.now) }
-        ensures exact { self.new ≡ core_after_write S.bytes self.old input.now }
-    {
-        self.core.write(input);
-    }
-
     /// The hash of the bytes taken so far, which stay: up to 240 bytes with the default secret and the seed,
-    /// above with the secret that is held, where no seed enters.
+    /// above with the stream's secret, where no seed enters.
     #[inline]
     #[tactic(auto, unfolding(crate::specs::Streams::value_128))]
     pub fn finish_128(&self) -> u128
-        ensures message { (seed : ℕ) (s m : List ℕ) → StandsFor S.bytes self.now seed s m → result ≡ xxh3_128 seed (effective_secret s m) m }
+        ensures message { (seed : ℕ) (s m : List ℕ) → StandsFor S.bytes self.now seed s m
+            → result ≡ xxh3_128 seed (effective_secret s m) m }
         ensures exact { result ≡ value_128 S.bytes self.now }
     {
-        self.core.finish(Finalize128)
-    }
-
-    /// The secret that is held.
-    pub fn into_secret(self) -> S
-        ensures exact { result ≡ self.key.secret }
-        ensures message { (seed : ℕ) (s m : List ℕ) → StandsFor S.bytes self seed s m → S.bytes result ≡ s }
-    {
-        self.core.into_secret()
+        self.core().finish(Finalize128)
     }
 }
 
-impl<S: ClonedBuffer> Clone for RawHasher<S> {
-    ghost use Rattle.twox_core.specs.StandsFor.{IsCopy};
-
-    ghost is_clone = { λ a b. IsCopy S.FixedBuffer.bytes a b };
-
-    fn clone(&self) -> Result<RawHasher<S>, AllocError> {
-        let core = self.core.clone()?;
-        Ok(RawHasher { core })
-    }
-}
-
-/// The end of the hash of 128 bits, of short inputs and of long ones.
+/// The finalizer of 128 bits: what is made of short inputs and of long ones.
 #[derive(Clone, Copy)]
 pub struct Finalize128;
 
@@ -355,7 +188,51 @@ impl Finalize for Finalize128 {
     }
 }
 
-// Apart, so that short inputs pay nothing for the room that long ones take.
+// The shortest inputs come first: they then pay nothing for the room that longer ones take, and the calls that
+// look alike become different code.
+#[inline(always)]
+#[tactic(auto, unfolding(twox_core::specs::Value::xxh3_128, twox_core::specs::Value::range_of, twox_core::specs::Value::low_in, twox_core::specs::Value::high_in))]
+fn impl_oneshot_default(input: &[u8]) -> u128
+    ensures { result ≡ xxh3_128 0 default_secret input.now }
+{
+    if input.len() <= 16 {
+        impl_oneshot(default_secret(), DEFAULT_SEED, input)
+    } else if input.len() <= CUTOFF {
+        impl_oneshot(default_secret(), DEFAULT_SEED, input)
+    } else {
+        impl_oneshot_long(default_secret(), input)
+    }
+}
+
+// The same order, with a seed.
+#[inline(always)]
+#[tactic(auto, unfolding(twox_core::specs::Value::xxh3_128, twox_core::specs::Value::range_of, twox_core::specs::Value::low_in, twox_core::specs::Value::high_in, twox_core::specs::Value::effective_secret))]
+fn impl_oneshot_seeded(seed: u64, input: &[u8]) -> u128
+    ensures { result ≡ xxh3_128 seed (effective_secret (derived_secret seed) input.now) input.now }
+{
+    if input.len() <= 16 {
+        impl_oneshot(default_secret(), seed, input)
+    } else if input.len() <= CUTOFF {
+        impl_oneshot(default_secret(), seed, input)
+    } else {
+        impl_oneshot_long_seeded(seed, input)
+    }
+}
+
+// With a secret of the caller's and the seed 0.
+#[inline(always)]
+#[tactic(auto, unfolding(twox_core::specs::Value::xxh3_128, twox_core::specs::Value::range_of, twox_core::specs::Value::low_in, twox_core::specs::Value::high_in))]
+fn impl_oneshot_keyed(secret: Secret<'_>, input: &[u8]) -> u128
+    ensures { result ≡ xxh3_128 0 (secret_bytes secret.entry) input.now }
+{
+    if input.len() <= CUTOFF {
+        impl_oneshot(secret, DEFAULT_SEED, input)
+    } else {
+        impl_oneshot_long(secret, input)
+    }
+}
+
+// A call of its own, so that short inputs pay nothing for the room that long ones take.
 #[inline(never)]
 #[tactic(auto, using(twox_core::proofs::EndingFacts::block_both))]
 fn impl_oneshot_long(secret: Secret<'_>, input: &[u8]) -> u128
@@ -550,7 +427,13 @@ fn initial_accumulators(input: &[u8]) -> Accumulators
 
 // A accumulator after the 16 bytes `own` under the secret's, and then the words of the 16 bytes `other`.
 #[inline(always)]
-fn accumulator_step(accumulator: u64, own: &[u8; 16], words: &[u8; 16], other: &[u8; 16], seed: u64) -> u64
+fn accumulator_step(
+    accumulator: u64,
+    own: &[u8; 16],
+    words: &[u8; 16],
+    other: &[u8; 16],
+    seed: u64,
+) -> u64
     ensures { result ≡ bit_xor (add64 accumulator (mix own.now 0 words.now 0 seed)) (add64 (word64 other.now 0) (word64 other.now 8)) }
 {
     let other = to_u64s(other);
@@ -559,7 +442,13 @@ fn accumulator_step(accumulator: u64, own: &[u8; 16], words: &[u8; 16], other: &
 
 // The accumulators after chunk `c` from the front and from the back, where there is one.
 #[inline(always)]
-fn mix_two_chunks(accumulators: Accumulators, secret: Secret<'_>, seed: u64, input: &[u8], c: usize) -> Accumulators
+fn mix_two_chunks(
+    accumulators: Accumulators,
+    secret: Secret<'_>,
+    seed: u64,
+    input: &[u8],
+    c: usize,
+) -> Accumulators
     requires some { 17 ≤ length input.now }
     requires few { length input.now ≤ 128 }
     requires chunk { c < 4 }

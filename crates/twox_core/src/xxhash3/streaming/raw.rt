@@ -39,7 +39,7 @@ impl<S: FixedBuffer> RawHasherCore<S> {
     ghost use Rattle.twox_core.specs.CoreView.{total_of, done_of, buffered_of};
     ghost use Rattle.twox_core.specs.AfterWrite.{core_after_write};
     ghost use Rattle.twox_core.specs.Finish.{core_finish};
-    ghost use Rattle.twox_core.specs.StandsFor.{StandsFor};
+    ghost use Rattle.twox_core.specs.StandsFor.{StandsFor, TakesPiece};
 
     /// A stream of no bytes yet.
     #[tactic(auto, using(crate::proofs::StreamFacts::stands_fresh))]
@@ -55,7 +55,7 @@ impl<S: FixedBuffer> RawHasherCore<S> {
     /// Takes the bytes of a piece after those taken before.
     #[inline]
     pub fn write(&mut self, input: &[u8])
-        ensures message { (seed : ℕ) (s m : List ℕ) → StandsFor S.bytes self.old seed s m → StandsFor S.bytes self.new seed s (m ++ input.now) }
+        ensures message { TakesPiece S.bytes self.old self.new input.now }
         ensures exact { self.new ≡ core_after_write S.bytes self.old input.now }
     {
         self.write_with(Kernel {}, input);
@@ -64,7 +64,7 @@ impl<S: FixedBuffer> RawHasherCore<S> {
     /// Takes the bytes of a piece after those taken before, by a kernel. Each call may have another kernel.
     #[inline]
     pub fn write_with(&mut self, v: impl Vector, input: &[u8])
-        ensures message { (seed : ℕ) (s m : List ℕ) → StandsFor S.bytes self.old seed s m → StandsFor S.bytes self.new seed s (m ++ input.now) }
+        ensures message { TakesPiece S.bytes self.old self.new input.now }
         ensures exact { self.new ≡ core_after_write S.bytes self.old input.now }
     {
         self.state.write(v, input, self.secret_buffer.secret());
