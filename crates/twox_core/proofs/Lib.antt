@@ -10,5 +10,6 @@ pub mod ShortLaws
 pub mod StepLaws
 pub mod StreamFacts
 pub mod StripeFacts
+pub mod TakenFacts
 pub mod ValueLaws
 pub mod Vectors

@@ -12,7 +12,7 @@ abbrev pub total_of : {S : Type 0} → CoreView S → ℕ
 total_of h = h.state.total_bytes
 
 abbrev pub done_of : {S : Type 0} → CoreView S → ℕ
-done_of h = h.state.stripes_done
+done_of h = h.state.taken.count
 
 abbrev pub buffered_of : {S : Type 0} → CoreView S → ℕ
 buffered_of h = h.state.buffer_usage

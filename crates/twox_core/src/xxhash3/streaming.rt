@@ -4,6 +4,7 @@ mod buffers;
 mod core_state;
 mod raw;
 mod secret_buffer;
+mod taken_stripes;
 
 pub use buffers::{ClonedBuffer, FixedBuffer, FixedMutBuffer};
 pub use core_state::BUFFERED_BYTES;

@@ -103,14 +103,24 @@ impl StripeAccumulator {
         }
     }
 
-    // The same of many bytes.
+    // The same, where the caller knows whether the bytes are many.
     #[inline(always)]
-    pub(crate) fn process_far<V: Vector>(&mut self, v: V, bytes: &[u8], secret: Secret<'_>)
+    pub(crate) fn process<V: Vector, const FAR: bool>(
+        &mut self,
+        v: V,
+        bytes: &[u8],
+        secret: Secret<'_>,
+    )
         requires { current_stripe_of self.old < stripes_of (secret_bytes secret) }
-        ensures exact { self.new ≡ after_stripes (secret_bytes secret.entry) self.old bytes.now (length bytes.now / 64) }
+        ensures exact { let s = secret_bytes secret.entry in
+            self.new ≡ after_stripes s self.old bytes.now (length bytes.now / 64) }
         ensures place { current_stripe_of self.new < stripes_of (secret_bytes secret.entry) }
     {
-        *self = taken_far(*self, v, bytes, secret);
+        if FAR {
+            *self = taken_far(*self, v, bytes, secret);
+        } else {
+            self.process_near(v, bytes, secret);
+        }
     }
 
     // Takes the stripes. The accumulators are a copy in the loop, so that they stay in registers.

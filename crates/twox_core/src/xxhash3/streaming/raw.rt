@@ -27,8 +27,8 @@ impl<S: FixedBuffer> Model for RawHasherCore<S> {
 
     ghost view = { λ h. record { key = h.secret_buffer; state = h.state } };
 
-    ghost invariant = { λ h. (136 ≤ length (S.bytes h.secret_buffer.secret) → h.state.stripes.current_stripe < stripes_of (S.bytes h.secret_buffer.secret))
-        × (h.state.buffer_usage ≤ 256) × (min h.state.total_bytes 1 ≤ h.state.buffer_usage) };
+    ghost invariant = { λ h. (136 ≤ length (S.bytes h.secret_buffer.secret) → h.state.taken.stripes.current_stripe < stripes_of (S.bytes h.secret_buffer.secret))
+        × (h.state.buffer_usage ≤ 512) × (min h.state.total_bytes 1 ≤ h.state.buffer_usage) };
 }
 
 impl<S: FixedBuffer> RawHasherCore<S> {
@@ -56,6 +56,8 @@ impl<S: FixedBuffer> RawHasherCore<S> {
     #[inline]
     pub fn write(&mut self, input: &[u8])
         ensures message { TakesPiece S.bytes self.old self.new input.now }
+        ensures in_place { BUFFERED_BYTES < length input.now
+            → (64 ≤ buffered_of self.new) × (buffered_of self.new ≤ 127) }
         ensures exact { self.new ≡ core_after_write S.bytes self.old input.now }
     {
         self.write_with(Kernel {}, input);
@@ -65,6 +67,8 @@ impl<S: FixedBuffer> RawHasherCore<S> {
     #[inline]
     pub fn write_with(&mut self, v: impl Vector, input: &[u8])
         ensures message { TakesPiece S.bytes self.old self.new input.now }
+        ensures in_place { BUFFERED_BYTES < length input.now
+            → (64 ≤ buffered_of self.new) × (buffered_of self.new ≤ 127) }
         ensures exact { self.new ≡ core_after_write S.bytes self.old input.now }
     {
         self.state.write(v, input, self.secret_buffer.secret());
@@ -115,7 +119,7 @@ impl<S: FixedBuffer> RawHasherCore<S> {
         ensures all { (seed : ℕ) (s m : List ℕ) → StandsFor S.bytes self.now seed s m → length m < 2 ^ 64
             → 64 * result + buffered_of self.now ≡ length m }
     {
-        self.state.stripes_done
+        self.state.taken.count
     }
 
     /// The number of bytes that are kept for later: none before the first byte, and then from 1 to
