@@ -16,6 +16,12 @@ need() {
     apt-get update -qq && apt-get install -y -qq "$1" > /dev/null || fail "no $2, and its package $1 could not be installed"
 }
 
+# need_file PACKAGE PATTERN: installs the Debian package where no such file is there.
+need_file() {
+    compgen -G "$2" > /dev/null && return
+    apt-get update -qq && apt-get install -y -qq "$1" > /dev/null || fail "no $2, and its package $1 could not be installed"
+}
+
 # our_library TREE SET FILE: builds the library of bench_exports in a tree, proved, for an instruction set, as an
 # object. An older build is removed first, so that what is measured is what was proved.
 our_library() {
@@ -56,11 +62,8 @@ link_layouts() {
     done
 }
 
-# rounds SET NUMBER WORDS..: runs the five layouts in turn, so many rounds in all, each with these words; their
-# lines lie in $room/SET/round_1 and so on.
-rounds() {
-    local set=$1 round
-    for ((round = 1; round <= $2; round++)); do
-        "$room/$set/driver_$(((round - 1) % 5 + 1))" "${@:3}" > "$room/$set/round_$round" || fail "the driver stopped"
-    done
+# one_round SET ROUND WORDS..: runs the layout of that round with these words; its lines lie in
+# $room/SET/round_ROUND.
+one_round() {
+    "$room/$1/driver_$((($2 - 1) % 5 + 1))" "${@:3}" > "$room/$1/round_$2" || fail "the driver stopped"
 }
