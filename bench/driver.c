@@ -1,152 +1,223 @@
-/* Measures the peers interleaved in one process, and writes a line for each:
+/* Measures peers in turns, in one process, and writes a line for each row and peer:
  *
- *     CASE LENGTH PIECE PEER BEST MEDIAN
+ *     FORM NAME SIZE PEER NANOSECONDS
  *
- * BEST and MEDIAN are nanoseconds a call, over ROUNDS rounds in which the peers take turns. PIECE is 0 for a
- * one-shot. Before anything is timed the peers have to agree on every case and length; status 1 if not.
+ * FORM is oneshot, inlined or called (streams), kernel or kernel_stream; SIZE is the input's length, or of a
+ * stream the length of its pieces. NANOSECONDS, of processor time, is what a call of a one-shot takes, or what
+ * a stream takes for 1 MiB: the best of TURNS turns. Before a row is timed its peers have to agree; status 1
+ * if they do not.
+ *
+ *     driver [--quick] [--only WORD]..
+ *
+ * --quick takes fewer rows, and less time for each; --only takes the rows whose "FORM NAME SIZE" holds WORD
+ * (of several words each). The peers are those of `peers`, a list that is compiled beside this file.
  */
-#include <inttypes.h>
 #include <stdio.h>
 #include <stdlib.h>
 #include <string.h>
 #include <time.h>
 #include "peer.h"
 
-#define ROUNDS 21
-#define SLICE 1500000.0 /* nanoseconds that a peer is timed for, a round */
+#define MOST_PEERS 8
+#define TURNS 11
+#define SLICE 1200000.0 /* nanoseconds that a peer is timed for, a turn */
 #define LONGEST ((size_t)64 << 20)
-#define STREAM ((size_t)1 << 20)
+#define MIB ((size_t)1 << 20)
 #define SECRET 192
 
-extern const struct peer ours, c_gcc, c_shared;
-#ifdef WITH_CLANG
-extern const struct peer c_clang;
-#endif
-#ifdef WITH_RUST
-extern const struct peer xxhash_rust;
-#endif
-static const struct peer *const peers[] = {
-    &ours, &c_gcc,
-#ifdef WITH_CLANG
-    &c_clang,
-#endif
-    &c_shared,
-#ifdef WITH_RUST
-    &xxhash_rust,
-#endif
-};
-#define PEERS (sizeof peers / sizeof peers[0])
+extern const struct peer *const peers[];
+extern const size_t peer_count;
 
-enum kind { XXH32_, XXH64_, XXH3_64_, XXH3_64_SEEDED, XXH3_64_KEYED, XXH3_128_, XXH3_128_SEEDED, ONESHOTS };
-static const char *const kinds[] = { "XXH32", "XXH64", "XXH3-64", "XXH3-64-seeded", "XXH3-64-secret", "XXH3-128", "XXH3-128-seeded" };
-static const char *const streams[] = { "XXH32", "XXH64", "XXH3-64", "XXH3-128" };
+enum form { ONESHOT, INLINED, CALLED, KERNEL, KERNEL_STREAM };
+static const char *const forms[] = { "oneshot", "inlined", "called", "kernel", "kernel_stream" };
+
+enum hash { XXH32_, XXH64_, XXH3_64_, XXH3_64_SEEDED, XXH3_64_SECRET, XXH3_128_, XXH3_128_SEEDED, HASHES };
+static const char *const hashes[] = { "XXH32", "XXH64", "XXH3-64", "XXH3-64-seeded", "XXH3-64-secret", "XXH3-128", "XXH3-128-seeded" };
+static const char *const kernels[] = { "scalar", "lanes2", "lanes4", "split2" };
+
+/* A row: which is a hash, or a kernel. */
+struct row { enum form form; int which; size_t size; };
+
+static const char *name_of(struct row r) { return r.form == KERNEL || r.form == KERNEL_STREAM ? kernels[r.which] : hashes[r.which]; }
 
 static unsigned char *input, secret[SECRET];
+static int quick;
 
-/* Of 128 bits the halves' xor is answered. */
-static uint64_t both(struct halves h) { return h.low ^ h.high; }
+/* Of 128 bits the sum of the halves is answered. */
+static uint64_t both(struct halves h) { return h.low + h.high; }
 
-static uint64_t oneshot(const struct peer *p, enum kind kind, size_t n)
+/* A stream takes 1 MiB in large pieces, and a part of it in small ones. */
+static size_t stream_length(struct row r) { return r.size < 1000 ? MIB / 4 : MIB; }
+
+static const struct streams *streams_of(const struct peer *p, enum form form) { return form == INLINED ? &p->inlined : &p->called; }
+
+static int offers(const struct peer *p, struct row r)
 {
-    switch (kind) {
-    case XXH32_: return p->xxh32(7, input, n);
-    case XXH64_: return p->xxh64(7, input, n);
-    case XXH3_64_: return p->xxh3_64(input, n);
-    case XXH3_64_SEEDED: return p->xxh3_64_seeded(7, input, n);
-    case XXH3_64_KEYED: return p->xxh3_64_keyed(secret, SECRET, input, n);
-    case XXH3_128_: return both(p->xxh3_128(input, n));
-    default: return both(p->xxh3_128_seeded(7, input, n));
+    const struct streams *s = streams_of(p, r.form);
+    switch (r.form) {
+    case KERNEL: return p->kernel_oneshot[r.which] != 0;
+    case KERNEL_STREAM: return p->kernel_stream[r.which] != 0;
+    case ONESHOT:
+        switch ((enum hash)r.which) {
+        case XXH32_: return p->xxh32 != 0;
+        case XXH64_: return p->xxh64 != 0;
+        case XXH3_64_: return p->xxh3_64 != 0;
+        case XXH3_64_SEEDED: return p->xxh3_64_seeded != 0;
+        case XXH3_64_SECRET: return p->xxh3_64_keyed != 0;
+        case XXH3_128_: return p->xxh3_128 != 0;
+        default: return p->xxh3_128_seeded != 0;
+        }
+    default:
+        switch ((enum hash)r.which) {
+        case XXH32_: return s->xxh32 != 0;
+        case XXH64_: return s->xxh64 != 0;
+        case XXH3_64_: return s->xxh3_64 != 0;
+        default: return s->xxh3_128 != 0;
+        }
     }
 }
 
-static uint64_t stream(const struct peer *p, int kind, size_t piece)
+/* The sum of the answers of so many calls. The choice of the function stands outside the loop. */
+static uint64_t called(const struct peer *p, struct row r, long times)
 {
-    switch (kind) {
-    case 0: return p->xxh32_stream(input, STREAM, piece);
-    case 1: return p->xxh64_stream(input, STREAM, piece);
-    case 2: return p->xxh3_64_stream(input, STREAM, piece);
-    default: return both(p->xxh3_128_stream(input, STREAM, piece));
+    const struct streams *s = streams_of(p, r.form);
+    const size_t n = r.size, all = stream_length(r);
+    uint64_t sum = 0;
+#define TIMES(expression) do { for (long i = 0; i < times; i++) sum += (expression); return sum; } while (0)
+    switch (r.form) {
+    case KERNEL: TIMES(p->kernel_oneshot[r.which](input, n));
+    case KERNEL_STREAM: TIMES(p->kernel_stream[r.which](input, all, n));
+    case ONESHOT:
+        switch ((enum hash)r.which) {
+        case XXH32_: TIMES(p->xxh32(7, input, n));
+        case XXH64_: TIMES(p->xxh64(7, input, n));
+        case XXH3_64_: TIMES(p->xxh3_64(input, n));
+        case XXH3_64_SEEDED: TIMES(p->xxh3_64_seeded(7, input, n));
+        case XXH3_64_SECRET: TIMES(p->xxh3_64_keyed(secret, SECRET, input, n));
+        case XXH3_128_: TIMES(both(p->xxh3_128(input, n)));
+        default: TIMES(both(p->xxh3_128_seeded(7, input, n)));
+        }
+    default:
+        switch ((enum hash)r.which) {
+        case XXH32_: TIMES(s->xxh32(input, all, n));
+        case XXH64_: TIMES(s->xxh64(input, all, n));
+        case XXH3_64_: TIMES(s->xxh3_64(input, all, n));
+        default: TIMES(both(s->xxh3_128(input, all, n)));
+        }
     }
 }
 
+/* Processor time, so that waiting for a processor does not count. */
 static double now(void)
 {
     struct timespec t;
-    clock_gettime(CLOCK_MONOTONIC, &t);
+    clock_gettime(CLOCK_THREAD_CPUTIME_ID, &t);
     return 1e9 * (double)t.tv_sec + (double)t.tv_nsec;
 }
 
 static volatile uint64_t sink;
 
-/* The kind and the length, or the piece, of what is timed. */
-struct what { int is_stream, kind; size_t size; };
-
-static uint64_t call(const struct peer *p, struct what w) { return w.is_stream ? stream(p, w.kind, w.size) : oneshot(p, (enum kind)w.kind, w.size); }
-
-static double timed(const struct peer *p, struct what w, long times)
+static double timed(const struct peer *p, struct row r, long times)
 {
-    uint64_t all = 0;
     double start = now();
-    for (long i = 0; i < times; i++) all += call(p, w);
-    double end = now();
-    sink += all;
-    return (end - start) / (double)times;
+    sink += called(p, r, times);
+    return (now() - start) / (double)times;
 }
 
-static int by_size(const void *a, const void *b) { double x = *(const double *)a, y = *(const double *)b; return (x > y) - (x < y); }
-
-static void measure(struct what w)
+/* The peers that offer the row, which have to agree on it. */
+static size_t offering(struct row r, const struct peer **those)
 {
-    static double taken[PEERS][ROUNDS];
-    long times[PEERS];
-    for (size_t p = 0; p < PEERS; p++) {
-        double once = timed(peers[p], w, 1);
-        once = timed(peers[p], w, once < 1000 ? 2000 : 1);
-        times[p] = once > SLICE ? 1 : (long)(SLICE / once) + 1;
+    size_t count = 0;
+    for (size_t p = 0; p < peer_count; p++)
+        if (offers(peers[p], r)) those[count++] = peers[p];
+    for (size_t p = 1; p < count; p++)
+        if (called(those[p], r, 1) != called(those[0], r, 1)) {
+            fprintf(stderr, "%s and %s disagree: %s %s %zu\n", those[0]->name, those[p]->name, forms[r.form], name_of(r), r.size);
+            exit(1);
+        }
+    return count;
+}
+
+static void measure(struct row r)
+{
+    const struct peer *those[MOST_PEERS];
+    double best[MOST_PEERS], slice = quick ? SLICE / 3 : SLICE;
+    long times[MOST_PEERS];
+    int turns = quick ? 8 : TURNS;
+    size_t count = offering(r, those);
+    if (count < 2) return;
+    for (size_t p = 0; p < count; p++) {
+        double once = timed(those[p], r, 1);
+        if (once < 2000) once = timed(those[p], r, 1000);
+        times[p] = once > slice ? 1 : (long)(slice / once) + 1;
+        best[p] = 1e18;
     }
-    for (int round = 0; round < ROUNDS; round++)
-        for (size_t p = 0; p < PEERS; p++) taken[p][round] = timed(peers[p], w, times[p]);
-    for (size_t p = 0; p < PEERS; p++) {
-        qsort(taken[p], ROUNDS, sizeof(double), by_size);
-        printf("%s %s %zu %zu %s %.3f %.3f\n", w.is_stream ? "stream" : "oneshot", w.is_stream ? streams[w.kind] : kinds[w.kind],
-               w.is_stream ? STREAM : w.size, w.is_stream ? w.size : 0, peers[p]->name, taken[p][0], taken[p][ROUNDS / 2]);
-    }
+    for (int turn = 0; turn < turns; turn++)
+        for (size_t k = 0; k < count; k++) {
+            size_t p = (k + (size_t)turn) % count;
+            double taken = timed(those[p], r, times[p]);
+            if (taken < best[p]) best[p] = taken;
+        }
+    double scale = r.form == ONESHOT || r.form == KERNEL ? 1 : (double)MIB / (double)stream_length(r);
+    for (size_t p = 0; p < count; p++)
+        printf("%s %s %zu %s %.4f\n", forms[r.form], name_of(r), r.size, those[p]->name, best[p] * scale);
     fflush(stdout);
 }
 
-static void must_agree(struct what w)
+static int words;
+static char **word;
+
+/* Whether each word stands in the row's name. */
+static int wanted(struct row r)
 {
-    uint64_t wanted = call(peers[0], w);
-    for (size_t p = 1; p < PEERS; p++)
-        if (call(peers[p], w) != wanted) {
-            fprintf(stderr, "%s and %s disagree: %s %d, %zu\n", peers[0]->name, peers[p]->name, w.is_stream ? "stream" : "one-shot", w.kind, w.size);
-            exit(1);
-        }
+    char name[100];
+    snprintf(name, sizeof name, "%s %s %zu", forms[r.form], name_of(r), r.size);
+    for (int w = 0; w < words; w++)
+        if (!strstr(name, word[w])) return 0;
+    return 1;
 }
 
-int main(void)
+static void rows(enum form form, int which, const size_t *sizes)
 {
-    static const size_t lengths[] = { 4, 8, 16, 32, 64, 128, 240, 256, 512, 1024, 4096, 16384, 1 << 20, 64 << 20 };
-    static const size_t pieces[] = { 1, 8, 64, 100, 1000, 4096, 65536 };
-    input = malloc(LONGEST);
-    if (!input) return 1;
+    for (; *sizes; sizes++) {
+        struct row r = { form, which, *sizes };
+        if (wanted(r)) measure(r);
+    }
+}
+
+int main(int argc, char **argv)
+{
+    static const size_t lengths[] = { 4, 8, 16, 32, 64, 128, 240, 256, 512, 1 << 10, 4 << 10, 16 << 10, 64 << 10,
+        256 << 10, MIB, 2 * MIB, 4 * MIB, 16 * MIB, LONGEST, 0 };
+    static const size_t few_lengths[] = { 4, 16, 32, 64, 128, 240, 256, 1 << 10, 16 << 10, 256 << 10, 4 * MIB, 0 };
+    static const size_t pieces[] = { 1, 8, 16, 24, 32, 40, 64, 100, 256, 1000, 4096, 65536, 0 };
+    static const size_t few_pieces[] = { 1, 8, 24, 64, 100, 1000, 65536, 0 };
+    static const size_t kernel_lengths[] = { 256, 1 << 10, 4 << 10, 64 << 10, MIB, 16 * MIB, 0 };
+    static const size_t kernel_pieces[] = { 64, 1000, 65536, 0 };
+    static char *given[100];
+    word = given;
+    for (int i = 1; i < argc && i < 100; i++)
+        if (!strcmp(argv[i], "--quick")) quick = 1;
+        else if (!strcmp(argv[i], "--only") && i + 1 < argc) given[words++] = argv[++i];
+        else return fprintf(stderr, "usage: driver [--quick] [--only WORD]..\n"), 2;
+    if (!(input = malloc(LONGEST))) return 1;
     uint64_t x = 1;
     for (size_t i = 0; i < LONGEST; i++) {
         x = x * 6364136223846793005u + 1442695040888963407u;
         input[i] = (unsigned char)(x >> 56);
         if (i < SECRET) secret[i] = (unsigned char)(x >> 48);
     }
-    for (int kind = 0; kind < ONESHOTS; kind++)
-        for (size_t n = 0; n <= 2000; n++) must_agree((struct what){ 0, kind, n });
-    for (int kind = 0; kind < 4; kind++)
-        for (size_t k = 0; k < sizeof pieces / sizeof pieces[0]; k++) must_agree((struct what){ 1, kind, pieces[k] });
-    for (int kind = 0; kind < ONESHOTS; kind++)
-        for (size_t k = 0; k < sizeof lengths / sizeof lengths[0]; k++) {
-            struct what w = { 0, kind, lengths[k] };
-            must_agree(w);
-            measure(w);
-        }
-    for (int kind = 0; kind < 4; kind++)
-        for (size_t k = 0; k < sizeof pieces / sizeof pieces[0]; k++) measure((struct what){ 1, kind, pieces[k] });
+    for (int hash = 0; hash < HASHES; hash++) {
+        const struct peer *those[MOST_PEERS];
+        for (size_t n = 0; n <= 1100; n++) offering((struct row){ ONESHOT, hash, n }, those);
+        rows(ONESHOT, hash, quick ? few_lengths : lengths);
+    }
+    static const enum hash streamed[] = { XXH32_, XXH64_, XXH3_64_, XXH3_128_ };
+    for (enum form form = INLINED; form <= CALLED; form++)
+        for (int s = 0; s < 4; s++) rows(form, (int)streamed[s], quick ? few_pieces : pieces);
+    for (int kernel = 0; kernel < KERNELS; kernel++) {
+        rows(KERNEL, kernel, kernel_lengths);
+        rows(KERNEL_STREAM, kernel, kernel_pieces);
+    }
     return 0;
 }

@@ -1,11 +1,25 @@
-/* What every peer of the benchmark offers: one-shots, and a stream that is fed the input in pieces. The
- * signatures are those of the exports of the crate bench_exports, so that each peer is one call away. */
+/* What a peer of the benchmark offers: one-shots, and streams that are fed the input in pieces. The signatures
+ * are those of the exports of the crate bench_exports, so that each peer is one call away. A peer leaves out
+ * what it hasn't (a null pointer), and the driver's rows of that kind do without it. */
 #ifndef PEER_H
 #define PEER_H
 #include <stddef.h>
 #include <stdint.h>
 
 struct halves { uint64_t low, high; };
+
+enum { SCALAR, LANES2, LANES4, SPLIT2, KERNELS };
+
+typedef uint32_t stream_of_32(const void *input, size_t length, size_t piece);
+typedef uint64_t stream_of_64(const void *input, size_t length, size_t piece);
+typedef struct halves stream_of_128(const void *input, size_t length, size_t piece);
+
+/* A stream of each hash. */
+struct streams {
+    stream_of_32 *xxh32;
+    stream_of_64 *xxh64, *xxh3_64;
+    stream_of_128 *xxh3_128;
+};
 
 struct peer {
     const char *name;
@@ -16,9 +30,9 @@ struct peer {
     uint64_t (*xxh3_64_keyed)(const void *secret, size_t secret_length, const void *input, size_t length);
     struct halves (*xxh3_128)(const void *input, size_t length);
     struct halves (*xxh3_128_seeded)(uint64_t seed, const void *input, size_t length);
-    uint32_t (*xxh32_stream)(const void *input, size_t length, size_t piece);
-    uint64_t (*xxh64_stream)(const void *input, size_t length, size_t piece);
-    uint64_t (*xxh3_64_stream)(const void *input, size_t length, size_t piece);
-    struct halves (*xxh3_128_stream)(const void *input, size_t length, size_t piece);
+    struct streams inlined; /* the compiler may inline the call that takes a piece */
+    struct streams called;  /* it may not */
+    uint64_t (*kernel_oneshot[KERNELS])(const void *input, size_t length); /* XXH3 64 by each kernel */
+    stream_of_64 *kernel_stream[KERNELS];
 };
 #endif

@@ -17,43 +17,46 @@ static uint64_t xxh3_64_keyed(const void *s, size_t m, const void *p, size_t n) 
 static struct halves xxh3_128(const void *p, size_t n) { return halves(XXH3_128bits(p, n)); }
 static struct halves xxh3_128_seeded(uint64_t seed, const void *p, size_t n) { return halves(XXH3_128bits_withSeed(p, n, seed)); }
 
-/* Feeds a stream in pieces. */
-#define FEED(update)                                                                  \
-    for (size_t at = 0; at < n; at += piece)                                          \
-        update(&state, (const char *)p + at, n - at < piece ? n - at : piece)
+/* The calls that take a piece, none of them inlined. Those of the shared library never are. */
+#ifdef XXH_INLINE_ALL
+#define CALLED __attribute__((noinline)) static void
+#else
+#define CALLED static inline void
+#endif
+CALLED update_32(XXH32_state_t *s, const void *p, size_t n) { XXH32_update(s, p, n); }
+CALLED update_64(XXH64_state_t *s, const void *p, size_t n) { XXH64_update(s, p, n); }
+CALLED update_3_64(XXH3_state_t *s, const void *p, size_t n) { XXH3_64bits_update(s, p, n); }
+CALLED update_3_128(XXH3_state_t *s, const void *p, size_t n) { XXH3_128bits_update(s, p, n); }
 
-static uint32_t xxh32_stream(const void *p, size_t n, size_t piece)
-{
-    XXH32_state_t state;
-    XXH32_reset(&state, 0);
-    FEED(XXH32_update);
-    return XXH32_digest(&state);
-}
-static uint64_t xxh64_stream(const void *p, size_t n, size_t piece)
-{
-    XXH64_state_t state;
-    XXH64_reset(&state, 0);
-    FEED(XXH64_update);
-    return XXH64_digest(&state);
-}
-static uint64_t xxh3_64_stream(const void *p, size_t n, size_t piece)
-{
-    XXH3_state_t state;
-    XXH3_INITSTATE(&state);
-    XXH3_64bits_reset(&state);
-    FEED(XXH3_64bits_update);
-    return XXH3_64bits_digest(&state);
-}
-static struct halves xxh3_128_stream(const void *p, size_t n, size_t piece)
-{
-    XXH3_state_t state;
-    XXH3_INITSTATE(&state);
-    XXH3_128bits_reset(&state);
-    FEED(XXH3_128bits_update);
-    return halves(XXH3_128bits_digest(&state));
-}
+/* A stream that is fed by `update` in pieces. */
+#define STREAM(name, result, state_type, reset, update, digest)             \
+    static result name(const void *p, size_t n, size_t piece)               \
+    {                                                                       \
+        state_type state;                                                   \
+        reset;                                                              \
+        for (size_t at = 0; at < n; at += piece)                            \
+            update(&state, (const char *)p + at, n - at < piece ? n - at : piece); \
+        return digest;                                                      \
+    }
+#define RESET_3(reset) XXH3_INITSTATE(&state); reset(&state)
+STREAM(xxh32_inlined, uint32_t, XXH32_state_t, XXH32_reset(&state, 0), XXH32_update, XXH32_digest(&state))
+STREAM(xxh32_called, uint32_t, XXH32_state_t, XXH32_reset(&state, 0), update_32, XXH32_digest(&state))
+STREAM(xxh64_inlined, uint64_t, XXH64_state_t, XXH64_reset(&state, 0), XXH64_update, XXH64_digest(&state))
+STREAM(xxh64_called, uint64_t, XXH64_state_t, XXH64_reset(&state, 0), update_64, XXH64_digest(&state))
+STREAM(xxh3_64_inlined, uint64_t, XXH3_state_t, RESET_3(XXH3_64bits_reset), XXH3_64bits_update, XXH3_64bits_digest(&state))
+STREAM(xxh3_64_called, uint64_t, XXH3_state_t, RESET_3(XXH3_64bits_reset), update_3_64, XXH3_64bits_digest(&state))
+STREAM(xxh3_128_inlined, struct halves, XXH3_state_t, RESET_3(XXH3_128bits_reset), XXH3_128bits_update, halves(XXH3_128bits_digest(&state)))
+STREAM(xxh3_128_called, struct halves, XXH3_state_t, RESET_3(XXH3_128bits_reset), update_3_128, halves(XXH3_128bits_digest(&state)))
 
 const struct peer PEER = {
     NAME(PEER), xxh32, xxh64, xxh3_64, xxh3_64_seeded, xxh3_64_keyed, xxh3_128, xxh3_128_seeded,
-    xxh32_stream, xxh64_stream, xxh3_64_stream, xxh3_128_stream,
+    { xxh32_inlined, xxh64_inlined, xxh3_64_inlined, xxh3_128_inlined },
+    { xxh32_called, xxh64_called, xxh3_64_called, xxh3_128_called },
+#ifdef XXH_INLINE_ALL
+    /* Beside each of our kernels stands the header's own. */
+    { xxh3_64, xxh3_64, xxh3_64, xxh3_64 },
+    { xxh3_64_called, xxh3_64_called, xxh3_64_called, xxh3_64_called },
+#else
+    { 0 }, { 0 },
+#endif
 };

@@ -14,8 +14,9 @@
 #include <string.h>
 #include <xxhash.h>
 
-#define LONGEST 5000
-#define LONGEST_SECRET 300
+#define LONGEST 100000
+#define LONGEST_SECRET 1000
+#define LONGEST_RANDOM 5000 /* of a request of random length */
 
 static uint64_t next_number(uint64_t x) { return x * 6364136223846793005u + 1442695040888963407u; }
 
@@ -96,7 +97,7 @@ static void all_seeded(enum hash hash)
         seeded(hash, random_number() & mask, edges[e], random_number());
     }
     for (int k = 0; k < 200; k++) {
-        size_t length = random_number() % (LONGEST + 1);
+        size_t length = random_number() % (LONGEST_RANDOM + 1);
         seeded(hash, random_number() & mask, length, random_number());
     }
 }
@@ -110,9 +111,48 @@ static void all_keyed(enum hash hash)
             keyed(hash, 1, random_number(), lengths[l], random_number(), edges[e], random_number());
         }
         for (int k = 0; k < 40; k++) {
-            size_t length = random_number() % (LONGEST + 1);
+            size_t length = random_number() % (LONGEST_RANDOM + 1);
             keyed(hash, k % 2, random_number(), lengths[l], random_number(), length, random_number());
         }
+    }
+}
+
+/* Under secrets of these lengths the inputs of every length to 1,100: up to 240 bytes, where a secret has an
+ * effect by itself alone, with no seed, and above with one. */
+static void every_length(enum hash hash)
+{
+    const size_t lengths[] = { 136, 137, 143, 144, 192, 300 };
+    for (size_t l = 0; l < sizeof lengths / sizeof lengths[0]; l++) {
+        const uint64_t secret_start = random_number();
+        for (size_t length = 0; length <= 1100; length++)
+            keyed(hash, length > 240, random_number(), lengths[l], secret_start, length, random_number());
+    }
+}
+
+/* Under secrets of every kind of length the edges of the first three blocks: a block has a stripe for each eight
+ * bytes of the secret but its last 64, and a scramble ends it. */
+static void past_scrambles(enum hash hash)
+{
+    const size_t lengths[] = { 136, 137, 143, 144, 192, 300, 301, 500, 777, 999, 1000 };
+    for (size_t l = 0; l < sizeof lengths / sizeof lengths[0]; l++)
+        for (size_t block = 1; block <= 3; block++)
+            for (size_t past = 0; past <= 3; past++) {
+                const size_t length = block * 64 * ((lengths[l] - 64) / 8) + past - 1;
+                keyed(hash, 0, 0, lengths[l], random_number(), length, random_number());
+                keyed(hash, 1, random_number(), lengths[l], random_number(), length, random_number());
+            }
+}
+
+/* Inputs of up to 100,000 bytes. */
+static void long_inputs(enum hash hash)
+{
+    const size_t lengths[] = { 10000, 10240, 16384, 32767, 49151, 49152, 49153, 65535, 65536, 65537, 99999, 100000 };
+    const size_t secrets[] = { 136, 192, 1000 };
+    for (size_t l = 0; l < sizeof lengths / sizeof lengths[0]; l++) {
+        seeded(hash, 0, lengths[l], random_number());
+        seeded(hash, random_number() & (hash == H32 ? 0xFFFFFFFFu : UINT64_MAX), lengths[l], random_number());
+        for (size_t s = 0; s < 3 && hash >= H3_64; s++)
+            keyed(hash, s == 1, random_number(), secrets[s], random_number(), lengths[l], random_number());
     }
 }
 
@@ -123,5 +163,8 @@ int main(void)
     for (int hash = H32; hash <= H3_128; hash++) all_seeded((enum hash)hash);
     all_keyed(H3_64);
     all_keyed(H3_128);
+    for (int hash = H3_64; hash <= H3_128; hash++) every_length((enum hash)hash);
+    for (int hash = H3_64; hash <= H3_128; hash++) past_scrambles((enum hash)hash);
+    for (int hash = H32; hash <= H3_128; hash++) long_inputs((enum hash)hash);
     return 0;
 }

@@ -57,30 +57,43 @@ pub unsafe extern "C" fn rust_xxh3_128_seeded(seed: u64, input: *const u8, lengt
     halves(xxh3::xxh3_128_with_seed(bytes(input, length), seed))
 }
 
-#[no_mangle]
-pub unsafe extern "C" fn rust_xxh32_stream(input: *const u8, length: usize, piece: usize) -> u32 {
-    let mut hasher = xxh32::Xxh32::new(0);
-    bytes(input, length).chunks(piece).for_each(|part| hasher.update(part));
-    hasher.digest()
+// The calls that take a piece, none of them inlined.
+#[inline(never)]
+fn update_32(hasher: &mut xxh32::Xxh32, part: &[u8]) {
+    hasher.update(part)
 }
 
-#[no_mangle]
-pub unsafe extern "C" fn rust_xxh64_stream(input: *const u8, length: usize, piece: usize) -> u64 {
-    let mut hasher = xxh64::Xxh64::new(0);
-    bytes(input, length).chunks(piece).for_each(|part| hasher.update(part));
-    hasher.digest()
+#[inline(never)]
+fn update_64(hasher: &mut xxh64::Xxh64, part: &[u8]) {
+    hasher.update(part)
 }
 
-#[no_mangle]
-pub unsafe extern "C" fn rust_xxh3_64_stream(input: *const u8, length: usize, piece: usize) -> u64 {
-    let mut hasher = xxh3::Xxh3::new();
-    bytes(input, length).chunks(piece).for_each(|part| hasher.update(part));
-    hasher.digest()
+#[inline(never)]
+fn update_3(hasher: &mut xxh3::Xxh3, part: &[u8]) {
+    hasher.update(part)
 }
 
-#[no_mangle]
-pub unsafe extern "C" fn rust_xxh3_128_stream(input: *const u8, length: usize, piece: usize) -> Halves {
-    let mut hasher = xxh3::Xxh3::new();
-    bytes(input, length).chunks(piece).for_each(|part| hasher.update(part));
+/// A stream that is fed the input in pieces.
+macro_rules! stream {
+    ($name:ident, $result:ty, $new:expr, $update:expr, $digest:expr) => {
+        #[no_mangle]
+        pub unsafe extern "C" fn $name(input: *const u8, length: usize, piece: usize) -> $result {
+            let mut hasher = $new;
+            bytes(input, length).chunks(piece).for_each(|part| $update(&mut hasher, part));
+            $digest(&hasher)
+        }
+    };
+}
+
+fn digest_128(hasher: &xxh3::Xxh3) -> Halves {
     halves(hasher.digest128())
 }
+
+stream!(rust_xxh32_stream, u32, xxh32::Xxh32::new(0), xxh32::Xxh32::update, xxh32::Xxh32::digest);
+stream!(rust_xxh32_stream_called, u32, xxh32::Xxh32::new(0), update_32, xxh32::Xxh32::digest);
+stream!(rust_xxh64_stream, u64, xxh64::Xxh64::new(0), xxh64::Xxh64::update, xxh64::Xxh64::digest);
+stream!(rust_xxh64_stream_called, u64, xxh64::Xxh64::new(0), update_64, xxh64::Xxh64::digest);
+stream!(rust_xxh3_64_stream, u64, xxh3::Xxh3::new(), xxh3::Xxh3::update, xxh3::Xxh3::digest);
+stream!(rust_xxh3_64_stream_called, u64, xxh3::Xxh3::new(), update_3, xxh3::Xxh3::digest);
+stream!(rust_xxh3_128_stream, Halves, xxh3::Xxh3::new(), xxh3::Xxh3::update, digest_128);
+stream!(rust_xxh3_128_stream_called, Halves, xxh3::Xxh3::new(), update_3, digest_128);

@@ -1,9 +1,10 @@
-//! Compares every road to a hash with the answers of the reference library, a table that is read on standard
-//! input. `oracle/vectors.c` says how a row is written.
+//! Compares every way to compute a hash with the answers of the reference library, a table that is read on
+//! standard input. `oracle/vectors.c` says how a row is written.
 #![tactic(auto)]
 
-mod roads;
+mod kernels;
 mod rows;
+mod ways;
 
 use crate::rows::Row;
 use std::io;
@@ -26,7 +27,7 @@ fn compare(rt: &HostRuntime, table: &str) -> io::Result<Counts> {
             continue;
         }
         let agrees = match Row::parse(line) {
-            Some(row) => roads::agree(rt.alloc(), &row)?,
+            Some(row) => ways::agree(rt.alloc(), &row)?,
             None => false,
         };
         if agrees {

@@ -1,12 +1,11 @@
-//! Every road to a hash: at once, byte by byte, cut at random, and over each kernel.
+//! Every way to compute a hash: at once, byte by byte, cut at random, and by each kernel.
 
+use crate::kernels;
 use crate::rows::{Kind, Recipe, Row, next_number};
 use std::alloc::{AllocError, Global};
-use twox_hash::xxhash3::large::{Algorithm, scalar};
-use twox_hash::xxhash3::{DEFAULT_SECRET_RAW, Secret, derive_secret};
-use twox_hash::{XxHash3_64, XxHash3_128, XxHash32, XxHash64, xxhash3_64, xxhash3_128};
+use twox_hash::{XxHash3_64, XxHash3_128, XxHash32, XxHash64};
 
-/// Whether every road answers what the row does.
+/// Whether every way to compute the row's hash answers what the row does.
 pub fn agree(alloc: Global, row: &Row) -> Result<bool, AllocError> {
     let input = row.input.bytes(alloc)?;
     let none = Recipe {
@@ -15,7 +14,7 @@ pub fn agree(alloc: Global, row: &Row) -> Result<bool, AllocError> {
     };
     let secret = row.secret.unwrap_or(none).bytes(alloc)?;
     let answer = Some(row.answer);
-    if at_once(row, &input, &secret) != answer || over_kernel(row, &input, &secret) != answer {
+    if at_once(row, &input, &secret) != answer || !kernels::agree_at_once(row, &input, &secret) {
         return Ok(false);
     }
     if has_no_stream(row) {
@@ -25,7 +24,8 @@ pub fn agree(alloc: Global, row: &Row) -> Result<bool, AllocError> {
     let pieces = cut_at_random(alloc, &input)?;
     Ok(
         in_pieces(alloc, row, &secret, &bytes)? == answer
-            && in_pieces(alloc, row, &secret, &pieces)? == answer,
+            && in_pieces(alloc, row, &secret, &pieces)? == answer
+            && kernels::agree_in_pieces(alloc, row, &secret, &pieces)?,
     )
 }
 
@@ -61,26 +61,6 @@ fn at_once_128(row: &Row, input: &[u8], secret: &[u8]) -> Option<u128> {
             XxHash3_128::oneshot_with_seed_and_secret(seed, secret, input).ok()
         }
     }
-}
-
-// XXH3 above 240 bytes over the scalar kernel by name, whichever kernel the one-shots run; elsewhere no kernel
-// runs.
-fn over_kernel(row: &Row, input: &[u8], secret: &[u8]) -> Option<u128> {
-    if input.len() <= 240 {
-        return Some(row.answer);
-    }
-    let mut derived = DEFAULT_SECRET_RAW;
-    derive_secret(row.seed.unwrap_or(0), &mut derived);
-    let secret = match row.secret {
-        Some(_) => Secret::new(secret).ok()?,
-        None => Secret::new(&derived).ok()?,
-    };
-    let algorithm = Algorithm(scalar::Impl {});
-    Some(match row.kind {
-        Kind::X3_64 => u128::from(algorithm.oneshot(secret, input, xxhash3_64::Finalize64)),
-        Kind::X3_128 => algorithm.oneshot(secret, input, xxhash3_128::Finalize128),
-        Kind::X32 | Kind::X64 => row.answer,
-    })
 }
 
 // A secret alone takes effect on short inputs too, and no stream does that.

@@ -1,0 +1,69 @@
+# What bench/run and bench/compare build: sourced by both, in the folder bench. $room is a folder of the run's own.
+top=$(cd .. && pwd)
+room=$(mktemp -d)
+sets=(x86-64-v2 x86-64-v3)
+libraries=
+
+# Stops with a message.
+fail() {
+    echo "$(basename "$0"): $*" >&2
+    exit 1
+}
+
+# need PACKAGE COMMAND: installs the Debian package where the command is missing.
+need() {
+    command -v "$2" > /dev/null && return
+    apt-get update -qq && apt-get install -y -qq "$1" > /dev/null || fail "no $2, and its package $1 could not be installed"
+}
+
+# need_file PACKAGE PATTERN: installs the Debian package where no such file is there.
+need_file() {
+    compgen -G "$2" > /dev/null && return
+    apt-get update -qq && apt-get install -y -qq "$1" > /dev/null || fail "no $2, and its package $1 could not be installed"
+}
+
+# our_library TREE SET FILE: builds the library of bench_exports in a tree, proved, for an instruction set, as an
+# object. An older build is removed first, so that what is measured is what was proved.
+our_library() {
+    local tree=$1 set=$2 file=$3 crate=$1/crates/bench_exports cpu=()
+    [ -d "$crate" ] || fail "$tree has no crate bench_exports"
+    [ "$set" = x86-64-v2 ] || cpu=(--cpu="$set")
+    rm -f "$crate/out/libbench_exports.a"
+    (cd "$crate" && rt lib "${cpu[@]}") > "$room/lib.log" 2>&1 || {
+        grep -E 'error|^[a-z]+ \S+::' "$room/lib.log" | grep -v ': proved' | head -n 20 >&2
+        cp "$room/lib.log" "${TMPDIR:-/tmp}/bench-lib.log"
+        fail "$tree is not proved or not built for $set: ${TMPDIR:-/tmp}/bench-lib.log"
+    }
+    [ -f "$crate/out/libbench_exports.a" ] || fail "rt lib made no library in $tree"
+    ld -r --whole-archive "$crate/out/libbench_exports.a" -o "$file"
+}
+
+# link_layouts SET PEERS OBJECT..: links $room/SET/driver_1 to driver_5, the same objects in five layouts: a short
+# call moves by a tenth with the place where its code lies, so each round runs another layout. PEERS are the
+# names of the peers in the objects, and $libraries are linked beside them.
+link_layouts() {
+    local set=$1 peers=$2 objects=("${@:3}") reversed=() object place pads=(0 16 32 48 0)
+    {
+        echo '#include "peer.h"'
+        for peer in $peers; do echo "extern const struct peer $peer;"; done
+        echo "const struct peer *const peers[] = { $(printf '&%s, ' $peers)};"
+        echo 'const size_t peer_count = sizeof peers / sizeof peers[0];'
+    } > "$room/$set/peers.c"
+    gcc -O3 -I. -c "$room/$set/peers.c" -o "$room/$set/peers.o"
+    gcc -O3 -Wall -Wextra -c driver.c -o "$room/$set/driver.o"
+    for object in "${objects[@]}"; do reversed=("$object" "${reversed[@]}"); done
+    for place in 1 2 3 4 5; do
+        echo ".text; .balign 64; .fill ${pads[place - 1]}, 1, 0x90; .section .note.GNU-stack,\"\",@progbits" \
+            | gcc -c -x assembler - -o "$room/$set/pad.o"
+        [ $((place % 2)) = 1 ] || objects=("${reversed[@]}")
+        gcc "$room/$set/pad.o" "${objects[@]}" "$room/$set/driver.o" "$room/$set/peers.o" $libraries \
+            -o "$room/$set/driver_$place" || fail "the driver was not linked"
+        objects=("${@:3}")
+    done
+}
+
+# one_round SET ROUND WORDS..: runs the layout of that round with these words; its lines lie in
+# $room/SET/round_ROUND.
+one_round() {
+    "$room/$1/driver_$((($2 - 1) % 5 + 1))" "${@:3}" > "$room/$1/round_$2" || fail "the driver stopped"
+}

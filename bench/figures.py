@@ -1,0 +1,30 @@
+"""Reads what the driver wrote in each round."""
+import statistics
+
+
+def rows(files):
+    """(form, name, size) to peer to its times, one a round: nanoseconds a call, or for 1 MiB of a stream."""
+    table = {}
+    for file in files:
+        for line in open(file):
+            form, name, size, peer, time = line.split()
+            row = table.setdefault((form, name, int(size)), {})
+            row.setdefault(peer, []).append(float(time))
+    return table
+
+
+def ratios(cell, peer, ours):
+    """The peer's time over ours, in each round."""
+    return [a / b for a, b in zip(cell[peer], cell[ours])]
+
+
+def spread(values):
+    """How far the rounds lie apart, as a part of their median."""
+    return (max(values) - min(values)) / statistics.median(values)
+
+
+def size(n):
+    for unit, name in ((1 << 20, "MiB"), (1 << 10, "KiB")):
+        if n >= unit and n % unit == 0:
+            return f"{n // unit} {name}"
+    return f"{n} B"

@@ -1,0 +1,89 @@
+//! XXH3 by each kernel by name, whichever kernel the one-shots and the hashers run.
+
+use crate::rows::{Kind, Row};
+use std::alloc::{AllocError, Global};
+use twox_hash::xxhash3::large::{lanes2, lanes4, scalar, split2};
+use twox_hash::xxhash3::{
+    Algorithm, AllocRawHasher, CUTOFF, DEFAULT_SECRET_RAW, Secret, Vector, derive_secret,
+};
+use twox_hash::xxhash3_64::Finalize64;
+use twox_hash::xxhash3_128::Finalize128;
+
+/// Whether the one-shot by each kernel answers what the row does. Only XXH3 above 240 bytes has kernels.
+pub fn agree_at_once(row: &Row, input: &[u8], secret: &[u8]) -> bool {
+    if is_plain(row) || input.len() <= CUTOFF {
+        return true;
+    }
+    let answer = Some(row.answer);
+    at_once(scalar::Impl {}, row, input, secret) == answer
+        && at_once(lanes2::Impl {}, row, input, secret) == answer
+        && at_once(lanes4::Impl {}, row, input, secret) == answer
+        && at_once(split2::Impl {}, row, input, secret) == answer
+}
+
+/// Whether the stream by each kernel answers what the row does.
+pub fn agree_in_pieces(
+    alloc: Global,
+    row: &Row,
+    secret: &[u8],
+    pieces: &[&[u8]],
+) -> Result<bool, AllocError> {
+    if is_plain(row) {
+        return Ok(true);
+    }
+    let answer = Some(row.answer);
+    Ok(
+        in_pieces(alloc, scalar::Impl {}, row, secret, pieces)? == answer
+            && in_pieces(alloc, lanes2::Impl {}, row, secret, pieces)? == answer
+            && in_pieces(alloc, lanes4::Impl {}, row, secret, pieces)? == answer
+            && in_pieces(alloc, split2::Impl {}, row, secret, pieces)? == answer,
+    )
+}
+
+fn is_plain(row: &Row) -> bool {
+    matches!(row.kind, Kind::X32 | Kind::X64)
+}
+
+fn at_once<V: Vector>(kernel: V, row: &Row, input: &[u8], secret: &[u8]) -> Option<u128> {
+    if input.len() <= CUTOFF {
+        return None;
+    }
+    let mut derived = DEFAULT_SECRET_RAW;
+    derive_secret(row.seed.unwrap_or(0), &mut derived);
+    let secret = match row.secret {
+        Some(_) => Secret::new(secret).ok()?,
+        None => Secret::new(&derived).ok()?,
+    };
+    match row.kind {
+        Kind::X3_64 => Some(u128::from(Algorithm(kernel).oneshot(secret, input, Finalize64))),
+        Kind::X3_128 => Some(Algorithm(kernel).oneshot(secret, input, Finalize128)),
+        Kind::X32 | Kind::X64 => None,
+    }
+}
+
+fn in_pieces<V: Vector>(
+    alloc: Global,
+    kernel: V,
+    row: &Row,
+    secret: &[u8],
+    pieces: &[&[u8]],
+) -> Result<Option<u128>, AllocError> {
+    let seed = row.seed.unwrap_or(0);
+    let mut core = if row.secret.is_some() {
+        let boxed = secret.to_vec(alloc)?.into_boxed_slice();
+        match AllocRawHasher::allocate_with_seed_and_secret(seed, boxed) {
+            Ok(core) => core,
+            Err(_) => return Ok(None),
+        }
+    } else {
+        AllocRawHasher::allocate_with_seed(alloc, seed)?
+    };
+    for piece in pieces.iter() {
+        core.write_with(kernel, piece);
+    }
+    Ok(match row.kind {
+        Kind::X3_64 => Some(u128::from(core.finish_with(kernel, Finalize64))),
+        Kind::X3_128 => Some(core.finish_with(kernel, Finalize128)),
+        Kind::X32 | Kind::X64 => None,
+    })
+}
