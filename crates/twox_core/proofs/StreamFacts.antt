@@ -1,10 +1,10 @@
 -- A stream follows the list of its pieces, joined.
-use Rattle.std.proofs.Common.{◌≡◌, ℕ, zero, suc, ◌+◌, ◌-◌, ◌*◌, ◌/◌, ◌%◌, ◌^◌, ◌<◌, ◌≤◌, min, nat_le, nat_lt, if◌then◌else◌, Bool, true, false, List, [], ◌++◌, length, take, drop, refl, sym, ap, ◌∙◌, arith, lit<, length-append, length-drop}
+use Rattle.std.proofs.Common.{◌≡◌, ℕ, Option, zero, suc, ◌+◌, ◌-◌, ◌*◌, ◌/◌, ◌%◌, ◌^◌, ◌<◌, ◌≤◌, min, nat_le, nat_lt, if◌then◌else◌, Bool, true, false, List, [], ◌++◌, length, take, drop, refl, sym, ap, ◌∙◌, arith, lit<, length-append, length-drop}
 use Rattle.std.proofs.Math.Seq.{take-append-add, drop-append-add}
 use Rattle.std.proofs.lemmas.Bool.Decides.{nat_tests}
 use Rattle.std.proofs.lemmas.List.{append-nil, append_assoc, drop-append-le, take-append-le, drop-drop, drop-take, drop_all, drop_at, take_at, take_all, length-take-le, take-append-drop}
 use Rattle.twox_plain.specs.Word.{counted}
-use Rattle.twox_core.specs.Secret.{default_secret}
+use Rattle.twox_core.specs.Value.{short_secret, stream_seed}
 use Rattle.twox_core.specs.Long.{stripes_of}
 use Rattle.twox_core.specs.Stripes.{after_stripes}
 use Rattle.twox_core.specs.Ending.{accumulators_after, stream_accumulators, stream_block, last_stripe}
@@ -198,49 +198,49 @@ stands_fresh bytes h = (
   ),
 )
 
-pub stands_written : {S : Type 0} (bytes : S → List ℕ) (h : CoreView S) (seed : ℕ) (s m d : List ℕ)
+pub stands_written : {S : Type 0} (bytes : S → List ℕ) (h : CoreView S) (seed : Option ℕ) (s m d : List ℕ)
     → 0 < stripes_of (bytes h.key.secret) → length h.state.buffer ≡ 512 → h.state.buffer_usage ≤ 512
     → StandsFor bytes h seed s m → StandsFor bytes (core_after_write bytes h d) seed s (m ++ d)
 unfolding StandsFor core_after_write
 stands_written bytes h seed s m d some size within held =
     (held.0, held.1, rw held.1 (written_follows s m d h.state (rw held.1 at some) size within held.2))
 
-pub stands_count : {S : Type 0} (bytes : S → List ℕ) (h : CoreView S) (seed : ℕ) (s m : List ℕ) → StandsFor bytes h seed s m → total_of h ≡ counted (length m)
+pub stands_count : {S : Type 0} (bytes : S → List ℕ) (h : CoreView S) (seed : Option ℕ) (s m : List ℕ) → StandsFor bytes h seed s m → total_of h ≡ counted (length m)
 unfolding StandsFor
 stands_count bytes h seed s m held = follows_count s m h.state held.2
 
-pub stands_none : {S : Type 0} (bytes : S → List ℕ) (h : CoreView S) (seed : ℕ) (s : List ℕ) → StandsFor bytes h seed s [] → buffered_of h ≡ 0
+pub stands_none : {S : Type 0} (bytes : S → List ℕ) (h : CoreView S) (seed : Option ℕ) (s : List ℕ) → StandsFor bytes h seed s [] → buffered_of h ≡ 0
 unfolding StandsFor Follows
 stands_none bytes h seed s held = omega (arith, held.2.3.all)
 
-pub stands_some : {S : Type 0} (bytes : S → List ℕ) (h : CoreView S) (seed : ℕ) (s m : List ℕ) → StandsFor bytes h seed s m → 0 < length m → 0 < buffered_of h
+pub stands_some : {S : Type 0} (bytes : S → List ℕ) (h : CoreView S) (seed : Option ℕ) (s m : List ℕ) → StandsFor bytes h seed s m → 0 < length m → 0 < buffered_of h
 unfolding StandsFor Follows
 stands_some bytes h seed s m held some = some_left held.2.0 h.state.buffer_usage held.2.2.left (omega (arith, held.2.3.all))
 
-pub stands_all : {S : Type 0} (bytes : S → List ℕ) (h : CoreView S) (seed : ℕ) (s m : List ℕ) → StandsFor bytes h seed s m → length m < 2 ^ 64
+pub stands_all : {S : Type 0} (bytes : S → List ℕ) (h : CoreView S) (seed : Option ℕ) (s m : List ℕ) → StandsFor bytes h seed s m → length m < 2 ^ 64
     → 64 * done_of h + buffered_of h ≡ length m
 unfolding StandsFor Follows
 stands_all bytes h seed s m held low = omega (arith, held.2.3.all, held.2.3.taken.count)
 
-pub stands_secret : {S : Type 0} (bytes : S → List ℕ) (h : CoreView S) (seed : ℕ) (s m : List ℕ) → StandsFor bytes h seed s m → bytes h.key.secret ≡ s
+pub stands_secret : {S : Type 0} (bytes : S → List ℕ) (h : CoreView S) (seed : Option ℕ) (s m : List ℕ) → StandsFor bytes h seed s m → bytes h.key.secret ≡ s
 unfolding StandsFor
 stands_secret bytes h seed s m held = held.1
 
-finished_in : {R : Type 0} (b : Bool) (small : List ℕ → ℕ → List ℕ → R) (large : List ℕ → List ℕ → List ℕ → List ℕ → ℕ → R) (seed : ℕ) (s : List ℕ) (c : CoreState)
+finished_in : {R : Type 0} (b : Bool) (small : List ℕ → ℕ → List ℕ → R) (large : List ℕ → List ℕ → List ℕ → List ℕ → ℕ → R) (seed : Option ℕ) (s : List ℕ) (c : CoreState)
     → nat_le c.total_bytes 240 ≡ b → state_finish small large seed s c
-    ≡ (if b then small default_secret seed (take c.total_bytes c.buffer) else large (end_accumulators s c) (end_block c) (last_bytes c.taken.last c.buffer c.buffer_usage) s c.total_bytes)
+    ≡ (if b then small (short_secret seed s) (stream_seed seed) (take c.total_bytes c.buffer) else large (end_accumulators s c) (end_block c) (last_bytes c.taken.last c.buffer c.buffer_usage) s c.total_bytes)
 unfolding state_finish
 finished_in b small large seed s c e = rw e refl
 
-pub stands_finished_short : {S R : Type 0} (small : List ℕ → ℕ → List ℕ → R) (large : List ℕ → List ℕ → List ℕ → List ℕ → ℕ → R) (bytes : S → List ℕ) (h : CoreView S) (seed : ℕ) (s m : List ℕ)
-    → StandsFor bytes h seed s m → length m ≤ 240 → core_finish small large bytes h ≡ small default_secret seed m
+pub stands_finished_short : {S R : Type 0} (small : List ℕ → ℕ → List ℕ → R) (large : List ℕ → List ℕ → List ℕ → List ℕ → ℕ → R) (bytes : S → List ℕ) (h : CoreView S) (seed : Option ℕ) (s m : List ℕ)
+    → StandsFor bytes h seed s m → length m ≤ 240 → core_finish small large bytes h ≡ small (short_secret seed s) (stream_seed seed) m
 unfolding StandsFor core_finish
 stands_finished_short small large bytes h seed s m held short =
     let test : nat_le h.state.total_bytes 240 ≡ true = grind (arith, nat_tests, follows_count s m h.state held.2) in
     finished_in true small large h.key.seed (bytes h.key.secret) h.state test
-    ∙ rw (held.0, short_bytes s m h.state held.2 short) refl
+    ∙ rw (held.0, held.1, short_bytes s m h.state held.2 short) refl
 
-pub stands_finished_long : {S R : Type 0} (small : List ℕ → ℕ → List ℕ → R) (large : List ℕ → List ℕ → List ℕ → List ℕ → ℕ → R) (bytes : S → List ℕ) (h : CoreView S) (seed : ℕ) (s m : List ℕ)
+pub stands_finished_long : {S R : Type 0} (small : List ℕ → ℕ → List ℕ → R) (large : List ℕ → List ℕ → List ℕ → List ℕ → ℕ → R) (bytes : S → List ℕ) (h : CoreView S) (seed : Option ℕ) (s m : List ℕ)
     → 0 < stripes_of (bytes h.key.secret) → length h.state.buffer ≡ 512 → h.state.buffer_usage ≤ 512
     → StandsFor bytes h seed s m → 240 < length m → core_finish small large bytes h ≡ large (stream_accumulators s m) (stream_block m) (last_stripe m) s (counted (length m))
 unfolding StandsFor core_finish

@@ -1,6 +1,6 @@
 -- What the last call of a stream reads of it.
-use Rattle.std.specs.Prelude.{ℕ, List, ◌++◌, ◌+◌, ◌-◌, ◌*◌, ◌/◌, nat_le, nat_lt, take, drop, if◌then◌else◌}
-use Rattle.twox_core.specs.Secret.{default_secret}
+use Rattle.std.specs.Prelude.{ℕ, Option, List, ◌++◌, ◌+◌, ◌-◌, ◌*◌, ◌/◌, nat_le, nat_lt, take, drop, if◌then◌else◌}
+use Rattle.twox_core.specs.Value.{short_secret, stream_seed}
 use Rattle.twox_core.specs.Stripes.{after_stripes}
 use Rattle.twox_core.specs.CoreView.{CoreView}
 use Rattle.twox_core.specs.declared.xxhash3.streaming.core_state.CoreState.{CoreState}
@@ -23,11 +23,11 @@ end_accumulators s c = (after_stripes s c.taken.stripes (buffered_bytes c) (stri
 unfoldable pub end_block : CoreState → List ℕ
 end_block c = drop (64 * stripes_left c) (buffered_bytes c)
 
--- what a finalizer makes of a state, from what it makes of short and of long inputs: short ones have the default
--- secret and the seed, long ones the secret s
-unfoldable pub state_finish : {R : Type 0} → (List ℕ → ℕ → List ℕ → R) → (List ℕ → List ℕ → List ℕ → List ℕ → ℕ → R) → ℕ → List ℕ → CoreState → R
+-- what a finalizer makes of a state, from what it makes of short and of long inputs, of which long ones have the
+-- secret s
+unfoldable pub state_finish : {R : Type 0} → (List ℕ → ℕ → List ℕ → R) → (List ℕ → List ℕ → List ℕ → List ℕ → ℕ → R) → Option ℕ → List ℕ → CoreState → R
 state_finish small large seed s c =
-    if nat_le c.total_bytes 240 then small default_secret seed (take c.total_bytes c.buffer)
+    if nat_le c.total_bytes 240 then small (short_secret seed s) (stream_seed seed) (take c.total_bytes c.buffer)
     else large (end_accumulators s c) (end_block c) (last_bytes c.taken.last c.buffer c.buffer_usage) s c.total_bytes
 
 -- of a core, where `bytes` gives those of its secret

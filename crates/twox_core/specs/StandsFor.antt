@@ -1,5 +1,5 @@
 -- The lists of bytes that a stream stands for.
-use Rattle.std.specs.Prelude.{◌≡◌, ◌+◌, ◌-◌, ◌*◌, ◌^◌, ◌<◌, min, ℕ, List, ◌++◌, take, drop, length}
+use Rattle.std.specs.Prelude.{◌≡◌, ◌+◌, ◌-◌, ◌*◌, ◌^◌, ◌<◌, min, ℕ, Option, List, ◌++◌, take, drop, length}
 use Rattle.twox_plain.specs.Word.{counted}
 use Rattle.twox_core.specs.Stripes.{HasTaken}
 use Rattle.twox_core.specs.CoreView.{CoreView}
@@ -29,17 +29,18 @@ unfoldable pub Follows : List ℕ → CoreState → List ℕ → Type 0
 Follows s c m =
     (k : ℕ) × (c.total_bytes ≡ counted (length m)) × LeavesLast m k c.buffer_usage × Holds s m k c.taken c.buffer c.buffer_usage
 
--- the core h has this seed and this secret, whose bytes `bytes` gives, and was given m
-unfoldable pub StandsFor : {S : Type 0} → (S → List ℕ) → CoreView S → ℕ → List ℕ → List ℕ → Type 0
+-- the core h has this seed, or was made with its secret alone where there is none, it has this secret, whose bytes
+-- `bytes` gives, and it was given m
+unfoldable pub StandsFor : {S : Type 0} → (S → List ℕ) → CoreView S → Option ℕ → List ℕ → List ℕ → Type 0
 StandsFor bytes h seed s m = (h.key.seed ≡ seed) × (bytes h.key.secret ≡ s) × Follows s h.state m
 
 -- whatever list the core a stands for, the core b stands for that list and the piece d after it
 abbrev pub TakesPiece : {S : Type 0} → (S → List ℕ) → CoreView S → CoreView S → List ℕ → Type 0
-TakesPiece bytes a b d = (seed : ℕ) (s m : List ℕ) → StandsFor bytes a seed s m → StandsFor bytes b seed s (m ++ d)
+TakesPiece bytes a b d = (seed : Option ℕ) (s m : List ℕ) → StandsFor bytes a seed s m → StandsFor bytes b seed s (m ++ d)
 
 -- the core b has the seed, the secret's bytes and the state of a, so that it stands for the same lists
 pub record IsCopy {S : Type 0} (bytes : S → List ℕ) (a b : CoreView S) : Type 0 where
   pub seed : b.key.seed ≡ a.key.seed
   pub secret : bytes b.key.secret ≡ bytes a.key.secret
   pub state : b.state ≡ a.state
-  pub stands : (seed : ℕ) (s m : List ℕ) → StandsFor bytes a seed s m → StandsFor bytes b seed s m
+  pub stands : (seed : Option ℕ) (s m : List ℕ) → StandsFor bytes a seed s m → StandsFor bytes b seed s m

@@ -1,6 +1,6 @@
--- What clauses see of a secret buffer: its seed, and what holds its secret.
-use Rattle.std.specs.Prelude.{ℕ}
+-- What clauses see of a secret buffer: its seed, if it was made with one, and what holds its secret.
+use Rattle.std.specs.Prelude.{ℕ, Option}
 
 pub record StreamKey (S : Type 0) : Type 0 where
-  pub seed : ℕ
+  pub seed : Option ℕ
   pub secret : S

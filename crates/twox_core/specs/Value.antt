@@ -1,6 +1,6 @@
 -- The values of XXH3, of 64 bits and of 128, of any list of bytes: the xxHash specification, "XXH3 algorithm
 -- overview". `seed` and `s` are the seed and the secret that take effect.
-use Rattle.std.specs.Prelude.{ℕ, ◌+◌, ◌-◌, ◌*◌, ◌/◌, ◌^◌, nat_lt, if◌then◌else◌, List, length}
+use Rattle.std.specs.Prelude.{ℕ, Option, Some, None, ◌+◌, ◌-◌, ◌*◌, ◌/◌, ◌^◌, nat_lt, if◌then◌else◌, List, length}
 use Rattle.twox_plain.specs.Word.{low64, high64}
 use Rattle.twox_core.specs.Steps.{avalanche}
 use Rattle.twox_core.specs.Secret.{default_secret}
@@ -75,3 +75,19 @@ xxh3_128 seed s m = high_in (range_of (length m)) seed s m * 2 ^ 64 + low_in (ra
 -- seed 0.
 unfoldable pub effective_secret : List ℕ → List ℕ → List ℕ
 effective_secret own m = if nat_lt (length m) 241 then default_secret else own
+
+-- The seed and the secret that take effect in a stream with the secret s. A stream that was made with a seed
+-- follows the rule above; one that was made with the secret alone has no seed of its own and uses the secret at
+-- every length, with the seed 0.
+abbrev pub stream_seed : Option ℕ → ℕ
+stream_seed (Some seed) = seed
+stream_seed None = 0
+
+abbrev pub stream_secret : Option ℕ → List ℕ → List ℕ → List ℕ
+stream_secret (Some _) s m = effective_secret s m
+stream_secret None s m = s
+
+-- the secret of its short inputs
+abbrev pub short_secret : Option ℕ → List ℕ → List ℕ
+short_secret (Some _) s = default_secret
+short_secret None s = s

@@ -1,9 +1,9 @@
 -- The value of a stream is that of the list that it stands for.
-use Rattle.std.proofs.Common.{◌≡◌, ℕ, ◌<◌, ◌≤◌, nat_lt, Bool, true, false, List, length, refl, ◌∙◌, arith}
+use Rattle.std.proofs.Common.{◌≡◌, ℕ, Option, Some, None, if◌then◌else◌, ◌<◌, ◌≤◌, nat_lt, Bool, true, false, List, length, refl, ◌∙◌, arith}
 use Rattle.std.proofs.lemmas.Bool.Decides.{nat_tests}
 use Rattle.twox_plain.specs.Word.{counted}
 use Rattle.twox_core.specs.Secret.{default_secret}
-use Rattle.twox_core.specs.Value.{range_of, value64_in, low_in, high_in, xxh3_64, xxh3_128, effective_secret}
+use Rattle.twox_core.specs.Value.{range_of, value64_in, low_in, high_in, xxh3_64, xxh3_128, effective_secret, short_secret, stream_secret, stream_seed}
 use Rattle.twox_core.specs.Value.Range.{BytesAbove240}
 use Rattle.twox_core.specs.Ending.{stream_accumulators, stream_block, last_stripe, finalize_64, finalize_128}
 use Rattle.twox_core.proofs.EndingFacts.{stream_low, stream_both}
@@ -19,34 +19,52 @@ range_above_240 n long =
     let f : nat_lt n 241 ≡ false = grind (arith, nat_tests) in
     rw (a, b, c, d, e, f) refl
 
-value_64_in : (b : Bool) (r seed : ℕ) (s m : List ℕ) → nat_lt (length m) 241 ≡ b
-    → (length m ≤ 240 → r ≡ xxh3_64 seed default_secret m)
+short_in_64 : (b : Bool) (r seed : ℕ) (own s m : List ℕ) → nat_lt (length m) 241 ≡ b
+    → (length m ≤ 240 → r ≡ xxh3_64 seed own m)
     → (240 < length m → r ≡ finalize_64 (stream_accumulators s m) (stream_block m) (last_stripe m) s (counted (length m)))
-    → r ≡ xxh3_64 seed (effective_secret s m) m
-unfolding effective_secret xxh3_64 value64_in
-value_64_in true r seed s m e short long = rw e (short (grind (arith, nat_tests, e)))
-value_64_in false r seed s m e short long =
+    → r ≡ xxh3_64 seed (if b then own else s) m
+unfolding xxh3_64 value64_in
+short_in_64 true r seed own s m e short long = short (grind (arith, nat_tests, e))
+short_in_64 false r seed own s m e short long =
     let more : 240 < length m = grind (arith, nat_tests, e) in
-    rw (e, range_above_240 (length m) more) (long more ∙ stream_low s m (omega arith))
+    rw (range_above_240 (length m) more) (long more ∙ stream_low s m (omega arith))
 
-pub value_64_stands : (r seed : ℕ) (s m : List ℕ)
-    → (length m ≤ 240 → r ≡ xxh3_64 seed default_secret m)
+either_64 : (b : Bool) (r seed : ℕ) (s m : List ℕ) → nat_lt (length m) 241 ≡ b
+    → (length m ≤ 240 → r ≡ xxh3_64 seed s m)
     → (240 < length m → r ≡ finalize_64 (stream_accumulators s m) (stream_block m) (last_stripe m) s (counted (length m)))
-    → r ≡ xxh3_64 seed (effective_secret s m) m
-value_64_stands r seed s m short long = value_64_in (nat_lt (length m) 241) r seed s m refl short long
+    → r ≡ xxh3_64 seed s m
+either_64 true r seed s m e short long = short_in_64 true r seed s s m e short long
+either_64 false r seed s m e short long = short_in_64 false r seed s s m e short long
 
-value_128_in : (b : Bool) (r seed : ℕ) (s m : List ℕ) → nat_lt (length m) 241 ≡ b
-    → (length m ≤ 240 → r ≡ xxh3_128 seed default_secret m)
+pub value_64_stands : (r : ℕ) (seed : Option ℕ) (s m : List ℕ)
+    → (length m ≤ 240 → r ≡ xxh3_64 (stream_seed seed) (short_secret seed s) m)
+    → (240 < length m → r ≡ finalize_64 (stream_accumulators s m) (stream_block m) (last_stripe m) s (counted (length m)))
+    → r ≡ xxh3_64 (stream_seed seed) (stream_secret seed s m) m
+unfolding effective_secret
+value_64_stands r (Some seed) s m short long = short_in_64 (nat_lt (length m) 241) r seed default_secret s m refl short long
+value_64_stands r None s m short long = either_64 (nat_lt (length m) 241) r 0 s m refl short long
+
+short_in_128 : (b : Bool) (r seed : ℕ) (own s m : List ℕ) → nat_lt (length m) 241 ≡ b
+    → (length m ≤ 240 → r ≡ xxh3_128 seed own m)
     → (240 < length m → r ≡ finalize_128 (stream_accumulators s m) (stream_block m) (last_stripe m) s (counted (length m)))
-    → r ≡ xxh3_128 seed (effective_secret s m) m
-unfolding effective_secret xxh3_128 low_in high_in
-value_128_in true r seed s m e short long = rw e (short (grind (arith, nat_tests, e)))
-value_128_in false r seed s m e short long =
+    → r ≡ xxh3_128 seed (if b then own else s) m
+unfolding xxh3_128 low_in high_in
+short_in_128 true r seed own s m e short long = short (grind (arith, nat_tests, e))
+short_in_128 false r seed own s m e short long =
     let more : 240 < length m = grind (arith, nat_tests, e) in
-    rw (e, range_above_240 (length m) more) (long more ∙ stream_both s m (omega arith))
+    rw (range_above_240 (length m) more) (long more ∙ stream_both s m (omega arith))
 
-pub value_128_stands : (r seed : ℕ) (s m : List ℕ)
-    → (length m ≤ 240 → r ≡ xxh3_128 seed default_secret m)
+either_128 : (b : Bool) (r seed : ℕ) (s m : List ℕ) → nat_lt (length m) 241 ≡ b
+    → (length m ≤ 240 → r ≡ xxh3_128 seed s m)
     → (240 < length m → r ≡ finalize_128 (stream_accumulators s m) (stream_block m) (last_stripe m) s (counted (length m)))
-    → r ≡ xxh3_128 seed (effective_secret s m) m
-value_128_stands r seed s m short long = value_128_in (nat_lt (length m) 241) r seed s m refl short long
+    → r ≡ xxh3_128 seed s m
+either_128 true r seed s m e short long = short_in_128 true r seed s s m e short long
+either_128 false r seed s m e short long = short_in_128 false r seed s s m e short long
+
+pub value_128_stands : (r : ℕ) (seed : Option ℕ) (s m : List ℕ)
+    → (length m ≤ 240 → r ≡ xxh3_128 (stream_seed seed) (short_secret seed s) m)
+    → (240 < length m → r ≡ finalize_128 (stream_accumulators s m) (stream_block m) (last_stripe m) s (counted (length m)))
+    → r ≡ xxh3_128 (stream_seed seed) (stream_secret seed s m) m
+unfolding effective_secret
+value_128_stands r (Some seed) s m short long = short_in_128 (nat_lt (length m) 241) r seed default_secret s m refl short long
+value_128_stands r None s m short long = either_128 (nat_lt (length m) 241) r 0 s m refl short long

@@ -26,7 +26,7 @@ impl<F: Finalize, S: FixedBuffer> Model for RawStream<F, S> {
 }
 
 impl<F: Finalize, S: FixedBuffer> RawStream<F, S> {
-    ghost use Rattle.std.specs.Prelude.{◌≡◌, ℕ, List, []};
+    ghost use Rattle.std.specs.Prelude.{◌≡◌, ℕ, Option, List, []};
     ghost use Rattle.twox_core.specs.CoreView.{CoreView};
     ghost use Rattle.twox_core.specs.AfterWrite.{core_after_write};
     ghost use Rattle.twox_core.specs.StandsFor.{StandsFor, TakesPiece};
@@ -53,7 +53,7 @@ impl<F: Finalize, S: FixedBuffer> RawStream<F, S> {
     /// The secret, as it was handed in.
     pub fn into_secret(self) -> S
         ensures exact { result ≡ self.key.secret }
-        ensures message { (seed : ℕ) (s m : List ℕ) → StandsFor S.bytes self seed s m → S.bytes result ≡ s }
+        ensures message { (seed : Option ℕ) (s m : List ℕ) → StandsFor S.bytes self seed s m → S.bytes result ≡ s }
     {
         let RawStream { core, finalizer: _ } = self;
         core.into_secret()
@@ -100,7 +100,7 @@ impl<F: Finalize, A: Allocator> Model for BoxedStream<F, A> {
 }
 
 impl<F: Finalize, A: Allocator> BoxedStream<F, A> {
-    ghost use Rattle.std.specs.Prelude.{◌≡◌, ℕ, List, [], ◌<◌, ◌≤◌, length, IfOk, MatchResult};
+    ghost use Rattle.std.specs.Prelude.{◌≡◌, ℕ, Option, List, [], ◌<◌, ◌≤◌, length, IfOk, MatchResult};
     ghost use Rattle.std.specs.Box.{boxed_slice_items};
     ghost use Rattle.twox_core.specs.Secret.{default_secret, derived_secret};
     ghost use Rattle.twox_core.specs.CoreView.{CoreView};
@@ -122,7 +122,7 @@ impl<F: Finalize, A: Allocator> BoxedStream<F, A> {
     ///
     /// There is no memory for the secret.
     pub fn new(alloc: A) -> Result<BoxedStream<F, A>, AllocError>
-        ensures { IfOk result (λ h. StandsFor boxed_slice_items h 0 default_secret []) }
+        ensures { IfOk result (λ h. StandsFor boxed_slice_items h (Some 0) default_secret []) }
     {
         Ok(BoxedStream::over(AllocRawHasher::allocate_default(alloc)?))
     }
@@ -133,7 +133,7 @@ impl<F: Finalize, A: Allocator> BoxedStream<F, A> {
     ///
     /// There is no memory for the secret.
     pub fn default(alloc: A) -> Result<BoxedStream<F, A>, AllocError>
-        ensures { IfOk result (λ h. StandsFor boxed_slice_items h 0 default_secret []) }
+        ensures { IfOk result (λ h. StandsFor boxed_slice_items h (Some 0) default_secret []) }
     {
         BoxedStream::new(alloc)
     }
@@ -144,7 +144,7 @@ impl<F: Finalize, A: Allocator> BoxedStream<F, A> {
     ///
     /// There is no memory for the secret.
     pub fn with_seed(alloc: A, seed: u64) -> Result<BoxedStream<F, A>, AllocError>
-        ensures { IfOk result (λ h. StandsFor boxed_slice_items h seed (derived_secret seed) []) }
+        ensures { IfOk result (λ h. StandsFor boxed_slice_items h (Some seed) (derived_secret seed) []) }
     {
         let inner = AllocRawHasher::allocate_with_seed(alloc, seed)?;
         Ok(BoxedStream::over(inner))
@@ -160,10 +160,27 @@ impl<F: Finalize, A: Allocator> BoxedStream<F, A> {
         secret: BoxedSlice<u8, A>,
     ) -> Result<BoxedStream<F, A>, SecretTooShortError<BoxedSlice<u8, A>>>
         ensures { let s = boxed_slice_items secret in
-            MatchResult result (λ h. (136 ≤ length s) × StandsFor boxed_slice_items h seed s [])
+            MatchResult result (λ h. (136 ≤ length s) × StandsFor boxed_slice_items h (Some seed) s [])
             (λ e. (length s < 136) × (e ≡ secret)) }
     {
         let inner = AllocRawHasher::allocate_with_seed_and_secret(seed, secret)?;
+        Ok(BoxedStream::over(inner))
+    }
+
+    /// A stream of no bytes yet, with the secret alone, which is used at every length with the seed 0. It takes no
+    /// memory.
+    ///
+    /// # Errors
+    ///
+    /// The secret has fewer than 136 bytes; it is handed back.
+    pub fn with_secret(
+        secret: BoxedSlice<u8, A>,
+    ) -> Result<BoxedStream<F, A>, SecretTooShortError<BoxedSlice<u8, A>>>
+        ensures { let s = boxed_slice_items secret in
+            MatchResult result (λ h. (136 ≤ length s) × StandsFor boxed_slice_items h None s [])
+            (λ e. (length s < 136) × (e ≡ secret)) }
+    {
+        let inner = AllocRawHasher::allocate_with_secret(secret)?;
         Ok(BoxedStream::over(inner))
     }
 
@@ -179,7 +196,7 @@ impl<F: Finalize, A: Allocator> BoxedStream<F, A> {
     /// The secret, as it was handed in or made.
     pub fn into_secret(self) -> BoxedSlice<u8, A>
         ensures exact { result ≡ self.key.secret }
-        ensures message { (seed : ℕ) (s m : List ℕ) → StandsFor boxed_slice_items self seed s m
+        ensures message { (seed : Option ℕ) (s m : List ℕ) → StandsFor boxed_slice_items self seed s m
             → boxed_slice_items result ≡ s }
     {
         let BoxedStream {

@@ -120,19 +120,20 @@ impl Hasher<Global> {
 }
 
 impl<A: Allocator> Hasher<A> {
-    ghost use Rattle.std.specs.Prelude.{◌≡◌, ℕ, List};
+    ghost use Rattle.std.specs.Prelude.{◌≡◌, ℕ, Option, List};
     ghost use Rattle.std.specs.Box.{boxed_slice_items};
-    ghost use Rattle.twox_core.specs.Value.{effective_secret, xxh3_128};
+    ghost use Rattle.twox_core.specs.Value.{stream_secret, stream_seed, xxh3_128};
     ghost use Rattle.twox_core.specs.StandsFor.{StandsFor};
     ghost use Rattle.twox_hash.specs.Streams.{value_128};
 
-    /// The hash of the bytes taken so far, which stay: up to 240 bytes with the default secret and the seed,
-    /// above with the stream's secret, where no seed enters.
+    /// The hash of the bytes taken so far, which stay: up to 240 bytes with the default secret and the seed or, in
+    /// a stream that was made with its secret alone, with that secret and the seed 0; above with the stream's
+    /// secret, where no seed enters.
     #[inline]
     #[tactic(auto, unfolding(crate::specs::Streams::value_128))]
     pub fn finish_128(&self) -> u128
-        ensures message { (seed : ℕ) (s m : List ℕ) → StandsFor boxed_slice_items self.now seed s m
-            → result ≡ xxh3_128 seed (effective_secret s m) m }
+        ensures message { (seed : Option ℕ) (s m : List ℕ) → StandsFor boxed_slice_items self.now seed s m
+            → result ≡ xxh3_128 (stream_seed seed) (stream_secret seed s m) m }
         ensures exact { result ≡ value_128 boxed_slice_items self.now }
     {
         self.inner().finish(Finalize128)
@@ -140,18 +141,19 @@ impl<A: Allocator> Hasher<A> {
 }
 
 impl<S: FixedBuffer> RawHasher<S> {
-    ghost use Rattle.std.specs.Prelude.{◌≡◌, ℕ, List};
-    ghost use Rattle.twox_core.specs.Value.{effective_secret, xxh3_128};
+    ghost use Rattle.std.specs.Prelude.{◌≡◌, ℕ, Option, List};
+    ghost use Rattle.twox_core.specs.Value.{stream_secret, stream_seed, xxh3_128};
     ghost use Rattle.twox_core.specs.StandsFor.{StandsFor};
     ghost use Rattle.twox_hash.specs.Streams.{value_128};
 
-    /// The hash of the bytes taken so far, which stay: up to 240 bytes with the default secret and the seed,
-    /// above with the stream's secret, where no seed enters.
+    /// The hash of the bytes taken so far, which stay: up to 240 bytes with the default secret and the seed or, in
+    /// a stream that was made with its secret alone, with that secret and the seed 0; above with the stream's
+    /// secret, where no seed enters.
     #[inline]
     #[tactic(auto, unfolding(crate::specs::Streams::value_128))]
     pub fn finish_128(&self) -> u128
-        ensures message { (seed : ℕ) (s m : List ℕ) → StandsFor S.bytes self.now seed s m
-            → result ≡ xxh3_128 seed (effective_secret s m) m }
+        ensures message { (seed : Option ℕ) (s m : List ℕ) → StandsFor S.bytes self.now seed s m
+            → result ≡ xxh3_128 (stream_seed seed) (stream_secret seed s m) m }
         ensures exact { result ≡ value_128 S.bytes self.now }
     {
         self.core().finish(Finalize128)

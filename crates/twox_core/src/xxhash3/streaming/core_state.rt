@@ -1,13 +1,13 @@
 //! What a stream holds beside its secret and its seed: the stripes taken, and the bytes after them.
 
-ghost use Rattle.std.specs.Prelude.{◌≡◌, ℕ, List, ◌++◌, ◌+◌, ◌-◌, ◌*◌, ◌/◌, ◌<◌, ◌≤◌, min, length};
+ghost use Rattle.std.specs.Prelude.{◌≡◌, ℕ, List, ◌++◌, ◌+◌, ◌-◌, ◌*◌, ◌/◌, ◌<◌, ◌≤◌, min, take, length};
 ghost use Rattle.twox_core.specs.Long.{stripes_of};
 ghost use Rattle.twox_core.specs.SecretBytes.{secret_bytes};
 
 use super::taken_stripes::TakenStripes;
 use crate::xxhash3::parts::array_at;
 use crate::xxhash3::stripes::BYTES_TO_READ_AHEAD;
-use crate::xxhash3::{CUTOFF, Finalize, Secret, Vector, default_secret};
+use crate::xxhash3::{CUTOFF, DEFAULT_SEED, Finalize, Secret, Vector, default_secret};
 use twox_plain::words::IntoU64;
 
 /// How many bytes a stream keeps for later: whole stripes, and more than the greatest length that is hashed
@@ -30,6 +30,7 @@ pub(crate) struct CoreState {
 impl CoreState {
     ghost use Rattle.twox_core.specs.AfterWrite.{after_long_piece, after_rest, empty_state, state_after_write, with_buffered, with_empty_buffer};
     ghost use Rattle.twox_core.specs.Finish.{last_bytes, state_finish};
+    ghost use Rattle.twox_core.specs.Value.{short_secret, stream_seed};
 
     #[inline(always)]
     pub(crate) fn new() -> CoreState
@@ -133,7 +134,7 @@ impl CoreState {
         &self,
         v: V,
         finalize: &F,
-        seed: u64,
+        seed: Option<u64>,
         secret: Secret<'_>,
     ) -> F::Output
         requires place { self.now.taken.stripes.current_stripe < stripes_of (secret_bytes secret) }
@@ -144,8 +145,7 @@ impl CoreState {
         ensures size { length self.now.buffer ≡ BUFFERED_BYTES }
     {
         if self.total_bytes <= CUTOFF.into_u64() {
-            let input = &self.buffer[..self.total_bytes as usize];
-            return finalize.small(default_secret(), seed, input);
+            return self.finish_short(finalize, seed, secret);
         }
         let last_stripe = self.last_stripe();
         let count = (self.buffer_usage - 1) / 64;
@@ -162,6 +162,25 @@ impl CoreState {
         )
     }
 
+    // The same up to 240 bytes: with the default secret and the seed or, where there is none, with the secret.
+    #[inline(always)]
+    fn finish_short<F: Finalize>(
+        &self,
+        finalize: &F,
+        seed: Option<u64>,
+        secret: Secret<'_>,
+    ) -> F::Output
+        requires { self.now.total_bytes ≤ 240 }
+        ensures { let s = short_secret seed (secret_bytes secret.entry) in
+            result ≡ F.small_of finalize.now s (stream_seed seed) (take self.now.total_bytes self.now.buffer) }
+    {
+        let input = &self.buffer[..self.total_bytes as usize];
+        match seed {
+            Some(seed) => finalize.small(default_secret(), seed, input),
+            None => finish_keyed(finalize, secret, input),
+        }
+    }
+
     // The last 64 bytes of the stream: of the buffered ones, or the end of the last stripe taken and these.
     #[inline(always)]
     #[tactic(auto, unfolding(crate::specs::Finish::last_bytes))]
@@ -176,6 +195,15 @@ impl CoreState {
             *array_at(&self.buffer, used - 64)
         }
     }
+}
+
+// A call of its own, so that the default secret's words are constants of the other code.
+#[inline(never)]
+fn finish_keyed<F: Finalize>(finalize: &F, secret: Secret<'_>, input: &[u8]) -> F::Output
+    requires { length input.now ≤ 240 }
+    ensures { result ≡ F.small_of finalize.now (secret_bytes secret.entry) 0 input.now }
+{
+    finalize.small(secret, DEFAULT_SEED, input)
 }
 
 // A stripe of two parts.

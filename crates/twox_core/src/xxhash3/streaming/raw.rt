@@ -1,6 +1,6 @@
 //! The streaming core of both widths.
 
-ghost use Rattle.std.specs.Prelude.{◌≡◌, ℕ, List, [], ◌++◌, ◌+◌, ◌*◌, ◌^◌, ◌<◌, ◌≤◌, length};
+ghost use Rattle.std.specs.Prelude.{◌≡◌, ℕ, Option, List, [], ◌++◌, ◌+◌, ◌*◌, ◌^◌, ◌<◌, ◌≤◌, length};
 
 use super::core_state::CoreState;
 use super::{BUFFERED_BYTES, ClonedBuffer, FixedBuffer, SecretBuffer, SecretTooShortError};
@@ -32,9 +32,9 @@ impl<S: FixedBuffer> Model for RawHasherCore<S> {
 }
 
 impl<S: FixedBuffer> RawHasherCore<S> {
-    ghost use Rattle.std.specs.Prelude.{◌≡◌, ℕ, List, [], ◌++◌, ◌+◌, ◌*◌, ◌^◌, ◌<◌, ◌≤◌, length};
+    ghost use Rattle.std.specs.Prelude.{◌≡◌, ℕ, Option, List, [], ◌++◌, ◌+◌, ◌*◌, ◌^◌, ◌<◌, ◌≤◌, length};
     ghost use Rattle.twox_plain.specs.Word.{counted};
-    ghost use Rattle.twox_core.specs.Secret.{default_secret};
+    ghost use Rattle.twox_core.specs.Value.{short_secret, stream_seed};
     ghost use Rattle.twox_core.specs.Ending.{stream_accumulators, stream_block, last_stripe};
     ghost use Rattle.twox_core.specs.CoreView.{total_of, done_of, buffered_of};
     ghost use Rattle.twox_core.specs.AfterWrite.{core_after_write};
@@ -74,13 +74,14 @@ impl<S: FixedBuffer> RawHasherCore<S> {
         self.state.write(v, input, self.secret_buffer.secret());
     }
 
-    /// What `finalize` makes of the bytes taken so far. Up to 240 bytes it is given the default secret and the
-    /// seed, and above the held secret; the stream isn't changed.
+    /// What `finalize` makes of the bytes taken so far; the stream isn't changed. Above 240 bytes it is given the
+    /// stream's secret. Up to 240 bytes it is given the default secret and the stream's seed or, in a stream that
+    /// was made with its secret alone, that secret and the seed 0.
     #[inline]
     pub fn finish<F: Finalize + Drop>(&self, finalize: F) -> F::Output
-        ensures short { (seed : ℕ) (s m : List ℕ) → StandsFor S.bytes self.now seed s m → length m ≤ 240
-            → result ≡ F.small_of finalize default_secret seed m }
-        ensures long { (seed : ℕ) (s m : List ℕ) → StandsFor S.bytes self.now seed s m → 240 < length m
+        ensures short { (seed : Option ℕ) (s m : List ℕ) → StandsFor S.bytes self.now seed s m → length m ≤ 240
+            → result ≡ F.small_of finalize (short_secret seed s) (stream_seed seed) m }
+        ensures long { (seed : Option ℕ) (s m : List ℕ) → StandsFor S.bytes self.now seed s m → 240 < length m
             → result ≡ F.large_of finalize (stream_accumulators s m) (stream_block m) (last_stripe m) s (counted (length m)) }
         ensures exact { result ≡ core_finish (F.small_of finalize) (F.large_of finalize) S.bytes self.now }
     {
@@ -90,9 +91,9 @@ impl<S: FixedBuffer> RawHasherCore<S> {
     /// The same by a kernel. Each call may have another kernel.
     #[inline]
     pub fn finish_with<F: Finalize + Drop>(&self, v: impl Vector, finalize: F) -> F::Output
-        ensures short { (seed : ℕ) (s m : List ℕ) → StandsFor S.bytes self.now seed s m → length m ≤ 240
-            → result ≡ F.small_of finalize default_secret seed m }
-        ensures long { (seed : ℕ) (s m : List ℕ) → StandsFor S.bytes self.now seed s m → 240 < length m
+        ensures short { (seed : Option ℕ) (s m : List ℕ) → StandsFor S.bytes self.now seed s m → length m ≤ 240
+            → result ≡ F.small_of finalize (short_secret seed s) (stream_seed seed) m }
+        ensures long { (seed : Option ℕ) (s m : List ℕ) → StandsFor S.bytes self.now seed s m → 240 < length m
             → result ≡ F.large_of finalize (stream_accumulators s m) (stream_block m) (last_stripe m) s (counted (length m)) }
         ensures exact { result ≡ core_finish (F.small_of finalize) (F.large_of finalize) S.bytes self.now }
     {
@@ -105,7 +106,7 @@ impl<S: FixedBuffer> RawHasherCore<S> {
     #[tactic(auto, using(crate::proofs::StreamFacts::stands_count))]
     pub fn total_len(&self) -> u64
         ensures exact { result ≡ total_of self.now }
-        ensures message { (seed : ℕ) (s m : List ℕ) → StandsFor S.bytes self.now seed s m → result ≡ counted (length m) }
+        ensures message { (seed : Option ℕ) (s m : List ℕ) → StandsFor S.bytes self.now seed s m → result ≡ counted (length m) }
     {
         self.state.total_bytes
     }
@@ -116,7 +117,7 @@ impl<S: FixedBuffer> RawHasherCore<S> {
     #[tactic(auto, using(crate::proofs::StreamFacts::stands_all))]
     pub fn stripes_done(&self) -> u64
         ensures exact { result ≡ done_of self.now }
-        ensures all { (seed : ℕ) (s m : List ℕ) → StandsFor S.bytes self.now seed s m → length m < 2 ^ 64
+        ensures all { (seed : Option ℕ) (s m : List ℕ) → StandsFor S.bytes self.now seed s m → length m < 2 ^ 64
             → 64 * result + buffered_of self.now ≡ length m }
     {
         self.state.taken.count
@@ -128,9 +129,9 @@ impl<S: FixedBuffer> RawHasherCore<S> {
     pub fn buffered(&self) -> usize
         ensures exact { result ≡ buffered_of self.now }
         ensures within { result ≤ BUFFERED_BYTES }
-        ensures none { (seed : ℕ) (s : List ℕ) → StandsFor S.bytes self.now seed s [] → result ≡ 0 }
-        ensures some { (seed : ℕ) (s m : List ℕ) → StandsFor S.bytes self.now seed s m → 0 < length m → 0 < result }
-        ensures all { (seed : ℕ) (s m : List ℕ) → StandsFor S.bytes self.now seed s m → length m < 2 ^ 64
+        ensures none { (seed : Option ℕ) (s : List ℕ) → StandsFor S.bytes self.now seed s [] → result ≡ 0 }
+        ensures some { (seed : Option ℕ) (s m : List ℕ) → StandsFor S.bytes self.now seed s m → 0 < length m → 0 < result }
+        ensures all { (seed : Option ℕ) (s m : List ℕ) → StandsFor S.bytes self.now seed s m → length m < 2 ^ 64
             → 64 * done_of self.now + result ≡ length m }
     {
         self.state.buffer_usage
@@ -140,7 +141,7 @@ impl<S: FixedBuffer> RawHasherCore<S> {
     #[tactic(auto, using(crate::proofs::StreamFacts::stands_secret))]
     pub fn into_secret(self) -> S
         ensures exact { result ≡ self.key.secret }
-        ensures message { (seed : ℕ) (s m : List ℕ) → StandsFor S.bytes self seed s m → S.bytes result ≡ s }
+        ensures message { (seed : Option ℕ) (s m : List ℕ) → StandsFor S.bytes self seed s m → S.bytes result ≡ s }
     {
         let RawHasherCore {
             secret_buffer,
@@ -179,7 +180,7 @@ impl<A: Allocator> AllocRawHasher<A> {
     ///
     /// There is no memory for the secret.
     pub fn allocate_default(alloc: A) -> Result<AllocRawHasher<A>, AllocError>
-        ensures { IfOk result (λ h. StandsFor boxed_slice_items h 0 default_secret []) }
+        ensures { IfOk result (λ h. StandsFor boxed_slice_items h (Some 0) default_secret []) }
     {
         Ok(RawHasherCore::new(SecretBuffer::allocate_default(alloc)?))
     }
@@ -190,7 +191,7 @@ impl<A: Allocator> AllocRawHasher<A> {
     ///
     /// There is no memory for the secret.
     pub fn allocate_with_seed(alloc: A, seed: u64) -> Result<AllocRawHasher<A>, AllocError>
-        ensures { IfOk result (λ h. StandsFor boxed_slice_items h seed (derived_secret seed) []) }
+        ensures { IfOk result (λ h. StandsFor boxed_slice_items h (Some seed) (derived_secret seed) []) }
     {
         Ok(RawHasherCore::new(SecretBuffer::allocate_with_seed(alloc, seed)?))
     }
@@ -205,10 +206,26 @@ impl<A: Allocator> AllocRawHasher<A> {
         secret: BoxedSlice<u8, A>,
     ) -> Result<AllocRawHasher<A>, SecretTooShortError<BoxedSlice<u8, A>>>
         ensures { MatchResult result
-            (λ h. (136 ≤ length (boxed_slice_items secret)) × StandsFor boxed_slice_items h seed (boxed_slice_items secret) [])
+            (λ h. (136 ≤ length (boxed_slice_items secret)) × StandsFor boxed_slice_items h (Some seed) (boxed_slice_items secret) [])
             (λ e. (length (boxed_slice_items secret) < 136) × (e ≡ secret)) }
     {
         let secret_buffer = SecretBuffer::allocate_with_seed_and_secret(seed, secret)?;
+        Ok(RawHasherCore::new(secret_buffer))
+    }
+
+    /// A stream with the secret alone, used at every length, with the seed 0. It takes no memory.
+    ///
+    /// # Errors
+    ///
+    /// The secret has fewer than 136 bytes; it is handed back.
+    pub fn allocate_with_secret(
+        secret: BoxedSlice<u8, A>,
+    ) -> Result<AllocRawHasher<A>, SecretTooShortError<BoxedSlice<u8, A>>>
+        ensures { let s = boxed_slice_items secret in
+            MatchResult result (λ h. (136 ≤ length s) × StandsFor boxed_slice_items h None s [])
+            (λ e. (length s < 136) × (e ≡ secret)) }
+    {
+        let secret_buffer = SecretBuffer::allocate_with_secret(secret)?;
         Ok(RawHasherCore::new(secret_buffer))
     }
 }

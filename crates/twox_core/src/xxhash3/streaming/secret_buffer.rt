@@ -11,10 +11,13 @@ use std::error::Error;
 use std::fmt;
 use std::marker::Model;
 
-/// A seed, and a secret of at least 136 bytes.
+/// A secret of at least 136 bytes, and the seed that goes with it, if it was made with one.
+///
+/// A stream over a buffer that was made with a seed hashes up to 240 bytes with the default secret and the seed,
+/// and more with the secret. One over a buffer that was made with the secret alone uses that at every length.
 #[derive(Drop)]
 pub struct SecretBuffer<S: FixedBuffer> {
-    seed: u64,
+    seed: Option<u64>,
     secret: S,
 }
 
@@ -40,8 +43,30 @@ impl<S: FixedBuffer> SecretBuffer<S> {
     ///
     /// The secret has fewer than 136 bytes; it is handed back.
     pub fn new(seed: u64, secret: S) -> Result<SecretBuffer<S>, SecretTooShortError<S>>
-        ensures { MatchResult result (λ b. (136 ≤ length (S.bytes secret)) × (b.seed ≡ seed) × (b.secret ≡ secret))
+        ensures { MatchResult result (λ b. (136 ≤ length (S.bytes secret)) × (b.seed ≡ Some seed) × (b.secret ≡ secret))
             (λ e. (length (S.bytes secret) < 136) × (e ≡ secret)) }
+    {
+        SecretBuffer::checked(Some(seed), secret)
+    }
+
+    /// Holds the secret alone: it is used at every length, with the seed 0.
+    ///
+    /// # Errors
+    ///
+    /// The secret has fewer than 136 bytes; it is handed back.
+    pub fn with_secret(secret: S) -> Result<SecretBuffer<S>, SecretTooShortError<S>>
+        ensures { let s = S.bytes secret in
+            MatchResult result (λ b. (136 ≤ length s) × (b.seed ≡ None) × (b.secret ≡ secret))
+            (λ e. (length s < 136) × (e ≡ secret)) }
+    {
+        SecretBuffer::checked(None, secret)
+    }
+
+    // Holds both, if the secret has its minimum length.
+    fn checked(seed: Option<u64>, secret: S) -> Result<SecretBuffer<S>, SecretTooShortError<S>>
+        ensures { let s = S.bytes secret in
+            MatchResult result (λ b. (136 ≤ length s) × (b.seed ≡ seed) × (b.secret ≡ secret))
+            (λ e. (length s < 136) × (e ≡ secret)) }
     {
         if secret.as_ref().len() >= SECRET_MINIMUM_LENGTH {
             Ok(SecretBuffer { seed, secret })
@@ -58,9 +83,9 @@ impl<S: FixedBuffer> SecretBuffer<S> {
         secret
     }
 
-    // The seed.
+    // The seed, if the buffer was made with one.
     #[inline(always)]
-    pub(super) fn seed(&self) -> u64
+    pub(super) fn seed(&self) -> Option<u64>
         ensures { result ≡ self.now.seed }
     {
         self.seed
@@ -86,14 +111,17 @@ impl<S: FixedMutBuffer> SecretBuffer<S> {
     ///
     /// The buffer hasn't exactly 192 bytes; it is handed back as it was.
     pub fn with_seed(seed: u64, mut secret: S) -> Result<SecretBuffer<S>, SecretWithSeedError<S>>
-        ensures { MatchResult result (λ b. (length (S.FixedBuffer.bytes secret) ≡ 192) × (b.seed ≡ seed) × (S.FixedBuffer.bytes b.secret ≡ derived_secret seed))
+        ensures { MatchResult result (λ b. (length (S.FixedBuffer.bytes secret) ≡ 192) × (b.seed ≡ Some seed) × (S.FixedBuffer.bytes b.secret ≡ derived_secret seed))
             (λ e. (length (S.FixedBuffer.bytes secret) ≢ 192) × (e ≡ secret)) }
     {
         if secret.as_ref().len() != DEFAULT_SECRET_LENGTH {
             return Err(SecretWithSeedError { secret });
         }
         secret.as_mut().copy_from_slice(&derived_secret(seed));
-        Ok(SecretBuffer { seed, secret })
+        Ok(SecretBuffer {
+            seed: Some(seed),
+            secret,
+        })
     }
 }
 
@@ -105,11 +133,11 @@ impl SecretBuffer<DefaultSecret> {
     /// The seed 0 and the default secret.
     #[tactic(auto, unfolding(crate::specs::Secret::default_secret))]
     pub fn default() -> SecretBuffer<DefaultSecret>
-        ensures seed { result.seed ≡ 0 }
+        ensures seed { result.seed ≡ Some 0 }
         ensures secret { result.secret ≡ default_secret }
     {
         SecretBuffer {
-            seed: DEFAULT_SEED,
+            seed: Some(DEFAULT_SEED),
             secret: DEFAULT_SECRET_RAW,
         }
     }
@@ -128,10 +156,10 @@ impl<A: Allocator> SecretBuffer<BoxedSlice<u8, A>> {
     /// There is no memory for the secret.
     #[tactic(auto, unfolding(crate::specs::Secret::default_secret))]
     pub fn allocate_default(alloc: A) -> Result<SecretBuffer<BoxedSlice<u8, A>>, AllocError>
-        ensures { IfOk result (λ b. (b.seed ≡ 0) × (boxed_slice_items b.secret ≡ default_secret)) }
+        ensures { IfOk result (λ b. (b.seed ≡ Some 0) × (boxed_slice_items b.secret ≡ default_secret)) }
     {
         Ok(SecretBuffer {
-            seed: DEFAULT_SEED,
+            seed: Some(DEFAULT_SEED),
             secret: BoxedSlice::from_slice(alloc, &DEFAULT_SECRET_RAW)?,
         })
     }
@@ -145,10 +173,10 @@ impl<A: Allocator> SecretBuffer<BoxedSlice<u8, A>> {
         alloc: A,
         seed: u64,
     ) -> Result<SecretBuffer<BoxedSlice<u8, A>>, AllocError>
-        ensures { IfOk result (λ b. (b.seed ≡ seed) × (boxed_slice_items b.secret ≡ derived_secret seed)) }
+        ensures { IfOk result (λ b. (b.seed ≡ Some seed) × (boxed_slice_items b.secret ≡ derived_secret seed)) }
     {
         Ok(SecretBuffer {
-            seed,
+            seed: Some(seed),
             secret: BoxedSlice::from_slice(alloc, &derived_secret(seed))?,
         })
     }
@@ -162,10 +190,25 @@ impl<A: Allocator> SecretBuffer<BoxedSlice<u8, A>> {
         seed: u64,
         secret: BoxedSlice<u8, A>,
     ) -> Result<SecretBuffer<BoxedSlice<u8, A>>, SecretTooShortError<BoxedSlice<u8, A>>>
-        ensures { MatchResult result (λ b. (136 ≤ length (boxed_slice_items secret)) × (b.seed ≡ seed) × (b.secret ≡ secret))
+        ensures { MatchResult result (λ b. (136 ≤ length (boxed_slice_items secret)) × (b.seed ≡ Some seed) × (b.secret ≡ secret))
             (λ e. (length (boxed_slice_items secret) < 136) × (e ≡ secret)) }
     {
         SecretBuffer::new(seed, secret)
+    }
+
+    /// Holds the secret alone, and takes no memory: it is used at every length, with the seed 0.
+    ///
+    /// # Errors
+    ///
+    /// The secret has fewer than 136 bytes; it is handed back.
+    pub fn allocate_with_secret(
+        secret: BoxedSlice<u8, A>,
+    ) -> Result<SecretBuffer<BoxedSlice<u8, A>>, SecretTooShortError<BoxedSlice<u8, A>>>
+        ensures { let s = boxed_slice_items secret in
+            MatchResult result (λ b. (136 ≤ length s) × (b.seed ≡ None) × (b.secret ≡ secret))
+            (λ e. (length s < 136) × (e ≡ secret)) }
+    {
+        SecretBuffer::with_secret(secret)
     }
 }
 

@@ -1,6 +1,6 @@
 use Rattle.std.proofs.Common.{ap, arith, ◌∙◌}
 use Rattle.twox_core.specs.Secret.{default_secret, derived_secret}
-use Rattle.twox_core.specs.Value.{effective_secret, xxh3_64}
+use Rattle.twox_core.specs.Value.{xxh3_64}
 use Rattle.twox_core.proofs.OneshotLaws.{tells_others_64}
 use Rattle.twox_core.proofs.ShortLaws.{default_secret-bytes}
 use Rattle.twox_core.proofs.ValueLaws.{effective_short}

@@ -1,9 +1,8 @@
-use Rattle.std.proofs.Common.{◌≡◌, ap, arith, sym, ◌∙◌}
+use Rattle.std.proofs.Common.{ap, arith, ◌∙◌}
 use Rattle.twox_core.specs.Secret.{default_secret}
-use Rattle.twox_core.specs.Value.{effective_secret, xxh3_64}
+use Rattle.twox_core.specs.Value.{xxh3_64}
 use Rattle.twox_core.proofs.OneshotLaws.{tells_others_64}
 use Rattle.twox_core.proofs.ShortLaws.{default_secret-bytes}
-use Rattle.twox_core.proofs.ValueLaws.{effective_short}
 use Rattle.twox_hash.proofs.xxhash3_64.Hasher+Global.oneshot_with_seed_and_secret.Goals as goal
 
 pub returns-then-input-le-CUTOFF-clause-tells_others : goal.returns-then-input-le-CUTOFF-clause-tells_others
