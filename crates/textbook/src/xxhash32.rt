@@ -4,7 +4,7 @@
 ghost use Rattle.std.specs.Prelude.{◌≡◌, ◌+◌, ◌*◌, ◌/◌, ◌<◌, ◌≤◌, length};
 ghost use Rattle.std.specs.Int.{w32};
 ghost use Rattle.twox_plain.specs.Word.{word_at};
-ghost use Rattle.twox_plain.specs.Xxh32.{round, lane, converged, start, take_word, take_byte, after_words, after_tail, avalanche, xxh32};
+ghost use Rattle.twox_plain.specs.Xxh32.{round, accumulator, convergence, start, take_word, take_byte, after_words, after_tail, avalanche, xxh32};
 
 const P1: u32 = 0x9E3779B1;
 
@@ -30,10 +30,10 @@ fn round(a: u32, word: u32) -> u32
     sum.rotate_left(13).wrapping_mul(P1)
 }
 
-// Lane j after every whole stripe.
-fn lane(seed: u32, m: &[u8], j: usize) -> u32
+// Accumulator j after every whole stripe.
+fn accumulator(seed: u32, m: &[u8], j: usize) -> u32
     requires { j < 4 }
-    ensures { result ≡ lane seed m.now j (length m.now / 16) }
+    ensures { result ≡ accumulator seed m.now j (length m.now / 16) }
 {
     let initial = [
         seed.wrapping_add(P1).wrapping_add(P2),
@@ -48,16 +48,16 @@ fn lane(seed: u32, m: &[u8], j: usize) -> u32
     a
 }
 
-// The four lanes as one value.
-fn converged(a: u32, b: u32, c: u32, d: u32) -> u32
-    ensures { result ≡ converged a b c d }
+// The four accumulators as one value.
+fn convergence(a: u32, b: u32, c: u32, d: u32) -> u32
+    ensures { result ≡ convergence a b c d }
 {
     let sum = a.rotate_left(1).wrapping_add(b.rotate_left(7));
     let sum = sum.wrapping_add(c.rotate_left(12));
     sum.wrapping_add(d.rotate_left(18))
 }
 
-// The lanes, or the seed where there is no stripe, and the low 32 bits of the length.
+// The accumulators, or the seed where there is no stripe, and the low 32 bits of the length.
 fn start(seed: u32, m: &[u8]) -> u32
     ensures { result ≡ start seed m.now }
 {
@@ -65,9 +65,9 @@ fn start(seed: u32, m: &[u8]) -> u32
     if m.len() < 16 {
         return seed.wrapping_add(P5).wrapping_add(len);
     }
-    let (a, b) = (lane(seed, m, 0), lane(seed, m, 1));
-    let (c, d) = (lane(seed, m, 2), lane(seed, m, 3));
-    converged(a, b, c, d).wrapping_add(len)
+    let (a, b) = (accumulator(seed, m, 0), accumulator(seed, m, 1));
+    let (c, d) = (accumulator(seed, m, 2), accumulator(seed, m, 3));
+    convergence(a, b, c, d).wrapping_add(len)
 }
 
 fn take_word(x: u32, word: u32) -> u32

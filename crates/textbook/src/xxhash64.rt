@@ -4,7 +4,7 @@
 ghost use Rattle.std.specs.Prelude.{◌≡◌, ◌+◌, ◌*◌, ◌/◌, ◌<◌, ◌≤◌, length};
 ghost use Rattle.std.specs.Int.{w32, w64};
 ghost use Rattle.twox_plain.specs.Word.{word_at};
-ghost use Rattle.twox_plain.specs.Xxh64.{round, lane, merge, converged, start, take_eight, take_four, take_byte, after_eights, after_words, after_tail, avalanche, xxh64};
+ghost use Rattle.twox_plain.specs.Xxh64.{round, accumulator, merge, convergence, start, take_eight, take_four, take_byte, after_eights, after_words, after_tail, avalanche, xxh64};
 
 const P1: u64 = 0x9E3779B185EBCA87;
 
@@ -46,10 +46,10 @@ fn round(a: u64, word: u64) -> u64
     sum.rotate_left(31).wrapping_mul(P1)
 }
 
-// Lane j after every whole stripe.
-fn lane(seed: u64, m: &[u8], j: usize) -> u64
+// Accumulator j after every whole stripe.
+fn accumulator(seed: u64, m: &[u8], j: usize) -> u64
     requires { j < 4 }
-    ensures { result ≡ lane seed m.now j (length m.now / 32) }
+    ensures { result ≡ accumulator seed m.now j (length m.now / 32) }
 {
     let initial = [
         seed.wrapping_add(P1).wrapping_add(P2),
@@ -70,9 +70,9 @@ fn merge(x: u64, a: u64) -> u64
     (x ^ round(0, a)).wrapping_mul(P1).wrapping_add(P4)
 }
 
-// The four lanes as one value.
-fn converged(a: u64, b: u64, c: u64, d: u64) -> u64
-    ensures { result ≡ converged a b c d }
+// The four accumulators as one value.
+fn convergence(a: u64, b: u64, c: u64, d: u64) -> u64
+    ensures { result ≡ convergence a b c d }
 {
     let sum = a.rotate_left(1).wrapping_add(b.rotate_left(7));
     let sum = sum.wrapping_add(c.rotate_left(12));
@@ -80,7 +80,7 @@ fn converged(a: u64, b: u64, c: u64, d: u64) -> u64
     merge(merge(merge(merge(sum, a), b), c), d)
 }
 
-// The lanes, or the seed where there is no stripe, and the length.
+// The accumulators, or the seed where there is no stripe, and the length.
 fn start(seed: u64, m: &[u8]) -> u64
     ensures { result ≡ start seed m.now }
 {
@@ -88,9 +88,9 @@ fn start(seed: u64, m: &[u8]) -> u64
     if len < 32 {
         return seed.wrapping_add(P5).wrapping_add(len);
     }
-    let (a, b) = (lane(seed, m, 0), lane(seed, m, 1));
-    let (c, d) = (lane(seed, m, 2), lane(seed, m, 3));
-    converged(a, b, c, d).wrapping_add(len)
+    let (a, b) = (accumulator(seed, m, 0), accumulator(seed, m, 1));
+    let (c, d) = (accumulator(seed, m, 2), accumulator(seed, m, 3));
+    convergence(a, b, c, d).wrapping_add(len)
 }
 
 fn take_eight(x: u64, word: u64) -> u64

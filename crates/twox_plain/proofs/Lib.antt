@@ -1,4 +1,4 @@
-pub mod Buffering
+pub mod BlockStateFacts
 pub mod ByteItems
 pub mod ByteTexts
 pub mod ChunksFront
@@ -9,9 +9,9 @@ pub mod Laws64
 pub mod Message32
 pub mod Message64
 pub mod OneToOne
-pub mod Reached32
-pub mod Reached64
-pub mod Reaching
+pub mod Reachability32
+pub mod Reachability64
+pub mod Reachability
 pub mod Rotations
 pub mod SavedTexts32
 pub mod SavedTexts64

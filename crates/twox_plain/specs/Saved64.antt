@@ -3,28 +3,28 @@ use Rattle.std.specs.Prelude.{ℕ, ◌^◌, List, ◌++◌, Option, option_map, 
 use Rattle.serde_json.specs.Data.{Data, number, unsigned, object, no_members, member}
 use Rattle.serde_json.specs.Find.{get}
 use Rattle.serde_json.specs.Read.{read}
-use Rattle.twox_plain.specs.SavedText.{number_at, bytes_from, numbers_text, bytes_data}
+use Rattle.twox_plain.specs.SavedText.{number_member, bytes_of_data, numbers_text, bytes_data}
 use Rattle.twox_plain.specs.declared.xxhash64.Core.{Core}
 use Rattle.twox_plain.specs.declared.xxhash64.SavedState.{SavedState}
 
 -- ---- reading
 
 -- an object with the members v1 to v4; others are passed over
-abbrev pub core_from : Data → Option Core
-core_from d =
+abbrev pub core_of_data : Data → Option Core
+core_of_data d =
     option_and_then (λ a. option_and_then (λ b. option_and_then (λ c. option_map (λ e. record { v1 = a; v2 = b; v3 = c; v4 = e })
-    (number_at (2 ^ 64) (codes "v4") d)) (number_at (2 ^ 64) (codes "v3") d)) (number_at (2 ^ 64) (codes "v2") d)) (number_at (2 ^ 64) (codes "v1") d)
+    (number_member (2 ^ 64) (codes "v4") d)) (number_member (2 ^ 64) (codes "v3") d)) (number_member (2 ^ 64) (codes "v2") d)) (number_member (2 ^ 64) (codes "v1") d)
 
 -- the record of an object's members; others are passed over
-abbrev pub record_from : Data → Option SavedState
-record_from d =
+abbrev pub record_of_data : Data → Option SavedState
+record_of_data d =
     option_and_then (λ bs. option_and_then (λ u. option_and_then (λ c. option_and_then (λ s. option_map (λ t. record { total_len = t; seed = s; core = c; buffer = bs; buffer_usage = u })
-    (number_at (2 ^ 64) (codes "total_len") d)) (number_at (2 ^ 64) (codes "seed") d)) (option_and_then core_from (get (codes "core") d)))
-    (number_at (2 ^ 64) (codes "buffer_usage") d)) (option_and_then (bytes_from 32) (get (codes "buffer") d))
+    (number_member (2 ^ 64) (codes "total_len") d)) (number_member (2 ^ 64) (codes "seed") d)) (option_and_then core_of_data (get (codes "core") d)))
+    (number_member (2 ^ 64) (codes "buffer_usage") d)) (option_and_then (bytes_of_data 32) (get (codes "buffer") d))
 
 -- the record that a text is
-abbrev pub record_of : List ℕ → Option SavedState
-record_of text = option_and_then record_from (read text)
+abbrev pub record_of_text : List ℕ → Option SavedState
+record_of_text text = option_and_then record_of_data (read text)
 
 -- ---- writing
 

@@ -7,33 +7,33 @@ use Rattle.serde_json.specs.View.{items_of}
 -- ---- reading
 
 -- the number, where it is below the limit
-abbrev pub below : ℕ → ℕ → Option ℕ
-below limit x = if nat_lt x limit then Some x else None
+abbrev pub number_below : ℕ → ℕ → Option ℕ
+number_below limit x = if nat_lt x limit then Some x else None
 
 -- a value that is a whole number below the limit, as `as_u64` of `serde_json` reads it
-abbrev pub whole : ℕ → Data → Option ℕ
-whole limit d = option_and_then (below limit) (option_and_then as_u64 (as_number d))
+abbrev pub whole_number : ℕ → Data → Option ℕ
+whole_number limit d = option_and_then (number_below limit) (option_and_then as_u64 (as_number d))
 
 -- the member of an object that is such a number
-abbrev pub number_at : ℕ → List ℕ → Data → Option ℕ
-number_at limit name d = option_and_then (whole limit) (get name d)
+abbrev pub number_member : ℕ → List ℕ → Data → Option ℕ
+number_member limit name d = option_and_then (whole_number limit) (get name d)
 
 -- the items, each of them a byte
-abbrev pub each_byte : Items → Option (List ℕ)
-each_byte no_items = Some []
-each_byte (item d ds) = option_and_then (λ b. option_map (λ bs. b ∷ bs) (each_byte ds)) (whole 256 d)
+abbrev pub item_bytes : Items → Option (List ℕ)
+item_bytes no_items = Some []
+item_bytes (item d ds) = option_and_then (λ b. option_map (λ bs. b ∷ bs) (item_bytes ds)) (whole_number 256 d)
 
-abbrev pub count : Items → ℕ
-count no_items = 0
-count (item d ds) = suc (count ds)
+abbrev pub item_count : Items → ℕ
+item_count no_items = 0
+item_count (item d ds) = suc (item_count ds)
 
 -- exactly n items, each of them a byte
-abbrev pub exactly : ℕ → Items → Option (List ℕ)
-exactly n ds = if count ds == n then each_byte ds else None
+abbrev pub bytes_of_count : ℕ → Items → Option (List ℕ)
+bytes_of_count n ds = if item_count ds == n then item_bytes ds else None
 
 -- an array of exactly n bytes
-abbrev pub bytes_from : ℕ → Data → Option (List ℕ)
-bytes_from n d = option_and_then (exactly n) (as_array d)
+abbrev pub bytes_of_data : ℕ → Data → Option (List ℕ)
+bytes_of_data n d = option_and_then (bytes_of_count n) (as_array d)
 
 -- ---- writing
 

@@ -2,7 +2,7 @@
 
 ghost use Rattle.std.specs.Prelude.{◌≡◌, ◌↔◌, ◌++◌, ℕ, List, IsTrue, Ok, IfOk, MatchResult};
 ghost use Rattle.twox_hash.specs.Xxh64.{xxh64};
-ghost use Rattle.twox_hash.specs.Record64.{StandsFor, finished, written};
+ghost use Rattle.twox_hash.specs.Record64.{StandsFor, finish_value, after_write};
 
 use std::alloc::AllocError;
 use twox_hash::XxHash64;
@@ -32,7 +32,7 @@ pub fn without_and_with(hasher: &XxHash64, piece: &[u8]) -> Result<(u64, u64), A
 /// The record of a hasher that stands for any list is accepted, and goes on as the hasher itself.
 pub fn save_and_go_on(hasher: &XxHash64, piece: &[u8]) -> Result<u64, RestoreError>
     ensures accepted { (m : List ℕ) → StandsFor hasher.now m → result ≡ Ok (xxh64 hasher.now.seed (m ++ piece.now)) }
-    ensures alike { IfOk result (λ value. value ≡ finished (written hasher.now piece.now)) }
+    ensures alike { IfOk result (λ value. value ≡ finish_value (after_write hasher.now piece.now)) }
 {
     let mut restored = XxHash64::from_state(hasher.to_state())?;
     restored.write(piece);

@@ -2,7 +2,7 @@
 
 ghost use Rattle.std.specs.Prelude.{◌≡◌, ◌≢◌, ◌↔◌, ◌^◌, ◌<◌, ◌≤◌, ℕ, List, length, IsTrue};
 ghost use Rattle.twox_hash.specs.Word.{IsBytes};
-ghost use Rattle.twox_hash.specs.Apart.{DiffersWithin, IsUnit32};
+ghost use Rattle.twox_hash.specs.ChangedUnit.{DiffersWithin, IsUnit32};
 ghost use Rattle.twox_hash.specs.Xxh32.{xxh32};
 ghost use Rattle.twox_hash.specs.OtherBytes.{IsOtherShort128};
 ghost use Rattle.twox_hash.specs.Secret.{default_secret};

@@ -2,9 +2,9 @@
 
 ghost use Rattle.std.specs.Prelude.{◌≡◌, ◌^◌, Some, None, IfOk, IsErrOf, string_bytes};
 ghost use Rattle.serde_json.specs.View.{view};
-ghost use Rattle.twox_plain.specs.Saved32.{core_from, record_from, record_of, core_data, members_data, saved_text};
+ghost use Rattle.twox_plain.specs.Saved32.{core_of_data, record_of_data, record_of_text, core_data, members_data, saved_text};
 
-use crate::saved_text::{bytes_of, bytes_value, u32_at, u64_at};
+use crate::saved_text::{byte_array, byte_array_value, u32_member, u64_member};
 use crate::xxhash32::{Core, SavedState};
 use serde_json::{Value, json};
 use std::alloc::{AllocError, Global};
@@ -21,24 +21,24 @@ pub enum FormError {
     Memory,
 }
 
-fn core_in(value: &Value) -> Option<Core>
-    ensures { result ≡ core_from (view value.now) }
+fn core_of_value(value: &Value) -> Option<Core>
+    ensures { result ≡ core_of_data (view value.now) }
 {
-    let v1 = u32_at(value, "v1")?;
-    let v2 = u32_at(value, "v2")?;
-    let v3 = u32_at(value, "v3")?;
-    let v4 = u32_at(value, "v4")?;
+    let v1 = u32_member(value, "v1")?;
+    let v2 = u32_member(value, "v2")?;
+    let v3 = u32_member(value, "v3")?;
+    let v4 = u32_member(value, "v4")?;
     Some(Core { v1, v2, v3, v4 })
 }
 
-fn record_in(value: &Value) -> Option<SavedState>
-    ensures { result ≡ record_from (view value.now) }
+fn record_of_value(value: &Value) -> Option<SavedState>
+    ensures { result ≡ record_of_data (view value.now) }
 {
-    let buffer = bytes_of(value.get("buffer")?)?;
-    let buffer_usage = u64_at(value, "buffer_usage")? as usize;
-    let core = core_in(value.get("core")?)?;
-    let seed = u32_at(value, "seed")?;
-    let total_len = u64_at(value, "total_len")?;
+    let buffer = byte_array(value.get("buffer")?)?;
+    let buffer_usage = u64_member(value, "buffer_usage")? as usize;
+    let core = core_of_value(value.get("core")?)?;
+    let seed = u32_member(value, "seed")?;
+    let total_len = u64_member(value, "total_len")?;
     Some(SavedState {
         total_len,
         seed,
@@ -50,7 +50,7 @@ fn record_in(value: &Value) -> Option<SavedState>
 
 fn core_value(alloc: Global, core: Core) -> Result<Value, AllocError>
     ensures value { IfOk result (λ value. view value ≡ core_data core) }
-    ensures reads_back { IfOk result (λ value. core_from (view value) ≡ Some core) }
+    ensures reads_back { IfOk result (λ value. core_of_data (view value) ≡ Some core) }
 {
     let (v1, v2, v3, v4) = (core.v1, core.v2, core.v3, core.v4);
     let value = json!(in alloc; {"v1": v1, "v2": v2, "v3": v3, "v4": v4})?;
@@ -78,9 +78,9 @@ impl SavedState {
     /// An `Err` is want of memory.
     pub fn to_json(&self, alloc: Global) -> Result<String, AllocError>
         ensures text { IfOk result (λ text. string_bytes text ≡ saved_text self.now) }
-        ensures reads_back { IfOk result (λ text. record_of (string_bytes text) ≡ Some self.now) }
+        ensures reads_back { IfOk result (λ text. record_of_text (string_bytes text) ≡ Some self.now) }
     {
-        let buffer = bytes_value(alloc, &self.buffer)?;
+        let buffer = byte_array_value(alloc, &self.buffer)?;
         let core = core_value(alloc, self.core)?;
         let (usage, seed, total_len) = (self.buffer_usage, self.seed, self.total_len);
         record_value(alloc, buffer, core, usage, seed, total_len)?.to_string(alloc)
@@ -93,11 +93,11 @@ impl SavedState {
     /// `FormError::Text` comes exactly where, want of memory aside, `serde_json` reads no such object.
     /// `FormError::Memory` may be met before the text is judged.
     pub fn from_json(alloc: Global, text: &str) -> Result<SavedState, FormError>
-        ensures read { IfOk result (λ state. record_of text.now ≡ Some state) }
-        ensures refused { IsErrOf result FormError.Text → record_of text.now ≡ None }
+        ensures read { IfOk result (λ state. record_of_text text.now ≡ Some state) }
+        ensures refused { IsErrOf result FormError.Text → record_of_text text.now ≡ None }
     {
         match Value::from_str(alloc, text) {
-            Ok(value) => record_in(&value).ok_or(FormError::Text),
+            Ok(value) => record_of_value(&value).ok_or(FormError::Text),
             Err(error) => Err(if error.is_memory() {
                 FormError::Memory
             } else {

@@ -1,6 +1,6 @@
 use Rattle.std.proofs.Common.{refl, sym, ◌∙◌, arith, rules}
 use Rattle.std.proofs.lemmas.Bool.{false≢true}
-use Rattle.twox_plain.proofs.Reached64.{fits_stands, stands_fits}
+use Rattle.twox_plain.proofs.Reachability64.{fits_stands, stands_fits}
 use Rattle.twox_plain.proofs.xxhash64.Hasher.from_state.Goals as goal
 
 pub returns-then-not-usage_fits-clause-reachable : goal.returns-then-not-usage_fits-clause-reachable

@@ -1,5 +1,5 @@
--- Any lanes are reached: a block of words takes them from any values to any others, so what is held follows
--- some list of bytes. For any width, any block length and any lanes.
+-- Any accumulators are reached: a block of words takes them from any values to any others, so what is held follows
+-- some list of bytes. For any width, any block length and any accumulators.
 use Rattle.std.proofs.Common.{◌≡◌, ℕ, zero, suc, ◌+◌, ◌-◌, ◌*◌, ◌/◌, ◌%◌, ◌^◌, ◌<◌, ◌≤◌, List, [], ◌∷◌, ◌++◌, length, take, drop, replicate, inl, inr, refl, sym, ap, ◌∙◌, arith, lit<, mod-lt, pow_pos, zero-mul, length-append}
 use Rattle.std.proofs.lemmas.Bool.{cases_lt}
 use Rattle.std.proofs.lemmas.List.{drop_at, take_at, drop-drop, length-replicate, length-take-le, take_all}
@@ -8,12 +8,12 @@ use Rattle.std.proofs.Math.Nat.{add-mod-mod, add-mod_left, mod-eq_of_lt, eq-or-l
 use Rattle.std.specs.Int.{Width, w32, w64, byte_len, from_le_bytes, to_le_bytes, rotate_left}
 use mir.Val.{bits}
 use Rattle.twox_plain.specs.Word.{IsBytes, word_at, wrap_add, wrap_mul, counted}
-use Rattle.twox_plain.specs.Buffered.{Held, Follows}
+use Rattle.twox_plain.specs.BlockState.{BlockState, Follows}
 use Rattle.twox_plain.proofs.Rotations.{rotated, turned_back, left_is_rotated, rotated-lt}
 use Rattle.twox_plain.proofs.OneToOne.{multiple_back}
 use Rattle.twox_plain.proofs.WordFacts.{word_at-append, word_at-append_right}
 use Rattle.twox_plain.proofs.WordLaws.{IsBytes-part}
-use Rattle.twox_plain.proofs.Buffering.{follows_from}
+use Rattle.twox_plain.proofs.BlockStateFacts.{follows_from}
 
 -- ---- lists of bytes
 
@@ -97,9 +97,9 @@ module _ (w : Width) (writable : IsWritable w) (f : ℕ → ℕ) where
         word_at-append w (words_of w f n) (to_le_bytes w (f n)) (j * byte_len w) (omega (arith, length-words_of n)) ∙ word_at-words_of n j earlier fits
   ]
 
--- ---- the word that takes a lane from one value to another
+-- ---- the word that takes a accumulator from one value to another
 
--- from each value of the lane, a word leads to each
+-- from each value of the accumulator, a word leads to each
 pub record IsReaching (w : Width) (step : ℕ → ℕ → ℕ) : Type 0 where
   pub word : ℕ → ℕ → ℕ
   pub below : (a b : ℕ) → word a b < 2 ^ bits w
@@ -128,10 +128,10 @@ round_reaches w r p1 q1 p2 q2 some less odd1 odd2 =
           ∙ multiple_back q1 p1 m b odd1 q;
     }
 
--- lane j goes from a j to c j by word j of one block
-pub lane_reached : (w : Width) → IsWritable w → (step : ℕ → ℕ → ℕ) (reaches : IsReaching w step) (a c : ℕ → ℕ) (n j : ℕ) → j < n → a j < 2 ^ bits w → c j < 2 ^ bits w
+-- accumulator j goes from a j to c j by word j of one block
+pub accumulator_reached : (w : Width) → IsWritable w → (step : ℕ → ℕ → ℕ) (reaches : IsReaching w step) (a c : ℕ → ℕ) (n j : ℕ) → j < n → a j < 2 ^ bits w → c j < 2 ^ bits w
     → step (a j) (word_at w (words_of w (λ i. reaches.word (a i) (c i)) n) (j * byte_len w)) ≡ c j
-lane_reached w writable step reaches a c n j low p q =
+accumulator_reached w writable step reaches a c n j low p q =
     ap (step (a j)) (word_at-words_of w writable (λ i. reaches.word (a i) (c i)) n j low (reaches.below (a j) (c j))) ∙ reaches.leads (a j) (c j) p q
 
 -- ---- the list of bytes
@@ -139,41 +139,41 @@ lane_reached w writable step reaches a c n j low p q =
 module _ {X : Type 0} (block : ℕ) (after : List ℕ → ℕ → X) (from : X → List ℕ → ℕ → X) (some : 0 < block)
     (longer : (m d : List ℕ) (k : ℕ) → k * block ≤ length m → after (m ++ d) k ≡ after m k)
     (one : (m d : List ℕ) (k : ℕ) → d ≡ take block (drop (k * block) m) → from (after m k) d 1 ≡ after m (k + 1)) where
-  -- a block of bytes takes the lanes from k blocks of zeros to x
+  -- a block of bytes takes the accumulators from k blocks of zeros to x
   pub record LastBlock (x : X) (k : ℕ) : Type 0 where
     pub last : List ℕ
     pub bytes : IsBytes last
     pub size : length last ≡ block
     pub takes : from (after (replicate (k * block) 0) k) last 1 ≡ x
 
-  module _ (h : Held X) (full : length h.buffer ≡ block) (short : h.usage < block) where
+  module _ (h : BlockState X) (full : length h.buffer ≡ block) (short : h.usage < block) where
     in_use : length (take h.usage h.buffer) ≡ h.usage
     in_use = length-take-le h.usage h.buffer (omega arith)
 
-    -- initial lanes follow the bytes in use
-    short_followed : h.lanes ≡ after [] 0 → Follows block after (take h.usage h.buffer) h
+    -- initial accumulators follow the bytes in use
+    short_followed : h.accumulators ≡ after [] 0 → Follows block after (take h.usage h.buffer) h
     short_followed initial =
         let rest = take h.usage h.buffer in
         let none : 0 * block ≡ 0 = zero-mul block in
         follows_from block after rest h 0 (omega (arith, in_use)) short (initial ∙ sym (longer [] rest 0 (omega arith))) (rw none refl)
 
-    -- other lanes follow k blocks of zeros, the block that takes the lanes to them, and the bytes in use
-    listed : (k : ℕ) → LastBlock h.lanes k → List ℕ
+    -- other accumulators follow k blocks of zeros, the block that takes the accumulators to them, and the bytes in use
+    listed : (k : ℕ) → LastBlock h.accumulators k → List ℕ
     listed k l = replicate (k * block) 0 ++ (l.last ++ take h.usage h.buffer)
 
-    length-listed : (k : ℕ) (l : LastBlock h.lanes k) → length (listed k l) ≡ (k + 1) * block + h.usage
+    length-listed : (k : ℕ) (l : LastBlock h.accumulators k) → length (listed k l) ≡ (k + 1) * block + h.usage
     unfolding listed
     length-listed k l =
         let rest = take h.usage h.buffer in
         length-append (replicate (k * block) 0) (l.last ++ rest) ∙ omega (arith, length-append l.last rest, length-replicate {A = ℕ} (k * block) 0, l.size, in_use)
 
-    IsBytes-listed : (k : ℕ) (l : LastBlock h.lanes k) → IsBytes h.buffer → IsBytes (listed k l)
+    IsBytes-listed : (k : ℕ) (l : LastBlock h.accumulators k) → IsBytes h.buffer → IsBytes (listed k l)
     unfolding listed
     IsBytes-listed k l bytes =
         let rest = take h.usage h.buffer in
         IsBytes-append (replicate (k * block) 0) (l.last ++ rest) (IsBytes-zeros (k * block)) (IsBytes-append l.last rest l.bytes (IsBytes-part h.usage 0 h.buffer bytes))
 
-    long_followed : (k : ℕ) (l : LastBlock h.lanes k) → Follows block after (listed k l) h
+    long_followed : (k : ℕ) (l : LastBlock h.accumulators k) → Follows block after (listed k l) h
     unfolding listed
     long_followed k l =
         let zeros : List ℕ = replicate (k * block) 0 in
@@ -188,26 +188,26 @@ module _ {X : Type 0} (block : ℕ) (after : List ℕ → ℕ → X) (from : X �
         follows_from block after m h (k + 1) (length-listed k l) short (sym l.takes ∙ ap (λ (x : X). from x l.last 1) before ∙ one m l.last k next) unused
 
   -- what is held follows some list of bytes that has the count
-  abbrev pub FollowsSome : ℕ → Held X → Type 0
+  abbrev pub FollowsSome : ℕ → BlockState X → Type 0
   FollowsSome total h = (m : List ℕ) × IsBytes m × ((total ≡ counted (length m)) × Follows block after m h)
 
-  short_some : (total : ℕ) (h : Held X) → h.lanes ≡ after [] 0 → total < 2 ^ 64 - 1 → total ≡ h.usage → IsBytes h.buffer → length h.buffer ≡ block → h.usage < block → FollowsSome total h
+  short_some : (total : ℕ) (h : BlockState X) → h.accumulators ≡ after [] 0 → total < 2 ^ 64 - 1 → total ≡ h.usage → IsBytes h.buffer → length h.buffer ≡ block → h.usage < block → FollowsSome total h
   short_some total h initial exact count bytes full short = (
     take h.usage h.buffer,
     IsBytes-part h.usage 0 h.buffer bytes,
     (omega (arith, in_use h full short), short_followed h full short initial),
   )
 
-  long_some : (total : ℕ) (h : Held X) (k : ℕ) → LastBlock h.lanes k → total ≡ counted ((k + 1) * block + h.usage) → IsBytes h.buffer → length h.buffer ≡ block → h.usage < block → FollowsSome total h
+  long_some : (total : ℕ) (h : BlockState X) (k : ℕ) → LastBlock h.accumulators k → total ≡ counted ((k + 1) * block + h.usage) → IsBytes h.buffer → length h.buffer ≡ block → h.usage < block → FollowsSome total h
   long_some total h k l count bytes full short = (
     listed h full short k l,
     IsBytes-listed h full short k l bytes,
     (count ∙ ap counted (sym (length-listed h full short k l)), long_followed h full short k l),
   )
 
-  -- it does where the usage and the lanes fit the count
-  pub some_followed : (total : ℕ) (h : Held X) → (total < 2 ^ 64 - 1 → h.usage ≡ total % block) → (total ≡ 2 ^ 64 - 1 → h.usage < block) → (total < block → h.lanes ≡ after [] 0)
-      → total < 2 ^ 64 → IsBytes h.buffer → length h.buffer ≡ block → ((k : ℕ) → LastBlock h.lanes k) → FollowsSome total h
+  -- it does where the usage and the accumulators fit the count
+  pub some_followed : (total : ℕ) (h : BlockState X) → (total < 2 ^ 64 - 1 → h.usage ≡ total % block) → (total ≡ 2 ^ 64 - 1 → h.usage < block) → (total < block → h.accumulators ≡ after [] 0)
+      → total < 2 ^ 64 → IsBytes h.buffer → length h.buffer ≡ block → ((k : ℕ) → LastBlock h.accumulators k) → FollowsSome total h
   some_followed total h known lost initial fits bytes full lasts = elim (cases_lt total (2 ^ 64 - 1)) [
     | inr most ↦
         let rows : 2 ^ 64 * 1 ≤ 2 ^ 64 * block = mul-le-mul_left (2 ^ 64) some in

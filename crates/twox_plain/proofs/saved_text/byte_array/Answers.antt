@@ -1,7 +1,7 @@
 use Rattle.std.proofs.Common.{rules, length-set}
 use Rattle.serde_json.specs.View.{view}
 use Rattle.twox_plain.proofs.ByteItems.{bytes_of_other_length, one_more, all_read}
-use Rattle.twox_plain.proofs.saved_text.bytes_of.Goals as goal
+use Rattle.twox_plain.proofs.saved_text.byte_array.Goals as goal
 
 pub returns-then-len : goal.returns-then-len
 returns-then-len g c = bytes_of_other_length g.row.N c.in_ok-list.list.now.items (view c.args.value.now) (search rules) (search rules)
