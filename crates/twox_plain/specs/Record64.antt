@@ -1,12 +1,16 @@
 -- The record of an XXH64 hasher: the lists that it stands for, and what each call makes of it.
-use Rattle.std.specs.Prelude.{◌≡◌, ◌<◌, ◌+◌, ◌-◌, ◌%◌, ◌^◌, ℕ, List, [], length, take, min, nat_lt, replicate, if◌then◌else◌}
+use Rattle.std.specs.Prelude.{◌≡◌, ◌<◌, ◌+◌, ◌-◌, ◌%◌, ◌^◌, ℕ, List, [], length, take, min, nat_lt, replicate, Bool, ◌==◌, codes, if◌then◌else◌}
+use Rattle.std.specs.Cmp.Lexicographic.{pointwise}
+use Rattle.std.specs.Ordering.{on, eq_of_both}
 use Rattle.std.specs.Int.{w64}
-use Rattle.twox_plain.specs.Word.{wrap_add, counted}
+use Rattle.twox_plain.specs.Word.{IsBytes, wrap_add, counted}
 use Rattle.twox_plain.specs.Xxh64.{p5, convergence, after_tail, avalanche}
 use Rattle.twox_plain.specs.BlockState.{BlockState, Follows, after_piece}
 use Rattle.twox_plain.specs.Core64.{core_of_stripes, core_after_stripes}
 use Rattle.twox_plain.specs.declared.xxhash64.Core.{Core}
 use Rattle.twox_plain.specs.declared.xxhash64.SavedState.{SavedState}
+use Rattle.twox_plain.specs.declared.xxhash64.RestoreError.{RestoreError}
+use Rattle.twox_plain.specs.declared.xxhash64.RestoreError.TheVariants.{BufferUsage, Core as WrongCore}
 
 -- what the record holds of the message
 abbrev pub block_state : SavedState → BlockState Core
@@ -15,6 +19,10 @@ block_state s = record { accumulators = s.core; buffer = s.buffer; usage = s.buf
 -- the record has counted m, and its accumulators and its buffer follow m under its seed
 unfoldable pub StandsFor : SavedState → List ℕ → Type 0
 StandsFor s m = (s.total_len ≡ counted (length m)) × Follows 32 (core_of_stripes s.seed) m (block_state s)
+
+-- some list of bytes makes the record stand for it
+abbrev pub IsReachable : SavedState → Type 0
+IsReachable s = (m : List ℕ) × IsBytes m × StandsFor s m
 
 -- the record of no bytes
 abbrev pub initial_record : ℕ → SavedState
@@ -43,3 +51,21 @@ pub record UsageFits (s : SavedState) : Type 0 where
 -- accumulators that have taken no stripe are the seed's initial ones
 abbrev pub CoreFits : SavedState → Type 0
 CoreFits s = s.total_len < 32 → s.core ≡ core_of_stripes s.seed [] 0
+
+-- the records agree in every field, the bytes of the buffer that are not in use included
+abbrev pub cores_equal : Core → Core → Bool
+cores_equal =
+    eq_of_both (on (λ c. c.v1) ◌==◌) (eq_of_both (on (λ c. c.v2) ◌==◌) (eq_of_both (on (λ c. c.v3) ◌==◌) (on (λ c. c.v4) ◌==◌)))
+
+abbrev pub records_equal : SavedState → SavedState → Bool
+records_equal =
+    eq_of_both (on (λ s. s.total_len) ◌==◌)
+    (eq_of_both (on (λ s. s.seed) ◌==◌)
+    (eq_of_both (on (λ s. s.core) cores_equal)
+    (eq_of_both (on (λ s. s.buffer) (pointwise ◌==◌))
+    (on (λ s. s.buffer_usage) ◌==◌))))
+
+-- why a record is refused, in words
+abbrev pub restore_error_text : RestoreError → List ℕ
+restore_error_text BufferUsage = codes "The buffer usage does not match the total length"
+restore_error_text WrongCore = codes "The core does not match the seed"

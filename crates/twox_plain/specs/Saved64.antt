@@ -6,6 +6,8 @@ use Rattle.serde_json.specs.Read.{read}
 use Rattle.twox_plain.specs.SavedText.{number_member, bytes_of_data, numbers_text, bytes_data}
 use Rattle.twox_plain.specs.declared.xxhash64.Core.{Core}
 use Rattle.twox_plain.specs.declared.xxhash64.SavedState.{SavedState}
+use Rattle.twox_plain.specs.declared.xxhash64.saved.FormError.{FormError}
+use Rattle.twox_plain.specs.declared.xxhash64.saved.FormError.TheVariants.{Text, Memory}
 
 -- ---- reading
 
@@ -48,3 +50,10 @@ members_data buffer core usage seed total_len =
 
 abbrev pub record_data : SavedState → Data
 record_data s = members_data (bytes_data s.buffer) (core_data s.core) s.buffer_usage s.seed s.total_len
+
+-- ---- refusals
+
+-- why a text gave no record, in words
+abbrev pub form_error_text : FormError → List ℕ
+form_error_text Text = codes "The text is not a saved state"
+form_error_text Memory = codes "out of memory"

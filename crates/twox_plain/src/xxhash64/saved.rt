@@ -8,18 +8,33 @@ use crate::saved_text::{byte_array, byte_array_value, u64_member};
 use crate::xxhash64::{Core, SavedState};
 use serde_json::{Value, json};
 use std::alloc::{AllocError, Global};
-use thiserror::Error;
+use std::error::Error;
+use std::fmt;
 
 /// Why a text gave no record.
-#[derive(Clone, Copy, Debug, PartialEq, Eq, Error)]
+#[derive(Clone, Copy, Debug, PartialEq, Eq)]
 pub enum FormError {
     /// The text is not a saved state's.
-    #[error("The text is not a saved state")]
     Text,
-    /// A growth of memory was refused.
-    #[error("out of memory")]
+    /// There was no memory to read it.
     Memory,
 }
+
+impl fmt::Display for FormError {
+    ghost use Rattle.std.specs.Prelude.{Some};
+    ghost use Rattle.twox_plain.specs.Saved64.{form_error_text};
+
+    ghost output = { λ error. Some (form_error_text error) };
+
+    fn fmt<W: fmt::Write>(&self, f: &mut fmt::Formatter<W>) -> fmt::Result {
+        f.write_str(match self {
+            FormError::Text => "The text is not a saved state",
+            FormError::Memory => "out of memory",
+        })
+    }
+}
+
+impl Error for FormError {}
 
 fn core_of_value(value: &Value) -> Option<Core>
     ensures { result ≡ core_of_data (view value.now) }
@@ -66,7 +81,8 @@ fn record_value(
     seed: u64,
     total_len: u64,
 ) -> Result<Value, AllocError>
-    ensures { IfOk result (λ value. view value ≡ members_data (view buffer) (view core) usage seed total_len) }
+    ensures { IfOk result (λ value.
+        view value ≡ members_data (view buffer) (view core) usage seed total_len) }
 {
     json!(in alloc; {"buffer": buffer, "buffer_usage": usage, "core": core, "seed": seed, "total_len": total_len})
 }
@@ -75,7 +91,9 @@ impl SavedState {
     /// The saved text: the compact JSON of an object with the members `buffer` (an array of numbers),
     /// `buffer_usage`, `core` (an object of `v1` to `v4`), `seed` and `total_len`, in this order.
     ///
-    /// An `Err` is want of memory.
+    /// # Errors
+    ///
+    /// There is no memory for the text.
     pub fn to_json(&self, alloc: Global) -> Result<String, AllocError>
         ensures text { IfOk result (λ text. string_bytes text ≡ saved_text self.now) }
         ensures reads_back { IfOk result (λ text. record_of_text (string_bytes text) ≡ Some self.now) }
@@ -90,8 +108,10 @@ impl SavedState {
     /// order and with any white space, each number whole and in its type's range, and exactly 32 of them in
     /// the buffer. Other members are passed over.
     ///
-    /// `FormError::Text` comes exactly where, want of memory aside, `serde_json` reads no such object.
-    /// `FormError::Memory` may be met before the text is judged.
+    /// # Errors
+    ///
+    /// - [`FormError::Text`]: `serde_json` reads no such object.
+    /// - [`FormError::Memory`]: memory ran out, perhaps before the text was judged.
     pub fn from_json(alloc: Global, text: &str) -> Result<SavedState, FormError>
         ensures read { IfOk result (λ state. record_of_text text.now ≡ Some state) }
         ensures refused { IsErrOf result FormError.Text → record_of_text text.now ≡ None }
