@@ -1,5 +1,5 @@
 -- What is held goes on following a message that comes in pieces: for any block length and any accumulators.
-use Rattle.std.proofs.Common.{◌≡◌, ℕ, ◌+◌, ◌-◌, ◌*◌, ◌/◌, ◌%◌, ◌^◌, ◌<◌, ◌≤◌, min, List, [], ◌++◌, length, take, drop, nat_lt, true, false, inl, inr, refl, sym, ap, subst, ◌∙◌, arith, length-append, length-drop}
+use Rattle.std.proofs.Common.{◌≡◌, ℕ, ◌+◌, ◌-◌, ◌*◌, ◌/◌, ◌%◌, ◌^◌, ◌<◌, ◌≤◌, min, List, [], ◌++◌, length, take, drop, nat_lt, true, false, inl, inr, refl, sym, ap, ap₂, subst, ◌∙◌, arith, length-append, length-drop}
 use Rattle.std.proofs.lemmas.Bool.{cases_lt}
 use Rattle.std.proofs.lemmas.Bool.Decides.{nat_tests}
 use Rattle.std.proofs.lemmas.List.{append-nil, drop-append-le, drop-drop, drop_all, drop_at, take_at, length-take-le}
@@ -7,7 +7,7 @@ use Rattle.std.proofs.lemmas.Nat.{div-mul-add, mod-mul-add, div-add-mod', mod_be
 use Rattle.std.proofs.lemmas.Slice.{take-put_mid}
 use Rattle.std.proofs.Math.Seq.{take-append-add, drop-append-add}
 use Rattle.twox_plain.specs.Word.{counted}
-use Rattle.twox_plain.specs.BlockState.{BlockState, Follows, buffer_with, after_blocks, after_piece}
+use Rattle.twox_plain.specs.BlockState.{BlockState, Follows, AgreeInUse, buffer_with, after_blocks, after_piece}
 
 -- the counted length of a longer message
 pub counted_more : (t : ℕ) (m d : List ℕ) → t ≡ counted (length m) → min (t + length d) (2 ^ 64 - 1) ≡ counted (length (m ++ d))
@@ -130,5 +130,60 @@ module _ {X : Type 0} (block : ℕ) (after : List ℕ → ℕ → X) (from : X �
         | inl used ↦ elim (cases_lt (length d) (block - h.usage)) [
           | inl less ↦ subst P (sym (after_piece_short block from h d used less)) (follows_short m d h follows size (omega arith))
           | inr enough ↦ subst P (sym (after_piece_full block from h d used enough)) (follows_full m d h follows size short enough)
+        ]
+      ]
+
+-- ---- bytes of the buffer that are not in use play no part
+
+module _ {X : Type 0} (block : ℕ) (from : X → List ℕ → ℕ → X) where
+  -- whole blocks leave nothing of the buffer in use
+  after_blocks_agree : (x y : X) (b c d : List ℕ) → y ≡ x → AgreeInUse (after_blocks block from x b d) (after_blocks block from y c d)
+  after_blocks_agree x y b c d same =
+      let tail = drop (length d / block * block) d in
+      record {
+        accumulators = ap (λ (z : X). from z d (length d / block)) same;
+        usage = refl;
+        bytes = take_at tail (drop (length tail) c) (length tail) refl ∙ sym (take_at tail (drop (length tail) b) (length tail) refl);
+      }
+
+  -- the bytes in use and a piece behind them
+  in_use_and_piece : (h : BlockState X) (d : List ℕ) → length h.buffer ≡ block → h.usage + length d ≤ block → take (h.usage + length d) (buffer_with h d) ≡ take h.usage h.buffer ++ d
+  in_use_and_piece h d size fits = take-put_mid h.usage (length d) h.buffer d (h.usage + length d) refl (omega arith)
+
+  -- a buffer that a piece fills
+  full_buffer : (h : BlockState X) (d : List ℕ) → length h.buffer ≡ block → h.usage + length d ≡ block → buffer_with h d ≡ take h.usage h.buffer ++ d
+  full_buffer h d size full =
+      let none : drop (length d) (drop h.usage h.buffer) ≡ [] = drop_all (length d) (drop h.usage h.buffer) (omega (arith, length-drop h.usage h.buffer)) in
+      rw (none, append-nil) refl
+
+  -- states that agree in use still do after the same piece
+  pub after_piece_agree : (g h : BlockState X) (d : List ℕ) → length g.buffer ≡ block → length h.buffer ≡ block → g.usage < block → AgreeInUse g h
+      → AgreeInUse (after_piece block from g d) (after_piece block from h d)
+  after_piece_agree g h d size size' short agree =
+      let Agree : BlockState X → BlockState X → Type 0 = λ a b. AgreeInUse a b in
+      let both = λ (a b : BlockState X) (p : after_piece block from g d ≡ a) (q : after_piece block from h d ≡ b) (same : AgreeInUse a b).
+      subst (λ (z : BlockState X). AgreeInUse (after_piece block from g d) z) (sym q) (subst (λ (z : BlockState X). AgreeInUse z b) (sym p) same) in
+      elim (cases_lt 0 g.usage) [
+        | inr unused ↦
+            both _ _ (after_piece_empty block from g d unused) (after_piece_empty block from h d (omega (arith, agree.usage)))
+            (after_blocks_agree g.accumulators h.accumulators g.buffer h.buffer d agree.accumulators)
+        | inl used ↦ elim (cases_lt (length d) (block - g.usage)) [
+          | inl less ↦
+              both _ _ (after_piece_short block from g d used less) (after_piece_short block from h d (omega (arith, agree.usage)) (omega (arith, agree.usage)))
+              (record {
+                accumulators = agree.accumulators;
+                usage = ap (λ (n : ℕ). n + length d) agree.usage;
+                bytes = in_use_and_piece h d size' (omega (arith, agree.usage)) ∙ ap (λ (xs : List ℕ). xs ++ d) agree.bytes ∙ sym (in_use_and_piece g d size (omega arith));
+              })
+          | inr enough ↦
+              let n = block - g.usage in
+              let room : block - h.usage ≡ n = ap (λ (u : ℕ). block - u) agree.usage in
+              let piece : length (take n d) ≡ n = length-take-le n d enough in
+              let buffers : buffer_with h (take n d) ≡ buffer_with g (take n d) =
+              full_buffer h (take n d) size' (omega (arith, agree.usage)) ∙ ap (λ (xs : List ℕ). xs ++ take n d) agree.bytes ∙ sym (full_buffer g (take n d) size (omega arith)) in
+              let next : from h.accumulators (buffer_with h (take n d)) 1 ≡ from g.accumulators (buffer_with g (take n d)) 1 = ap₂ (λ (x : X) (xs : List ℕ). from x xs 1) agree.accumulators buffers in
+              both _ _ (after_piece_full block from g d used enough)
+              (rw room at (after_piece_full block from h d (omega (arith, agree.usage)) (omega (arith, agree.usage))))
+              (after_blocks_agree _ _ _ _ (drop n d) next)
         ]
       ]

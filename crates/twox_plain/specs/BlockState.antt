@@ -34,3 +34,9 @@ after_piece block from h d =
     (if nat_lt (length d) room then record { accumulators = h.accumulators; buffer = buffer_with h d; usage = h.usage + length d }
     else after_blocks block from (from h.accumulators block_of 1) block_of (drop room d))
     else after_blocks block from h.accumulators h.buffer d
+
+-- the states agree but for bytes of the buffer that are not in use
+pub record AgreeInUse {X : Type 0} (g h : BlockState X) : Type 0 where
+  pub accumulators : h.accumulators ≡ g.accumulators
+  pub usage : h.usage ≡ g.usage
+  pub bytes : take h.usage h.buffer ≡ take g.usage g.buffer

@@ -6,6 +6,7 @@ use Rattle.std.specs.Int.{w64}
 use Rattle.twox_plain.specs.Word.{IsBytes, wrap_add, counted}
 use Rattle.twox_plain.specs.Xxh64.{p5, convergence, after_tail, avalanche}
 use Rattle.twox_plain.specs.BlockState.{BlockState, Follows, after_piece}
+use Rattle.twox_plain.specs.BlockState as Block
 use Rattle.twox_plain.specs.Core64.{core_of_stripes, core_after_stripes}
 use Rattle.twox_plain.specs.declared.xxhash64.Core.{Core}
 use Rattle.twox_plain.specs.declared.xxhash64.SavedState.{SavedState}
@@ -51,6 +52,12 @@ pub record UsageFits (s : SavedState) : Type 0 where
 -- accumulators that have taken no stripe are the seed's initial ones
 abbrev pub CoreFits : SavedState → Type 0
 CoreFits s = s.total_len < 32 → s.core ≡ core_of_stripes s.seed [] 0
+
+-- the records agree but for bytes of the buffer that are not in use
+pub record AgreeInUse (r s : SavedState) : Type 0 where
+  pub total_len : s.total_len ≡ r.total_len
+  pub seed : s.seed ≡ r.seed
+  pub state : Block.AgreeInUse (block_state r) (block_state s)
 
 -- the records agree in every field, the bytes of the buffer that are not in use included
 abbrev pub cores_equal : Core → Core → Bool
