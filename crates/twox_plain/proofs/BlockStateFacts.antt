@@ -137,14 +137,23 @@ module _ {X : Type 0} (block : ℕ) (after : List ℕ → ℕ → X) (from : X �
 
 module _ {X : Type 0} (block : ℕ) (from : X → List ℕ → ℕ → X) where
   -- whole blocks leave nothing of the buffer in use
-  after_blocks_agree : (x y : X) (b c d : List ℕ) → y ≡ x → AgreeInUse (after_blocks block from x b d) (after_blocks block from y c d)
-  after_blocks_agree x y b c d same =
+  after_blocks_agree : (x y : X) (b c d : List ℕ) → y ≡ x → length c ≡ length b → AgreeInUse (after_blocks block from x b d) (after_blocks block from y c d)
+  after_blocks_agree x y b c d same size =
       let tail = drop (length d / block * block) d in
       record {
         accumulators = ap (λ (z : X). from z d (length d / block)) same;
         usage = refl;
         bytes = take_at tail (drop (length tail) c) (length tail) refl ∙ sym (take_at tail (drop (length tail) b) (length tail) refl);
+        size =
+            length-append tail (drop (length tail) c) ∙ ap (λ (n : ℕ). length tail + n) (length-drop (length tail) c ∙ ap (λ (n : ℕ). n - length tail) size ∙ sym (length-drop (length tail) b))
+            ∙ sym (length-append tail (drop (length tail) b));
       }
+
+  -- a piece that fits leaves the buffer's length
+  length-buffer_with : (h : BlockState X) (d : List ℕ) → length h.buffer ≡ block → h.usage + length d ≤ block → length (buffer_with h d) ≡ block
+  length-buffer_with h d size fits =
+      length-append (take h.usage h.buffer) (d ++ drop (length d) (drop h.usage h.buffer))
+      ∙ omega (arith, length-take-le h.usage h.buffer (omega arith), length-append d (drop (length d) (drop h.usage h.buffer)), length-drop (length d) (drop h.usage h.buffer), length-drop h.usage h.buffer)
 
   -- the bytes in use and a piece behind them
   in_use_and_piece : (h : BlockState X) (d : List ℕ) → length h.buffer ≡ block → h.usage + length d ≤ block → take (h.usage + length d) (buffer_with h d) ≡ take h.usage h.buffer ++ d
@@ -157,16 +166,16 @@ module _ {X : Type 0} (block : ℕ) (from : X → List ℕ → ℕ → X) where
       rw (none, append-nil) refl
 
   -- states that agree in use still do after the same piece
-  pub after_piece_agree : (g h : BlockState X) (d : List ℕ) → length g.buffer ≡ block → length h.buffer ≡ block → g.usage < block → AgreeInUse g h
+  pub after_piece_agree : (g h : BlockState X) (d : List ℕ) → length g.buffer ≡ block → g.usage < block → AgreeInUse g h
       → AgreeInUse (after_piece block from g d) (after_piece block from h d)
-  after_piece_agree g h d size size' short agree =
-      let Agree : BlockState X → BlockState X → Type 0 = λ a b. AgreeInUse a b in
+  after_piece_agree g h d size short agree =
+      let size' : length h.buffer ≡ block = agree.size ∙ size in
       let both = λ (a b : BlockState X) (p : after_piece block from g d ≡ a) (q : after_piece block from h d ≡ b) (same : AgreeInUse a b).
       subst (λ (z : BlockState X). AgreeInUse (after_piece block from g d) z) (sym q) (subst (λ (z : BlockState X). AgreeInUse z b) (sym p) same) in
       elim (cases_lt 0 g.usage) [
         | inr unused ↦
             both _ _ (after_piece_empty block from g d unused) (after_piece_empty block from h d (omega (arith, agree.usage)))
-            (after_blocks_agree g.accumulators h.accumulators g.buffer h.buffer d agree.accumulators)
+            (after_blocks_agree g.accumulators h.accumulators g.buffer h.buffer d agree.accumulators agree.size)
         | inl used ↦ elim (cases_lt (length d) (block - g.usage)) [
           | inl less ↦
               both _ _ (after_piece_short block from g d used less) (after_piece_short block from h d (omega (arith, agree.usage)) (omega (arith, agree.usage)))
@@ -174,6 +183,7 @@ module _ {X : Type 0} (block : ℕ) (from : X → List ℕ → ℕ → X) where
                 accumulators = agree.accumulators;
                 usage = ap (λ (n : ℕ). n + length d) agree.usage;
                 bytes = in_use_and_piece h d size' (omega (arith, agree.usage)) ∙ ap (λ (xs : List ℕ). xs ++ d) agree.bytes ∙ sym (in_use_and_piece g d size (omega arith));
+                size = length-buffer_with h d size' (omega (arith, agree.usage)) ∙ sym (length-buffer_with g d size (omega arith));
               })
           | inr enough ↦
               let n = block - g.usage in
@@ -184,6 +194,6 @@ module _ {X : Type 0} (block : ℕ) (from : X → List ℕ → ℕ → X) where
               let next : from h.accumulators (buffer_with h (take n d)) 1 ≡ from g.accumulators (buffer_with g (take n d)) 1 = ap₂ (λ (x : X) (xs : List ℕ). from x xs 1) agree.accumulators buffers in
               both _ _ (after_piece_full block from g d used enough)
               (rw room at (after_piece_full block from h d (omega (arith, agree.usage)) (omega (arith, agree.usage))))
-              (after_blocks_agree _ _ _ _ (drop n d) next)
+              (after_blocks_agree _ _ _ _ (drop n d) next (ap length buffers))
         ]
       ]

@@ -1,17 +1,22 @@
 -- What a record of XXH32 stands for, from call to call, and the value of the message.
-use Rattle.std.proofs.Common.{◌≡◌, ℕ, ◌*◌, ◌/◌, ◌%◌, ◌+◌, ◌-◌, ◌<◌, ◌^◌, min, List, ◌++◌, drop, length, nat_lt, if◌then◌else◌, true, false, inl, inr, refl, ap, ◌∙◌, arith, lit<, length-drop}
+use Rattle.std.proofs.Common.{◌≡◌, ℕ, ◌*◌, ◌/◌, ◌%◌, ◌+◌, ◌-◌, ◌<◌, ◌^◌, min, List, [], ◌++◌, take, drop, length, nat_lt, if◌then◌else◌, true, false, inl, inr, refl, ap, ◌∙◌, arith, lit<, length-drop}
 use Rattle.std.proofs.lemmas.Bool.{cases_lt}
 use Rattle.std.proofs.lemmas.Bool.Decides.{nat_tests}
 use Rattle.std.specs.Int.{w32}
 use Rattle.twox_plain.specs.Word.{wrap_add, counted}
 use Rattle.twox_plain.specs.Xxh32.{p5, convergence, start, after_tail, avalanche, xxh32}
 use Rattle.twox_plain.specs.Core32.{core_of_stripes, core_after_stripes}
-use Rattle.twox_plain.specs.Record32.{StandsFor, AgreeInUse, block_state, after_write, value_of, finish_value}
+use Rattle.twox_plain.specs.Record32.{StandsFor, AgreeInUse, block_state, initial_record, after_write, value_of, finish_value}
 use Rattle.twox_plain.specs.declared.xxhash32.Core.{Core}
 use Rattle.twox_plain.specs.declared.xxhash32.SavedState.{SavedState}
 use Rattle.twox_plain.proofs.BlockStateFacts.{counted_more, after_piece_follows, after_piece_agree}
 use Rattle.twox_plain.proofs.Core32Facts.{core_of_stripes_longer, core_of_stripes_one, core_of_stripes_more}
 use Rattle.twox_plain.proofs.Tail32.{after_tail-drop}
+
+-- the record of no bytes
+pub initial_record_stands : (seed : ℕ) → StandsFor (initial_record seed) []
+unfolding StandsFor
+initial_record_stands seed = (refl, record { whole = refl; left = refl; bytes = refl })
 
 -- a piece more
 pub after_write_stands : (s : SavedState) (m d : List ℕ) → length s.buffer ≡ 16 → StandsFor s m → StandsFor (after_write s d) (m ++ d)
@@ -59,14 +64,26 @@ short_message seed m short =
     rw (test, len) at (value_of_message seed m m (counted (length m)) (core_of_stripes seed m (length m / 16)) refl refl (rw none refl))
 
 -- records that agree in use still do after the same piece, and answer equally
-pub after_write_agree : (r s : SavedState) (d : List ℕ) → length r.buffer ≡ 16 → length s.buffer ≡ 16 → r.buffer_usage < 16 → AgreeInUse r s
+pub after_write_agree : (r s : SavedState) (d : List ℕ) → length r.buffer ≡ 16 → r.buffer_usage < 16 → AgreeInUse r s
     → AgreeInUse (after_write r d) (after_write s d)
 unfolding after_write
-after_write_agree r s d size size' short agree = record {
+after_write_agree r s d size short agree = record {
   total_len = ap (λ (n : ℕ). min (n + length d) (2 ^ 64 - 1)) agree.total_len;
   seed = agree.seed;
-  state = after_piece_agree 16 core_after_stripes (block_state r) (block_state s) d size size' short agree.state;
+  state = after_piece_agree 16 core_after_stripes (block_state r) (block_state s) d size short agree.state;
 }
 
 pub finish_value_agree : (r s : SavedState) → AgreeInUse r s → finish_value s ≡ finish_value r
 finish_value_agree r s agree = rw (agree.total_len, agree.seed, agree.state.accumulators, agree.state.bytes) refl
+
+pub AgreeInUse-same : (r s : SavedState) → s ≡ r → AgreeInUse r s
+AgreeInUse-same r s same = record {
+  total_len = ap (λ (x : SavedState). x.total_len) same;
+  seed = ap (λ (x : SavedState). x.seed) same;
+  state = record {
+    accumulators = ap (λ (x : SavedState). x.core) same;
+    usage = ap (λ (x : SavedState). x.buffer_usage) same;
+    bytes = ap (λ (x : SavedState). take x.buffer_usage x.buffer) same;
+    size = ap (λ (x : SavedState). length x.buffer) same;
+  };
+}

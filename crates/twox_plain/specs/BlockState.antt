@@ -40,3 +40,4 @@ pub record AgreeInUse {X : Type 0} (g h : BlockState X) : Type 0 where
   pub accumulators : h.accumulators ≡ g.accumulators
   pub usage : h.usage ≡ g.usage
   pub bytes : take h.usage h.buffer ≡ take g.usage g.buffer
+  pub size : length h.buffer ≡ length g.buffer
