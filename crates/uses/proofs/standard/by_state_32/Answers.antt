@@ -7,5 +7,5 @@ pub returns : goal.returns
 unfolding after_write
 returns c =
     let first = initial_record c.args.state.now in
-    rw (c.write.ensures, c.build_hasher-hasher.ensures) at c.finish.ensures
+    rw (c.write.ensures, c.build_hasher-hasher_32.ensures) at c.finish.ensures
     ∙ finish_value_of_message (after_write first c.args.bytes.now) c.args.bytes.now (after_write_stands first [] c.args.bytes.now refl (initial_record_stands c.args.state.now))
