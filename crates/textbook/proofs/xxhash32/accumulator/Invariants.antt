@@ -1,6 +1,0 @@
-use Rattle.std.proofs.Common.{◌≡◌}
-use Rattle.twox_plain.specs.Xxh32.{accumulator}
-use Rattle.textbook.proofs.xxhash32.accumulator.Given as goal
-
-abbrev pub invariant-stripes : goal.invariant-stripes
-invariant-stripes l = l.a ≡ accumulator l.seed l.m l.j l.i
