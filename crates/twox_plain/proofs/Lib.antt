@@ -13,6 +13,7 @@ pub mod Reachability32
 pub mod Reachability64
 pub mod Reachability
 pub mod Rotations
+pub mod SavedTexts
 pub mod SavedTexts32
 pub mod SavedTexts64
 pub mod Tail32

@@ -2,7 +2,8 @@
 
 ghost use Rattle.std.specs.Prelude.{◌≡◌, ◌^◌, Some, None, IfOk, IsErrOf, string_bytes};
 ghost use Rattle.serde_json.specs.View.{view};
-ghost use Rattle.twox_plain.specs.Saved64.{core_of_data, record_of_data, record_of_text, core_data, members_data, saved_text};
+ghost use Rattle.twox_plain.specs.Saved64.{core_of_data, record_of_data, record_of_text, core_data, saved_text};
+ghost use Rattle.twox_plain.specs.SavedText as Text;
 
 use crate::saved_text::{byte_array, byte_array_value, u64_member};
 use crate::xxhash64::{Core, SavedState};
@@ -82,7 +83,7 @@ fn record_value(
     total_len: u64,
 ) -> Result<Value, AllocError>
     ensures { IfOk result (λ value.
-        view value ≡ members_data (view buffer) (view core) usage seed total_len) }
+        view value ≡ Text.record_data total_len seed (view core) (view buffer) usage) }
 {
     json!(in alloc; {"buffer": buffer, "buffer_usage": usage, "core": core, "seed": seed, "total_len": total_len})
 }
