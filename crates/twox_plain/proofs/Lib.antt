@@ -4,6 +4,7 @@ pub mod ByteTexts
 pub mod ChunksFront
 pub mod Core32Facts
 pub mod Core64Facts
+pub mod FourAccumulators
 pub mod Laws32
 pub mod Laws64
 pub mod Message32
