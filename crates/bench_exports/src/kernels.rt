@@ -1,7 +1,7 @@
 //! XXH3 of 64 bits by each kernel.
 
 ghost use Rattle.std.specs.Prelude.{◌≡◌, ◌^◌, ◌<◌, ◌≤◌, length, min, take};
-ghost use Rattle.twox_core.specs.Long.{long_low};
+ghost use Rattle.twox_core.specs.Long.{low_above_240};
 ghost use Rattle.twox_hash.specs.Secret.{default_secret};
 ghost use Rattle.twox_core.specs.SecretBytes.{secret_bytes};
 ghost use Rattle.twox_hash.specs.Value.{xxh3_64};
@@ -32,7 +32,7 @@ fn oneshot<V: Vector>(kernel: V, input: &[u8]) -> u64
 #[tactic(auto, using(twox_core::proofs::EndingFacts::block_low))]
 fn long<V: Vector>(kernel: V, secret: Secret<'_>, input: &[u8]) -> u64
     requires { 240 < length input.now }
-    ensures { let s = secret_bytes secret.entry in result ≡ long_low s input.now }
+    ensures { let s = secret_bytes secret.entry in result ≡ low_above_240 s input.now }
 {
     Algorithm(kernel).oneshot(secret, input, Finalize64)
 }

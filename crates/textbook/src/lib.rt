@@ -7,5 +7,5 @@
 mod xxhash32;
 mod xxhash64;
 
-pub use xxhash32::xxh32;
-pub use xxhash64::xxh64;
+pub use xxhash32::{xxh32, xxh32_from};
+pub use xxhash64::{xxh64, xxh64_from};

@@ -1,10 +1,15 @@
 //! XXH32 (the xxHash specification, "XXH32 algorithm description", steps 1 to 6). Each function is named for
 //! the definition's line that it computes.
 
-ghost use Rattle.std.specs.Prelude.{◌≡◌, ◌+◌, ◌*◌, ◌/◌, ◌<◌, ◌≤◌, length};
+ghost use Rattle.std.specs.Prelude.{◌≡◌, ◌+◌, ◌*◌, ◌/◌, ◌<◌, ◌≤◌, drop, length};
 ghost use Rattle.std.specs.Int.{w32};
 ghost use Rattle.twox_plain.specs.Word.{word_at};
-ghost use Rattle.twox_plain.specs.Xxh32.{round, lane, converged, start, take_word, take_byte, after_words, after_tail, avalanche, xxh32};
+ghost use Rattle.twox_plain.specs.Units.{after_units};
+ghost use Rattle.twox_plain.specs.Core32.{core_after_stripes};
+ghost use Rattle.twox_plain.specs.Record32.{value_of};
+ghost use Rattle.twox_plain.specs.Xxh32.{round, accumulator, convergence, start, take_word, take_byte, after_words, after_tail, avalanche, xxh32};
+
+use twox_plain::xxhash32::Core;
 
 const P1: u32 = 0x9E3779B1;
 
@@ -30,10 +35,23 @@ fn round(a: u32, word: u32) -> u32
     sum.rotate_left(13).wrapping_mul(P1)
 }
 
-// Lane j after every whole stripe.
-fn lane(seed: u32, m: &[u8], j: usize) -> u32
+// What an accumulator becomes by every whole stripe, each of which gives it the word at byte `at`.
+fn accumulator_after(a: u32, m: &[u8], at: usize) -> u32
+    requires { at + 4 ≤ 16 }
+    ensures { result ≡
+        after_units round (λ i. word_at w32 m.now (i * 16 + at)) a (length m.now / 16) }
+{
+    let mut a = a;
+    'stripes: for i in 0..m.len() / 16 {
+        a = round(a, word(m, i * 16 + at));
+    }
+    a
+}
+
+// Accumulator j after every whole stripe.
+fn accumulator(seed: u32, m: &[u8], j: usize) -> u32
     requires { j < 4 }
-    ensures { result ≡ lane seed m.now j (length m.now / 16) }
+    ensures { result ≡ accumulator seed m.now j (length m.now / 16) }
 {
     let initial = [
         seed.wrapping_add(P1).wrapping_add(P2),
@@ -41,23 +59,19 @@ fn lane(seed: u32, m: &[u8], j: usize) -> u32
         seed,
         seed.wrapping_sub(P1),
     ];
-    let mut a = initial[j];
-    'stripes: for i in 0..m.len() / 16 {
-        a = round(a, word(m, i * 16 + j * 4));
-    }
-    a
+    accumulator_after(initial[j], m, j * 4)
 }
 
-// The four lanes as one value.
-fn converged(a: u32, b: u32, c: u32, d: u32) -> u32
-    ensures { result ≡ converged a b c d }
+// The four accumulators as one value.
+fn convergence(a: u32, b: u32, c: u32, d: u32) -> u32
+    ensures { result ≡ convergence a b c d }
 {
     let sum = a.rotate_left(1).wrapping_add(b.rotate_left(7));
     let sum = sum.wrapping_add(c.rotate_left(12));
     sum.wrapping_add(d.rotate_left(18))
 }
 
-// The lanes, or the seed where there is no stripe, and the low 32 bits of the length.
+// The accumulators, or the seed where there is no stripe, and the low 32 bits of the length.
 fn start(seed: u32, m: &[u8]) -> u32
     ensures { result ≡ start seed m.now }
 {
@@ -65,9 +79,9 @@ fn start(seed: u32, m: &[u8]) -> u32
     if m.len() < 16 {
         return seed.wrapping_add(P5).wrapping_add(len);
     }
-    let (a, b) = (lane(seed, m, 0), lane(seed, m, 1));
-    let (c, d) = (lane(seed, m, 2), lane(seed, m, 3));
-    converged(a, b, c, d).wrapping_add(len)
+    let (a, b) = (accumulator(seed, m, 0), accumulator(seed, m, 1));
+    let (c, d) = (accumulator(seed, m, 2), accumulator(seed, m, 3));
+    convergence(a, b, c, d).wrapping_add(len)
 }
 
 fn take_word(x: u32, word: u32) -> u32
@@ -126,4 +140,32 @@ pub fn xxh32(seed: u32, input: &[u8]) -> u32
 {
     let n = input.len();
     avalanche(after_tail(input, n / 16 * 16, start(seed, input), n % 16))
+}
+
+// The four accumulators of the record after every whole stripe, as one value.
+fn convergence_after(core: &Core, m: &[u8]) -> u32
+    ensures { let c = core_after_stripes core.now m.now (length m.now / 16)
+        in result ≡ convergence c.v1 c.v2 c.v3 c.v4 }
+{
+    let a = accumulator_after(core.v1, m, 0);
+    let b = accumulator_after(core.v2, m, 4);
+    let c = accumulator_after(core.v3, m, 8);
+    let d = accumulator_after(core.v4, m, 12);
+    convergence(a, b, c, d)
+}
+
+/// XXH32 of a message of `len` bytes, of which the low 32 bits enter, that is known from its accumulators on: `core` has taken
+/// all but the last bytes, which are `rest`. Where `len` is below 16, `rest` is the whole message.
+pub fn xxh32_from(seed: u32, len: u64, core: &Core, rest: &[u8]) -> u32
+    ensures { let k = length rest.now / 16
+        in result ≡ value_of seed len (core_after_stripes core.now rest.now k) (drop (k * 16) rest.now) }
+{
+    let n = rest.len();
+    let value = if len < 16 {
+        seed.wrapping_add(P5)
+    } else {
+        convergence_after(core, rest)
+    };
+    let value = value.wrapping_add((len % 0x1_0000_0000) as u32);
+    avalanche(after_tail(rest, n / 16 * 16, value, n % 16))
 }

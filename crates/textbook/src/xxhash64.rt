@@ -1,10 +1,15 @@
 //! XXH64 (the xxHash specification, "XXH64 algorithm description", steps 1 to 6). Each function is named for
 //! the definition's line that it computes.
 
-ghost use Rattle.std.specs.Prelude.{◌≡◌, ◌+◌, ◌*◌, ◌/◌, ◌<◌, ◌≤◌, length};
+ghost use Rattle.std.specs.Prelude.{◌≡◌, ◌+◌, ◌*◌, ◌/◌, ◌<◌, ◌≤◌, drop, length};
 ghost use Rattle.std.specs.Int.{w32, w64};
 ghost use Rattle.twox_plain.specs.Word.{word_at};
-ghost use Rattle.twox_plain.specs.Xxh64.{round, lane, merge, converged, start, take_eight, take_four, take_byte, after_eights, after_words, after_tail, avalanche, xxh64};
+ghost use Rattle.twox_plain.specs.Units.{after_units};
+ghost use Rattle.twox_plain.specs.Core64.{core_after_stripes};
+ghost use Rattle.twox_plain.specs.Record64.{value_of};
+ghost use Rattle.twox_plain.specs.Xxh64.{round, accumulator, merge, convergence, start, take_eight, take_four, take_byte, after_eights, after_words, after_tail, avalanche, xxh64};
+
+use twox_plain::xxhash64::Core;
 
 const P1: u64 = 0x9E3779B185EBCA87;
 
@@ -46,10 +51,23 @@ fn round(a: u64, word: u64) -> u64
     sum.rotate_left(31).wrapping_mul(P1)
 }
 
-// Lane j after every whole stripe.
-fn lane(seed: u64, m: &[u8], j: usize) -> u64
+// What an accumulator becomes by every whole stripe, each of which gives it the word at byte `at`.
+fn accumulator_after(a: u64, m: &[u8], at: usize) -> u64
+    requires { at + 8 ≤ 32 }
+    ensures { result ≡
+        after_units round (λ i. word_at w64 m.now (i * 32 + at)) a (length m.now / 32) }
+{
+    let mut a = a;
+    'stripes: for i in 0..m.len() / 32 {
+        a = round(a, word(m, i * 32 + at));
+    }
+    a
+}
+
+// Accumulator j after every whole stripe.
+fn accumulator(seed: u64, m: &[u8], j: usize) -> u64
     requires { j < 4 }
-    ensures { result ≡ lane seed m.now j (length m.now / 32) }
+    ensures { result ≡ accumulator seed m.now j (length m.now / 32) }
 {
     let initial = [
         seed.wrapping_add(P1).wrapping_add(P2),
@@ -57,11 +75,7 @@ fn lane(seed: u64, m: &[u8], j: usize) -> u64
         seed,
         seed.wrapping_sub(P1),
     ];
-    let mut a = initial[j];
-    'stripes: for i in 0..m.len() / 32 {
-        a = round(a, word(m, i * 32 + j * 8));
-    }
-    a
+    accumulator_after(initial[j], m, j * 8)
 }
 
 fn merge(x: u64, a: u64) -> u64
@@ -70,9 +84,9 @@ fn merge(x: u64, a: u64) -> u64
     (x ^ round(0, a)).wrapping_mul(P1).wrapping_add(P4)
 }
 
-// The four lanes as one value.
-fn converged(a: u64, b: u64, c: u64, d: u64) -> u64
-    ensures { result ≡ converged a b c d }
+// The four accumulators as one value.
+fn convergence(a: u64, b: u64, c: u64, d: u64) -> u64
+    ensures { result ≡ convergence a b c d }
 {
     let sum = a.rotate_left(1).wrapping_add(b.rotate_left(7));
     let sum = sum.wrapping_add(c.rotate_left(12));
@@ -80,7 +94,7 @@ fn converged(a: u64, b: u64, c: u64, d: u64) -> u64
     merge(merge(merge(merge(sum, a), b), c), d)
 }
 
-// The lanes, or the seed where there is no stripe, and the length.
+// The accumulators, or the seed where there is no stripe, and the length.
 fn start(seed: u64, m: &[u8]) -> u64
     ensures { result ≡ start seed m.now }
 {
@@ -88,9 +102,9 @@ fn start(seed: u64, m: &[u8]) -> u64
     if len < 32 {
         return seed.wrapping_add(P5).wrapping_add(len);
     }
-    let (a, b) = (lane(seed, m, 0), lane(seed, m, 1));
-    let (c, d) = (lane(seed, m, 2), lane(seed, m, 3));
-    converged(a, b, c, d).wrapping_add(len)
+    let (a, b) = (accumulator(seed, m, 0), accumulator(seed, m, 1));
+    let (c, d) = (accumulator(seed, m, 2), accumulator(seed, m, 3));
+    convergence(a, b, c, d).wrapping_add(len)
 }
 
 fn take_eight(x: u64, word: u64) -> u64
@@ -169,4 +183,32 @@ pub fn xxh64(seed: u64, input: &[u8]) -> u64
 {
     let n = input.len();
     avalanche(after_tail(input, n / 32 * 32, start(seed, input), n % 32))
+}
+
+// The four accumulators of the record after every whole stripe, as one value.
+fn convergence_after(core: &Core, m: &[u8]) -> u64
+    ensures { let c = core_after_stripes core.now m.now (length m.now / 32)
+        in result ≡ convergence c.v1 c.v2 c.v3 c.v4 }
+{
+    let a = accumulator_after(core.v1, m, 0);
+    let b = accumulator_after(core.v2, m, 8);
+    let c = accumulator_after(core.v3, m, 16);
+    let d = accumulator_after(core.v4, m, 24);
+    convergence(a, b, c, d)
+}
+
+/// XXH64 of a message of `len` bytes that is known from its accumulators on: `core` has taken
+/// all but the last bytes, which are `rest`. Where `len` is below 32, `rest` is the whole message.
+pub fn xxh64_from(seed: u64, len: u64, core: &Core, rest: &[u8]) -> u64
+    ensures { let k = length rest.now / 32
+        in result ≡ value_of seed len (core_after_stripes core.now rest.now k) (drop (k * 32) rest.now) }
+{
+    let n = rest.len();
+    let value = if len < 32 {
+        seed.wrapping_add(P5)
+    } else {
+        convergence_after(core, rest)
+    };
+    let value = value.wrapping_add(len);
+    avalanche(after_tail(rest, n / 32 * 32, value, n % 32))
 }

@@ -1,7 +1,7 @@
 pub use Rattle.twox_plain.specs.Word
 pub use Rattle.twox_plain.specs.Units
-pub use Rattle.twox_plain.specs.Apart
-pub use Rattle.twox_plain.specs.Buffered
+pub use Rattle.twox_plain.specs.ChangedUnit
+pub use Rattle.twox_plain.specs.BlockState
 pub use Rattle.twox_plain.specs.Xxh32
 pub use Rattle.twox_plain.specs.Core32
 pub use Rattle.twox_plain.specs.Record32

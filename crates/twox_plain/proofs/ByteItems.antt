@@ -6,44 +6,44 @@ use Rattle.serde_json.specs.Data.{Data, no_items}
 use Rattle.serde_json.specs.Find.{as_array}
 use Rattle.serde_json.specs.View.{items_view, view}
 use Rattle.serde_json.specs.declared.value.Value.{Value}
-use Rattle.twox_plain.specs.SavedText.{count, each_byte, bytes_from, whole}
+use Rattle.twox_plain.specs.SavedText.{item_count, item_bytes, bytes_of_data, whole_number}
 
 -- an array has as many items as the list that it views
-count-items_view : (vs : List Value) → count (items_view vs) ≡ length vs
-count-items_view [] = refl
-count-items_view (v ∷ vs) = rw (count-items_view vs)
+item_count-items_view : (vs : List Value) → item_count (items_view vs) ≡ length vs
+item_count-items_view [] = refl
+item_count-items_view (v ∷ vs) = rw (item_count-items_view vs)
 
 -- another number of items
-pub bytes_of_other_length : (n : ℕ) (vs : List Value) (d : Data) → Some (items_view vs) ≡ as_array d → (length vs ≡ n → ⊥) → None ≡ bytes_from n d
-bytes_of_other_length n vs d is other = rw (← is, count-items_view vs, ne_eqb (length vs) n other) refl
+pub bytes_of_other_length : (n : ℕ) (vs : List Value) (d : Data) → Some (items_view vs) ≡ as_array d → (length vs ≡ n → ⊥) → None ≡ bytes_of_data n d
+bytes_of_other_length n vs d is other = rw (← is, item_count-items_view vs, ne_eqb (length vs) n other) refl
 
-bytes_whole : (n : ℕ) (vs : List Value) (d : Data) → Some (items_view vs) ≡ as_array d → length vs ≡ n → each_byte (items_view vs) ≡ bytes_from n d
-bytes_whole n vs d is long = rw (← is, count-items_view vs, long, eq-eqb n n refl) refl
+bytes_whole : (n : ℕ) (vs : List Value) (d : Data) → Some (items_view vs) ≡ as_array d → length vs ≡ n → item_bytes (items_view vs) ≡ bytes_of_data n d
+bytes_whole n vs d is long = rw (← is, item_count-items_view vs, long, eq-eqb n n refl) refl
 
 append_more : (o : Option (List ℕ)) (xs : List ℕ) (b : ℕ) → option_map (λ rest. xs ++ rest) (option_map (λ bs. b ∷ bs) o) ≡ option_map (λ rest. (xs ++ b ∷ []) ++ rest) o
 append_more None xs b = refl
 append_more (Some r) xs b = ap Some (sym (append_assoc xs (b ∷ []) r))
 
 -- one more byte is read
-pub one_more : (vs : List Value) (bs : List ℕ) (i b : ℕ) (v : Value) → i < length vs → i < length bs → whole 256 (view (get_or vs i v)) ≡ Some b
-    → each_byte (items_view vs) ≡ option_map (λ rest. take i bs ++ rest) (each_byte (items_view (drop i vs)))
-    → each_byte (items_view vs) ≡ option_map (λ rest. take (i + 1) (set bs i b) ++ rest) (each_byte (items_view (drop (i + 1) vs)))
+pub one_more : (vs : List Value) (bs : List ℕ) (i b : ℕ) (v : Value) → i < length vs → i < length bs → whole_number 256 (view (get_or vs i v)) ≡ Some b
+    → item_bytes (items_view vs) ≡ option_map (λ rest. take i bs ++ rest) (item_bytes (items_view (drop i vs)))
+    → item_bytes (items_view vs) ≡ option_map (λ rest. take (i + 1) (set bs i b) ++ rest) (item_bytes (items_view (drop (i + 1) vs)))
 one_more vs bs i b v within room is was =
-    rw (was, drop_more vs i v within, is, take_more_set bs i b room) (append_more (each_byte (items_view (drop (i + 1) vs))) (take i bs) b)
+    rw (was, drop_more vs i v within, is, take_more_set bs i b room) (append_more (item_bytes (items_view (drop (i + 1) vs))) (take i bs) b)
 
 -- an item is no byte
-pub none_more : (n : ℕ) (vs : List Value) (bs : List ℕ) (i : ℕ) (v : Value) (d : Data) → Some (items_view vs) ≡ as_array d → length vs ≡ n → i < length vs → whole 256 (view (get_or vs i v)) ≡ None
-    → each_byte (items_view vs) ≡ option_map (λ rest. take i bs ++ rest) (each_byte (items_view (drop i vs)))
-    → None ≡ bytes_from n d
+pub none_more : (n : ℕ) (vs : List Value) (bs : List ℕ) (i : ℕ) (v : Value) (d : Data) → Some (items_view vs) ≡ as_array d → length vs ≡ n → i < length vs → whole_number 256 (view (get_or vs i v)) ≡ None
+    → item_bytes (items_view vs) ≡ option_map (λ rest. take i bs ++ rest) (item_bytes (items_view (drop i vs)))
+    → None ≡ bytes_of_data n d
 none_more n vs bs i v d is long within bad was =
     sym (sym (bytes_whole n vs d is long) ∙ rw (was, drop_more vs i v within, bad) refl)
 
 -- all are read
 pub all_read : (n : ℕ) (vs : List Value) (bs : List ℕ) (i : ℕ) (d : Data) → Some (items_view vs) ≡ as_array d → length vs ≡ n → length bs ≡ n → i ≤ n → n ≤ i
-    → each_byte (items_view vs) ≡ option_map (λ rest. take i bs ++ rest) (each_byte (items_view (drop i vs)))
-    → Some bs ≡ bytes_from n d
+    → item_bytes (items_view vs) ≡ option_map (λ rest. take i bs ++ rest) (item_bytes (items_view (drop i vs)))
+    → Some bs ≡ bytes_of_data n d
 all_read n vs bs i d is long full low high was =
     let cut : take i bs ≡ bs = take_all i bs (omega arith) in
     let left : drop i vs ≡ [] = drop_all i vs (omega arith) in
-    let nothing : option_map (λ rest. bs ++ rest) (each_byte no_items) ≡ Some bs = ap Some (append-nil bs) in
+    let nothing : option_map (λ rest. bs ++ rest) (item_bytes no_items) ≡ Some bs = ap Some (append-nil bs) in
     sym (sym (bytes_whole n vs d is long) ∙ was ∙ rw (cut, left) nothing)

@@ -6,7 +6,7 @@ use Rattle.serde_json.specs.Data.{items_depth}
 use Rattle.serde_json.specs.Written.{items_have_float, items_text}
 use Rattle.serde_json.proofs.OnLiterals.{serde_json_on_literals}
 use Rattle.twox_plain.specs.Word.{IsBytes}
-use Rattle.twox_plain.specs.SavedText.{count, each_byte, bytes_from, more_numbers, numbers_text, items_of_bytes, bytes_data}
+use Rattle.twox_plain.specs.SavedText.{item_count, item_bytes, bytes_of_data, more_numbers, numbers_text, items_of_bytes, bytes_data}
 
 pub no_float : (bytes : List ℕ) → items_have_float (items_of_bytes bytes) ≡ false
 no_float [] = refl
@@ -26,16 +26,16 @@ unfolding serde_json_on_literals
 array_of [] = refl
 array_of (b ∷ bs) = rw (more_of bs) refl
 
-count-items_of_bytes : (bytes : List ℕ) → count (items_of_bytes bytes) ≡ length bytes
-count-items_of_bytes [] = refl
-count-items_of_bytes (b ∷ bs) = ap suc (count-items_of_bytes bs)
+item_count-items_of_bytes : (bytes : List ℕ) → item_count (items_of_bytes bytes) ≡ length bytes
+item_count-items_of_bytes [] = refl
+item_count-items_of_bytes (b ∷ bs) = ap suc (item_count-items_of_bytes bs)
 
-each_byte-items_of_bytes : (bytes : List ℕ) → IsBytes bytes → each_byte (items_of_bytes bytes) ≡ Some bytes
-each_byte-items_of_bytes [] small = refl
-each_byte-items_of_bytes (b ∷ bs) small =
+item_bytes-items_of_bytes : (bytes : List ℕ) → IsBytes bytes → item_bytes (items_of_bytes bytes) ≡ Some bytes
+item_bytes-items_of_bytes [] small = refl
+item_bytes-items_of_bytes (b ∷ bs) small =
     let test : nat_lt b 256 ≡ true = grind (arith, nat_tests, small 0) in
-    rw (each_byte-items_of_bytes bs (λ k. small (suc k)), test) refl
+    rw (item_bytes-items_of_bytes bs (λ k. small (suc k)), test) refl
 
-pub bytes_from-bytes_data : (n : ℕ) (bytes : List ℕ) → length bytes ≡ n → IsBytes bytes → bytes_from n (bytes_data bytes) ≡ Some bytes
-bytes_from-bytes_data n bytes size small =
-    rw (count-items_of_bytes bytes, eq-eqb (length bytes) n size) (each_byte-items_of_bytes bytes small)
+pub bytes_of_data-bytes_data : (n : ℕ) (bytes : List ℕ) → length bytes ≡ n → IsBytes bytes → bytes_of_data n (bytes_data bytes) ≡ Some bytes
+bytes_of_data-bytes_data n bytes size small =
+    rw (item_count-items_of_bytes bytes, eq-eqb (length bytes) n size) (item_bytes-items_of_bytes bytes small)

@@ -1,35 +1,33 @@
--- The lanes of XXH64 follow the message stripe by stripe.
-use Rattle.std.proofs.Common.{◌≡◌, ℕ, ◌+◌, ◌*◌, ◌≤◌, List, ◌++◌, take, drop, length, slice_index, refl, arith}
+-- The accumulators of XXH64 follow the message stripe by stripe.
+use Rattle.std.proofs.Common.{◌≡◌, ℕ, ◌+◌, ◌*◌, ◌≤◌, List, [], ◌∷◌, ◌++◌, take, drop, length, slice_index}
 use Rattle.std.specs.Int.{w64}
-use Rattle.twox_plain.specs.Xxh64.{initial_lanes, round, lane}
-use Rattle.twox_plain.specs.Core64.{core_after, core_from}
+use Rattle.twox_plain.specs.Xxh64.{initial_accumulators, round, accumulator}
+use Rattle.twox_plain.specs.Core64.{core_of_stripes, core_after_stripes}
 use Rattle.twox_plain.specs.declared.xxhash64.Core.{Core}
-use Rattle.twox_plain.proofs.UnitFacts.{words_one, words_more, words_longer}
+use Rattle.twox_plain.proofs.FourAccumulators.{after_stripes_one, after_stripes_more, after_stripes_longer}
+
+abbrev pub core_of : ℕ → ℕ → ℕ → ℕ → Core
+core_of a b c d = record { v1 = a; v2 = b; v3 = c; v4 = d }
+
+abbrev initial : ℕ → ℕ → ℕ
+initial seed j = slice_index (initial_accumulators seed) j
 
 -- one stripe more of d
-pub core_from_next : (c : Core) (d stripe : List ℕ) (k : ℕ) → stripe ≡ take 32 (drop (k * 32) d) → core_from (core_from c d k) stripe 1 ≡ core_from c d (k + 1)
-unfolding core_from
-core_from_next c d stripe k e =
-    let one = λ (a at : ℕ) (inside : at + 8 ≤ 32). words_one w64 round a d stripe k 32 at e inside in
-    rw (one c.v1 0 (omega arith), one c.v2 8 (omega arith), one c.v3 16 (omega arith), one c.v4 24 (omega arith)) refl
+pub core_after_stripes_next : (c : Core) (d stripe : List ℕ) (k : ℕ) → stripe ≡ take 32 (drop (k * 32) d) → core_after_stripes (core_after_stripes c d k) stripe 1 ≡ core_after_stripes c d (k + 1)
+unfolding core_after_stripes
+core_after_stripes_next c d = λ stripe k. after_stripes_one w64 round core_of c.v1 c.v2 c.v3 c.v4 d k stripe
 
 -- one stripe more of m
-pub core_after_one : (seed : ℕ) (m stripe : List ℕ) (k : ℕ) → stripe ≡ take 32 (drop (k * 32) m) → core_from (core_after seed m k) stripe 1 ≡ core_after seed m (k + 1)
-unfolding core_from core_after lane
-core_after_one seed m stripe k e =
-    let one = λ (j at : ℕ) (inside : at + 8 ≤ 32). words_one w64 round (slice_index (initial_lanes seed) j) m stripe k 32 at e inside in
-    rw (one 0 0 (omega arith), one 1 8 (omega arith), one 2 16 (omega arith), one 3 24 (omega arith)) refl
+pub core_of_stripes_one : (seed : ℕ) (m stripe : List ℕ) (k : ℕ) → stripe ≡ take 32 (drop (k * 32) m) → core_after_stripes (core_of_stripes seed m k) stripe 1 ≡ core_of_stripes seed m (k + 1)
+unfolding core_after_stripes core_of_stripes accumulator
+core_of_stripes_one seed m = λ stripe k. after_stripes_one w64 round core_of (initial seed 0) (initial seed 1) (initial seed 2) (initial seed 3) m k stripe
 
 -- n stripes more of m, read in what follows the first k
-pub core_after_more : (seed : ℕ) (m rest : List ℕ) (k n : ℕ) → rest ≡ drop (k * 32) m → core_from (core_after seed m k) rest n ≡ core_after seed m (k + n)
-unfolding core_from core_after lane
-core_after_more seed m rest k n e =
-    let more = λ (j at : ℕ). words_more w64 round (slice_index (initial_lanes seed) j) m rest k n 32 at e in
-    rw (more 0 0, more 1 8, more 2 16, more 3 24) refl
+pub core_of_stripes_more : (seed : ℕ) (m rest : List ℕ) (k n : ℕ) → rest ≡ drop (k * 32) m → core_after_stripes (core_of_stripes seed m k) rest n ≡ core_of_stripes seed m (k + n)
+unfolding core_after_stripes core_of_stripes accumulator
+core_of_stripes_more seed m = λ rest k n. after_stripes_more w64 round core_of (initial seed 0) (initial seed 1) (initial seed 2) (initial seed 3) m k rest n
 
 -- the stripes that were taken read nothing past them
-pub core_after_longer : (seed : ℕ) (m d : List ℕ) (k : ℕ) → k * 32 ≤ length m → core_after seed (m ++ d) k ≡ core_after seed m k
-unfolding core_after lane
-core_after_longer seed m d k within =
-    let longer = λ (j at : ℕ) (inside : at + 8 ≤ 32). words_longer w64 round m d (slice_index (initial_lanes seed) j) k 32 at inside within in
-    rw (longer 0 0 (omega arith), longer 1 8 (omega arith), longer 2 16 (omega arith), longer 3 24 (omega arith)) refl
+pub core_of_stripes_longer : (seed : ℕ) (m d : List ℕ) (k : ℕ) → k * 32 ≤ length m → core_of_stripes seed (m ++ d) k ≡ core_of_stripes seed m k
+unfolding core_of_stripes accumulator
+core_of_stripes_longer seed m = λ d k. after_stripes_longer w64 round core_of (initial seed 0) (initial seed 1) (initial seed 2) (initial seed 3) m k d

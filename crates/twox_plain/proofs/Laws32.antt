@@ -5,8 +5,8 @@ use Rattle.std.proofs.lemmas.Bool.Decides.{nat_tests}
 use Rattle.std.specs.Int.{w32, rotate_left}
 use Rattle.twox_plain.specs.Word.{IsBytes, word_at, counted}
 use Rattle.twox_plain.specs.Units.{after_units}
-use Rattle.twox_plain.specs.Apart.{DiffersWithin, IsUnit32}
-use Rattle.twox_plain.specs.Xxh32.{p1, p2, p3, p4, p5, initial_lanes, round, lane, converged, start, take_word, take_byte, after_words, after_tail, avalanche, xxh32}
+use Rattle.twox_plain.specs.ChangedUnit.{DiffersWithin, IsUnit32}
+use Rattle.twox_plain.specs.Xxh32.{p1, p2, p3, p4, p5, initial_accumulators, round, accumulator, convergence, start, take_word, take_byte, after_words, after_tail, avalanche, xxh32}
 use Rattle.twox_plain.proofs.Rotations.{left-lt}
 use Rattle.twox_plain.proofs.OneToOne.{IsOneToOne, multiple_one_to_one, sum_one_to_one_32, left_one_to_one, turned_multiple_told, avalanche_told}
 use Rattle.twox_plain.proofs.UnitFacts.{after_units_same}
@@ -59,28 +59,28 @@ after_tail-lt : (m : List ℕ) (i x n : ℕ) → x < 2 ^ 32 → after_tail m i x
 unfolding after_tail
 after_tail-lt m i x n h = after_units-lt _ _ take_byte take_byte_tells (λ u. slice_index m (i + n / 4 * 4 + u)) (after_words m i x n) (n % 4) (after_words-lt m i x n h)
 
-initial-lt : (seed j : ℕ) → seed < 2 ^ 32 → slice_index (initial_lanes seed) j < 2 ^ 32
+initial-lt : (seed j : ℕ) → seed < 2 ^ 32 → slice_index (initial_accumulators seed) j < 2 ^ 32
 initial-lt seed zero h = mod-lt _ (pow_pos 32)
 initial-lt seed (suc zero) h = mod-lt _ (pow_pos 32)
 initial-lt seed (suc (suc zero)) h = h
 initial-lt seed (suc (suc (suc zero))) h = mod-lt _ (pow_pos 32)
 initial-lt seed (suc (suc (suc (suc j)))) h = lit< tt
 
-lane-lt : (seed : ℕ) (m : List ℕ) (j k : ℕ) → seed < 2 ^ 32 → lane seed m j k < 2 ^ 32
-unfolding lane
-lane-lt seed m j k h = after_units-lt _ _ round round_tells (λ i. word_at w32 m (i * 16 + j * 4)) (slice_index (initial_lanes seed) j) k (initial-lt seed j h)
+accumulator-lt : (seed : ℕ) (m : List ℕ) (j k : ℕ) → seed < 2 ^ 32 → accumulator seed m j k < 2 ^ 32
+unfolding accumulator
+accumulator-lt seed m j k h = after_units-lt _ _ round round_tells (λ i. word_at w32 m (i * 16 + j * 4)) (slice_index (initial_accumulators seed) j) k (initial-lt seed j h)
 
 -- ---- what two lists share
 
-lane_same : (seed : ℕ) (m n : List ℕ) (j k : ℕ) → ((i : ℕ) → i < k → word_at w32 m (i * 16 + j * 4) ≡ word_at w32 n (i * 16 + j * 4)) → lane seed m j k ≡ lane seed n j k
-unfolding lane
-lane_same seed m n j k same = after_units_same round _ _ (slice_index (initial_lanes seed) j) k same
+accumulator_same : (seed : ℕ) (m n : List ℕ) (j k : ℕ) → ((i : ℕ) → i < k → word_at w32 m (i * 16 + j * 4) ≡ word_at w32 n (i * 16 + j * 4)) → accumulator seed m j k ≡ accumulator seed n j k
+unfolding accumulator
+accumulator_same seed m n j k same = after_units_same round _ _ (slice_index (initial_accumulators seed) j) k same
 
 start_same : (seed : ℕ) (m n : List ℕ) → length n ≡ length m → ((i : ℕ) → i % 4 ≡ 0 → i + 4 ≤ length m / 16 * 16 → word_at w32 m i ≡ word_at w32 n i) → start seed m ≡ start seed n
 unfolding start
 start_same seed m n len same =
     let k = length m / 16 in
-    let one = λ (j : ℕ) (low : j < 4). lane_same seed m n j k (λ i h. same (i * 16 + j * 4) (omega arith) (omega arith)) in
+    let one = λ (j : ℕ) (low : j < 4). accumulator_same seed m n j k (λ i h. same (i * 16 + j * 4) (omega arith) (omega arith)) in
     rw (len, one 0 (lit< tt), one 1 (lit< tt), one 2 (lit< tt), one 3 (lit< tt)) refl
 
 after_words_same : (m n : List ℕ) (i x t : ℕ) → ((u : ℕ) → u < t / 4 → word_at w32 m (i + u * 4) ≡ word_at w32 n (i + u * 4)) → after_words m i x t ≡ after_words n i x t
@@ -113,37 +113,37 @@ begin_told m n i x y t p bx by same e =
     start_told _ _ take_word take_word_tells (λ u. word_at w32 m (i + u * 4)) x y (t / 4) (λ u low. word_at-lt_32 m (i + u * 4) p) bx by
     (e ∙ after_units_same take_word _ _ y (t / 4) same)
 
--- a lane among four, where the other three are the same
-converged_told : (f g : ℕ → ℕ) (j : ℕ) → j < 4 → ((i : ℕ) → f i < 2 ^ 32) → ((i : ℕ) → g i < 2 ^ 32) → ((i : ℕ) → i < 4 → i ≢ j → f i ≡ g i)
-    → converged (f 0) (f 1) (f 2) (f 3) ≡ converged (g 0) (g 1) (g 2) (g 3) → f j ≡ g j
-converged_told f g zero low bf bg same e =
+-- a accumulator among four, where the other three are the same
+convergence_told : (f g : ℕ → ℕ) (j : ℕ) → j < 4 → ((i : ℕ) → f i < 2 ^ 32) → ((i : ℕ) → g i < 2 ^ 32) → ((i : ℕ) → i < 4 → i ≢ j → f i ≡ g i)
+    → convergence (f 0) (f 1) (f 2) (f 3) ≡ convergence (g 0) (g 1) (g 2) (g 3) → f j ≡ g j
+convergence_told f g zero low bf bg same e =
     let b = left-lt w32 1 (f 0) (lit< tt) (lit< tt) (bf 0) in
     let b' = left-lt w32 1 (g 0) (lit< tt) (lit< tt) (bg 0) in
     left_one_to_one w32 1 (lit< tt) (lit< tt) (f 0) (g 0) (bf 0) (bg 0)
     (omega (arith, e, ap (λ x. rotate_left w32 x 7) (same 1 (lit< tt) (λ h. absurd (omega (arith, h)))), ap (λ x. rotate_left w32 x 12) (same 2 (lit< tt) (λ h. absurd (omega (arith, h)))), ap (λ x. rotate_left w32 x 18) (same 3 (lit< tt) (λ h. absurd (omega (arith, h))))))
-converged_told f g (suc zero) low bf bg same e =
+convergence_told f g (suc zero) low bf bg same e =
     let b = left-lt w32 7 (f 1) (lit< tt) (lit< tt) (bf 1) in
     let b' = left-lt w32 7 (g 1) (lit< tt) (lit< tt) (bg 1) in
     left_one_to_one w32 7 (lit< tt) (lit< tt) (f 1) (g 1) (bf 1) (bg 1)
     (omega (arith, e, ap (λ x. rotate_left w32 x 1) (same 0 (lit< tt) (λ h. absurd (omega (arith, h)))), ap (λ x. rotate_left w32 x 12) (same 2 (lit< tt) (λ h. absurd (omega (arith, h)))), ap (λ x. rotate_left w32 x 18) (same 3 (lit< tt) (λ h. absurd (omega (arith, h))))))
-converged_told f g (suc (suc zero)) low bf bg same e =
+convergence_told f g (suc (suc zero)) low bf bg same e =
     let b = left-lt w32 12 (f 2) (lit< tt) (lit< tt) (bf 2) in
     let b' = left-lt w32 12 (g 2) (lit< tt) (lit< tt) (bg 2) in
     left_one_to_one w32 12 (lit< tt) (lit< tt) (f 2) (g 2) (bf 2) (bg 2)
     (omega (arith, e, ap (λ x. rotate_left w32 x 1) (same 0 (lit< tt) (λ h. absurd (omega (arith, h)))), ap (λ x. rotate_left w32 x 7) (same 1 (lit< tt) (λ h. absurd (omega (arith, h)))), ap (λ x. rotate_left w32 x 18) (same 3 (lit< tt) (λ h. absurd (omega (arith, h))))))
-converged_told f g (suc (suc (suc zero))) low bf bg same e =
+convergence_told f g (suc (suc (suc zero))) low bf bg same e =
     let b = left-lt w32 18 (f 3) (lit< tt) (lit< tt) (bf 3) in
     let b' = left-lt w32 18 (g 3) (lit< tt) (lit< tt) (bg 3) in
     left_one_to_one w32 18 (lit< tt) (lit< tt) (f 3) (g 3) (bf 3) (bg 3)
     (omega (arith, e, ap (λ x. rotate_left w32 x 1) (same 0 (lit< tt) (λ h. absurd (omega (arith, h)))), ap (λ x. rotate_left w32 x 7) (same 1 (lit< tt) (λ h. absurd (omega (arith, h)))), ap (λ x. rotate_left w32 x 12) (same 2 (lit< tt) (λ h. absurd (omega (arith, h))))))
-converged_told f g (suc (suc (suc (suc j)))) low bf bg same e = absurd (omega arith)
+convergence_told f g (suc (suc (suc (suc j)))) low bf bg same e = absurd (omega arith)
 
--- the four lanes as one value, of a list with a stripe
-lanes_told : (seed : ℕ) (m n : List ℕ) → length n ≡ length m → 16 ≤ length m → start seed m ≡ start seed n
+-- the four accumulators as one value, of a list with a stripe
+accumulators_told : (seed : ℕ) (m n : List ℕ) → length n ≡ length m → 16 ≤ length m → start seed m ≡ start seed n
     → let k = length m / 16 in
-    converged (lane seed m 0 k) (lane seed m 1 k) (lane seed m 2 k) (lane seed m 3 k) ≡ converged (lane seed n 0 k) (lane seed n 1 k) (lane seed n 2 k) (lane seed n 3 k)
+    convergence (accumulator seed m 0 k) (accumulator seed m 1 k) (accumulator seed m 2 k) (accumulator seed m 3 k) ≡ convergence (accumulator seed n 0 k) (accumulator seed n 1 k) (accumulator seed n 2 k) (accumulator seed n 3 k)
 unfolding start
-lanes_told seed m n len long e =
+accumulators_told seed m n len long e =
     let test : nat_lt (length m) 16 ≡ false = grind (arith, nat_tests) in
     let e' = rw (len, test) at e in
     sum_one_to_one_32 (counted (length m) % 2 ^ 32) _ _ (mod-lt _ (pow_pos 32)) (mod-lt _ (pow_pos 32)) e'
@@ -190,19 +190,19 @@ tail_word_law seed m n from p q whole late within apart e =
 
 -- a word of a stripe
 stripe_word_law : (seed : ℕ) (m n : List ℕ) (from : ℕ) → seed < 2 ^ 32 → IsBytes m → IsBytes n → from % 4 ≡ 0 → from < length m / 16 * 16 → DiffersWithin from 4 m n → start seed m ≢ start seed n
-unfolding lane
+unfolding accumulator
 stripe_word_law seed m n from small p q whole early apart e =
     let K = length m / 16 in
     let u = from / 16 in
     let j = from % 16 / 4 in
-    let others : (i : ℕ) → i < 4 → i ≢ j → lane seed m i K ≡ lane seed n i K = λ i low away. lane_same seed m n i K (λ k h.
+    let others : (i : ℕ) → i < 4 → i ≢ j → accumulator seed m i K ≡ accumulator seed n i K = λ i low away. accumulator_same seed m n i K (λ k h.
     word_outside w32 m n from 4 (k * 16 + i * 4) apart (omega arith) (elim (cases_lt (k * 16 + i * 4) from) [ inl before ↦ inl (omega (arith, away)) | inr after ↦ inr (omega (arith, away)) ])) in
-    let lanes : lane seed m j K ≡ lane seed n j K =
-    converged_told (λ i. lane seed m i K) (λ i. lane seed n i K) j (omega arith) (λ i. lane-lt seed m i K small) (λ i. lane-lt seed n i K small) others (lanes_told seed m n apart.lengths (omega arith) e) in
+    let lanes : accumulator seed m j K ≡ accumulator seed n j K =
+    convergence_told (λ i. accumulator seed m i K) (λ i. accumulator seed n i K) j (omega arith) (λ i. accumulator-lt seed m i K small) (λ i. accumulator-lt seed n i K small) others (accumulators_told seed m n apart.lengths (omega arith) e) in
     let same : (k : ℕ) → k < K → k ≢ u → word_at w32 m (k * 16 + j * 4) ≡ word_at w32 n (k * 16 + j * 4) = λ k h away.
     word_outside w32 m n from 4 (k * 16 + j * 4) apart (omega arith) (elim (cases_lt k u) [ inl before ↦ inl (omega arith) | inr after ↦ inr (omega (arith, away)) ]) in
     word_differs m n from (u * 16 + j * 4) p q (omega arith) apart (omega arith)
-    (unit_told _ _ round round_tells (λ k. word_at w32 m (k * 16 + j * 4)) (λ k. word_at w32 n (k * 16 + j * 4)) u (slice_index (initial_lanes seed) j) K same
+    (unit_told _ _ round round_tells (λ k. word_at w32 m (k * 16 + j * 4)) (λ k. word_at w32 n (k * 16 + j * 4)) u (slice_index (initial_accumulators seed) j) K same
     (λ k h. word_at-lt_32 m (k * 16 + j * 4) p) (λ k h. word_at-lt_32 n (k * 16 + j * 4) q) (omega arith) (initial-lt seed j small) lanes)
 
 word_law : (seed : ℕ) (m n : List ℕ) (from : ℕ) → seed < 2 ^ 32 → IsBytes m → IsBytes n → from % 4 ≡ 0 → from + 4 ≤ length m → DiffersWithin from 4 m n → xxh32 seed m ≢ xxh32 seed n

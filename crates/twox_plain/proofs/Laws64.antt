@@ -6,8 +6,8 @@ use Rattle.std.proofs.lemmas.Nat.{xor_lt}
 use Rattle.std.specs.Int.{w32, w64, rotate_left}
 use Rattle.twox_plain.specs.Word.{IsBytes, word_at, counted}
 use Rattle.twox_plain.specs.Units.{after_units}
-use Rattle.twox_plain.specs.Apart.{DiffersWithin, IsTailUnit64}
-use Rattle.twox_plain.specs.Xxh64.{p1, p2, p3, p4, p5, initial_lanes, round, lane, start, take_eight, take_four, take_byte, after_eights, after_words, after_tail, avalanche, xxh64}
+use Rattle.twox_plain.specs.ChangedUnit.{DiffersWithin, IsTailUnit64}
+use Rattle.twox_plain.specs.Xxh64.{p1, p2, p3, p4, p5, initial_accumulators, round, accumulator, start, take_eight, take_four, take_byte, after_eights, after_words, after_tail, avalanche, xxh64}
 use Rattle.twox_plain.proofs.OneToOne.{IsOneToOne, xor_cancel_left, xor_cancel_right, multiple_one_to_one, sum_one_to_one_64, turned_multiple_told, avalanche_told}
 use Rattle.twox_plain.proofs.UnitFacts.{after_units_same}
 use Rattle.twox_plain.proofs.UnitLaws.{IsTelling, after_units-lt, start_told, unit_told}
@@ -79,16 +79,16 @@ after_tail-lt m i x n h = after_units-lt _ _ take_byte take_byte_tells (λ u. sl
 
 -- ---- what two lists share
 
-lane_same : (seed : ℕ) (m n : List ℕ) (j k : ℕ) → ((i : ℕ) → i < k → word_at w64 m (i * 32 + j * 8) ≡ word_at w64 n (i * 32 + j * 8)) → lane seed m j k ≡ lane seed n j k
-unfolding lane
-lane_same seed m n j k same = after_units_same round _ _ (slice_index (initial_lanes seed) j) k same
+accumulator_same : (seed : ℕ) (m n : List ℕ) (j k : ℕ) → ((i : ℕ) → i < k → word_at w64 m (i * 32 + j * 8) ≡ word_at w64 n (i * 32 + j * 8)) → accumulator seed m j k ≡ accumulator seed n j k
+unfolding accumulator
+accumulator_same seed m n j k same = after_units_same round _ _ (slice_index (initial_accumulators seed) j) k same
 
 -- lists that differ in the tail
 start_same : (seed : ℕ) (m n : List ℕ) (from size : ℕ) → DiffersWithin from size m n → length m / 32 * 32 ≤ from → start seed m ≡ start seed n
 unfolding start
 start_same seed m n from size apart late =
     let k = length m / 32 in
-    let one = λ (j : ℕ) (low : j < 4). lane_same seed m n j k (λ i h. word_outside w64 m n from size (i * 32 + j * 8) apart (omega arith) (inl (omega arith))) in
+    let one = λ (j : ℕ) (low : j < 4). accumulator_same seed m n j k (λ i h. word_outside w64 m n from size (i * 32 + j * 8) apart (omega arith) (inl (omega arith))) in
     rw (apart.lengths, one 0 (lit< tt), one 1 (lit< tt), one 2 (lit< tt), one 3 (lit< tt)) refl
 
 eights_same : (m n : List ℕ) (i x t : ℕ) → ((u : ℕ) → u < t / 8 → word_at w64 m (i + u * 8) ≡ word_at w64 n (i + u * 8)) → after_eights m i x t ≡ after_eights n i x t

@@ -1,31 +1,36 @@
 -- What a record of XXH64 stands for, from call to call, and the value of the message.
-use Rattle.std.proofs.Common.{◌≡◌, ℕ, ◌*◌, ◌/◌, ◌%◌, ◌<◌, List, ◌++◌, drop, length, nat_lt, if◌then◌else◌, true, false, inl, inr, refl, ap, ◌∙◌, arith, lit<, length-drop}
+use Rattle.std.proofs.Common.{◌≡◌, ℕ, ◌*◌, ◌/◌, ◌%◌, ◌+◌, ◌-◌, ◌^◌, ◌<◌, min, List, [], ◌++◌, take, drop, length, nat_lt, if◌then◌else◌, true, false, inl, inr, refl, ap, ◌∙◌, arith, lit<, length-drop}
 use Rattle.std.proofs.lemmas.Bool.{cases_lt}
 use Rattle.std.proofs.lemmas.Bool.Decides.{nat_tests}
 use Rattle.std.specs.Int.{w64}
 use Rattle.twox_plain.specs.Word.{wrap_add, counted}
-use Rattle.twox_plain.specs.Xxh64.{p5, converged, start, after_tail, avalanche, xxh64}
-use Rattle.twox_plain.specs.Core64.{core_after, core_from}
-use Rattle.twox_plain.specs.Record64.{StandsFor, held, written, value_of, finished}
+use Rattle.twox_plain.specs.Xxh64.{p5, convergence, start, after_tail, avalanche, xxh64}
+use Rattle.twox_plain.specs.Core64.{core_of_stripes, core_after_stripes}
+use Rattle.twox_plain.specs.Record64.{StandsFor, AgreeInUse, block_state, initial_record, after_write, value_of, finish_value}
 use Rattle.twox_plain.specs.declared.xxhash64.Core.{Core}
 use Rattle.twox_plain.specs.declared.xxhash64.SavedState.{SavedState}
-use Rattle.twox_plain.proofs.Buffering.{counted_more, held_follows}
-use Rattle.twox_plain.proofs.Core64Facts.{core_after_longer, core_after_one, core_after_more}
+use Rattle.twox_plain.proofs.BlockStateFacts.{counted_more, after_piece_follows, after_piece_agree}
+use Rattle.twox_plain.proofs.Core64Facts.{core_of_stripes_longer, core_of_stripes_one, core_of_stripes_more}
 use Rattle.twox_plain.proofs.Tail64.{after_tail-drop}
 
+-- the record of no bytes
+pub initial_record_stands : (seed : ℕ) → StandsFor (initial_record seed) []
+unfolding StandsFor
+initial_record_stands seed = (refl, record { whole = refl; left = refl; bytes = refl })
+
 -- a piece more
-pub written_stands : (s : SavedState) (m d : List ℕ) → length s.buffer ≡ 32 → StandsFor s m → StandsFor (written s d) (m ++ d)
-unfolding StandsFor written
-written_stands s m d size stands = (
+pub after_write_stands : (s : SavedState) (m d : List ℕ) → length s.buffer ≡ 32 → StandsFor s m → StandsFor (after_write s d) (m ++ d)
+unfolding StandsFor after_write
+after_write_stands s m d size stands = (
   counted_more s.total_len m d stands.0,
-  held_follows 32 (core_after s.seed) core_from (lit< tt) (core_after_longer s.seed) (core_after_one s.seed) (core_after_more s.seed) m d (held s) stands.1 size,
+  after_piece_follows 32 (core_of_stripes s.seed) core_after_stripes (lit< tt) (core_of_stripes_longer s.seed) (core_of_stripes_one s.seed) (core_of_stripes_more s.seed) m d (block_state s) stands.1 size,
 )
 
 -- the value before the tail, in a message with a stripe and in one without
-starts : (seed : ℕ) (m : List ℕ) (core : Core) → core ≡ core_after seed m (length m / 32)
+starts : (seed : ℕ) (m : List ℕ) (core : Core) → core ≡ core_of_stripes seed m (length m / 32)
     → let len = counted (length m) in
-    wrap_add w64 (if nat_lt len 32 then wrap_add w64 seed p5 else converged core.v1 core.v2 core.v3 core.v4) len ≡ start seed m
-unfolding start core_after
+    wrap_add w64 (if nat_lt len 32 then wrap_add w64 seed p5 else convergence core.v1 core.v2 core.v3 core.v4) len ≡ start seed m
+unfolding start core_of_stripes
 starts seed m core at = elim (cases_lt (length m) 32) [
   | inl short ↦
       let test : nat_lt (length m) 32 ≡ true = grind (arith, nat_tests) in
@@ -37,17 +42,17 @@ starts seed m core at = elim (cases_lt (length m) 32) [
       rw (test, test2, at) refl
 ]
 
--- the value of the message, from its lanes and the bytes that fill no stripe
-pub value_of_message : (seed : ℕ) (m rest : List ℕ) (len : ℕ) (core : Core) → len ≡ counted (length m) → core ≡ core_after seed m (length m / 32) → rest ≡ drop (length m / 32 * 32) m
+-- the value of the message, from its accumulators and the bytes that fill no stripe
+pub value_of_message : (seed : ℕ) (m rest : List ℕ) (len : ℕ) (core : Core) → len ≡ counted (length m) → core ≡ core_of_stripes seed m (length m / 32) → rest ≡ drop (length m / 32 * 32) m
     → value_of seed len core rest ≡ xxh64 seed m
 unfolding value_of xxh64
 value_of_message seed m rest len core count at cut =
     let left : length rest ≡ length m % 32 = ap length cut ∙ omega (arith, length-drop (length m / 32 * 32) m) in
     rw (count, starts seed m core at, left, cut) (ap avalanche (after_tail-drop (length m / 32 * 32) m (start seed m) (length m % 32)))
 
-pub finished_message : (s : SavedState) (m : List ℕ) → StandsFor s m → finished s ≡ xxh64 s.seed m
+pub finish_value_of_message : (s : SavedState) (m : List ℕ) → StandsFor s m → finish_value s ≡ xxh64 s.seed m
 unfolding StandsFor
-finished_message s m stands = value_of_message s.seed m _ s.total_len s.core stands.0 stands.1.whole stands.1.bytes
+finish_value_of_message s m stands = value_of_message s.seed m _ s.total_len s.core stands.0 stands.1.whole stands.1.bytes
 
 -- the value of a message that fills no stripe
 pub short_message : (seed : ℕ) (m : List ℕ) → length m < 32 → avalanche (after_tail m 0 (wrap_add w64 (wrap_add w64 seed p5) (length m)) (length m)) ≡ xxh64 seed m
@@ -56,4 +61,29 @@ short_message seed m short =
     let none : length m / 32 ≡ 0 = omega arith in
     let len : counted (length m) ≡ length m = omega arith in
     let test : nat_lt (counted (length m)) 32 ≡ true = grind (arith, nat_tests) in
-    rw (test, len) at (value_of_message seed m m (counted (length m)) (core_after seed m (length m / 32)) refl refl (rw none refl))
+    rw (test, len) at (value_of_message seed m m (counted (length m)) (core_of_stripes seed m (length m / 32)) refl refl (rw none refl))
+
+-- records that agree in use still do after the same piece, and answer equally
+pub after_write_agree : (r s : SavedState) (d : List ℕ) → length r.buffer ≡ 32 → r.buffer_usage < 32 → AgreeInUse r s
+    → AgreeInUse (after_write r d) (after_write s d)
+unfolding after_write
+after_write_agree r s d size short agree = record {
+  total_len = ap (λ (n : ℕ). min (n + length d) (2 ^ 64 - 1)) agree.total_len;
+  seed = agree.seed;
+  state = after_piece_agree 32 core_after_stripes (block_state r) (block_state s) d size short agree.state;
+}
+
+pub finish_value_agree : (r s : SavedState) → AgreeInUse r s → finish_value s ≡ finish_value r
+finish_value_agree r s agree = rw (agree.total_len, agree.seed, agree.state.accumulators, agree.state.bytes) refl
+
+pub AgreeInUse-same : (r s : SavedState) → s ≡ r → AgreeInUse r s
+AgreeInUse-same r s same = record {
+  total_len = ap (λ (x : SavedState). x.total_len) same;
+  seed = ap (λ (x : SavedState). x.seed) same;
+  state = record {
+    accumulators = ap (λ (x : SavedState). x.core) same;
+    usage = ap (λ (x : SavedState). x.buffer_usage) same;
+    bytes = ap (λ (x : SavedState). take x.buffer_usage x.buffer) same;
+    size = ap (λ (x : SavedState). length x.buffer) same;
+  };
+}

@@ -1,38 +1,29 @@
 -- The text and the value of a record of XXH64, and that the text reads back as the record.
-use Rattle.std.proofs.Common.{◌≡◌, ◌<◌, ◌≤◌, ◌^◌, ℕ, false, true, nat_lt, Some, refl, arith, lit≤}
-use Rattle.std.proofs.lemmas.Bool.Decides.{nat_tests}
+use Rattle.std.proofs.Common.{◌≡◌, ◌<◌, ◌≤◌, ◌^◌, ℕ, false, Some}
 use Rattle.serde_json.specs.Data.{depth}
 use Rattle.serde_json.specs.Read.{max_depth}
 use Rattle.serde_json.specs.Written.{has_float, compact_text}
-use Rattle.serde_json.proofs.OnLiterals.{serde_json_on_literals}
 use Rattle.twox_plain.specs.declared.xxhash64.Core.{Core}
 use Rattle.twox_plain.specs.declared.xxhash64.SavedState.{SavedState}
-use Rattle.twox_plain.specs.SavedText.{bytes_from, bytes_data}
-use Rattle.twox_plain.specs.Saved64.{core_from, record_from, core_data, record_data, saved_text}
-use Rattle.twox_plain.proofs.ByteTexts.{no_float, flat, array_of}
+use Rattle.twox_plain.specs.SavedText.{bytes_of_data, bytes_data}
+use Rattle.twox_plain.specs.Saved64.{core_of_data, record_of_data, core_data, record_data, saved_text}
+use Rattle.twox_plain.proofs.SavedTexts
 
 pub has_no_float : (s : SavedState) → has_float (record_data s) ≡ false
-has_no_float s = rw (no_float s.buffer) refl
+has_no_float s = SavedTexts.has_no_float s.total_len s.seed s.core.v1 s.core.v2 s.core.v3 s.core.v4 s.buffer s.buffer_usage
 
 pub shallow : (s : SavedState) → depth (record_data s) ≤ max_depth
-shallow s = rw (flat s.buffer) (lit≤ tt)
+shallow s = SavedTexts.shallow s.total_len s.seed s.core.v1 s.core.v2 s.core.v3 s.core.v4 s.buffer s.buffer_usage
 
--- the compact text of a record's value
 pub compact_text-record_data : (s : SavedState) → compact_text (record_data s) ≡ saved_text s
-unfolding serde_json_on_literals
-compact_text-record_data s = rw (← array_of s.buffer) refl
+compact_text-record_data s = SavedTexts.compact_text-record_data s.total_len s.seed s.core.v1 s.core.v2 s.core.v3 s.core.v4 s.buffer s.buffer_usage
 
--- what is written reads back, where each number is in its type's range
-test : (x n : ℕ) → x < n → nat_lt x n ≡ true
-test x n small = grind (arith, nat_tests)
+pub core_of_data-core_data : (c : Core) → c.v1 < 2 ^ 64 → c.v2 < 2 ^ 64 → c.v3 < 2 ^ 64 → c.v4 < 2 ^ 64 → core_of_data (core_data c) ≡ Some c
+core_of_data-core_data c = SavedTexts.core_of_data-core_data (2 ^ 64) (λ a b c d. record { v1 = a; v2 = b; v3 = c; v4 = d }) c.v1 c.v2 c.v3 c.v4
 
-pub core_from-core_data : (c : Core) → c.v1 < 2 ^ 64 → c.v2 < 2 ^ 64 → c.v3 < 2 ^ 64 → c.v4 < 2 ^ 64 → core_from (core_data c) ≡ Some c
-unfolding serde_json_on_literals
-core_from-core_data c v1 v2 v3 v4 =
-    rw (test c.v1 (2 ^ 64) v1, test c.v2 (2 ^ 64) v2, test c.v3 (2 ^ 64) v3, test c.v4 (2 ^ 64) v4) refl
-
-pub record_from-record_data : (s : SavedState) → bytes_from 32 (bytes_data s.buffer) ≡ Some s.buffer → core_from (core_data s.core) ≡ Some s.core
-    → s.buffer_usage < 2 ^ 64 → s.seed < 2 ^ 64 → s.total_len < 2 ^ 64 → record_from (record_data s) ≡ Some s
-unfolding serde_json_on_literals
-record_from-record_data s buffer core usage seed total_len =
-    rw (buffer, core, test s.buffer_usage (2 ^ 64) usage, test s.seed (2 ^ 64) seed, test s.total_len (2 ^ 64) total_len) refl
+pub record_of_data-record_data : (s : SavedState) → bytes_of_data 32 (bytes_data s.buffer) ≡ Some s.buffer → core_of_data (core_data s.core) ≡ Some s.core
+    → s.buffer_usage < 2 ^ 64 → s.seed < 2 ^ 64 → s.total_len < 2 ^ 64 → record_of_data (record_data s) ≡ Some s
+record_of_data-record_data s =
+    SavedTexts.record_of_data-record_data (2 ^ 64) 32 core_of_data
+    (λ total_len seed core buffer usage. record { total_len = total_len; seed = seed; core = core; buffer = buffer; buffer_usage = usage })
+    s.total_len s.seed s.core (core_data s.core) s.buffer s.buffer_usage

@@ -6,7 +6,7 @@ use Rattle.std.proofs.lemmas.Grind.{same_number_lists}
 use Rattle.std.proofs.lemmas.Nat.{le_bytes_4, le_bytes_8}
 use Rattle.std.specs.Int.{Width, w32, w64, byte_len, from_le_bytes, to_le_bytes}
 use Rattle.twox_plain.specs.Word.{IsBytes, word_at}
-use Rattle.twox_plain.specs.Apart.{DiffersWithin}
+use Rattle.twox_plain.specs.ChangedUnit.{DiffersWithin}
 
 -- ---- a part of a list
 

@@ -1,18 +1,18 @@
--- The four lanes of XXH64 side by side, as the code keeps them.
+-- The four accumulators of XXH64 side by side, as the code keeps them.
 use Rattle.std.specs.Prelude.{ℕ, List, ◌+◌, ◌*◌}
 use Rattle.std.specs.Int.{w64}
 use Rattle.twox_plain.specs.Word.{word_at}
 use Rattle.twox_plain.specs.Units.{after_units}
-use Rattle.twox_plain.specs.Xxh64.{lane, round}
+use Rattle.twox_plain.specs.Xxh64.{accumulator, round}
 use Rattle.twox_plain.specs.declared.xxhash64.Core.{Core}
 
--- the lanes of the seed and m after k stripes
-unfoldable pub core_after : ℕ → List ℕ → ℕ → Core
-core_after seed m k = record { v1 = lane seed m 0 k; v2 = lane seed m 1 k; v3 = lane seed m 2 k; v4 = lane seed m 3 k }
+-- the accumulators of the seed and m after k stripes
+unfoldable pub core_of_stripes : ℕ → List ℕ → ℕ → Core
+core_of_stripes seed m k = record { v1 = accumulator seed m 0 k; v2 = accumulator seed m 1 k; v3 = accumulator seed m 2 k; v4 = accumulator seed m 3 k }
 
--- the lanes that c becomes by the first k stripes of d
-unfoldable pub core_from : Core → List ℕ → ℕ → Core
-core_from c d k = record {
+-- the accumulators that c becomes by the first k stripes of d
+unfoldable pub core_after_stripes : Core → List ℕ → ℕ → Core
+core_after_stripes c d k = record {
   v1 = after_units round (λ i. word_at w64 d (i * 32 + 0)) c.v1 k;
   v2 = after_units round (λ i. word_at w64 d (i * 32 + 8)) c.v2 k;
   v3 = after_units round (λ i. word_at w64 d (i * 32 + 16)) c.v3 k;

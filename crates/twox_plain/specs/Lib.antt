@@ -1,5 +1,5 @@
-pub mod Apart
-pub mod Buffered
+pub mod ChangedUnit
+pub mod BlockState
 pub mod Core32
 pub mod Core64
 pub mod Record32
@@ -11,5 +11,5 @@ pub mod Units
 pub mod Word
 pub mod Xxh32
 pub mod Xxh64
-pub mod Kept64
-pub mod Kept32
+pub mod StateInMemory64
+pub mod StateInMemory32

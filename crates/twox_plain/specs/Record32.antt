@@ -1,45 +1,78 @@
 -- The record of an XXH32 hasher: the lists that it stands for, and what each call makes of it.
-use Rattle.std.specs.Prelude.{◌≡◌, ◌<◌, ◌+◌, ◌-◌, ◌%◌, ◌^◌, ℕ, List, [], length, take, min, nat_lt, replicate, if◌then◌else◌}
+use Rattle.std.specs.Prelude.{◌≡◌, ◌<◌, ◌+◌, ◌-◌, ◌%◌, ◌^◌, ℕ, List, [], length, take, min, nat_lt, replicate, Bool, ◌==◌, codes, if◌then◌else◌}
+use Rattle.std.specs.Cmp.Lexicographic.{pointwise}
+use Rattle.std.specs.Ordering.{on, eq_of_both}
 use Rattle.std.specs.Int.{w32}
-use Rattle.twox_plain.specs.Word.{wrap_add, counted}
-use Rattle.twox_plain.specs.Xxh32.{p5, converged, after_tail, avalanche}
-use Rattle.twox_plain.specs.Buffered.{Held, Follows, held_after}
-use Rattle.twox_plain.specs.Core32.{core_after, core_from}
+use Rattle.twox_plain.specs.Word.{IsBytes, wrap_add, counted}
+use Rattle.twox_plain.specs.Xxh32.{p5, convergence, after_tail, avalanche}
+use Rattle.twox_plain.specs.BlockState.{BlockState, Follows, after_piece}
+use Rattle.twox_plain.specs.BlockState as Block
+use Rattle.twox_plain.specs.Core32.{core_of_stripes, core_after_stripes}
 use Rattle.twox_plain.specs.declared.xxhash32.Core.{Core}
 use Rattle.twox_plain.specs.declared.xxhash32.SavedState.{SavedState}
+use Rattle.twox_plain.specs.declared.xxhash32.RestoreError.{RestoreError}
+use Rattle.twox_plain.specs.declared.xxhash32.RestoreError.TheVariants.{BufferUsage, Core as WrongCore}
 
 -- what the record holds of the message
-abbrev pub held : SavedState → Held Core
-held s = record { lanes = s.core; buffer = s.buffer; usage = s.buffer_usage }
+abbrev pub block_state : SavedState → BlockState Core
+block_state s = record { accumulators = s.core; buffer = s.buffer; usage = s.buffer_usage }
 
--- the record has counted m, and its lanes and its buffer follow m under its seed
+-- the record has counted m, and its accumulators and its buffer follow m under its seed
 unfoldable pub StandsFor : SavedState → List ℕ → Type 0
-StandsFor s m = (s.total_len ≡ counted (length m)) × Follows 16 (core_after s.seed) m (held s)
+StandsFor s m = (s.total_len ≡ counted (length m)) × Follows 16 (core_of_stripes s.seed) m (block_state s)
+
+-- some list of bytes makes the record stand for it
+abbrev pub IsReachable : SavedState → Type 0
+IsReachable s = (m : List ℕ) × IsBytes m × StandsFor s m
 
 -- the record of no bytes
-abbrev pub fresh : ℕ → SavedState
-fresh seed = record { total_len = 0; seed = seed; core = core_after seed [] 0; buffer = replicate 16 0; buffer_usage = 0 }
+abbrev pub initial_record : ℕ → SavedState
+initial_record seed = record { total_len = 0; seed = seed; core = core_of_stripes seed [] 0; buffer = replicate 16 0; buffer_usage = 0 }
 
 -- the record after one more piece, exactly
-unfoldable pub written : SavedState → List ℕ → SavedState
-written s d =
-    let h = held_after 16 core_from (held s) d in
-    record { total_len = min (s.total_len + length d) (2 ^ 64 - 1); seed = s.seed; core = h.lanes; buffer = h.buffer; buffer_usage = h.usage }
+unfoldable pub after_write : SavedState → List ℕ → SavedState
+after_write s d =
+    let h = after_piece 16 core_after_stripes (block_state s) d in
+    record { total_len = min (s.total_len + length d) (2 ^ 64 - 1); seed = s.seed; core = h.accumulators; buffer = h.buffer; buffer_usage = h.usage }
 
--- the value from the counted length, the lanes and the bytes that fill no stripe
+-- the value from the counted length, the accumulators and the bytes that fill no stripe
 unfoldable pub value_of : ℕ → ℕ → Core → List ℕ → ℕ
 value_of seed len core rest =
-    avalanche (after_tail rest 0 (wrap_add w32 (if nat_lt len 16 then wrap_add w32 seed p5 else converged core.v1 core.v2 core.v3 core.v4) (len % 2 ^ 32)) (length rest))
+    avalanche (after_tail rest 0 (wrap_add w32 (if nat_lt len 16 then wrap_add w32 seed p5 else convergence core.v1 core.v2 core.v3 core.v4) (len % 2 ^ 32)) (length rest))
 
 -- the value that a record's hasher answers
-abbrev pub finished : SavedState → ℕ
-finished s = value_of s.seed s.total_len s.core (take s.buffer_usage s.buffer)
+abbrev pub finish_value : SavedState → ℕ
+finish_value s = value_of s.seed s.total_len s.core (take s.buffer_usage s.buffer)
 
 -- the buffer usage agrees with the length: it is its remainder, and where that was lost, less than a stripe
 pub record UsageFits (s : SavedState) : Type 0 where
   pub known : s.total_len < 2 ^ 64 - 1 → s.buffer_usage ≡ s.total_len % 16
   pub lost : s.total_len ≡ 2 ^ 64 - 1 → s.buffer_usage < 16
 
--- lanes that have taken no stripe are the seed's initial ones
+-- accumulators that have taken no stripe are the seed's initial ones
 abbrev pub CoreFits : SavedState → Type 0
-CoreFits s = s.total_len < 16 → s.core ≡ core_after s.seed [] 0
+CoreFits s = s.total_len < 16 → s.core ≡ core_of_stripes s.seed [] 0
+
+-- the records agree but for bytes of the buffer that are not in use
+pub record AgreeInUse (r s : SavedState) : Type 0 where
+  pub total_len : s.total_len ≡ r.total_len
+  pub seed : s.seed ≡ r.seed
+  pub state : Block.AgreeInUse (block_state r) (block_state s)
+
+-- the records agree in every field, the bytes of the buffer that are not in use included
+abbrev pub cores_equal : Core → Core → Bool
+cores_equal =
+    eq_of_both (on (λ c. c.v1) ◌==◌) (eq_of_both (on (λ c. c.v2) ◌==◌) (eq_of_both (on (λ c. c.v3) ◌==◌) (on (λ c. c.v4) ◌==◌)))
+
+abbrev pub records_equal : SavedState → SavedState → Bool
+records_equal =
+    eq_of_both (on (λ s. s.total_len) ◌==◌)
+    (eq_of_both (on (λ s. s.seed) ◌==◌)
+    (eq_of_both (on (λ s. s.core) cores_equal)
+    (eq_of_both (on (λ s. s.buffer) (pointwise ◌==◌))
+    (on (λ s. s.buffer_usage) ◌==◌))))
+
+-- why a record is refused, in words
+abbrev pub restore_error_text : RestoreError → List ℕ
+restore_error_text BufferUsage = codes "The buffer usage does not match the total length"
+restore_error_text WrongCore = codes "The core does not match the seed"

@@ -1,5 +1,5 @@
 -- XXH32 of a list of bytes: the xxHash specification, "XXH32 algorithm description", steps 1 to 6. The
--- list is read as a whole, by absolute positions, and each lane is followed by itself.
+-- list is read as a whole, by absolute positions, and each accumulator is followed by itself.
 use Rattle.std.specs.Prelude.{ℕ, ◌+◌, ◌*◌, ◌/◌, ◌%◌, ◌^◌, nat_lt, List, [], ◌∷◌, length, slice_index, if◌then◌else◌}
 use Rattle.std.specs.Int.{w32, rotate_left}
 use Rattle.twox_plain.specs.Word.{word_at, wrap_add, wrap_sub, wrap_mul, xor_shift, counted}
@@ -20,22 +20,22 @@ p4 = 0x27D4EB2F
 abbrev pub p5 : ℕ
 p5 = 0x165667B1
 
--- step 1: the lanes before the first stripe
-abbrev pub initial_lanes : ℕ → List ℕ
-initial_lanes seed =
+-- step 1: the accumulators before the first stripe
+abbrev pub initial_accumulators : ℕ → List ℕ
+initial_accumulators seed =
     wrap_add w32 (wrap_add w32 seed p1) p2 ∷ wrap_add w32 seed p2 ∷ seed ∷ wrap_sub w32 seed p1 ∷ []
 
--- step 2: what a lane becomes by a word
+-- step 2: what a accumulator becomes by a word
 abbrev pub round : ℕ → ℕ → ℕ
 round a word = wrap_mul w32 (rotate_left w32 (wrap_add w32 a (wrap_mul w32 word p2)) 13) p1
 
--- lane j after k stripes, of which stripe i gives it the word at byte 16 * i + 4 * j
-unfoldable pub lane : ℕ → List ℕ → ℕ → ℕ → ℕ
-lane seed m j k = after_units round (λ i. word_at w32 m (i * 16 + j * 4)) (slice_index (initial_lanes seed) j) k
+-- accumulator j after k stripes, of which stripe i gives it the word at byte 16 * i + 4 * j
+unfoldable pub accumulator : ℕ → List ℕ → ℕ → ℕ → ℕ
+accumulator seed m j k = after_units round (λ i. word_at w32 m (i * 16 + j * 4)) (slice_index (initial_accumulators seed) j) k
 
--- step 3: the four lanes as one value
-abbrev pub converged : ℕ → ℕ → ℕ → ℕ → ℕ
-converged a b c d =
+-- step 3: the four accumulators as one value
+abbrev pub convergence : ℕ → ℕ → ℕ → ℕ → ℕ
+convergence a b c d =
     wrap_add w32 (wrap_add w32 (wrap_add w32 (rotate_left w32 a 1) (rotate_left w32 b 7)) (rotate_left w32 c 12)) (rotate_left w32 d 18)
 
 -- steps 1, 3 and 4: the value before the bytes that fill no stripe. Of the length its low 32 bits enter.
@@ -44,7 +44,7 @@ start seed m =
     let k = length m / 16 in
     wrap_add w32
     (if nat_lt (length m) 16 then wrap_add w32 seed p5
-    else converged (lane seed m 0 k) (lane seed m 1 k) (lane seed m 2 k) (lane seed m 3 k))
+    else convergence (accumulator seed m 0 k) (accumulator seed m 1 k) (accumulator seed m 2 k) (accumulator seed m 3 k))
     (counted (length m) % 2 ^ 32)
 
 -- step 5: a value takes a word and a byte

@@ -1,5 +1,5 @@
 -- XXH64 of a list of bytes: the xxHash specification, "XXH64 algorithm description", steps 1 to 6. The
--- list is read as a whole, by absolute positions, and each lane is followed by itself.
+-- list is read as a whole, by absolute positions, and each accumulator is followed by itself.
 use Rattle.std.specs.Prelude.{ℕ, ◌+◌, ◌*◌, ◌/◌, ◌%◌, nat_lt, List, [], ◌∷◌, length, slice_index, bit_xor, if◌then◌else◌}
 use Rattle.std.specs.Int.{w32, w64, rotate_left}
 use Rattle.twox_plain.specs.Word.{word_at, wrap_add, wrap_sub, wrap_mul, xor_shift, counted}
@@ -20,26 +20,26 @@ p4 = 0x85EBCA77C2B2AE63
 abbrev pub p5 : ℕ
 p5 = 0x27D4EB2F165667C5
 
--- step 1: the lanes before the first stripe
-abbrev pub initial_lanes : ℕ → List ℕ
-initial_lanes seed =
+-- step 1: the accumulators before the first stripe
+abbrev pub initial_accumulators : ℕ → List ℕ
+initial_accumulators seed =
     wrap_add w64 (wrap_add w64 seed p1) p2 ∷ wrap_add w64 seed p2 ∷ seed ∷ wrap_sub w64 seed p1 ∷ []
 
--- step 2: what a lane becomes by a word
+-- step 2: what a accumulator becomes by a word
 abbrev pub round : ℕ → ℕ → ℕ
 round a word = wrap_mul w64 (rotate_left w64 (wrap_add w64 a (wrap_mul w64 word p2)) 31) p1
 
--- lane j after k stripes, of which stripe i gives it the word at byte 32 * i + 8 * j
-unfoldable pub lane : ℕ → List ℕ → ℕ → ℕ → ℕ
-lane seed m j k = after_units round (λ i. word_at w64 m (i * 32 + j * 8)) (slice_index (initial_lanes seed) j) k
+-- accumulator j after k stripes, of which stripe i gives it the word at byte 32 * i + 8 * j
+unfoldable pub accumulator : ℕ → List ℕ → ℕ → ℕ → ℕ
+accumulator seed m j k = after_units round (λ i. word_at w64 m (i * 32 + j * 8)) (slice_index (initial_accumulators seed) j) k
 
--- step 3: a value takes in a lane
+-- step 3: a value takes in a accumulator
 abbrev pub merge : ℕ → ℕ → ℕ
 merge x a = wrap_add w64 (wrap_mul w64 (bit_xor x (round 0 a)) p1) p4
 
--- the four lanes as one value
-abbrev pub converged : ℕ → ℕ → ℕ → ℕ → ℕ
-converged a b c d =
+-- the four accumulators as one value
+abbrev pub convergence : ℕ → ℕ → ℕ → ℕ → ℕ
+convergence a b c d =
     merge (merge (merge (merge (wrap_add w64 (wrap_add w64 (wrap_add w64 (rotate_left w64 a 1) (rotate_left w64 b 7)) (rotate_left w64 c 12)) (rotate_left w64 d 18)) a) b) c) d
 
 -- steps 1, 3 and 4: the value before the bytes that fill no stripe
@@ -48,7 +48,7 @@ start seed m =
     let k = length m / 32 in
     wrap_add w64
     (if nat_lt (length m) 32 then wrap_add w64 seed p5
-    else converged (lane seed m 0 k) (lane seed m 1 k) (lane seed m 2 k) (lane seed m 3 k))
+    else convergence (accumulator seed m 0 k) (accumulator seed m 1 k) (accumulator seed m 2 k) (accumulator seed m 3 k))
     (counted (length m))
 
 -- step 5: a value takes an eight-byte word, a four-byte word and a byte

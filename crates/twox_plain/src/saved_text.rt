@@ -2,44 +2,44 @@
 
 ghost use Rattle.std.specs.Prelude.{◌≡◌, ◌^◌, length, Some, IfOk};
 ghost use Rattle.serde_json.specs.View.{view, items_view};
-ghost use Rattle.twox_plain.specs.SavedText.{whole, number_at, bytes_from, items_of_bytes, bytes_data};
+ghost use Rattle.twox_plain.specs.SavedText.{whole_number, number_member, bytes_of_data, items_of_bytes, bytes_data};
 
 use serde_json::Value;
 use std::alloc::{AllocError, Global};
 
 // The whole number, where it is below the limit.
-fn whole_below(value: &Value, limit: u64) -> Option<u64>
-    ensures { result ≡ whole limit (view value.now) }
+fn whole_number_below(value: &Value, limit: u64) -> Option<u64>
+    ensures { result ≡ whole_number limit (view value.now) }
 {
     let number = value.as_u64()?;
     if number < limit { Some(number) } else { None }
 }
 
 // The whole number, where it fits.
-fn whole_u64(value: &Value) -> Option<u64>
-    ensures { result ≡ whole (2 ^ 64) (view value.now) }
+fn whole_number(value: &Value) -> Option<u64>
+    ensures { result ≡ whole_number (2 ^ 64) (view value.now) }
 {
     value.as_u64()
 }
 
 /// The member of that name, a whole number below 2^32.
-pub(crate) fn u32_at(value: &Value, name: &str) -> Option<u32>
-    ensures { result ≡ number_at (2 ^ 32) name.now (view value.now) }
+pub(crate) fn u32_member(value: &Value, name: &str) -> Option<u32>
+    ensures { result ≡ number_member (2 ^ 32) name.now (view value.now) }
 {
-    let number = whole_below(value.get(name)?, 0x1_0000_0000)?;
+    let number = whole_number_below(value.get(name)?, 0x1_0000_0000)?;
     Some(number as u32)
 }
 
 /// The member of that name, a whole number below 2^64.
-pub(crate) fn u64_at(value: &Value, name: &str) -> Option<u64>
-    ensures { result ≡ number_at (2 ^ 64) name.now (view value.now) }
+pub(crate) fn u64_member(value: &Value, name: &str) -> Option<u64>
+    ensures { result ≡ number_member (2 ^ 64) name.now (view value.now) }
 {
-    whole_u64(value.get(name)?)
+    whole_number(value.get(name)?)
 }
 
 /// The array of exactly N whole numbers below 256.
-pub(crate) fn bytes_of<const N: usize>(value: &Value) -> Option<[u8; N]>
-    ensures { result ≡ bytes_from N (view value.now) }
+pub(crate) fn byte_array<const N: usize>(value: &Value) -> Option<[u8; N]>
+    ensures { result ≡ bytes_of_data N (view value.now) }
 {
     let list = value.as_array()?;
     if list.len() != N {
@@ -47,7 +47,7 @@ pub(crate) fn bytes_of<const N: usize>(value: &Value) -> Option<[u8; N]>
     }
     let mut bytes = [0u8; N];
     for i in 0..N {
-        bytes[i] = whole_below(&list[i], 256)? as u8;
+        bytes[i] = whole_number_below(&list[i], 256)? as u8;
     }
     Some(bytes)
 }
@@ -63,9 +63,9 @@ fn byte_values(alloc: Global, bytes: &[u8]) -> Result<Vec<Value>, AllocError>
 }
 
 /// The array of these bytes as numbers.
-pub(crate) fn bytes_value(alloc: Global, bytes: &[u8]) -> Result<Value, AllocError>
+pub(crate) fn byte_array_value(alloc: Global, bytes: &[u8]) -> Result<Value, AllocError>
     ensures value { IfOk result (λ value. view value ≡ bytes_data bytes.now) }
-    ensures reads_back { bytes_from (length bytes.now) (bytes_data bytes.now) ≡ Some bytes.now }
+    ensures reads_back { bytes_of_data (length bytes.now) (bytes_data bytes.now) ≡ Some bytes.now }
 {
     Ok(Value::Array(byte_values(alloc, bytes)?))
 }

@@ -74,7 +74,7 @@ impl IntoU64 for u8 {
 
     #[inline(always)]
     fn into_u64(self) -> u64 {
-        u64::from(self)
+        self.into()
     }
 }
 

@@ -4,6 +4,8 @@
 #[cfg(test)]
 mod fast_and_slow;
 #[cfg(test)]
+mod forged;
+#[cfg(test)]
 mod kernels;
 #[cfg(test)]
 mod laws;
@@ -11,6 +13,8 @@ mod laws;
 mod long;
 #[cfg(test)]
 mod plain;
+#[cfg(test)]
+mod saved;
 #[cfg(test)]
 mod short;
 #[cfg(test)]

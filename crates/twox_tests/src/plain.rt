@@ -231,29 +231,6 @@ fn saved_texts(rt: HostRuntime) -> Result<(), Fail> {
     Ok(())
 }
 
-#[test]
-fn refusals_as_text(rt: HostRuntime) -> Result<(), Fail> {
-    let usage = "The buffer usage does not match the total length";
-    let core = "The core does not match the seed";
-    assert_eq!(rt;
-        format!(in rt.alloc(); "{}", RestoreError32::BufferUsage)?.as_str(),
-        usage
-    );
-    assert_eq!(rt;
-        format!(in rt.alloc(); "{}", RestoreError64::BufferUsage)?.as_str(),
-        usage
-    );
-    assert_eq!(rt;
-        format!(in rt.alloc(); "{}", RestoreError32::Core)?.as_str(),
-        core
-    );
-    assert_eq!(rt;
-        format!(in rt.alloc(); "{}", RestoreError64::Core)?.as_str(),
-        core
-    );
-    Ok(())
-}
-
 // Any hasher of the standard trait, as a map's build type makes it.
 fn hash_by<S: BuildHasher>(state: &S, input: &[u8]) -> u64 {
     let mut hasher = state.build_hasher();
@@ -296,39 +273,83 @@ fn maps(rt: HostRuntime) -> Result<(), Fail> {
     Ok(())
 }
 
-// Hashers whose records differ in one field are unequal.
+// Whether hashers of the two records are equal.
+fn are_equal_32(a: xxhash32::SavedState, b: xxhash32::SavedState) -> Result<bool, Fail> {
+    Ok(XxHash32::from_state(a)? == XxHash32::from_state(b)?)
+}
+
+fn are_equal_64(a: xxhash64::SavedState, b: xxhash64::SavedState) -> Result<bool, Fail> {
+    Ok(XxHash64::from_state(a)? == XxHash64::from_state(b)?)
+}
+
+// Hashers whose records differ in one field alone are unequal: in the length, the seed, each accumulator, the
+// usage, a byte in use, and one that is not.
 #[test]
-fn hashers_of_32_bits_that_differ(rt: HostRuntime) -> Result<(), Fail> {
+fn hashers_of_32_bits_that_differ_in_one_field(rt: HostRuntime) -> Result<(), Fail> {
     let mut record = record_32();
-    record.total_len = 46;
-    let hasher = XxHash32::from_state(record)?;
-    let mut other = record;
-    other.seed = 1;
-    assert!(rt; XxHash32::from_state(other)? != hasher);
-    let mut other = record;
-    other.total_len = 62;
-    assert!(rt; XxHash32::from_state(other)? != hasher);
-    let mut other = record;
-    other.core.v3 = 1;
-    assert!(rt; XxHash32::from_state(other)? != hasher);
+    record.total_len = u64::MAX;
+    assert!(rt; are_equal_32(record, record)?);
+    let mut others = [record; 9];
+    others[0].total_len = 46;
+    others[1].seed = 1;
+    others[2].core.v1 ^= 1;
+    others[3].core.v2 ^= 1;
+    others[4].core.v3 ^= 1;
+    others[5].core.v4 ^= 0x8000_0000;
+    others[6].buffer_usage = 13;
+    others[7].buffer[0] ^= 1;
+    others[8].buffer[15] ^= 1;
+    for other in others {
+        assert!(rt; !are_equal_32(record, other)?);
+    }
     Ok(())
 }
 
 #[test]
-fn saved_texts_past_a_stripe(rt: HostRuntime) -> Result<(), Fail> {
-    let mut hasher = XxHash32::with_seed(u32::MAX);
-    hasher.write(&[255; 47]);
-    let text = hasher.to_state().to_json(rt.alloc())?;
+fn hashers_of_64_bits_that_differ_in_one_field(rt: HostRuntime) -> Result<(), Fail> {
+    let mut record = record_64();
+    record.total_len = u64::MAX;
+    assert!(rt; are_equal_64(record, record)?);
+    let mut others = [record; 9];
+    others[0].total_len = 46;
+    others[1].seed = 1;
+    others[2].core.v1 ^= 1;
+    others[3].core.v2 ^= 1;
+    others[4].core.v3 ^= 1;
+    others[5].core.v4 ^= 0x8000_0000_0000_0000;
+    others[6].buffer_usage = 13;
+    others[7].buffer[0] ^= 1;
+    others[8].buffer[31] ^= 1;
+    for other in others {
+        assert!(rt; !are_equal_64(record, other)?);
+    }
+    Ok(())
+}
+
+#[test]
+fn copies(rt: HostRuntime) -> Result<(), Fail> {
+    let record = record_32();
+    assert_eq!(rt; record.clone()?, record);
+    assert_eq!(rt; record.core.clone()?, record.core);
+    let record = record_64();
+    assert_eq!(rt; record.clone()?, record);
+    assert_eq!(rt; record.core.clone()?, record.core);
+
+    let state = xxhash64::State::with_seed(1234);
     assert_eq!(rt;
-        xxhash32::SavedState::from_json(rt.alloc(), text.as_str())?,
-        hasher.to_state()
+        hash_by(&state.clone()?, b"some bytes"),
+        0xeab5_5659_a496_d78b
     );
-    let mut hasher = XxHash64::with_seed(u64::MAX);
-    hasher.write(&[255; 95]);
-    let text = hasher.to_state().to_json(rt.alloc())?;
+    let state = xxhash32::State::with_seed(OTHER_SEED_32);
+    assert_eq!(rt; hash_by(&state.clone()?, b""), 0xd6bf_8459);
+    let mut rng = SplitMix64::seed_from_u64(0xc410_fa8e_acee_9ea3);
+    let state = xxhash64::RandomState::from_rng(&mut rng);
     assert_eq!(rt;
-        xxhash64::SavedState::from_json(rt.alloc(), text.as_str())?,
-        hasher.to_state()
+        hash_by(&state.clone()?, b"some bytes"),
+        0xeab5_5659_a496_d78b
     );
+    let mut rng = SplitMix64::seed_from_u64(0xcd9f_e7d4_0efb_05e9);
+    let state = xxhash32::RandomState::from_rng(&mut rng);
+    assert_eq!(rt; hash_by(&state.clone()?, b""), 0xd6bf_8459);
     Ok(())
 }

@@ -1,6 +1,8 @@
 //! What a caller can prove of `twox_hash`, from its contracts alone.
 #![tactic(auto)]
 
+mod blocks;
 mod pieces;
 mod records;
+mod standard;
 mod stored;

@@ -2,11 +2,12 @@
 
 ghost use Rattle.std.specs.Prelude.{◌≡◌, ◌↔◌, ◌++◌, ℕ, List, IsTrue, Ok, IfOk, MatchResult};
 ghost use Rattle.twox_hash.specs.Xxh64.{xxh64};
-ghost use Rattle.twox_hash.specs.Record64.{StandsFor, finished, written};
+ghost use Rattle.twox_hash.specs.Record32.{AgreeInUse as AgreeInUse32};
+ghost use Rattle.twox_hash.specs.Record64.{StandsFor, AgreeInUse, finish_value, after_write};
 
 use std::alloc::AllocError;
-use twox_hash::XxHash64;
 use twox_hash::xxhash64::RestoreError;
+use twox_hash::{XxHash32, XxHash64};
 
 /// Whether two hashers are equal: exactly where their records are.
 pub fn are_equal(a: &XxHash64, b: &XxHash64) -> bool
@@ -15,11 +16,38 @@ pub fn are_equal(a: &XxHash64, b: &XxHash64) -> bool
     *a == *b
 }
 
+/// The XXH32 of two hashers after the same pieces: equal where the hashers are, and where their records differ
+/// in bytes of the buffer alone that are not in use.
+pub fn values_after_32(a: &mut XxHash32, b: &mut XxHash32, pieces: &[&[u8]]) -> (u32, u32)
+    ensures equal { b.old ≡ a.old → result.1 ≡ result.0 }
+    ensures unread { AgreeInUse32 a.old b.old → result.1 ≡ result.0 }
+{
+    for piece in pieces {
+        a.write(piece);
+        b.write(piece);
+    }
+    (a.finish_32(), b.finish_32())
+}
+
+/// The XXH64 of two hashers after the same pieces: equal where the hashers are, and where their records differ
+/// in bytes of the buffer alone that are not in use.
+pub fn values_after_64(a: &mut XxHash64, b: &mut XxHash64, pieces: &[&[u8]]) -> (u64, u64)
+    ensures equal { b.old ≡ a.old → result.1 ≡ result.0 }
+    ensures unread { AgreeInUse a.old b.old → result.1 ≡ result.0 }
+{
+    for piece in pieces {
+        a.write(piece);
+        b.write(piece);
+    }
+    (a.finish(), b.finish())
+}
+
 /// The hash of the bytes so far, and the one that they would have with one more piece: the piece is written to
 /// a copy, and the original isn't changed. No copy fails.
 pub fn without_and_with(hasher: &XxHash64, piece: &[u8]) -> Result<(u64, u64), AllocError>
     ensures { MatchResult result
-        (λ values. (m : List ℕ) → StandsFor hasher.now m → (values.0 ≡ xxh64 hasher.now.seed m) × (values.1 ≡ xxh64 hasher.now.seed (m ++ piece.now)))
+        (λ values. (m : List ℕ) → StandsFor hasher.now m
+        → (values.0 ≡ xxh64 hasher.now.seed m) × (values.1 ≡ xxh64 hasher.now.seed (m ++ piece.now)))
         (λ _. ⊥) }
 {
     let mut copy = hasher.clone()?;
@@ -31,8 +59,9 @@ pub fn without_and_with(hasher: &XxHash64, piece: &[u8]) -> Result<(u64, u64), A
 ///
 /// The record of a hasher that stands for any list is accepted, and goes on as the hasher itself.
 pub fn save_and_go_on(hasher: &XxHash64, piece: &[u8]) -> Result<u64, RestoreError>
-    ensures accepted { (m : List ℕ) → StandsFor hasher.now m → result ≡ Ok (xxh64 hasher.now.seed (m ++ piece.now)) }
-    ensures alike { IfOk result (λ value. value ≡ finished (written hasher.now piece.now)) }
+    ensures accepted { (m : List ℕ)
+        → StandsFor hasher.now m → result ≡ Ok (xxh64 hasher.now.seed (m ++ piece.now)) }
+    ensures alike { IfOk result (λ value. value ≡ finish_value (after_write hasher.now piece.now)) }
 {
     let mut restored = XxHash64::from_state(hasher.to_state())?;
     restored.write(piece);

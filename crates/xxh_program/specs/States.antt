@@ -68,10 +68,10 @@ Restores record_of Fits text (Err OutOfMemory) = Unit {0}
 Restores record_of Fits text (Err _) = ⊥
 
 abbrev pub Restores32 : List ℕ → Result State32 Fault → Type 0
-Restores32 text restored = Restores Saved32.record_of (λ s. Record32.UsageFits s × Record32.CoreFits s) text restored
+Restores32 text restored = Restores Saved32.record_of_text (λ s. Record32.UsageFits s × Record32.CoreFits s) text restored
 
 abbrev pub Restores64 : List ℕ → Result State64 Fault → Type 0
-Restores64 text restored = Restores Saved64.record_of (λ s. Record64.UsageFits s × Record64.CoreFits s) text restored
+Restores64 text restored = Restores Saved64.record_of_text (λ s. Record64.UsageFits s × Record64.CoreFits s) text restored
 
 -- A digest went on from the record, for every list that it stands for; where there is none, nothing was
 -- read and nothing was written.

@@ -2,43 +2,59 @@
 
 ghost use Rattle.std.specs.Prelude.{◌≡◌, ◌^◌, Some, None, IfOk, IsErrOf, string_bytes};
 ghost use Rattle.serde_json.specs.View.{view};
-ghost use Rattle.twox_plain.specs.Saved64.{core_from, record_from, record_of, core_data, members_data, saved_text};
+ghost use Rattle.twox_plain.specs.Saved64.{core_of_data, record_of_data, record_of_text, core_data, saved_text};
+ghost use Rattle.twox_plain.specs.SavedText as Text;
 
-use crate::saved_text::{bytes_of, bytes_value, u64_at};
+use crate::saved_text::{byte_array, byte_array_value, u64_member};
 use crate::xxhash64::{Core, SavedState};
 use serde_json::{Value, json};
 use std::alloc::{AllocError, Global};
-use thiserror::Error;
+use std::error::Error;
+use std::fmt;
 
 /// Why a text gave no record.
-#[derive(Clone, Copy, Debug, PartialEq, Eq, Error)]
+#[derive(Clone, Copy, Debug, PartialEq, Eq)]
 pub enum FormError {
     /// The text is not a saved state's.
-    #[error("The text is not a saved state")]
     Text,
-    /// A growth of memory was refused.
-    #[error("out of memory")]
+    /// There was no memory to read it.
     Memory,
 }
 
-fn core_in(value: &Value) -> Option<Core>
-    ensures { result ≡ core_from (view value.now) }
+impl fmt::Display for FormError {
+    ghost use Rattle.std.specs.Prelude.{Some};
+    ghost use Rattle.twox_plain.specs.Saved64.{form_error_text};
+
+    ghost output = { λ error. Some (form_error_text error) };
+
+    fn fmt<W: fmt::Write>(&self, f: &mut fmt::Formatter<W>) -> fmt::Result {
+        f.write_str(match self {
+            FormError::Text => "The text is not a saved state",
+            FormError::Memory => "out of memory",
+        })
+    }
+}
+
+impl Error for FormError {}
+
+fn core_of_value(value: &Value) -> Option<Core>
+    ensures { result ≡ core_of_data (view value.now) }
 {
-    let v1 = u64_at(value, "v1")?;
-    let v2 = u64_at(value, "v2")?;
-    let v3 = u64_at(value, "v3")?;
-    let v4 = u64_at(value, "v4")?;
+    let v1 = u64_member(value, "v1")?;
+    let v2 = u64_member(value, "v2")?;
+    let v3 = u64_member(value, "v3")?;
+    let v4 = u64_member(value, "v4")?;
     Some(Core { v1, v2, v3, v4 })
 }
 
-fn record_in(value: &Value) -> Option<SavedState>
-    ensures { result ≡ record_from (view value.now) }
+fn record_of_value(value: &Value) -> Option<SavedState>
+    ensures { result ≡ record_of_data (view value.now) }
 {
-    let buffer = bytes_of(value.get("buffer")?)?;
-    let buffer_usage = u64_at(value, "buffer_usage")? as usize;
-    let core = core_in(value.get("core")?)?;
-    let seed = u64_at(value, "seed")?;
-    let total_len = u64_at(value, "total_len")?;
+    let buffer = byte_array(value.get("buffer")?)?;
+    let buffer_usage = u64_member(value, "buffer_usage")? as usize;
+    let core = core_of_value(value.get("core")?)?;
+    let seed = u64_member(value, "seed")?;
+    let total_len = u64_member(value, "total_len")?;
     Some(SavedState {
         total_len,
         seed,
@@ -50,7 +66,7 @@ fn record_in(value: &Value) -> Option<SavedState>
 
 fn core_value(alloc: Global, core: Core) -> Result<Value, AllocError>
     ensures value { IfOk result (λ value. view value ≡ core_data core) }
-    ensures reads_back { IfOk result (λ value. core_from (view value) ≡ Some core) }
+    ensures reads_back { IfOk result (λ value. core_of_data (view value) ≡ Some core) }
 {
     let (v1, v2, v3, v4) = (core.v1, core.v2, core.v3, core.v4);
     let value = json!(in alloc; {"v1": v1, "v2": v2, "v3": v3, "v4": v4})?;
@@ -66,7 +82,8 @@ fn record_value(
     seed: u64,
     total_len: u64,
 ) -> Result<Value, AllocError>
-    ensures { IfOk result (λ value. view value ≡ members_data (view buffer) (view core) usage seed total_len) }
+    ensures { IfOk result (λ value.
+        view value ≡ Text.record_data total_len seed (view core) (view buffer) usage) }
 {
     json!(in alloc; {"buffer": buffer, "buffer_usage": usage, "core": core, "seed": seed, "total_len": total_len})
 }
@@ -75,12 +92,14 @@ impl SavedState {
     /// The saved text: the compact JSON of an object with the members `buffer` (an array of numbers),
     /// `buffer_usage`, `core` (an object of `v1` to `v4`), `seed` and `total_len`, in this order.
     ///
-    /// An `Err` is want of memory.
+    /// # Errors
+    ///
+    /// There is no memory for the text.
     pub fn to_json(&self, alloc: Global) -> Result<String, AllocError>
         ensures text { IfOk result (λ text. string_bytes text ≡ saved_text self.now) }
-        ensures reads_back { IfOk result (λ text. record_of (string_bytes text) ≡ Some self.now) }
+        ensures reads_back { IfOk result (λ text. record_of_text (string_bytes text) ≡ Some self.now) }
     {
-        let buffer = bytes_value(alloc, &self.buffer)?;
+        let buffer = byte_array_value(alloc, &self.buffer)?;
         let core = core_value(alloc, self.core)?;
         let (usage, seed, total_len) = (self.buffer_usage, self.seed, self.total_len);
         record_value(alloc, buffer, core, usage, seed, total_len)?.to_string(alloc)
@@ -90,14 +109,16 @@ impl SavedState {
     /// order and with any white space, each number whole and in its type's range, and exactly 32 of them in
     /// the buffer. Other members are passed over.
     ///
-    /// `FormError::Text` comes exactly where, want of memory aside, `serde_json` reads no such object.
-    /// `FormError::Memory` may be met before the text is judged.
+    /// # Errors
+    ///
+    /// - [`FormError::Text`]: `serde_json` reads no such object.
+    /// - [`FormError::Memory`]: memory ran out, perhaps before the text was judged.
     pub fn from_json(alloc: Global, text: &str) -> Result<SavedState, FormError>
-        ensures read { IfOk result (λ state. record_of text.now ≡ Some state) }
-        ensures refused { IsErrOf result FormError.Text → record_of text.now ≡ None }
+        ensures read { IfOk result (λ state. record_of_text text.now ≡ Some state) }
+        ensures refused { IsErrOf result FormError.Text → record_of_text text.now ≡ None }
     {
         match Value::from_str(alloc, text) {
-            Ok(value) => record_in(&value).ok_or(FormError::Text),
+            Ok(value) => record_of_value(&value).ok_or(FormError::Text),
             Err(error) => Err(if error.is_memory() {
                 FormError::Memory
             } else {

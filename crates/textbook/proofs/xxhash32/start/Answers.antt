@@ -18,4 +18,4 @@ returns c =
     let m = c.args.m.now in
     let count : length m ≡ counted (length m) = search rules in
     let test : nat_lt (length m) 16 ≡ false = grind (arith, nat_tests, c.if-m-lt16.false) in
-    rw (test, ← count, c.converged.ensures, c.lane-a.ensures, c.lane-b.ensures, c.lane-c.ensures, c.lane-d.ensures) refl
+    rw (test, ← count, c.convergence.ensures, c.accumulator-a.ensures, c.accumulator-b.ensures, c.accumulator-c.ensures, c.accumulator-d.ensures) refl

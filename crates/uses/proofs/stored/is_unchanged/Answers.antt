@@ -1,5 +1,5 @@
 use Rattle.std.proofs.Common.{rules, ◌≡◌, refl, sym, subst}
-use Rattle.twox_hash.specs.Apart.{IsUnit32}
+use Rattle.twox_hash.specs.ChangedUnit.{IsUnit32}
 use Rattle.uses.proofs.stored.is_unchanged.Goals as goal
 
 pub returns-clause-notices : goal.returns-clause-notices

@@ -1,12 +1,12 @@
 use Rattle.std.proofs.Common.{◌/◌, length, ◌∙◌, refl, arith}
-use Rattle.twox_plain.specs.Core32.{core_from}
+use Rattle.twox_plain.specs.Core32.{core_after_stripes}
 use Rattle.twox_plain.specs.Units.{after_units}
 use Rattle.twox_plain.proofs.WordFacts.{first_chunks_at}
-use Rattle.twox_plain.proofs.Core32Facts.{core_from_next}
+use Rattle.twox_plain.proofs.Core32Facts.{core_after_stripes_next}
 use Rattle.twox_plain.proofs.xxhash32.Core.write_many.Goals as goal
 
 pub stripes-init : goal.stripes-init
-unfolding core_from after_units
+unfolding core_after_stripes after_units
 stripes-init c = refl
 
 pub stripes-preserved : goal.stripes-preserved
@@ -14,4 +14,4 @@ stripes-preserved c =
     let xs = c.args.input.now in
     let i = c.stripes.stripe-index in
     rw c.stripes.invariant at c.write.ensures
-    ∙ core_from_next c.args.self.now xs _ i (rw c.as_chunks.ensures.front (first_chunks_at 16 (length xs / 16) xs i _ (omega arith)))
+    ∙ core_after_stripes_next c.args.self.now xs _ i (rw c.as_chunks.ensures.front (first_chunks_at 16 (length xs / 16) xs i _ (omega arith)))

@@ -1,6 +1,6 @@
 use Rattle.std.proofs.Common.{◌≡◌}
-use Rattle.twox_plain.specs.Core32.{core_from}
+use Rattle.twox_plain.specs.Core32.{core_after_stripes}
 use Rattle.twox_plain.proofs.xxhash32.Core.write_many.Given as goal
 
 abbrev pub invariant-stripes : goal.invariant-stripes
-invariant-stripes l = l.self ≡ core_from l.fn.self l.input l.stripe-index
+invariant-stripes l = l.self ≡ core_after_stripes l.fn.self l.input l.stripe-index

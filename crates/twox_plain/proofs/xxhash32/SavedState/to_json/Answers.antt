@@ -3,8 +3,8 @@ use Rattle.std.specs.Prelude.{option_and_then}
 use Rattle.std.proofs.lemmas.Result.{IfOk-weaker}
 use Rattle.serde_json.specs.View.{view}
 use Rattle.serde_json.specs.Written.{compact_text}
-use Rattle.twox_plain.specs.Saved32.{record_from, record_data}
-use Rattle.twox_plain.proofs.SavedTexts32.{has_no_float, shallow, compact_text-record_data, record_from-record_data}
+use Rattle.twox_plain.specs.Saved32.{record_of_data, record_data}
+use Rattle.twox_plain.proofs.SavedTexts32.{has_no_float, shallow, compact_text-record_data, record_of_data-record_data}
 use Rattle.twox_plain.proofs.xxhash32.SavedState.to_json.Goals as goal
 
 -- the value that is written is the record's
@@ -14,11 +14,11 @@ value_is c = rw (c.in_ok-record_value.ensures, c.in_ok-buffer.ensures.value, c.i
 pub returns-clause-text : goal.returns-clause-text
 returns-clause-text c =
     let s = c.args.self.now in
-    IfOk-weaker c.to_string.result _ _ (λ text written. written (rw (value_is c) (has_no_float s)) ∙ ap compact_text (value_is c) ∙ compact_text-record_data s) c.to_string.ensures.text
+    IfOk-weaker c.to_string.result _ _ (λ text writes. writes (rw (value_is c) (has_no_float s)) ∙ ap compact_text (value_is c) ∙ compact_text-record_data s) c.to_string.ensures.text
 
 pub returns-clause-reads_back : goal.returns-clause-reads_back
 returns-clause-reads_back c =
     let s = c.args.self.now in
     let size : length s.buffer ≡ 16 = omega arith in
-    let back = record_from-record_data s (rw size at c.in_ok-buffer.ensures.reads_back) (rw c.in_ok-core.ensures.value at c.in_ok-core.ensures.reads_back) (omega arith) (omega arith) (omega arith) in
-    IfOk-weaker c.to_string.result _ _ (λ text read. ap (option_and_then record_from) (read (rw (value_is c) (shallow s))) ∙ ap record_from (value_is c) ∙ back) c.to_string.ensures.reads_back
+    let back = record_of_data-record_data s (rw size at c.in_ok-buffer.ensures.reads_back) (rw c.in_ok-core.ensures.value at c.in_ok-core.ensures.reads_back) (omega arith) (omega arith) (omega arith) in
+    IfOk-weaker c.to_string.result _ _ (λ text read. ap (option_and_then record_of_data) (read (rw (value_is c) (shallow s))) ∙ ap record_of_data (value_is c) ∙ back) c.to_string.ensures.reads_back

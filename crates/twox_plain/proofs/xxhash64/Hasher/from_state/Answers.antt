@@ -1,6 +1,6 @@
 use Rattle.std.proofs.Common.{refl, sym, ◌∙◌, arith, rules}
 use Rattle.std.proofs.lemmas.Bool.{false≢true}
-use Rattle.twox_plain.proofs.Reached64.{fits_stands, stands_fits}
+use Rattle.twox_plain.proofs.Reachability64.{fits_stands, stands_fits}
 use Rattle.twox_plain.proofs.xxhash64.Hasher.from_state.Goals as goal
 
 pub returns-then-not-usage_fits-clause-reachable : goal.returns-then-not-usage_fits-clause-reachable
@@ -23,3 +23,13 @@ returns-clause-reachable c = (
       (c.core_fits.ensures.0 c.if-not-core_fits.false),
   λ some. refl,
 )
+
+-- ---- every record that stands for a list of numbers
+
+pub returns-then-not-usage_fits-clause-accepted : goal.returns-then-not-usage_fits-clause-accepted
+returns-then-not-usage_fits-clause-accepted c = λ m stands.
+    sym c.if-not-usage_fits.true ∙ c.usage_fits.ensures.1 (stands_fits c.args.state m stands).0
+
+pub returns-then-not-core_fits-clause-accepted : goal.returns-then-not-core_fits-clause-accepted
+returns-then-not-core_fits-clause-accepted c = λ m stands.
+    sym c.if-not-core_fits.true ∙ c.core_fits.ensures.1 (stands_fits c.args.state m stands).1

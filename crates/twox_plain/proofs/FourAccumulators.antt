@@ -1,0 +1,40 @@
+-- Four accumulators that take whole stripes side by side: for any width of their words, any round, and any type
+-- that holds the four. A stripe is four words.
+use Rattle.std.proofs.Common.{◌≡◌, ℕ, ◌+◌, ◌*◌, ◌≤◌, List, ◌++◌, take, drop, length, arith}
+use Rattle.std.specs.Int.{Width, byte_len}
+use Rattle.twox_plain.specs.Word.{word_at}
+use Rattle.twox_plain.specs.Units.{after_units}
+use Rattle.twox_plain.proofs.UnitFacts.{words_one, words_more, words_longer}
+
+module _ {C : Type 0} (w : Width) (round : ℕ → ℕ → ℕ) (core : ℕ → ℕ → ℕ → ℕ → C) where
+  abbrev stripe : ℕ
+  stripe = 4 * byte_len w
+
+  -- accumulator j, from x on, after k stripes of m
+  abbrev after_words : ℕ → ℕ → List ℕ → ℕ → ℕ
+  after_words j x m k = after_units round (λ i. word_at w m (i * stripe + j * byte_len w)) x k
+
+  -- the four, from a, b, c and d on, after k stripes of m
+  abbrev pub after_stripes : ℕ → ℕ → ℕ → ℕ → List ℕ → ℕ → C
+  after_stripes a b c d m k = core (after_words 0 a m k) (after_words 1 b m k) (after_words 2 c m k) (after_words 3 d m k)
+
+  module _ (a b c d : ℕ) (m : List ℕ) (k : ℕ) where
+    -- one stripe more
+    pub after_stripes_one : (part : List ℕ) → part ≡ take stripe (drop (k * stripe) m)
+        → after_stripes (after_words 0 a m k) (after_words 1 b m k) (after_words 2 c m k) (after_words 3 d m k) part 1 ≡ after_stripes a b c d m (k + 1)
+    after_stripes_one part e =
+        let one = λ (j x : ℕ) (inside : j * byte_len w + byte_len w ≤ stripe). words_one w round x m part k stripe (j * byte_len w) e inside in
+        λ i. core (one 0 a (omega arith) i) (one 1 b (omega arith) i) (one 2 c (omega arith) i) (one 3 d (omega arith) i)
+
+    -- n stripes more, read in what follows the first k
+    pub after_stripes_more : (rest : List ℕ) (n : ℕ) → rest ≡ drop (k * stripe) m
+        → after_stripes (after_words 0 a m k) (after_words 1 b m k) (after_words 2 c m k) (after_words 3 d m k) rest n ≡ after_stripes a b c d m (k + n)
+    after_stripes_more rest n e =
+        let more = λ (j x : ℕ). words_more w round x m rest k n stripe (j * byte_len w) e in
+        λ i. core (more 0 a i) (more 1 b i) (more 2 c i) (more 3 d i)
+
+    -- the stripes that were taken read nothing past them
+    pub after_stripes_longer : (more : List ℕ) → k * stripe ≤ length m → after_stripes a b c d (m ++ more) k ≡ after_stripes a b c d m k
+    after_stripes_longer more within =
+        let longer = λ (j x : ℕ) (inside : j * byte_len w + byte_len w ≤ stripe). words_longer w round m more x k stripe (j * byte_len w) inside within in
+        λ i. core (longer 0 a (omega arith) i) (longer 1 b (omega arith) i) (longer 2 c (omega arith) i) (longer 3 d (omega arith) i)

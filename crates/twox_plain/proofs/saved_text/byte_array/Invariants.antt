@@ -1,0 +1,11 @@
+use Rattle.std.proofs.Common.{◌≡◌, length, take, drop, ◌++◌, option_map}
+use Rattle.serde_json.specs.View.{items_view}
+use Rattle.twox_plain.specs.SavedText.{item_bytes}
+use Rattle.twox_plain.proofs.saved_text.byte_array.Given as goal
+
+-- the first i items are the first i bytes
+abbrev pub invariant-loop-i : goal.invariant-loop-i
+invariant-loop-i g l = record {
+  size : length l.bytes ≡ g.row.N;
+  read : item_bytes (items_view l.list.items) ≡ option_map (λ rest. take l.i l.bytes ++ rest) (item_bytes (items_view (drop l.i l.list.items)));
+}
