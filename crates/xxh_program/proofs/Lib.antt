@@ -2,7 +2,6 @@ pub mod BlockFacts
 pub mod BlockEndFacts
 pub mod BlockPlace
 pub mod BufferedFacts
-pub mod DerivedFacts
 pub mod HexPlace
 pub mod HexValue
 pub mod HexVectors

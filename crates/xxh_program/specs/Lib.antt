@@ -3,8 +3,6 @@ pub mod BlockState
 pub mod Blocks
 pub mod Buffered
 pub mod Command
-pub mod DefaultStream
-pub mod Derived
 pub mod Digest
 pub mod Fault
 pub mod Feeding
@@ -15,3 +13,4 @@ pub mod Kind
 pub mod Pieces
 pub mod Run
 pub mod States
+pub mod Streams

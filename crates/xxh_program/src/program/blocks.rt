@@ -7,7 +7,7 @@ ghost use Rattle.xxh_program.specs.Pieces.{NoneEmpty};
 ghost use Rattle.xxh_program.specs.Digest.{Writes};
 ghost use Rattle.xxh_program.specs.Blocks.{added_lines, last_lines, place_line};
 ghost use Rattle.xxh_program.specs.BlockEnds.{DigestsBlocks};
-ghost use Rattle.xxh_program.specs.DefaultStream.{StandsDefault};
+ghost use Rattle.xxh_program.specs.Streams.{FollowsDefault};
 
 use crate::program::ends::{Failed, Sink, Source};
 use crate::program::engine::{OFFERED, write_all};
@@ -21,7 +21,7 @@ const LINE: usize = 50;
 
 // The stream of no bytes.
 fn fresh() -> RawHasher<DefaultSecret>
-    ensures { StandsDefault result [] }
+    ensures { FollowsDefault result [] }
 {
     RawHasher::new(SecretBuffer::default())
 }
