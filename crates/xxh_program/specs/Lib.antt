@@ -10,6 +10,7 @@ pub mod FromRead
 pub mod FromWrite
 pub mod Hex
 pub mod Kind
+pub mod LineBuffer
 pub mod Pieces
 pub mod Run
 pub mod States

@@ -16,6 +16,7 @@ mod hasher_32;
 mod hasher_64;
 mod hex;
 mod kind;
+mod line_buffer;
 mod states;
 
 pub use blocks::{block_counts, digest_blocks};
