@@ -1,10 +1,10 @@
-pub mod BlockFacts
 pub mod BlockEndFacts
+pub mod BlockFacts
 pub mod BlockPlace
 pub mod BufferedFacts
 pub mod HexPlace
 pub mod HexValue
 pub mod HexVectors
 pub mod MemoryPieces
+pub mod NumberFacts
 pub mod PieceFacts
-pub mod SeedFacts
