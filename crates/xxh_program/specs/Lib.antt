@@ -13,5 +13,6 @@ pub mod Kind
 pub mod LineBuffer
 pub mod Pieces
 pub mod Run
+pub mod Script
 pub mod States
 pub mod Streams

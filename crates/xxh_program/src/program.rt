@@ -17,6 +17,8 @@ mod hasher_64;
 mod hex;
 mod kind;
 mod line_buffer;
+mod script_sink;
+mod script_source;
 mod states;
 
 pub use blocks::{block_counts, digest_blocks};
@@ -30,3 +32,5 @@ pub use from_write::{FromWrite, writer_pieces};
 pub use hasher_32::{digest_from_32, read_on_32};
 pub use hasher_64::{digest_from_64, read_on_64};
 pub use kind::Kind;
+pub use script_sink::ScriptSink;
+pub use script_source::{ScriptSource, SliceSource};
