@@ -5,6 +5,7 @@ pub mod BufferedFacts
 pub mod HexPlace
 pub mod HexValue
 pub mod HexVectors
+pub mod MemoryFacts
 pub mod MemoryPieces
 pub mod NumberFacts
 pub mod PieceFacts

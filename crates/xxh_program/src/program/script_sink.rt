@@ -1,6 +1,6 @@
 //! A sink in memory that follows a script and tells its bytes.
 
-ghost use Rattle.std.specs.Prelude.{◌≡◌, ◌<◌, ◌≤◌, ◌+◌, ◌-◌, ◌++◌, [], length, false, take};
+ghost use Rattle.std.specs.Prelude.{◌≡◌, ◌↔◌, ◌⊎◌, ◌<◌, ◌≤◌, ◌-◌, [], length, true, false, take, min, is_err, IfOk, OnErr};
 
 use crate::program::ends::{Failed, Sink};
 
@@ -53,7 +53,7 @@ impl<const N: usize> ScriptSink<N> {
 }
 
 impl<const N: usize> Sink for ScriptSink<N> {
-    ghost use Rattle.xxh_program.specs.Script.{ScriptRefuses, ScriptTakes};
+    ghost use Rattle.xxh_program.specs.Script.{counted, sink_bytes, sink_fail_at, sink_take, sink_writes, ScriptRefuses, ScriptTakes};
 
     ghost has_failed = { λ s. s.failed };
 
@@ -65,7 +65,21 @@ impl<const N: usize> Sink for ScriptSink<N> {
         self.failed
     }
 
-    fn write(&mut self, bytes: &[u8]) -> Result<usize, Failed> {
+    fn write(&mut self, bytes: &[u8]) -> Result<usize, Failed>
+        requires works { self.old.failed ≡ false }
+        requires some { 0 < length bytes.now }
+        ensures within { IfOk result (λ n. n ≤ length bytes.now) }
+        ensures progress { IfOk result (λ n. 0 < n) }
+        ensures piece { IfOk result (λ n. ScriptTakes self.old (take n bytes.now) self.new) }
+        ensures refuses { OnErr result (ScriptRefuses self.old self.new) }
+        ensures failed { self.new.failed ≡ is_err result }
+
+        // Beyond what each sink says.
+        ensures size { IfOk result
+            (λ n. n ≡ min (sink_take self.old) (min (length bytes.now) (N - length (sink_bytes self.old)))) }
+        ensures fails_at { is_err result ≡ true
+            ↔ (counted (sink_writes self.old) ≡ sink_fail_at self.old) ⊎ (length (sink_bytes self.old) ≡ N) }
+    {
         self.writes = self.writes.saturating_add(1);
         let room = N - self.len;
         if self.writes == self.fail_at || room == 0 {
