@@ -9,3 +9,4 @@ pub mod MemoryFacts
 pub mod MemoryPieces
 pub mod NumberFacts
 pub mod PieceFacts
+pub mod ProcessFacts

@@ -12,6 +12,7 @@ pub mod Hex
 pub mod Kind
 pub mod LineBuffer
 pub mod Pieces
+pub mod Process
 pub mod Run
 pub mod Script
 pub mod States

@@ -56,7 +56,16 @@ pub fn run<R: Source, W: Sink, E: Sink>(
         × Tells E.takes E.refuses E.has_failed answer err.old err.new
         × (result ≡ status_after answer) }
 {
-    match carry_out(alloc, words, r, out) {
+    conclude(carry_out(alloc, words, r, out), err)
+}
+
+// Tells the fault, where there is one, and answers the exit status.
+pub(crate) fn conclude<E: Sink>(done: Result<(), Fault>, err: &mut E) -> u8
+    requires { E.has_failed err.old ≡ false }
+    ensures tells { Tells E.takes E.refuses E.has_failed done err.old err.new }
+    ensures status { result ≡ status_after done }
+{
+    match done {
         Ok(()) => 0,
         Err(fault) => {
             // Whether the line could be written does not change the status.
