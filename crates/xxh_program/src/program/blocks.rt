@@ -136,7 +136,7 @@ pub(crate) fn digest_blocks_by<R: Source, W: Sink, const READ: usize, const LINE
     requires writer { W.has_failed w.old ≡ false }
     requires some { 1 ≤ block }
     requires offers { 1 ≤ READ }
-    requires few { READ ≤ 65536 }
+    requires few { READ ≤ 131072 }
     requires room { 50 ≤ LINES }
     requires small { LINES ≤ 65536 }
     ensures digests { (pieces : List (List ℕ)) × NoneEmpty pieces

@@ -15,7 +15,7 @@ use crate::program::states::{MAX_READS, resume_32, resume_64, save_32, save_64};
 use std::alloc::Global;
 
 // How many bytes each read is offered for lines of blocks, and how many bytes of lines are written at once.
-const BLOCKS_READ: usize = 65536;
+const BLOCKS_READ: usize = 131072;
 const BLOCKS_WRITE: usize = 6400;
 
 /// Does what the words after the program's name ask for, and answers the exit status.
