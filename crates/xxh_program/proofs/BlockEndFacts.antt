@@ -10,6 +10,7 @@ use Rattle.xxh_program.specs.Pieces.{Pieces}
 use Rattle.xxh_program.specs.Digest.{Writes, Took, Refused}
 use Rattle.xxh_program.specs.Blocks.{block_lines}
 use Rattle.xxh_program.specs.BlockEnds.{DigestsBlocks}
+use Rattle.xxh_program.specs.LineBuffer.{Gathers}
 
 Pieces-append : {S : Type 0} (step : S → List ℕ → S → Type 0) (old mid new : S) (ps qs : List (List ℕ)) → Pieces step old ps mid → Pieces step mid qs new → Pieces step old (ps ++ qs) new
 Pieces-append step old mid new [] qs led more = subst (λ s. Pieces step s qs new) led more
@@ -58,3 +59,26 @@ pub never-too-long : {T : Type 0} (result : Result T DigestError) → IfErr resu
 never-too-long {T} result only is =
     let same : TooLong ≡ WriteFailed = subst (λ (r : Result T DigestError). IfErr r (λ e. e ≡ WriteFailed)) is only in
     cc
+
+-- ---- lines that are gathered
+
+-- more lines after those that are gathered
+pub Gathers-push : {W : Type 0} (takes : W → List ℕ → W → Type 0) (a b before after : List ℕ) (old mid new : W) → Gathers takes a old mid before → Gathers takes (before ++ b) mid new after → Gathers takes (a ++ b) old new after
+Gathers-push takes a b before after old mid new first second =
+    let whole : first.0 ++ second.0 ++ after ≡ a ++ b =
+    append_assoc first.0 second.0 after ∙ ap (λ bytes. first.0 ++ bytes) second.2 ∙ sym (append_assoc first.0 before b) ∙ ap (λ bytes. bytes ++ b) first.2 in
+    (first.0 ++ second.0, Took-join takes first.0 second.0 old mid new first.1 second.1, whole)
+
+-- after those that wait were written
+pub Gathers-flush : {W T : Type 0} (takes : W → List ℕ → W → Type 0) (refuses : W → W → Type 0) (a waiting : List ℕ) (old mid new : W) (result : Result T DigestError) → IfErr result (λ e. e ≡ WriteFailed) → Gathers takes a old mid waiting → Writes takes refuses waiting mid new result → Writes takes refuses a old new result
+Gathers-flush {W} {T} takes refuses a waiting old mid new result only first second =
+    subst (λ (bytes : List ℕ). Writes {T = T} takes refuses bytes old new result) first.2 (Writes-join takes refuses first.0 waiting old mid new result only first.1 second)
+
+-- where those that wait were refused
+pub Gathers-refused : {W : Type 0} (takes : W → List ℕ → W → Type 0) (refuses : W → W → Type 0) (a b waiting : List ℕ) (old mid new : W) → Gathers takes a old mid waiting → Refused takes refuses waiting mid new → Refused takes refuses (a ++ b) old new
+Gathers-refused takes refuses a b waiting old mid new first second =
+    Refused-more takes refuses a b old new (subst (λ (bytes : List ℕ). Refused takes refuses bytes old new) first.2 (Refused-join takes refuses first.0 waiting old mid new first.1 second))
+
+pub Writes-refused : {W T : Type 0} (takes : W → List ℕ → W → Type 0) (refuses : W → W → Type 0) (a : List ℕ) (old new : W) (result : Result T DigestError) → result ≡ Err WriteFailed → Refused takes refuses a old new → Writes takes refuses a old new result
+Writes-refused {W} {T} takes refuses a old new result is refused =
+    subst (λ (r : Result T DigestError). Writes takes refuses a old new r) (sym is) refused

@@ -9,19 +9,19 @@ use Rattle.std.proofs.lemmas.Nat.{div-mul-add, mod-mul-add, le-div, mod_below}
 use Rattle.std.proofs.Math.Nat.{div-mul-le_self, div-add-mod', add-mul, mul-le-mul_right, lt_of_mul-lt-mul_right, le-div_iff_mul-le}
 use Rattle.twox_hash.specs.Secret.{default_secret}
 use Rattle.twox_hash.specs.Value.{effective_secret, xxh3_128}
-use Rattle.xxh_program.specs.Blocks.{block_bytes, place_line, block_line, lines_from, block_lines, whole_block_lines, added_lines, last_lines}
+use Rattle.xxh_program.specs.Blocks.{block_bytes, offset_line, block_line, lines_from, block_lines, whole_block_lines, added_lines, last_lines}
 
 -- ---- counts
 
 -- bytes that end before the block does
-pub kept : (b : ℕ) (m d : List ℕ) → length m % b + length d < b → (length (m ++ d) / b ≡ length m / b) × (length (m ++ d) % b ≡ length m % b + length d)
-kept b m d short =
+pub counts_inside : (b : ℕ) (m d : List ℕ) → length m % b + length d < b → (length (m ++ d) / b ≡ length m / b) × (length (m ++ d) % b ≡ length m % b + length d)
+counts_inside b m d short =
     let size : length (m ++ d) ≡ length m / b * b + (length m % b + length d) = length-append m d ∙ omega (arith, div-add-mod' (length m) b) in
     (rw size (div-mul-add (length m / b) b (length m % b + length d) short), rw size (mod-mul-add (length m / b) b (length m % b + length d) short))
 
 -- bytes that end the block
-pub completed : (b : ℕ) (m d : List ℕ) → 0 < b → length m % b + length d ≡ b → (length (m ++ d) / b ≡ length m / b + 1) × (length (m ++ d) % b ≡ 0)
-completed b m d some ends =
+pub counts_at_end : (b : ℕ) (m d : List ℕ) → 0 < b → length m % b + length d ≡ b → (length (m ++ d) / b ≡ length m / b + 1) × (length (m ++ d) % b ≡ 0)
+counts_at_end b m d some ends =
     let size : length (m ++ d) ≡ (length m / b + 1) * b + 0 = length-append m d ∙ omega (arith, div-add-mod' (length m) b, add-mul (length m / b) 1 b) in
     (rw size (div-mul-add (length m / b + 1) b 0 some), rw size (mod-mul-add (length m / b + 1) b 0 some))
 
@@ -97,18 +97,18 @@ block_bytes-last b m c last =
     let end : min ((c + 1) * b) (length m) ≡ length m = omega arith in
     rw end (take_rest m (c * b))
 
-pub rest_kept : (b : ℕ) (m d : List ℕ) → length m % b + length d < b → drop (length (m ++ d) / b * b) (m ++ d) ≡ drop (length m / b * b) m ++ d
-rest_kept b m d short =
-    rw (kept b m d short).0 (drop-append-le (length m / b * b) m d (div-mul-le_self (length m) b))
+pub rest_inside : (b : ℕ) (m d : List ℕ) → length m % b + length d < b → drop (length (m ++ d) / b * b) (m ++ d) ≡ drop (length m / b * b) m ++ d
+rest_inside b m d short =
+    rw (counts_inside b m d short).0 (drop-append-le (length m / b * b) m d (div-mul-le_self (length m) b))
 
-pub added_kept : (b : ℕ) (m d : List ℕ) → length m % b + length d < b → added_lines b m d ≡ []
-added_kept b m d short =
+pub added_inside : (b : ℕ) (m d : List ℕ) → length m % b + length d < b → added_lines b m d ≡ []
+added_inside b m d short =
     let none : length m / b - length m / b ≡ 0 = omega arith in
-    rw ((kept b m d short).0, none) refl
+    rw ((counts_inside b m d short).0, none) refl
 
-pub rest_completed : (b : ℕ) (m d : List ℕ) → 0 < b → length m % b + length d ≡ b → drop (length (m ++ d) / b * b) (m ++ d) ≡ []
-rest_completed b m d some ends =
-    let none = (completed b m d some ends).1 in
+pub rest_at_end : (b : ℕ) (m d : List ℕ) → 0 < b → length m % b + length d ≡ b → drop (length (m ++ d) / b * b) (m ++ d) ≡ []
+rest_at_end b m d some ends =
+    let none = (counts_at_end b m d some ends).1 in
     let all : length (m ++ d) / b * b ≡ length (m ++ d) = omega (arith, div-add-mod' (length (m ++ d)) b) in
     rw all (drop-length (m ++ d))
 
@@ -117,10 +117,10 @@ unfolding effective_secret
 effective-default m = elim (nat_lt (length m) 241) as (λ t. cond t default_secret default_secret ≡ default_secret) [ true ↦ refl | false ↦ refl ]
 
 -- a block that is the rest of m, which is not empty
-pub added_completed : (b : ℕ) (m d : List ℕ) → 0 < b → length m % b + length d ≡ b → added_lines b m d ≡ place_line (min (length m / b * b) (2 ^ 64 - 1)) (xxh3_128 0 default_secret (drop (length m / b * b) m ++ d))
-added_completed b m d some ends =
+pub added_at_end : (b : ℕ) (m d : List ℕ) → 0 < b → length m % b + length d ≡ b → added_lines b m d ≡ offset_line (min (length m / b * b) (2 ^ 64 - 1)) (xxh3_128 0 default_secret (drop (length m / b * b) m ++ d))
+added_at_end b m d some ends =
     let c = length m / b in
-    let counts = completed b m d some ends in
+    let counts = counts_at_end b m d some ends in
     let one : length (m ++ d) / b - c ≡ 1 = omega (arith, counts.0) in
     let same : c + 0 ≡ c = omega arith in
     let last : length (m ++ d) ≤ (c + 1) * b = omega (arith, counts.1, div-add-mod' (length (m ++ d)) b, ap (λ k. k * b) counts.0) in
@@ -130,7 +130,7 @@ added_completed b m d some ends =
 pub last_none : (b : ℕ) (m : List ℕ) → length m % b ≡ 0 → last_lines b m ≡ []
 last_none b m none = rw none refl
 
-pub last_short : (b : ℕ) (m : List ℕ) → 0 < b → 0 < length m % b → last_lines b m ≡ place_line (min (length m / b * b) (2 ^ 64 - 1)) (xxh3_128 0 default_secret (drop (length m / b * b) m))
+pub last_short : (b : ℕ) (m : List ℕ) → 0 < b → 0 < length m % b → last_lines b m ≡ offset_line (min (length m / b * b) (2 ^ 64 - 1)) (xxh3_128 0 default_secret (drop (length m / b * b) m))
 last_short b m some short =
     let c = length m / b in
     let one : min 1 (length m % b) ≡ 1 = omega arith in
@@ -138,9 +138,9 @@ last_short b m some short =
     let last : length m ≤ (c + 1) * b = omega (arith, div-add-mod' (length m) b, add-mul c 1 b, mod_below (length m) b some) in
     rw (one, same, block_bytes-last b m c last) refl
 
--- the place of the next block
-pub next_place : (b k place n : ℕ) → place ≡ min (k * b) (2 ^ 64 - 1) → n ≡ k + 1 → min (place + b) (2 ^ 64 - 1) ≡ min (n * b) (2 ^ 64 - 1)
-next_place b k place n is next = rw (is, next) (omega (arith, add-mul k 1 b))
+-- the offset of the next block
+pub next_offset : (b k offset n : ℕ) → offset ≡ min (k * b) (2 ^ 64 - 1) → n ≡ k + 1 → min (offset + b) (2 ^ 64 - 1) ≡ min (n * b) (2 ^ 64 - 1)
+next_offset b k offset n is next = rw (is, next) (omega (arith, add-mul k 1 b))
 
 -- the lines of a piece that comes in three parts
 pub added-three : (b : ℕ) (m done front after : List ℕ) → 0 < b → added_lines b m (done ++ (front ++ after)) ≡ added_lines b m done ++ added_lines b (m ++ done) front ++ added_lines b (m ++ (done ++ front)) after

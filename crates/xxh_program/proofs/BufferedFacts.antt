@@ -1,7 +1,8 @@
 -- A read from a buffer, and what waits after it.
-use Rattle.std.proofs.Common.{◌≡◌, ℕ, ◌+◌, ◌-◌, ◌<◌, ◌≤◌, min, List, [], ◌++◌, length, take, drop, slice_range, sym, ap, ◌∙◌, arith, length-take, length-drop, length-append, drop-drop, take-append-drop}
+use Rattle.std.proofs.Common.{◌≡◌, ℕ, ◌+◌, ◌-◌, ◌<◌, ◌≤◌, min, List, [], ◌++◌, length, take, drop, slice_range, refl, sym, ap, ◌∙◌, arith, length-take, length-drop, length-append, drop-drop, take-append-drop}
 use Rattle.std.proofs.lemmas.List.{drop-take, take_at, length-take-le}
 use Rattle.std.specs.declared.option.Option.{Option}
+use Rattle.std.specs.declared.option.Option.TheVariants.{None, Some}
 use Rattle.std.specs.Io.KnownBytes.{Keeps, Consumes, IsAtEnd, prepend_known}
 use Rattle.std.proofs.KnownBytes.{prepend_known-read}
 
@@ -26,3 +27,9 @@ waiting_read a b xs room copied start end n inside count copy kept ended =
     let read = prepend_known-read a b waiting (slice_range xs (start + n) end) (take n waiting) ((n ≡ 0) × (0 < length room)) kept (waiting_parts xs start end n (omega arith)) none_left in
     let room_left : length (copied ++ drop n room) ≡ length copied + (length room - n) = simp (length-append, length-drop) in
     (rw front read.0, λ none some. read.1 (none, omega arith))
+
+-- where no bytes wait, those that are left are the reader's
+pub none_waiting : (xs : List ℕ) (start end : ℕ) (known : Option (List ℕ)) → end ≤ start → prepend_known (slice_range xs start end) known ≡ known
+none_waiting xs start end known past =
+    let none : slice_range xs start end ≡ [] = ap (λ k. take k (drop start xs)) {y = 0} (omega (arith, past)) in
+    rw none (elim known as (λ k. prepend_known [] k ≡ k) [ None ↦ refl | Some bytes ↦ refl ])

@@ -1,11 +1,12 @@
-pub mod BlockFacts
 pub mod BlockEndFacts
+pub mod BlockFacts
 pub mod BlockPlace
 pub mod BufferedFacts
-pub mod DerivedFacts
 pub mod HexPlace
 pub mod HexValue
 pub mod HexVectors
+pub mod MemoryFacts
 pub mod MemoryPieces
+pub mod NumberFacts
 pub mod PieceFacts
-pub mod SeedFacts
+pub mod ProcessFacts

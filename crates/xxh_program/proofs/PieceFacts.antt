@@ -18,10 +18,12 @@ pub concat-push : (pieces : List (List ℕ)) (piece : List ℕ) → concat (piec
 concat-push pieces piece = concat-append pieces (piece ∷ []) ∙ ap (λ bytes. concat pieces ++ bytes) (append-nil piece)
 
 -- a hasher that was fed the pieces, and then one more
-pub IsFed-push : {H : Type 0} (stands_for : H → List ℕ → Type 0) (seed_of : H → ℕ) (old mid new : H) (pieces : List (List ℕ)) (piece : List ℕ) → IsFed stands_for seed_of old (concat pieces) mid → IsFed stands_for seed_of mid piece new → IsFed stands_for seed_of old (concat (pieces ++ piece ∷ [])) new
-IsFed-push stands_for seed_of old mid new pieces piece first second =
-    subst (λ bytes. IsFed stands_for seed_of old bytes new) (sym (concat-push pieces piece))
-    (second.0 ∙ first.0, λ m stands. subst (stands_for new) (append_assoc m (concat pieces) piece) (second.1 (m ++ concat pieces) (first.1 m stands)))
+pub IsFed-push : {H : Type 0} (follows : H → ℕ → List ℕ → Type 0) (has_seed : H → ℕ → Type 0) (old mid new : H) (pieces : List (List ℕ)) (piece : List ℕ) → IsFed follows has_seed old (concat pieces) mid → IsFed follows has_seed mid piece new → IsFed follows has_seed old (concat (pieces ++ piece ∷ [])) new
+IsFed-push follows has_seed old mid new pieces piece first second =
+    subst (λ bytes. IsFed follows has_seed old bytes new) (sym (concat-push pieces piece)) (
+      λ seed has. second.0 seed (first.0 seed has),
+      λ seed m fed. subst (follows new seed) (append_assoc m (concat pieces) piece) (second.1 seed (m ++ concat pieces) (first.1 seed m fed)),
+    )
 
 -- bytes of which some pieces were taken, and then `count` of the rest
 pub taken-push : (bytes rest : List ℕ) (taken : List (List ℕ)) (count : ℕ) → bytes ≡ concat taken ++ rest → bytes ≡ concat (taken ++ take count rest ∷ []) ++ take (length rest - count) (drop count rest)

@@ -10,14 +10,14 @@ use Rattle.xxh_program.specs.Hex.{hex_digits, hex_line}
 abbrev pub block_bytes : ℕ → List ℕ → ℕ → List ℕ
 block_bytes block m c = slice_range m (c * block) (min ((c + 1) * block) (length m))
 
--- the place in 16 digits, a space, the value in 32 digits and a line feed
-unfoldable pub place_line : ℕ → ℕ → List ℕ
-place_line place value = hex_digits 16 place ++ (32 ∷ hex_line 32 value)
+-- the offset in 16 digits, a space, the value in 32 digits and a line feed
+unfoldable pub offset_line : ℕ → ℕ → List ℕ
+offset_line offset value = hex_digits 16 offset ++ (32 ∷ hex_line 32 value)
 
 -- the line of the block c: where it begins, or 2^64 - 1 where that is smaller, and XXH3 of 128 bits of its
 -- bytes under the seed 0 and the default secret
 abbrev pub block_line : ℕ → List ℕ → ℕ → List ℕ
-block_line block m c = place_line (min (c * block) (2 ^ 64 - 1)) (xxh3_128 0 default_secret (block_bytes block m c))
+block_line block m c = offset_line (min (c * block) (2 ^ 64 - 1)) (xxh3_128 0 default_secret (block_bytes block m c))
 
 -- the lines of this many blocks, from the block `first` on
 abbrev pub lines_from : ℕ → List ℕ → ℕ → ℕ → List ℕ

@@ -1,5 +1,6 @@
 -- What the words of the command line ask for.
-use Rattle.std.specs.Prelude.{ℕ, ◌<◌, ◌^◌, List, [], ◌∷◌, length, ◌&&◌, nat_lt, bytes_eq, codes, if◌then◌else◌}
+use Rattle.std.proofs.Common.{zero, suc}
+use Rattle.std.specs.Prelude.{ℕ, ◌<◌, ◌≤◌, ◌^◌, List, [], ◌∷◌, length, ◌&&◌, nat_lt, bytes_eq, codes, if◌then◌else◌}
 use Rattle.std.specs.Borrow.{Bor}
 use Rattle.std.specs.Str.{all_ascii_digits}
 use Rattle.std.specs.Str.Parse.{digits_value}
@@ -11,9 +12,9 @@ use Rattle.xxh_program.specs.declared.program.kind.Kind.TheVariants.{X32, X64, X
 use Rattle.xxh_program.specs.declared.program.kind.SavedKind.{SavedKind}
 use Rattle.xxh_program.specs.declared.program.kind.SavedKind.TheVariants as Saved
 use Rattle.xxh_program.specs.declared.program.fault.Fault.{Fault}
-use Rattle.xxh_program.specs.declared.program.fault.Fault.TheVariants.{Usage, BadSeed}
+use Rattle.xxh_program.specs.declared.program.fault.Fault.TheVariants.{Usage, BadSeed, BadSize}
 use Rattle.xxh_program.specs.declared.program.command.Command.{Command}
-use Rattle.xxh_program.specs.declared.program.command.Command.TheVariants.{Hash, Save32, Save64, Resume32, Resume64}
+use Rattle.xxh_program.specs.declared.program.command.Command.TheVariants.{Hash, Save32, Save64, Resume32, Resume64, Blocks}
 
 -- the kind of this name
 abbrev pub kind_named : List ℕ → Result Kind Fault
@@ -25,10 +26,14 @@ kind_named name =
     else Err Usage
 
 -- the number that one or more decimal digits write, leading zeros among them, where it is below the limit
+abbrev pub number_named : Fault → ℕ → List ℕ → Result ℕ Fault
+number_named fault limit word =
+    if nat_lt 0 (length word) && (all_ascii_digits word && nat_lt (digits_value 10 word) limit)
+    then Ok (digits_value 10 word)
+    else Err fault
+
 abbrev pub seed_named : ℕ → List ℕ → Result ℕ Fault
-seed_named limit word =
-    if nat_lt 0 (length word) && (all_ascii_digits word && nat_lt (digits_value 10 word) limit) then Ok (digits_value 10 word)
-    else Err BadSeed
+seed_named limit word = number_named BadSeed limit word
 
 -- the kind is tested before the seed
 abbrev pub hash_with : Kind → Result ℕ Fault → Result Command Fault
@@ -81,19 +86,35 @@ seeded_command name kind seed =
     else if bytes_eq name (codes "save") then save_command kind seed
     else Err Usage
 
+-- a block has at least one byte
+abbrev pub blocks_of : Result ℕ Fault → Result Command Fault
+blocks_of (Ok zero) = Err BadSize
+blocks_of (Ok (suc n)) = Ok (Blocks (suc n))
+blocks_of (Err fault) = Err fault
+
+abbrev pub blocks_command : List ℕ → Result Command Fault
+blocks_command size = blocks_of (number_named BadSize (2 ^ 64) size)
+
+-- a command of two words: the second is the size of a block, or a kind; then the seed is 0
+abbrev pub pair_command : List ℕ → List ℕ → Result Command Fault
+pair_command name word =
+    if bytes_eq name (codes "blocks") then blocks_command word
+    else seeded_command name word (codes "0")
+
 -- a command with a last word, which is a saved text or a seed
 abbrev pub last_command : List ℕ → List ℕ → Bor (List ℕ) → Result Command Fault
 last_command name kind last =
     if bytes_eq name (codes "resume") then resume_command kind last
     else seeded_command name kind last.now
 
--- the command of the words after the program's name; without a seed it is 0
+-- the command of the words after the program's name
 abbrev pub command_of : List (Bor (List ℕ)) → Result Command Fault
-command_of (name ∷ kind ∷ []) = seeded_command name.now kind.now (codes "0")
+command_of (name ∷ word ∷ []) = pair_command name.now word.now
 command_of (name ∷ kind ∷ last ∷ []) = last_command name.now kind.now last
 command_of _ = Err Usage
 
--- a command's seed is one of its kind
-abbrev pub SeedFits : Command → Type 0
-SeedFits (Hash kind seed) = seed < seed_limit kind
-SeedFits _ = Unit {0}
+-- a command's seed is one of its kind, and a block has at least one byte
+abbrev pub NumberFits : Command → Type 0
+NumberFits (Hash kind seed) = seed < seed_limit kind
+NumberFits (Blocks size) = 1 ≤ size
+NumberFits _ = Unit {0}

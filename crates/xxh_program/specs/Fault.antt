@@ -4,19 +4,25 @@ use Rattle.twox_plain.specs.declared.xxhash32.saved.FormError.{FormError as Form
 use Rattle.twox_plain.specs.declared.xxhash32.saved.FormError.TheVariants as Form32
 use Rattle.twox_plain.specs.declared.xxhash64.saved.FormError.{FormError as FormError64}
 use Rattle.twox_plain.specs.declared.xxhash64.saved.FormError.TheVariants as Form64
+use Rattle.xxh_program.specs.declared.program.error.DigestError.{DigestError}
 use Rattle.xxh_program.specs.declared.program.error.DigestError.TheVariants.{ReadFailed, WriteFailed, TooLong}
 use Rattle.xxh_program.specs.declared.program.fault.Fault.{Fault}
-use Rattle.xxh_program.specs.declared.program.fault.Fault.TheVariants.{Usage, BadSeed, BadState, OutOfMemory, Digest}
+use Rattle.xxh_program.specs.declared.program.fault.Fault.TheVariants.{Usage, BadSeed, BadSize, BadState, OutOfMemory, Digest}
+
+-- the text of each error of a digest
+abbrev pub digest_text : DigestError → List ℕ
+digest_text ReadFailed = codes "read failed"
+digest_text WriteFailed = codes "write failed"
+digest_text TooLong = codes "too long"
 
 -- what is wrong
 abbrev pub text_of : Fault → List ℕ
-text_of Usage = codes "usage: xxh hash|save|resume 32|64|3-64|3-128 [SEED|JSON]"
+text_of Usage = codes "usage: xxh hash|save|resume 32|64|3-64|3-128 [SEED|JSON] or xxh blocks SIZE"
 text_of BadSeed = codes "bad seed"
+text_of BadSize = codes "bad size"
 text_of BadState = codes "bad state"
 text_of OutOfMemory = codes "out of memory"
-text_of (Digest ReadFailed) = codes "read failed"
-text_of (Digest WriteFailed) = codes "write failed"
-text_of (Digest TooLong) = codes "too long"
+text_of (Digest e) = digest_text e
 
 -- the program's name, the text and a line feed
 abbrev pub line_of : Fault → List ℕ
@@ -26,6 +32,7 @@ line_of fault = codes "xxh: " ++ (text_of fault ++ 10 ∷ [])
 abbrev pub status_of : Fault → ℕ
 status_of Usage = 2
 status_of BadSeed = 2
+status_of BadSize = 2
 status_of BadState = 2
 status_of OutOfMemory = 3
 status_of (Digest e) = 1

@@ -1,7 +1,8 @@
--- What a hasher stands for after it is fed.
-use Rattle.std.specs.Prelude.{◌≡◌, ℕ, List, ◌++◌}
+-- What a hasher follows after it is fed.
+use Rattle.std.specs.Prelude.{ℕ, List, ◌++◌}
 
--- new stands for each list that old stands for, followed by these bytes, and has its seed
-abbrev pub IsFed : {H : Type 0} → (H → List ℕ → Type 0) → (H → ℕ) → H → List ℕ → H → Type 0
-IsFed stands_for seed_of old bytes new =
-    (seed_of new ≡ seed_of old) × ((m : List ℕ) → stands_for old m → stands_for new (m ++ bytes))
+-- new follows each list that old follows, with these bytes after it, and keeps its seed
+abbrev pub IsFed : {H : Type 0} → (H → ℕ → List ℕ → Type 0) → (H → ℕ → Type 0) → H → List ℕ → H → Type 0
+IsFed follows has_seed old bytes new =
+    ((seed : ℕ) → has_seed old seed → has_seed new seed)
+    × ((seed : ℕ) (m : List ℕ) → follows old seed m → follows new seed (m ++ bytes))

@@ -3,8 +3,6 @@ pub mod BlockState
 pub mod Blocks
 pub mod Buffered
 pub mod Command
-pub mod DefaultStream
-pub mod Derived
 pub mod Digest
 pub mod Fault
 pub mod Feeding
@@ -12,6 +10,10 @@ pub mod FromRead
 pub mod FromWrite
 pub mod Hex
 pub mod Kind
+pub mod LineBuffer
 pub mod Pieces
+pub mod Process
 pub mod Run
+pub mod Script
 pub mod States
+pub mod Streams

@@ -10,7 +10,8 @@ use std::io::Read;
 /// no memory beyond its own size.
 ///
 /// A read gives bytes that wait in the buffer. Only where none wait does it read from the reader behind,
-/// once; so an error of that reader comes after all the bytes that it gave before, and loses none.
+/// once, and straight into the caller's buffer where that is as long; so an error of that reader comes after
+/// all the bytes that it gave before, and loses none.
 #[derive(Drop)]
 pub struct Buffered<R, const N: usize> {
     inner: R,
@@ -68,6 +69,10 @@ impl<R: Read, const N: usize> Read for Buffered<R, N> {
         ensures bytes { ReadConsumes (buffered_remaining R.remaining self.old) (buffered_remaining R.remaining self.new) result buf.new }
         ensures err { OnErr result (buffered_bytes self.old ≡ []) }
     {
+        // A long read needs no copy.
+        if self.start >= self.end && buf.len() >= N {
+            return self.inner.read(buf);
+        }
         self.fill()?;
         let filled = &self.buf[..];
         let waiting = &filled[self.start..self.end];

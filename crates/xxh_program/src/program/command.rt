@@ -1,7 +1,8 @@
 //! What the words of the command line ask for.
 
 ghost use Rattle.std.specs.Prelude.{◌≡◌, ◌+◌, IfOk};
-ghost use Rattle.xxh_program.specs.Command.{command_of, hash_command, kind_named, last_command, resume_command, save_command, saved_kind_named, seed_named, seeded_command, SeedFits};
+ghost use Rattle.xxh_program.specs.Command.{blocks_command, command_of, hash_command, kind_named, last_command, number_named, pair_command, resume_command, save_command, saved_kind_named, seed_named, seeded_command, NumberFits};
+ghost use Rattle.xxh_program.specs.declared.program.fault.Fault.TheVariants.{BadSize};
 
 use crate::program::fault::Fault;
 use crate::program::kind::{Kind, SavedKind};
@@ -19,6 +20,8 @@ pub(crate) enum Command<'w> {
     Resume32 { json: &'w str },
     /// Goes on from a saved text of XXH64, and prints the digest line.
     Resume64 { json: &'w str },
+    /// Prints the digest lines of the blocks of the input.
+    Blocks { size: u64 },
 }
 
 // The seed where the words have none.
@@ -27,18 +30,28 @@ const NO_SEED: &str = "0";
 // The command that the words after the program's name ask for.
 pub(crate) fn parse<'w>(words: &[&'w str]) -> Result<Command<'w>, Fault>
     ensures command { result ≡ command_of words.now }
-    ensures seed { IfOk result SeedFits }
+    ensures number { IfOk result NumberFits }
 {
     match words {
-        [name, kind] => seeded(name, kind, NO_SEED),
+        [name, word] => pair(name, word),
         [name, kind, last] => with_last(name, kind, last),
         _ => Err(Fault::Usage),
     }
 }
 
+fn pair(name: &str, word: &str) -> Result<Command<'static>, Fault>
+    ensures command { result ≡ pair_command name.now word.now }
+    ensures number { IfOk result NumberFits }
+{
+    match name {
+        "blocks" => blocks(word),
+        _ => seeded(name, word, NO_SEED),
+    }
+}
+
 fn with_last<'w>(name: &str, kind: &str, last: &'w str) -> Result<Command<'w>, Fault>
     ensures command { result ≡ last_command name.now kind.now last.entry }
-    ensures seed { IfOk result SeedFits }
+    ensures number { IfOk result NumberFits }
 {
     match name {
         "resume" => resume(kind, last),
@@ -48,7 +61,7 @@ fn with_last<'w>(name: &str, kind: &str, last: &'w str) -> Result<Command<'w>, F
 
 fn seeded(name: &str, kind: &str, seed: &str) -> Result<Command<'static>, Fault>
     ensures command { result ≡ seeded_command name.now kind.now seed.now }
-    ensures seed { IfOk result SeedFits }
+    ensures number { IfOk result NumberFits }
 {
     match name {
         "hash" => hash(kind, seed),
@@ -59,7 +72,7 @@ fn seeded(name: &str, kind: &str, seed: &str) -> Result<Command<'static>, Fault>
 
 fn hash(kind: &str, seed: &str) -> Result<Command<'static>, Fault>
     ensures command { result ≡ hash_command kind.now seed.now }
-    ensures seed { IfOk result SeedFits }
+    ensures number { IfOk result NumberFits }
 {
     let kind = kind_from(kind)?;
     let seed = seed_from(seed, kind.most_seed())?;
@@ -68,7 +81,7 @@ fn hash(kind: &str, seed: &str) -> Result<Command<'static>, Fault>
 
 fn save(kind: &str, seed: &str) -> Result<Command<'static>, Fault>
     ensures command { result ≡ save_command kind.now seed.now }
-    ensures seed { IfOk result SeedFits }
+    ensures number { IfOk result NumberFits }
 {
     match saved_kind_from(kind)? {
         SavedKind::X32 => {
@@ -84,12 +97,22 @@ fn save(kind: &str, seed: &str) -> Result<Command<'static>, Fault>
 
 fn resume<'w>(kind: &str, json: &'w str) -> Result<Command<'w>, Fault>
     ensures command { result ≡ resume_command kind.now json.entry }
-    ensures seed { IfOk result SeedFits }
+    ensures number { IfOk result NumberFits }
 {
     Ok(match saved_kind_from(kind)? {
         SavedKind::X32 => Command::Resume32 { json },
         SavedKind::X64 => Command::Resume64 { json },
     })
+}
+
+fn blocks(size: &str) -> Result<Command<'static>, Fault>
+    ensures command { result ≡ blocks_command size.now }
+    ensures number { IfOk result NumberFits }
+{
+    match number_from(size, u64::MAX, Fault::BadSize)? {
+        0 => Err(Fault::BadSize),
+        size => Ok(Command::Blocks { size }),
+    }
 }
 
 // The kind of this name.
@@ -120,12 +143,19 @@ fn saved_kind_from(name: &str) -> Result<SavedKind, Fault>
 fn seed_from(word: &str, most: u64) -> Result<u64, Fault>
     ensures { result ≡ seed_named (most + 1) word.now }
 {
+    number_from(word, most, Fault::BadSeed)
+}
+
+// The number that the word writes in decimal digits, up to the greatest; or this fault.
+fn number_from(word: &str, most: u64, fault: Fault) -> Result<u64, Fault>
+    ensures { result ≡ number_named fault (most + 1) word.now }
+{
     // `parse` takes a sign too.
     if word.starts_with('+') {
-        return Err(Fault::BadSeed);
+        return Err(fault);
     }
     match word.parse::<u64>() {
-        Ok(seed) if seed <= most => Ok(seed),
-        _ => Err(Fault::BadSeed),
+        Ok(number) if number <= most => Ok(number),
+        _ => Err(fault),
     }
 }

@@ -1,16 +1,22 @@
 //! The program `xxh` over any ends: what the words ask for is done, and a fault is told.
 
-ghost use Rattle.std.specs.Prelude.{◌≡◌, false, Result, Ok};
-ghost use Rattle.xxh_program.specs.Command.{command_of, SeedFits};
-ghost use Rattle.xxh_program.specs.Run.{Performs, Tells, status_after};
+ghost use Rattle.std.specs.Prelude.{◌≡◌, ◌≤◌, false, Result, Ok};
+ghost use Rattle.xxh_program.specs.Command.{command_of, NumberFits};
+ghost use Rattle.xxh_program.specs.Run.{DigestsInput, Performs, Tells, status_after};
 ghost use Rattle.xxh_program.specs.declared.program.fault.Fault.{Fault};
 
+use crate::program::blocks::digest_blocks_by;
 use crate::program::command::{Command, parse};
 use crate::program::ends::{Sink, Source};
 use crate::program::engine::{digest, write_all};
+use crate::program::error::DigestError;
 use crate::program::fault::Fault;
 use crate::program::states::{MAX_READS, resume_32, resume_64, save_32, save_64};
 use std::alloc::Global;
+
+// How many bytes each read is offered for lines of blocks, and how many bytes of lines are written at once.
+const BLOCKS_READ: usize = 131072;
+const BLOCKS_WRITE: usize = 6400;
 
 /// Does what the words after the program's name ask for, and answers the exit status.
 ///
@@ -19,17 +25,19 @@ use std::alloc::Global;
 /// | `hash KIND [SEED]` | prints the digest line of the input |
 /// | `save KIND [SEED]` | prints the saved text of the input's hasher, and a line feed |
 /// | `resume KIND JSON` | goes on from a saved text, and prints the digest line |
+/// | `blocks SIZE` | prints the digest line of each block of the input, as [`digest_blocks`](super::digest_blocks) does |
 ///
 /// KIND is `32`, `64`, `3-64` or `3-128` for `hash`, and `32` or `64` for `save` and `resume`. SEED is one or
 /// more decimal digits, below 2^32 for `32` and below 2^64 otherwise; without it the seed is 0. JSON is a
-/// saved text. The words are tested first: their number, the command and the kind, and then the seed or the
-/// state. Where they are at fault, nothing is read.
+/// saved text. SIZE is one or more decimal digits with a value from 1 to 2^64 - 1. The words are tested
+/// first: their number, the command and the kind, and then the seed, the size or the state. Where they are at
+/// fault, nothing is read.
 ///
 /// | status | line on `err` |
 /// |---|---|
 /// | 0 | none |
 /// | 1 | `xxh: read failed`, `xxh: write failed` or `xxh: too long` |
-/// | 2 | `xxh: usage: ..`, `xxh: bad seed` or `xxh: bad state` |
+/// | 2 | `xxh: usage: ..`, `xxh: bad seed`, `xxh: bad size` or `xxh: bad state` |
 /// | 3 | `xxh: out of memory` |
 ///
 /// A line that `err` refuses does not change the status. The caller shows that no end has failed.
@@ -48,7 +56,16 @@ pub fn run<R: Source, W: Sink, E: Sink>(
         × Tells E.takes E.refuses E.has_failed answer err.old err.new
         × (result ≡ status_after answer) }
 {
-    match carry_out(alloc, words, r, out) {
+    conclude(carry_out(alloc, words, r, out), err)
+}
+
+// Tells the fault, where there is one, and answers the exit status.
+pub(crate) fn conclude<E: Sink>(done: Result<(), Fault>, err: &mut E) -> u8
+    requires { E.has_failed err.old ≡ false }
+    ensures tells { Tells E.takes E.refuses E.has_failed done err.old err.new }
+    ensures status { result ≡ status_after done }
+{
+    match done {
         Ok(()) => 0,
         Err(fault) => {
             // Whether the line could be written does not change the status.
@@ -72,6 +89,20 @@ fn carry_out<R: Source, W: Sink>(
     perform(alloc, command, r, out)
 }
 
+// Large reads and writes, so that the system calls of small blocks cost little.
+fn print_blocks<R: Source, W: Sink>(
+    size: u64,
+    r: &mut R,
+    out: &mut W,
+) -> Result<(), DigestError>
+    requires reader { R.has_failed r.old ≡ false }
+    requires writer { W.has_failed out.old ≡ false }
+    requires some { 1 ≤ size }
+    ensures { DigestsInput R.gives R.fails W.takes W.refuses size r.old r.new out.old out.new result }
+{
+    digest_blocks_by::<R, W, BLOCKS_READ, BLOCKS_WRITE>(r, out, size, MAX_READS)
+}
+
 fn perform<R: Source, W: Sink>(
     alloc: Global,
     command: Command<'_>,
@@ -80,7 +111,7 @@ fn perform<R: Source, W: Sink>(
 ) -> Result<(), Fault>
     requires reader { R.has_failed r.old ≡ false }
     requires writer { W.has_failed out.old ≡ false }
-    requires seed { SeedFits command }
+    requires number { NumberFits command }
     ensures { Performs R.gives R.fails W.takes W.refuses (Ok command.entry) r.old r.new out.old out.new result }
 {
     match command {
@@ -89,5 +120,6 @@ fn perform<R: Source, W: Sink>(
         Command::Save64 { seed } => save_64(alloc, seed, r, out),
         Command::Resume32 { json } => resume_32(alloc, json, r, out),
         Command::Resume64 { json } => resume_64(alloc, json, r, out),
+        Command::Blocks { size } => Ok(print_blocks(size, r, out)?),
     }
 }

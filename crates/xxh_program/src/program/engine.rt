@@ -32,7 +32,7 @@ pub(crate) fn read_all<H: Feed, R: Source>(
     ensures reads { (pieces : List (List ℕ)) × NoneEmpty pieces
         × ReadsOn R.gives R.fails max_reads pieces r.old r.new result
         × ((result ≡ Err DigestError.TooLong) ↔ (length pieces ≡ max_reads))
-        × IfOk result (IsFed H.stands_for H.seed_of hasher (concat pieces)) }
+        × IfOk result (IsFed H.follows H.has_seed hasher (concat pieces)) }
     ensures read_failed { (result ≡ Err DigestError.ReadFailed) ↔ (R.has_failed r.new ≡ true) }
     ensures never_writes { result ≢ Err DigestError.WriteFailed }
 {
@@ -92,17 +92,19 @@ pub(crate) fn digest_on<H: Feed, R: Source, W: Sink>(
     ensures digests { (pieces : List (List ℕ)) × NoneEmpty pieces
         × ReadsOn R.gives R.fails max_reads pieces r.old r.new result
         × ((result ≡ Err DigestError.TooLong) ↔ (length pieces ≡ max_reads))
-        × ((m : List ℕ) → H.stands_for hasher m
-        → Writes W.takes W.refuses (hex_line digits (H.value_at (H.seed_of hasher) (m ++ concat pieces))) w.old w.new result) }
+        × ((seed : ℕ) (m : List ℕ) → H.follows hasher seed m
+        → Writes W.takes W.refuses (hex_line digits (H.value_at seed (m ++ concat pieces)))
+            w.old w.new result) }
     ensures read_failed { (result ≡ Err DigestError.ReadFailed) ↔ (R.has_failed r.new ≡ true) }
     ensures write_failed { (result ≡ Err DigestError.WriteFailed) ↔ (W.has_failed w.new ≡ true) }
-    ensures unwritten { (result ≡ Err DigestError.ReadFailed) ⊎ (result ≡ Err DigestError.TooLong) → w.new ≡ w.old }
+    ensures unwritten { (result ≡ Err DigestError.ReadFailed) ⊎ (result ≡ Err DigestError.TooLong)
+        → w.new ≡ w.old }
 {
     let hasher = read_all(hasher, max_reads, r)?;
     write_line(hasher.value(), digits, w)
 }
 
-// The same by a hasher that stands for no bytes and answers the kind's value under the seed.
+// The same by a hasher that was given no bytes and answers the kind's value under the seed.
 fn digest_by<H: Feed, R: Source, W: Sink>(
     kind: Kind,
     seed: u64,
@@ -113,12 +115,13 @@ fn digest_by<H: Feed, R: Source, W: Sink>(
 ) -> Result<(), DigestError>
     requires reader { R.has_failed r.old ≡ false }
     requires writer { W.has_failed w.old ≡ false }
-    requires fresh { H.stands_for hasher [] }
-    requires value { (m : List ℕ) → H.value_at (H.seed_of hasher) m ≡ value_of kind seed m }
+    requires empty { H.follows hasher seed [] }
+    requires value { (m : List ℕ) → H.value_at seed m ≡ value_of kind seed m }
     ensures digests { (pieces : List (List ℕ)) × NoneEmpty pieces
         × ReadsOn R.gives R.fails max_reads pieces r.old r.new result
         × ((result ≡ Err DigestError.TooLong) ↔ (length pieces ≡ max_reads))
-        × Writes W.takes W.refuses (hex_line (digits_of kind) (value_of kind seed (concat pieces))) w.old w.new result }
+        × Writes W.takes W.refuses (hex_line (digits_of kind) (value_of kind seed (concat pieces)))
+            w.old w.new result }
     ensures read_failed { (result ≡ Err DigestError.ReadFailed) ↔ (R.has_failed r.new ≡ true) }
     ensures write_failed { (result ≡ Err DigestError.WriteFailed) ↔ (W.has_failed w.new ≡ true) }
 {
@@ -159,7 +162,8 @@ pub fn digest<R: Source, W: Sink>(
     ensures digests { (pieces : List (List ℕ)) × NoneEmpty pieces
         × ReadsOn R.gives R.fails max_reads pieces r.old r.new result
         × ((result ≡ Err DigestError.TooLong) ↔ (length pieces ≡ max_reads))
-        × Writes W.takes W.refuses (hex_line (digits_of kind) (value_of kind seed (concat pieces))) w.old w.new result }
+        × Writes W.takes W.refuses (hex_line (digits_of kind) (value_of kind seed (concat pieces)))
+            w.old w.new result }
 
     // When each end fails.
     ensures read_failed { (result ≡ Err DigestError.ReadFailed) ↔ (R.has_failed r.new ≡ true) }

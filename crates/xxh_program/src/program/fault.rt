@@ -13,6 +13,8 @@ pub(crate) enum Fault {
     Usage,
     /// The seed is not one or more decimal digits, or the kind has no such seed.
     BadSeed,
+    /// The size of a block is not one or more decimal digits with a value from 1 to 2^64 - 1.
+    BadSize,
     /// The text is not a saved state, or no hasher has that state.
     BadState,
     /// There was no memory.
@@ -29,8 +31,11 @@ impl Fault {
         ensures { result.now ≡ line_of self }
     {
         match self {
-            Fault::Usage => { b"xxh: usage: xxh hash|save|resume 32|64|3-64|3-128 [SEED|JSON]\n" }
+            Fault::Usage => {
+                b"xxh: usage: xxh hash|save|resume 32|64|3-64|3-128 [SEED|JSON] or xxh blocks SIZE\n"
+            }
             Fault::BadSeed => b"xxh: bad seed\n",
+            Fault::BadSize => b"xxh: bad size\n",
             Fault::BadState => b"xxh: bad state\n",
             Fault::OutOfMemory => b"xxh: out of memory\n",
             Fault::Digest(DigestError::ReadFailed) => b"xxh: read failed\n",
@@ -45,7 +50,7 @@ impl Fault {
     {
         match self {
             Fault::Digest(_) => 1,
-            Fault::Usage | Fault::BadSeed | Fault::BadState => 2,
+            Fault::Usage | Fault::BadSeed | Fault::BadSize | Fault::BadState => 2,
             Fault::OutOfMemory => 3,
         }
     }

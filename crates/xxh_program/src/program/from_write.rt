@@ -29,6 +29,17 @@ impl<W: Write> FromWrite<W> {
         }
     }
 
+    // Flushes the writer.
+    pub(crate) fn flush(&mut self) -> Result<(), Failed> {
+        match self.inner.flush() {
+            Ok(()) => Ok(()),
+            Err(_) => {
+                self.failed = true;
+                Err(Failed)
+            }
+        }
+    }
+
     /// The writer.
     pub fn into_inner(self) -> W
         ensures { result ≡ writer_of self }

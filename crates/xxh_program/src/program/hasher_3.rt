@@ -2,17 +2,17 @@
 
 ghost use Rattle.std.specs.Prelude.{◌≡◌, []};
 ghost use Rattle.twox_hash.specs.Secret.{derived_secret};
-ghost use Rattle.xxh_program.specs.Derived.{seed_held, StandsDerived};
 ghost use Rattle.xxh_program.specs.Kind.{seeded_64, seeded_128};
+ghost use Rattle.xxh_program.specs.Streams.{AnySeed, FollowsDerived};
 
 use crate::program::feed::Feed;
 use twox_hash::xxhash3::{DEFAULT_SECRET_LENGTH, DefaultSecret, SecretBuffer};
 use twox_hash::{xxhash3_64, xxhash3_128};
 
 impl Feed for xxhash3_64::RawHasher<DefaultSecret> {
-    ghost stands_for = { StandsDerived };
+    ghost follows = { FollowsDerived };
 
-    ghost seed_of = { seed_held };
+    ghost has_seed = { AnySeed };
 
     ghost value_at = { seeded_64 };
 
@@ -26,9 +26,9 @@ impl Feed for xxhash3_64::RawHasher<DefaultSecret> {
 }
 
 impl Feed for xxhash3_128::RawHasher<DefaultSecret> {
-    ghost stands_for = { StandsDerived };
+    ghost follows = { FollowsDerived };
 
-    ghost seed_of = { seed_held };
+    ghost has_seed = { AnySeed };
 
     ghost value_at = { seeded_128 };
 
@@ -51,15 +51,13 @@ fn derived(seed: u64) -> SecretBuffer<DefaultSecret>
 
 // The streams of no bytes.
 pub(crate) fn with_seed_64(seed: u64) -> xxhash3_64::RawHasher<DefaultSecret>
-    ensures fresh { StandsDerived result [] }
-    ensures seed { seed_held result ≡ seed }
+    ensures { FollowsDerived result seed [] }
 {
     xxhash3_64::RawHasher::new(derived(seed))
 }
 
 pub(crate) fn with_seed_128(seed: u64) -> xxhash3_128::RawHasher<DefaultSecret>
-    ensures fresh { StandsDerived result [] }
-    ensures seed { seed_held result ≡ seed }
+    ensures { FollowsDerived result seed [] }
 {
     xxhash3_128::RawHasher::new(derived(seed))
 }

@@ -15,9 +15,9 @@ use crate::program::feed::Feed;
 use twox_hash::XxHash32;
 
 impl Feed for XxHash32 {
-    ghost stands_for = { StandsFor };
+    ghost follows = { λ h seed m. (h.seed ≡ seed) × StandsFor h m };
 
-    ghost seed_of = { λ h. h.seed };
+    ghost has_seed = { λ h seed. h.seed ≡ seed };
 
     ghost value_at = { xxh32 };
 
@@ -46,12 +46,14 @@ pub fn digest_from_32<R: Source, W: Sink>(
         × ReadsOn R.gives R.fails max_reads pieces r.old r.new result
         × ((result ≡ Err DigestError.TooLong) ↔ (length pieces ≡ max_reads))
         × ((m : List ℕ) → StandsFor hasher m
-        → Writes W.takes W.refuses (hex_line 8 (xxh32 hasher.seed (m ++ concat pieces))) w.old w.new result) }
+        → Writes W.takes W.refuses (hex_line 8 (xxh32 hasher.seed (m ++ concat pieces)))
+            w.old w.new result) }
 
     // When each end fails, and when nothing is written, whatever the hasher stands for.
     ensures read_failed { (result ≡ Err DigestError.ReadFailed) ↔ (R.has_failed r.new ≡ true) }
     ensures write_failed { (result ≡ Err DigestError.WriteFailed) ↔ (W.has_failed w.new ≡ true) }
-    ensures unwritten { (result ≡ Err DigestError.ReadFailed) ⊎ (result ≡ Err DigestError.TooLong) → w.new ≡ w.old }
+    ensures unwritten { (result ≡ Err DigestError.ReadFailed) ⊎ (result ≡ Err DigestError.TooLong)
+        → w.new ≡ w.old }
 {
     digest_on(hasher, 8, max_reads, r, w)
 }

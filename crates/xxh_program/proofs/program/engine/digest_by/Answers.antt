@@ -9,7 +9,7 @@ pub returns-clause-digests : goal.returns-clause-digests
 returns-clause-digests g c =
     let done = c.digest_on.ensures.digests in
     let m = concat done.0 in
-    let answer = g.H.Feed.value_at (g.H.Feed.seed_of c.args.hasher) m in
+    let answer = g.H.Feed.value_at c.args.seed m in
     let line : hex_line c.digits.result answer ≡ hex_line (digits_of c.args.kind) (value_of c.args.kind c.args.seed m) =
     ap (λ n. hex_line n answer) c.digits.ensures.digits ∙ ap (hex_line (digits_of c.args.kind)) (c.requires.value m) in
-    (done.0, done.1, done.2, done.3, subst (λ (bytes : List ℕ). Writes g.W.Sink.takes g.W.Sink.refuses bytes c.args.w.now c.digest_on.new.w c.digest_on.result) line (done.4 [] c.requires.fresh))
+    (done.0, done.1, done.2, done.3, subst (λ (bytes : List ℕ). Writes g.W.Sink.takes g.W.Sink.refuses bytes c.args.w.now c.digest_on.new.w c.digest_on.result) line (done.4 c.args.seed [] c.requires.empty))

@@ -14,7 +14,7 @@ loop-turn-preserved g c =
       count = simp length-append (omega (arith, so_far.count));
       some = NoneEmpty-push so_far.pieces piece so_far.some some;
       read = Pieces-push g.R.Source.gives _ _ _ so_far.pieces piece so_far.read c.in-Ok.ensures.piece;
-      fed = IsFed-push g.H.Feed.stands_for g.H.Feed.seed_of _ _ _ so_far.pieces piece so_far.fed c.feed.ensures;
+      fed = IsFed-push g.H.Feed.follows g.H.Feed.has_seed _ _ _ so_far.pieces piece so_far.fed c.feed.ensures;
     }
 
 pub returns-in-Ok-eq0-clause-reads : goal.returns-in-Ok-eq0-clause-reads

@@ -12,5 +12,5 @@ invariant-loop-turn g l = record {
   count : length pieces ≡ l.turn;
   some : NoneEmpty pieces;
   read : Pieces g.R.Source.gives l.initial.r pieces l.r;
-  fed : IsFed g.H.Feed.stands_for g.H.Feed.seed_of l.initial.hasher (concat pieces) l.hasher;
+  fed : IsFed g.H.Feed.follows g.H.Feed.has_seed l.initial.hasher (concat pieces) l.hasher;
 }

@@ -1,0 +1,43 @@
+//! The digest line of bytes in memory, with no relation of an end in its contract.
+
+ghost use Rattle.std.specs.Prelude.{◌≡◌, ◌<◌, ◌≤◌, ◌+◌, ◌^◌, ◌++◌, length, false, Ok};
+ghost use Rattle.xxh_program.specs.Hex.{hex_line};
+ghost use Rattle.xxh_program.specs.Kind.{digits_of, value_of};
+ghost use Rattle.xxh_program.specs.Script.{sink_bytes, sink_fail_at};
+
+use crate::program::ends::Sink;
+use crate::program::engine::digest;
+use crate::program::error::DigestError;
+use crate::program::kind::Kind;
+use crate::program::script_sink::ScriptSink;
+use crate::program::script_source::SliceSource;
+
+/// Writes the digest line of the bytes into the sink, as [`digest`] does from a source that gives them all and
+/// never fails. The caller shows that the sink has not failed, that no write of its script fails, and that
+/// it has room for the line; so the answer is `Ok`, and the sink then holds what it held and the line.
+///
+/// It is `digest` over memory, and shows what its clauses say where both ends tell their bytes. What is in a
+/// file that standard input reads, no contract can say.
+///
+/// ```
+/// let mut sink = ScriptSink::<17>::new(17, 0);
+/// digest_of_bytes(Kind::X64, 1234, b"some bytes", &mut sink)?;
+/// sink.bytes() // eab55659a496d78b and a line feed
+/// ```
+pub fn digest_of_bytes<const N: usize>(
+    kind: Kind,
+    seed: u64,
+    bytes: &[u8],
+    w: &mut ScriptSink<N>,
+) -> Result<(), DigestError>
+    requires seed { kind ≡ Kind.X32 → seed < 2 ^ 32 }
+    requires works { ⟦<ScriptSink<N> as Sink>⟧.has_failed w.old ≡ false }
+    requires never_fails { sink_fail_at w.old ≡ 0 }
+    requires room { length (sink_bytes w.old) + digits_of kind + 1 ≤ N }
+    ensures answer { result ≡ Ok tt }
+    ensures line { sink_bytes w.new
+        ≡ sink_bytes w.old ++ hex_line (digits_of kind) (value_of kind seed bytes.now) }
+{
+    let max_reads = bytes.len() as u64 + 1;
+    digest(kind, seed, max_reads, &mut SliceSource::new(bytes), w)
+}
