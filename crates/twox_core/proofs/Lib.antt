@@ -3,6 +3,8 @@ pub mod EndingFacts
 pub mod KernelFacts
 pub mod LaneFacts
 pub mod MixFacts
+pub mod OutsideVectors128
+pub mod OutsideVectors64
 pub mod PairBytes
 pub mod PartFacts
 pub mod ShortLaws

@@ -9,6 +9,9 @@ pub mod Laws64
 pub mod Message32
 pub mod Message64
 pub mod OneToOne
+pub mod OutsideVectors
+pub mod OutsideVectors32
+pub mod OutsideVectors64
 pub mod Reached32
 pub mod Reached64
 pub mod Reaching
