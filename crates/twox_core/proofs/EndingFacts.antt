@@ -9,43 +9,43 @@ use Rattle.twox_plain.specs.Word.{counted}
 use Rattle.twox_plain.proofs.WordFacts.{word_at-part}
 use Rattle.twox_core.specs.Steps.{word64, sum_below}
 use Rattle.twox_core.specs.Parts.{stripe_at}
-use Rattle.twox_core.specs.Long.{lane_after, last_lane, stripes_of, pair_fold, merged, long_low, long_high}
-use Rattle.twox_core.specs.Kernel.{lanes8, accumulate}
-use Rattle.twox_core.specs.Stripes.{at_start, stripe_taken, stripes_taken}
-use Rattle.twox_core.specs.Ending.{lanes_after, stripes_before, block_lanes, last_block, stream_lanes, stream_block, last_stripe, accumulated_block, lanes_at_end, finalized_64, finalized_high, finalized_128}
-use Rattle.twox_core.proofs.StripeFacts.{stripes_taken-take}
-use Rattle.twox_core.proofs.LaneFacts.{accumulates, same_lanes, stripe_done, next_without}
+use Rattle.twox_core.specs.Long.{accumulator_after, last_accumulator, stripes_of, pair_fold, merge_accumulators, low_above_240, high_above_240}
+use Rattle.twox_core.specs.Kernel.{eight, accumulate}
+use Rattle.twox_core.specs.Stripes.{at_start, after_stripe, after_stripes}
+use Rattle.twox_core.specs.Ending.{accumulators_after, stripes_before, block_accumulators, last_block, stream_accumulators, stream_block, last_stripe, accumulate_block, final_accumulators, finalize_64, finalize_high, finalize_128}
+use Rattle.twox_core.proofs.StripeFacts.{after_stripes-take}
+use Rattle.twox_core.proofs.AccumulatorFacts.{accumulates, same_accumulators, stripe_done, next_without}
 
 -- ---- a block short of the secret's last place takes no scramble
 
 short : (s a t : List ℕ) (k : ℕ) → k + 1 < stripes_of s
-    → stripe_taken s (record { accumulator = a; current_stripe = k }) t ≡ record { accumulator = accumulate a t (stripe_at s (8 * k)); current_stripe = suc k }
-unfolding stripe_taken
+    → after_stripe s (record { accumulator = a; current_stripe = k }) t ≡ record { accumulator = accumulate a t (stripe_at s (8 * k)); current_stripe = suc k }
+unfolding after_stripe
 short s a t k h =
     let test : (k + 1 == stripes_of s) ≡ false = grind (arith, nat_tests) in
     rw (test, add-one k) refl
 
 block_taken : (s a b : List ℕ) (k : ℕ) → k < stripes_of s
-    → stripes_taken s (at_start a) b k ≡ record { accumulator = accumulated_block s a b k; current_stripe = k }
-unfolding stripes_taken accumulated_block
+    → after_stripes s (at_start a) b k ≡ record { accumulator = accumulate_block s a b k; current_stripe = k }
+unfolding after_stripes accumulate_block
 block_taken s a b zero h = refl
 block_taken s a b (suc k) h =
-    ap (λ x. stripe_taken s x (stripe_at b (64 * k))) (block_taken s a b k (omega arith))
-    ∙ short s (accumulated_block s a b k) (stripe_at b (64 * k)) k (omega arith)
+    ap (λ x. after_stripe s x (stripe_at b (64 * k))) (block_taken s a b k (omega arith))
+    ∙ short s (accumulate_block s a b k) (stripe_at b (64 * k)) k (omega arith)
 
 -- where the first k stripes of b were cut out
 pub front_taken : (s a b : List ℕ) (k : ℕ) → k < stripes_of s → 64 * k ≤ length b
-    → stripes_taken s (at_start a) (take (64 * k) b) (length (take (64 * k) b) / 64) ≡ record { accumulator = accumulated_block s a b k; current_stripe = k }
+    → after_stripes s (at_start a) (take (64 * k) b) (length (take (64 * k) b) / 64) ≡ record { accumulator = accumulate_block s a b k; current_stripe = k }
 front_taken s a b k h fits =
     let count : length (take (64 * k) b) / 64 ≡ k = omega (arith, length-take-le (64 * k) b fits) in
-    rw count (stripes_taken-take s (at_start a) b (64 * k) k (omega arith)) ∙ block_taken s a b k h
+    rw count (after_stripes-take s (at_start a) b (64 * k) k (omega arith)) ∙ block_taken s a b k h
 
-pub accumulated_block-next : (s a b t u : List ℕ) (k : ℕ) → t ≡ stripe_at b (64 * k) → u ≡ stripe_at s (8 * k)
-    → accumulate (accumulated_block s a b k) t u ≡ accumulated_block s a b (k + 1)
-unfolding accumulated_block
-accumulated_block-next s a b t u k e f = rw (e, f, add-one k) refl
+pub accumulate_block-next : (s a b t u : List ℕ) (k : ℕ) → t ≡ stripe_at b (64 * k) → u ≡ stripe_at s (8 * k)
+    → accumulate (accumulate_block s a b k) t u ≡ accumulate_block s a b (k + 1)
+unfolding accumulate_block
+accumulate_block-next s a b t u k e f = rw (e, f, add-one k) refl
 
--- ---- the lanes of m after a block that begins where a scramble went by
+-- ---- the accumulators of m after a block that begins where a scramble went by
 
 no_scramble : (j q r : ℕ) → r + 1 < q → ((q * j + r + 1) % q == 0) ≡ false
 no_scramble j q r h =
@@ -54,8 +54,8 @@ no_scramble j q r h =
     grind (arith, nat_tests, left)
 
 block_more : (s m : List ℕ) (j r : ℕ) → r < stripes_of s
-    → accumulated_block s (lanes_after s m (stripes_of s * j)) (drop (64 * (stripes_of s * j)) m) r ≡ lanes_after s m (stripes_of s * j + r)
-unfolding accumulated_block lanes_after
+    → accumulate_block s (accumulators_after s m (stripes_of s * j)) (drop (64 * (stripes_of s * j)) m) r ≡ accumulators_after s m (stripes_of s * j + r)
+unfolding accumulate_block accumulators_after
 block_more s m j zero h = rw (add-zero (stripes_of s * j)) refl
 block_more s m j (suc r) h =
     let q = stripes_of s in
@@ -67,9 +67,9 @@ block_more s m j (suc r) h =
     ap (take 64) (drop-drop (64 * r) (64 * (q * j)) m ∙ ap (λ (n : ℕ). drop n m) place) in
     let key : stripe_at s (8 * r) ≡ stripe_at s (8 * (k % q)) = ap (λ (n : ℕ). stripe_at s (8 * n)) (sym left) in
     let next : k + 1 ≡ q * j + suc r = omega arith in
-    accumulates (λ i. lane_after s m i k) m s _ _ _ (64 * k) (8 * (k % q)) (block_more s m j r (omega arith)) here key
-    ∙ same_lanes (stripe_done s m k) (λ i. lane_after s m i (k + 1)) (λ i _. next_without s m k (no_scramble j q r (omega arith)) i)
-    ∙ ap (λ (n : ℕ). lanes8 (λ i. lane_after s m i n)) next
+    accumulates (λ i. accumulator_after s m i k) m s _ _ _ (64 * k) (8 * (k % q)) (block_more s m j r (omega arith)) here key
+    ∙ same_accumulators (stripe_done s m k) (λ i. accumulator_after s m i (k + 1)) (λ i _. next_without s m k (no_scramble j q r (omega arith)) i)
+    ∙ ap (λ (n : ℕ). eight (λ i. accumulator_after s m i n)) next
 
 -- how many stripes of the last block come before the last stripe
 last_places : (s m : List ℕ) → stripes_before s m + (length m - 1) / 64 % stripes_of s ≡ (length m - 1) / 64
@@ -77,37 +77,37 @@ last_places s m =
     let q = stripes_of s in
     ap (λ (n : ℕ). q * n + (length m - 1) / 64 % q) (sym (div-div-eq-div-mul (length m - 1) 64 q)) ∙ div-add-mod ((length m - 1) / 64) q
 
--- ---- the lanes of m after its last 64 bytes
+-- ---- the accumulators of m after its last 64 bytes
 
-lanes_ended : (s m a b : List ℕ) → 64 ≤ length m → accumulated_block s a b ((length b - 1) / 64) ≡ lanes_after s m ((length m - 1) / 64)
-    → lanes_at_end a b (last_stripe m) s ≡ lanes8 (last_lane s m)
-unfolding lanes_at_end lanes_after last_stripe last_lane
-lanes_ended s m a b long e =
+accumulators_ended : (s m a b : List ℕ) → 64 ≤ length m → accumulate_block s a b ((length b - 1) / 64) ≡ accumulators_after s m ((length m - 1) / 64)
+    → final_accumulators a b (last_stripe m) s ≡ eight (last_accumulator s m)
+unfolding final_accumulators accumulators_after last_stripe last_accumulator
+accumulators_ended s m a b long e =
     let end : drop (length m - 64) m ≡ stripe_at m (length m - 64) = sym (take_all 64 (drop (length m - 64) m) (omega (arith, length-drop (length m - 64) m))) in
-    accumulates (λ i. lane_after s m i ((length m - 1) / 64)) m s _ _ _ (length m - 64) (length s - 71) e end refl
+    accumulates (λ i. accumulator_after s m i ((length m - 1) / 64)) m s _ _ _ (length m - 64) (length s - 71) e end refl
 
-block_ended : (s m : List ℕ) → 0 < stripes_of s → 64 ≤ length m → lanes_at_end (block_lanes s m) (last_block s m) (last_stripe m) s ≡ lanes8 (last_lane s m)
-unfolding block_lanes last_block
+block_ended : (s m : List ℕ) → 0 < stripes_of s → 64 ≤ length m → final_accumulators (block_accumulators s m) (last_block s m) (last_stripe m) s ≡ eight (last_accumulator s m)
+unfolding block_accumulators last_block
 block_ended s m some long =
     let q = stripes_of s in
     let k = stripes_before s m in
     let r = (length m - 1) / 64 % q in
     let all = last_places s m in
     let count : (length (drop (64 * k) m) - 1) / 64 ≡ r = omega (arith, length-drop (64 * k) m) in
-    lanes_ended s m _ _ long (rw count (block_more s m ((length m - 1) / (64 * q)) r (mod_below ((length m - 1) / 64) q some)) ∙ ap (lanes_after s m) all)
+    accumulators_ended s m _ _ long (rw count (block_more s m ((length m - 1) / (64 * q)) r (mod_below ((length m - 1) / 64) q some)) ∙ ap (accumulators_after s m) all)
 
-stripe_ended : (s m : List ℕ) → 64 ≤ length m → lanes_at_end (stream_lanes s m) (stream_block m) (last_stripe m) s ≡ lanes8 (last_lane s m)
-unfolding stream_lanes stream_block accumulated_block
+stripe_ended : (s m : List ℕ) → 64 ≤ length m → final_accumulators (stream_accumulators s m) (stream_block m) (last_stripe m) s ≡ eight (last_accumulator s m)
+unfolding stream_accumulators stream_block accumulate_block
 stripe_ended s m long =
     let k = (length m - 1) / 64 in
     let count : (length (drop (64 * k) m) - 1) / 64 ≡ 0 = omega (arith, length-drop (64 * k) m) in
-    lanes_ended s m _ _ long (rw count refl)
+    accumulators_ended s m _ _ long (rw count refl)
 
 -- ---- the values
 
-merged-lanes : (init : ℕ) (s a : List ℕ) (j : ℕ) (f : ℕ → ℕ) → a ≡ lanes8 f → merged init s j (slice_index a) ≡ merged init s j f
-unfolding merged sum_below pair_fold
-merged-lanes init s a j f e = rw e refl
+merge_accumulators-eight : (init : ℕ) (s a : List ℕ) (j : ℕ) (f : ℕ → ℕ) → a ≡ eight f → merge_accumulators init s j (slice_index a) ≡ merge_accumulators init s j f
+unfolding merge_accumulators sum_below pair_fold
+merge_accumulators-eight init s a j f e = rw e refl
 
 -- 64 bytes that were cut out of the secret
 pair_fold-stripe : (f : ℕ → ℕ) (s : List ℕ) (j i : ℕ) → i < 4 → pair_fold f (stripe_at s j) 0 i ≡ pair_fold f s j i
@@ -119,39 +119,39 @@ pair_fold-stripe f s j i h =
     ap (word64 (stripe_at s j)) place ∙ word_at-part w64 64 s (stripe_at s j) j (16 * i + 8) refl (omega arith) ∙ ap (word64 s) (omega arith) in
     rw (first, second) refl
 
-pub merged-stripe : (init : ℕ) (s u : List ℕ) (j : ℕ) (f : ℕ → ℕ) → u ≡ stripe_at s j → merged init u 0 f ≡ merged init s j f
-unfolding merged sum_below
-merged-stripe init s u j f e =
+pub merge_accumulators-stripe : (init : ℕ) (s u : List ℕ) (j : ℕ) (f : ℕ → ℕ) → u ≡ stripe_at s j → merge_accumulators init u 0 f ≡ merge_accumulators init s j f
+unfolding merge_accumulators sum_below
+merge_accumulators-stripe init s u j f e =
     rw (e, pair_fold-stripe f s j 0 (lit< tt), pair_fold-stripe f s j 1 (lit< tt), pair_fold-stripe f s j 2 (lit< tt), pair_fold-stripe f s j 3 (lit< tt)) refl
 
-low_of : (s m a b : List ℕ) (n : ℕ) → lanes_at_end a b (last_stripe m) s ≡ lanes8 (last_lane s m) → n ≡ counted (length m)
-    → finalized_64 a b (last_stripe m) s n ≡ long_low s m
-unfolding finalized_64 long_low
-low_of s m a b n lanes count = rw count (merged-lanes _ s _ 11 (last_lane s m) lanes)
+low_of : (s m a b : List ℕ) (n : ℕ) → final_accumulators a b (last_stripe m) s ≡ eight (last_accumulator s m) → n ≡ counted (length m)
+    → finalize_64 a b (last_stripe m) s n ≡ low_above_240 s m
+unfolding finalize_64 low_above_240
+low_of s m a b n accumulators count = rw count (merge_accumulators-eight _ s _ 11 (last_accumulator s m) accumulators)
 
-high_of : (s m a b : List ℕ) (n : ℕ) → lanes_at_end a b (last_stripe m) s ≡ lanes8 (last_lane s m) → n ≡ counted (length m)
-    → finalized_high a b (last_stripe m) s n ≡ long_high s m
-unfolding finalized_high long_high
-high_of s m a b n lanes count = rw count (merged-lanes _ s _ (length s - 75) (last_lane s m) lanes)
+high_of : (s m a b : List ℕ) (n : ℕ) → final_accumulators a b (last_stripe m) s ≡ eight (last_accumulator s m) → n ≡ counted (length m)
+    → finalize_high a b (last_stripe m) s n ≡ high_above_240 s m
+unfolding finalize_high high_above_240
+high_of s m a b n accumulators count = rw count (merge_accumulators-eight _ s _ (length s - 75) (last_accumulator s m) accumulators)
 
 -- of the whole list at once
 pub block_low : (s m : List ℕ) → 0 < stripes_of s → 64 ≤ length m → length m < 2 ^ 64
-    → finalized_64 (block_lanes s m) (last_block s m) (last_stripe m) s (length m) ≡ long_low s m
+    → finalize_64 (block_accumulators s m) (last_block s m) (last_stripe m) s (length m) ≡ low_above_240 s m
 block_low s m some long low = low_of s m _ _ (length m) (block_ended s m some long) (omega arith)
 
 pub block_both : (s m : List ℕ) → 0 < stripes_of s → 64 ≤ length m → length m < 2 ^ 64
-    → finalized_128 (block_lanes s m) (last_block s m) (last_stripe m) s (length m) ≡ long_high s m * 2 ^ 64 + long_low s m
-unfolding finalized_128
+    → finalize_128 (block_accumulators s m) (last_block s m) (last_stripe m) s (length m) ≡ high_above_240 s m * 2 ^ 64 + low_above_240 s m
+unfolding finalize_128
 block_both s m some long low =
     ap₂ (λ (x y : ℕ). x * 2 ^ 64 + y) (high_of s m _ _ (length m) (block_ended s m some long) (omega arith)) (block_low s m some long low)
 
 -- of a stream, which has taken all stripes but the last
 pub stream_low : (s m : List ℕ) → 64 ≤ length m
-    → finalized_64 (stream_lanes s m) (stream_block m) (last_stripe m) s (counted (length m)) ≡ long_low s m
+    → finalize_64 (stream_accumulators s m) (stream_block m) (last_stripe m) s (counted (length m)) ≡ low_above_240 s m
 stream_low s m long = low_of s m _ _ (counted (length m)) (stripe_ended s m long) refl
 
 pub stream_both : (s m : List ℕ) → 64 ≤ length m
-    → finalized_128 (stream_lanes s m) (stream_block m) (last_stripe m) s (counted (length m)) ≡ long_high s m * 2 ^ 64 + long_low s m
-unfolding finalized_128
+    → finalize_128 (stream_accumulators s m) (stream_block m) (last_stripe m) s (counted (length m)) ≡ high_above_240 s m * 2 ^ 64 + low_above_240 s m
+unfolding finalize_128
 stream_both s m long =
     ap₂ (λ (x y : ℕ). x * 2 ^ 64 + y) (high_of s m _ _ (counted (length m)) (stripe_ended s m long) refl) (stream_low s m long)

@@ -1,8 +1,9 @@
 pub mod DerivedFacts
 pub mod EndingFacts
 pub mod KernelFacts
-pub mod LaneFacts
+pub mod AccumulatorFacts
 pub mod MixFacts
+pub mod OneshotLaws
 pub mod OutsideVectors128
 pub mod OutsideVectors64
 pub mod PairBytes
@@ -11,5 +12,6 @@ pub mod ShortLaws
 pub mod StepLaws
 pub mod StreamFacts
 pub mod StripeFacts
+pub mod TakenFacts
 pub mod ValueLaws
 pub mod Vectors

@@ -4,7 +4,7 @@ use Rattle.std.specs.Int.{w64}
 use Rattle.twox_plain.proofs.WordFacts.{word_at-part}
 use Rattle.twox_core.specs.Parts.{chunk_at}
 use Rattle.twox_core.specs.Steps.{word64, add64, mix, sum_below}
-use Rattle.twox_core.specs.Middle.{lane_step, medium_first, medium_second, pairs_first, pairs_second}
+use Rattle.twox_core.specs.Middle.{accumulator_step, first_17_to_128, second_17_to_128, pairs_first, pairs_second}
 
 -- one more term of a sum
 pub sum_below-next : (f : ℕ → ℕ) (n : ℕ) → sum_below f (n + 1) ≡ sum_below f n + f n
@@ -24,41 +24,41 @@ unfolding mix
 mix-of_chunks m s c k i j seed e f =
     rw (chunk-first m c i e, chunk-second m c i e, chunk-first s k j f, chunk-second s k j f) refl
 
--- a lane's step over the bytes that c, k and d are
-pub lane_step-of_chunks : (seed : ℕ) (s m : List ℕ) (a b : ℕ) (c k d : List ℕ) (i j l : ℕ) → b ≡ a
+-- a accumulator's step over the bytes that c, k and d are
+pub accumulator_step-of_chunks : (seed : ℕ) (s m : List ℕ) (a b : ℕ) (c k d : List ℕ) (i j l : ℕ) → b ≡ a
     → c ≡ chunk_at m i → k ≡ chunk_at s j → d ≡ chunk_at m l
-    → bit_xor (add64 b (mix c 0 k 0 seed)) (add64 (word64 d 0) (word64 d 8)) ≡ lane_step seed s m a i j l
-unfolding lane_step
-lane_step-of_chunks seed s m a b c k d i j l same e f g =
+    → bit_xor (add64 b (mix c 0 k 0 seed)) (add64 (word64 d 0) (word64 d 8)) ≡ accumulator_step seed s m a i j l
+unfolding accumulator_step
+accumulator_step-of_chunks seed s m a b c k d i j l same e f g =
     rw (same, mix-of_chunks m s c k i j seed e f, chunk-first m d l g, chunk-second m d l g) refl
 
--- the step of each lane that takes chunk c
-pub medium_first-chunk : (seed : ℕ) (s m : List ℕ) (n c : ℕ) → c < n → medium_first seed s m n (n - c)
-    ≡ lane_step seed s m (medium_first seed s m n (n - 1 - c)) (16 * c) (32 * c) (length m - 16 * (c + 1))
-unfolding medium_first
-medium_first-chunk seed s m n c low =
+-- the step of each accumulator that takes chunk c
+pub first_17_to_128-chunk : (seed : ℕ) (s m : List ℕ) (n c : ℕ) → c < n → first_17_to_128 seed s m n (n - c)
+    ≡ accumulator_step seed s m (first_17_to_128 seed s m n (n - 1 - c)) (16 * c) (32 * c) (length m - 16 * (c + 1))
+unfolding first_17_to_128
+first_17_to_128-chunk seed s m n c low =
     let t = n - 1 - c in
     let next : n - c ≡ suc t = omega arith in
     let chunk : n - 1 - t ≡ c = omega arith in
-    ap (medium_first seed s m n) next ∙ ap (λ (k : ℕ). lane_step seed s m (medium_first seed s m n t) (16 * k) (32 * k) (length m - 16 * (k + 1))) chunk
+    ap (first_17_to_128 seed s m n) next ∙ ap (λ (k : ℕ). accumulator_step seed s m (first_17_to_128 seed s m n t) (16 * k) (32 * k) (length m - 16 * (k + 1))) chunk
 
-pub medium_second-chunk : (seed : ℕ) (s m : List ℕ) (n c : ℕ) → c < n → medium_second seed s m n (n - c)
-    ≡ lane_step seed s m (medium_second seed s m n (n - 1 - c)) (length m - 16 * (c + 1)) (32 * c + 16) (16 * c)
-unfolding medium_second
-medium_second-chunk seed s m n c low =
+pub second_17_to_128-chunk : (seed : ℕ) (s m : List ℕ) (n c : ℕ) → c < n → second_17_to_128 seed s m n (n - c)
+    ≡ accumulator_step seed s m (second_17_to_128 seed s m n (n - 1 - c)) (length m - 16 * (c + 1)) (32 * c + 16) (16 * c)
+unfolding second_17_to_128
+second_17_to_128-chunk seed s m n c low =
     let t = n - 1 - c in
     let next : n - c ≡ suc t = omega arith in
     let chunk : n - 1 - t ≡ c = omega arith in
-    ap (medium_second seed s m n) next ∙ ap (λ (k : ℕ). lane_step seed s m (medium_second seed s m n t) (length m - 16 * (k + 1)) (32 * k + 16) (16 * k)) chunk
+    ap (second_17_to_128 seed s m n) next ∙ ap (λ (k : ℕ). accumulator_step seed s m (second_17_to_128 seed s m n t) (length m - 16 * (k + 1)) (32 * k + 16) (16 * k)) chunk
 
--- one more step of the two lanes over pairs of chunks
+-- one more step of the two accumulators over pairs of chunks
 pub pairs_first-next : (seed : ℕ) (s m : List ℕ) (i j a t : ℕ) → pairs_first seed s m i j a (t + 1)
-    ≡ lane_step seed s m (pairs_first seed s m i j a t) (i + 32 * t) (j + 32 * t) (i + 32 * t + 16)
+    ≡ accumulator_step seed s m (pairs_first seed s m i j a t) (i + 32 * t) (j + 32 * t) (i + 32 * t + 16)
 unfolding pairs_first
 pairs_first-next seed s m i j a t = rw (add-one t) refl
 
 pub pairs_second-next : (seed : ℕ) (s m : List ℕ) (i j a t : ℕ) → pairs_second seed s m i j a (t + 1)
-    ≡ lane_step seed s m (pairs_second seed s m i j a t) (i + 32 * t + 16) (j + 32 * t + 16) (i + 32 * t)
+    ≡ accumulator_step seed s m (pairs_second seed s m i j a t) (i + 32 * t + 16) (j + 32 * t + 16) (i + 32 * t)
 unfolding pairs_second
 pairs_second-next seed s m i j a t = rw (add-one t) refl
 

@@ -11,7 +11,7 @@ use Rattle.twox_plain.proofs.WordLaws.{word_at-lt_32, word_at-lt_64, told_by_wor
 use Rattle.twox_core.specs.Primes.{prime32_2, prime64_1}
 use Rattle.twox_core.specs.Secret.{default_secret}
 use Rattle.twox_core.specs.Steps.{word64, avalanche}
-use Rattle.twox_core.specs.Short.{pair32, pair64, empty64, empty128_low, combined, tiny_low, strong, mixed_seed, first32, last32, four64, four_product, four128_low, four128_high, first64, last64, nine_first, nine_second, nine_high, nine_low, nine_both, nine_product}
+use Rattle.twox_core.specs.Short.{pair32, pair64, value64_0, low_0, combined_bytes, low_1_to_3, strong, mixed_seed, first32, last32, value64_4_to_8, product_4_to_8, low_4_to_8, high_4_to_8, first64, last64, first_9_to_16, second_9_to_16, high_word_9_to_16, low_word_9_to_16, both_words_9_to_16, product_9_to_16}
 use Rattle.twox_core.proofs.StepLaws.{avalanche_one_to_one, avalanche_xxh64_one_to_one, strong_one_to_one, mixed_seed_one_to_one, mixed_seed-lt, difference_one_to_one, four128_one_to_one, wide_one_to_one, second_word_one_to_one}
 
 -- ---- the default secret is bytes
@@ -39,21 +39,21 @@ default_secret-bytes = bytes_from default_secret refl
 two_words-lt : (seed : ℕ) (s : List ℕ) (i j : ℕ) → IsBytes s → seed < 2 ^ 64 → bit_xor (bit_xor seed (word64 s i)) (word64 s j) < 2 ^ 64
 two_words-lt seed s i j p small = xor_lt 64 _ _ (xor_lt 64 _ _ small (word_at-lt_64 s i p)) (word_at-lt_64 s j p)
 
-pub empty64_in_seed : (s : List ℕ) (x y : ℕ) → IsBytes s → x < 2 ^ 64 → y < 2 ^ 64 → empty64 x s ≡ empty64 y s → x ≡ y
-unfolding empty64
+pub empty64_in_seed : (s : List ℕ) (x y : ℕ) → IsBytes s → x < 2 ^ 64 → y < 2 ^ 64 → value64_0 x s ≡ value64_0 y s → x ≡ y
+unfolding value64_0
 empty64_in_seed s x y p bx by e =
     xor_cancel_right _ x y (xor_cancel_right _ _ _ (avalanche_xxh64_one_to_one _ _ (two_words-lt x s 56 64 p bx) (two_words-lt y s 56 64 p by) e))
 
-pub empty128_in_seed : (s : List ℕ) (x y : ℕ) → IsBytes s → x < 2 ^ 64 → y < 2 ^ 64 → empty128_low x s ≡ empty128_low y s → x ≡ y
-unfolding empty128_low
+pub empty128_in_seed : (s : List ℕ) (x y : ℕ) → IsBytes s → x < 2 ^ 64 → y < 2 ^ 64 → low_0 x s ≡ low_0 y s → x ≡ y
+unfolding low_0
 empty128_in_seed s x y p bx by e =
     xor_cancel_right _ x y (xor_cancel_right _ _ _ (avalanche_xxh64_one_to_one _ _ (two_words-lt x s 64 72 p bx) (two_words-lt y s 64 72 p by) e))
 
 -- ---- 1 to 3 bytes
 
-combined-lt : (m : List ℕ) → IsBytes m → length m ≤ 3 → combined m < 2 ^ 32
-unfolding combined
-combined-lt m bytes high =
+combined_bytes-lt : (m : List ℕ) → IsBytes m → length m ≤ 3 → combined_bytes m < 2 ^ 32
+unfolding combined_bytes
+combined_bytes-lt m bytes high =
     let a = bytes (length m - 1) in
     let b = bytes 0 in
     let c = bytes (length m / 2) in omega arith
@@ -74,8 +74,8 @@ each_of m n (suc (suc (suc zero))) (suc (suc (suc k))) high h a b c = absurd (om
 each_of m n (suc (suc (suc (suc len)))) k high h a b c = absurd (omega arith)
 
 -- the number tells the length and each byte
-combined_one_to_one : (m n : List ℕ) → IsBytes m → IsBytes n → length m ≤ 3 → length n ≤ 3 → combined m ≡ combined n → m ≡ n
-unfolding combined
+combined_one_to_one : (m n : List ℕ) → IsBytes m → IsBytes n → length m ≤ 3 → length n ≤ 3 → combined_bytes m ≡ combined_bytes n → m ≡ n
+unfolding combined_bytes
 combined_one_to_one m n p q hm hn e =
     let a = p (length m - 1) in
     let b = p 0 in
@@ -92,21 +92,21 @@ combined_one_to_one m n p q hm hn e =
     same_number_lists m n len (λ k h. each_of m n (length m) k hm h first same_middle same_last)
 
 -- the seed x and the number c in, one of them fixed
-tiny_inside : (s : List ℕ) (x y c d : ℕ) → c < 2 ^ 32 → d < 2 ^ 32 → tiny_low x s c ≡ tiny_low y s d
+tiny_inside : (s : List ℕ) (x y c d : ℕ) → c < 2 ^ 32 → d < 2 ^ 32 → low_1_to_3 x s c ≡ low_1_to_3 y s d
     → bit_xor ((pair32 s 0 + x) % 2 ^ 64) c ≡ bit_xor ((pair32 s 0 + y) % 2 ^ 64) d
-unfolding tiny_low
+unfolding low_1_to_3
 tiny_inside s x y c d a b e =
     avalanche_xxh64_one_to_one _ _ (xor_lt 64 _ c (mod-lt _ (pow_pos 64)) (omega arith)) (xor_lt 64 _ d (mod-lt _ (pow_pos 64)) (omega arith)) e
 
 pub tiny_one_to_one : (seed : ℕ) (s m n : List ℕ) → IsBytes m → IsBytes n → length m ≤ 3 → length n ≤ 3
-    → tiny_low seed s (combined m) ≡ tiny_low seed s (combined n) → m ≡ n
+    → low_1_to_3 seed s (combined_bytes m) ≡ low_1_to_3 seed s (combined_bytes n) → m ≡ n
 tiny_one_to_one seed s m n p q hm hn e =
-    combined_one_to_one m n p q hm hn (xor_cancel_left _ _ _ (tiny_inside s seed seed (combined m) (combined n) (combined-lt m p hm) (combined-lt n q hn) e))
+    combined_one_to_one m n p q hm hn (xor_cancel_left _ _ _ (tiny_inside s seed seed (combined_bytes m) (combined_bytes n) (combined_bytes-lt m p hm) (combined_bytes-lt n q hn) e))
 
-pub tiny_in_seed : (s m : List ℕ) (x y : ℕ) → IsBytes m → length m ≤ 3 → x < 2 ^ 64 → y < 2 ^ 64 → tiny_low x s (combined m) ≡ tiny_low y s (combined m) → x ≡ y
+pub tiny_in_seed : (s m : List ℕ) (x y : ℕ) → IsBytes m → length m ≤ 3 → x < 2 ^ 64 → y < 2 ^ 64 → low_1_to_3 x s (combined_bytes m) ≡ low_1_to_3 y s (combined_bytes m) → x ≡ y
 tiny_in_seed s m x y p hm bx by e =
-    let small = combined-lt m p hm in
-    let sums = xor_cancel_right (combined m) _ _ (tiny_inside s x y (combined m) (combined m) small small e) in
+    let small = combined_bytes-lt m p hm in
+    let sums = xor_cancel_right (combined_bytes m) _ _ (tiny_inside s x y (combined_bytes m) (combined_bytes m) small small e) in
     omega (arith, sums)
 
 -- ---- lists of one length from w to 2w that agree on the first w and on the last w bytes
@@ -141,8 +141,8 @@ four_bytes m n p q len low high first last =
     (told_by_word_32 m n (length m - 4) (length n - 4) p q (omega arith) (omega arith) last)
 
 pub four64_one_to_one : (seed : ℕ) (s m n : List ℕ) → IsBytes m → IsBytes n → length m ≡ length n → 4 ≤ length m → length m ≤ 8
-    → four64 seed s m ≡ four64 seed s n → m ≡ n
-unfolding four64
+    → value64_4_to_8 seed s m ≡ value64_4_to_8 seed s n → m ≡ n
+unfolding value64_4_to_8
 four64_one_to_one seed s m n p q len low high e =
     let a = (pair64 s 8 + (2 ^ 64 - mixed_seed seed)) % 2 ^ 64 in
     let ab : a < 2 ^ 64 = mod-lt _ (pow_pos 64) in
@@ -151,8 +151,8 @@ four64_one_to_one seed s m n p q len low high e =
     let words = same_halves (last32 m) (first32 m) (last32 n) (first32 n) (word_at-lt_32 m (length m - 4) p) (word_at-lt_32 n (length n - 4) q) (xor_cancel_left a _ _ inside) in
     four_bytes m n p q len low high words.1 words.0
 
-pub four64_in_seed : (s m : List ℕ) (x y : ℕ) → IsBytes m → length m ≤ 8 → x < 2 ^ 64 → y < 2 ^ 64 → four64 x s m ≡ four64 y s m → x ≡ y
-unfolding four64
+pub four64_in_seed : (s m : List ℕ) (x y : ℕ) → IsBytes m → length m ≤ 8 → x < 2 ^ 64 → y < 2 ^ 64 → value64_4_to_8 x s m ≡ value64_4_to_8 y s m → x ≡ y
+unfolding value64_4_to_8
 four64_in_seed s m x y p high bx by e =
     let words = four_words-lt m (length m - 4) 0 p in
     let inside = strong_one_to_one (length m) high _ _ (xor_lt 64 _ _ (mod-lt _ (pow_pos 64)) words) (xor_lt 64 _ _ (mod-lt _ (pow_pos 64)) words) e in
@@ -181,19 +181,19 @@ four_inside : ℕ → List ℕ → List ℕ → ℕ
 four_inside seed s m = bit_xor ((pair64 s 16 + mixed_seed seed) % 2 ^ 64) (first32 m + last32 m * 2 ^ 32)
 
 four_product_told : (s m n : List ℕ) (x y : ℕ) → IsBytes m → IsBytes n → length m ≡ length n → 4 ≤ length m → length m ≤ 8
-    → four128_low (four_product x s m) ≡ four128_low (four_product y s n)
-    → four128_high (four_product x s m) ≡ four128_high (four_product y s n) → four_inside x s m ≡ four_inside y s n
-unfolding four_product four_inside four_factor
+    → low_4_to_8 (product_4_to_8 x s m) ≡ low_4_to_8 (product_4_to_8 y s n)
+    → high_4_to_8 (product_4_to_8 x s m) ≡ high_4_to_8 (product_4_to_8 y s n) → four_inside x s m ≡ four_inside y s n
+unfolding product_4_to_8 four_inside four_factor
 four_product_told s m n x y p q len low high e f =
     let odd = factor_back (length m) low high in
     let b = four_inside y s n in
     four128_one_to_one (four_factor (length m)) odd.0 odd.1 _ b (xor_lt 64 _ _ (mod-lt _ (pow_pos 64)) (four_words-lt m 0 (length m - 4) p))
     (xor_lt 64 _ _ (mod-lt _ (pow_pos 64)) (four_words-lt n 0 (length n - 4) q))
-    (e ∙ ap (λ (k : ℕ). four128_low (b * four_factor k)) (sym len)) (f ∙ ap (λ (k : ℕ). four128_high (b * four_factor k)) (sym len))
+    (e ∙ ap (λ (k : ℕ). low_4_to_8 (b * four_factor k)) (sym len)) (f ∙ ap (λ (k : ℕ). high_4_to_8 (b * four_factor k)) (sym len))
 
 pub four128_told : (seed : ℕ) (s m n : List ℕ) → IsBytes m → IsBytes n → length m ≡ length n → 4 ≤ length m → length m ≤ 8
-    → four128_low (four_product seed s m) ≡ four128_low (four_product seed s n)
-    → four128_high (four_product seed s m) ≡ four128_high (four_product seed s n) → m ≡ n
+    → low_4_to_8 (product_4_to_8 seed s m) ≡ low_4_to_8 (product_4_to_8 seed s n)
+    → high_4_to_8 (product_4_to_8 seed s m) ≡ high_4_to_8 (product_4_to_8 seed s n) → m ≡ n
 unfolding four_inside
 four128_told seed s m n p q len low high e f =
     let inside = xor_cancel_left _ _ _ (four_product_told s m n seed seed p q len low high e f) in
@@ -201,8 +201,8 @@ four128_told seed s m n p q len low high e f =
     four_bytes m n p q len low high words.0 words.1
 
 pub four128_in_seed : (s m : List ℕ) (x y : ℕ) → IsBytes m → 4 ≤ length m → length m ≤ 8 → x < 2 ^ 64 → y < 2 ^ 64
-    → four128_low (four_product x s m) ≡ four128_low (four_product y s m)
-    → four128_high (four_product x s m) ≡ four128_high (four_product y s m) → x ≡ y
+    → low_4_to_8 (product_4_to_8 x s m) ≡ low_4_to_8 (product_4_to_8 y s m)
+    → high_4_to_8 (product_4_to_8 x s m) ≡ high_4_to_8 (product_4_to_8 y s m) → x ≡ y
 unfolding four_inside
 four128_in_seed s m x y p low high bx by e f =
     let sums : (pair64 s 16 + mixed_seed x) % 2 ^ 64 ≡ (pair64 s 16 + mixed_seed y) % 2 ^ 64 =
@@ -220,8 +220,8 @@ swap-lt x = omega arith
 same_halves_64 : (h l k r : ℕ) → l < 2 ^ 64 → r < 2 ^ 64 → h * 2 ^ 64 + l ≡ k * 2 ^ 64 + r → (h ≡ k) × (l ≡ r)
 same_halves_64 h l k r a b e = (omega arith, omega arith)
 
-second_word : (c v w : ℕ) → v < 2 ^ 64 → w < 2 ^ 64 → nine_high c v ≡ nine_high c w → v ≡ w
-unfolding nine_high
+second_word : (c v w : ℕ) → v < 2 ^ 64 → w < 2 ^ 64 → high_word_9_to_16 c v ≡ high_word_9_to_16 c w → v ≡ w
+unfolding high_word_9_to_16
 second_word c v w a b e =
     let vh = v / 2 ^ 32 * 2 ^ 32 in
     let vl = v % 2 ^ 32 * prime32_2 in
@@ -230,46 +230,46 @@ second_word c v w a b e =
     let sums : (vh + vl) % 2 ^ 64 ≡ (wh + wl) % 2 ^ 64 = omega arith in
     second_word_one_to_one v w a b sums
 
-nine_high-lt : (c v : ℕ) → nine_high c v < 2 ^ 64
-unfolding nine_high
-nine_high-lt c v = mod-lt _ (pow_pos 64)
+high_word_9_to_16-lt : (c v : ℕ) → high_word_9_to_16 c v < 2 ^ 64
+unfolding high_word_9_to_16
+high_word_9_to_16-lt c v = mod-lt _ (pow_pos 64)
 
-nine_low-lt : (c n : ℕ) → nine_low c n < 2 ^ 64
-unfolding nine_low
-nine_low-lt c n = mod-lt _ (pow_pos 64)
+low_word_9_to_16-lt : (c n : ℕ) → low_word_9_to_16 c n < 2 ^ 64
+unfolding low_word_9_to_16
+low_word_9_to_16-lt c n = mod-lt _ (pow_pos 64)
 
 -- from the number to the two words that went in
 both_words : (x y v w n : ℕ) → x < 2 ^ 64 → y < 2 ^ 64 → v < 2 ^ 64 → w < 2 ^ 64
-    → nine_both (x * prime64_1) v n ≡ nine_both (y * prime64_1) w n → (x ≡ y) × (v ≡ w)
-unfolding nine_both nine_low
+    → both_words_9_to_16 (x * prime64_1) v n ≡ both_words_9_to_16 (y * prime64_1) w n → (x ≡ y) × (v ≡ w)
+unfolding both_words_9_to_16 low_word_9_to_16
 both_words x y v w n bx by bv bw e =
-    let hx = nine_high (x * prime64_1) v in
-    let hy = nine_high (y * prime64_1) w in
-    let lx = nine_low (x * prime64_1) n in
-    let ly = nine_low (y * prime64_1) n in
+    let hx = high_word_9_to_16 (x * prime64_1) v in
+    let hy = high_word_9_to_16 (y * prime64_1) w in
+    let lx = low_word_9_to_16 (x * prime64_1) n in
+    let ly = low_word_9_to_16 (y * prime64_1) n in
     let halves = same_halves_64 hx (bit_xor lx (swap_bytes w64 hx)) hy (bit_xor ly (swap_bytes w64 hy))
-    (xor_lt 64 lx _ (nine_low-lt (x * prime64_1) n) (swap-lt hx)) (xor_lt 64 ly _ (nine_low-lt (y * prime64_1) n) (swap-lt hy)) e in
+    (xor_lt 64 lx _ (low_word_9_to_16-lt (x * prime64_1) n) (swap-lt hx)) (xor_lt 64 ly _ (low_word_9_to_16-lt (y * prime64_1) n) (swap-lt hy)) e in
     let lows : lx ≡ ly = xor_cancel_right (swap_bytes w64 hy) lx ly (ap (λ (z : ℕ). bit_xor lx (swap_bytes w64 z)) (sym halves.0) ∙ halves.1) in
     let products : x * prime64_1 % 2 ^ 64 ≡ y * prime64_1 % 2 ^ 64 =
     sum_one_to_one_64 ((n - 1) * 2 ^ 54) _ _ (mod-lt (x * prime64_1) (pow_pos 64)) (mod-lt (y * prime64_1) (pow_pos 64)) lows in
     let firsts : x ≡ y = multiple_one_to_one prime64_1 0x887493432badb37 (2 ^ 64) refl x y bx by products in
-    let highs : nine_high (y * prime64_1) v ≡ hy = ap (λ (z : ℕ). nine_high (z * prime64_1) v) (sym firsts) ∙ halves.0 in
+    let highs : high_word_9_to_16 (y * prime64_1) v ≡ hy = ap (λ (z : ℕ). high_word_9_to_16 (z * prime64_1) v) (sym firsts) ∙ halves.0 in
     (firsts, second_word (y * prime64_1) v w bv bw highs)
 
-nine_first-lt : (seed : ℕ) (s m : List ℕ) → IsBytes m → nine_first seed s m < 2 ^ 64
-unfolding nine_first
-nine_first-lt seed s m p =
+first_9_to_16-lt : (seed : ℕ) (s m : List ℕ) → IsBytes m → first_9_to_16 seed s m < 2 ^ 64
+unfolding first_9_to_16
+first_9_to_16-lt seed s m p =
     xor_lt 64 _ _ (xor_lt 64 _ _ (mod-lt _ (pow_pos 64)) (word_at-lt_64 m 0 p)) (word_at-lt_64 m (length m - 8) p)
 
-nine_second-lt : (seed : ℕ) (s m : List ℕ) → IsBytes m → nine_second seed s m < 2 ^ 64
-unfolding nine_second
-nine_second-lt seed s m p = xor_lt 64 _ _ (mod-lt _ (pow_pos 64)) (word_at-lt_64 m (length m - 8) p)
+second_9_to_16-lt : (seed : ℕ) (s m : List ℕ) → IsBytes m → second_9_to_16 seed s m < 2 ^ 64
+unfolding second_9_to_16
+second_9_to_16-lt seed s m p = xor_lt 64 _ _ (mod-lt _ (pow_pos 64)) (word_at-lt_64 m (length m - 8) p)
 
-nine_both-lt : (p v n : ℕ) → nine_both p v n < 2 ^ 128
-unfolding nine_both
-nine_both-lt p v n =
-    let h = nine_high-lt p v in
-    let l = xor_lt 64 (nine_low p n) (swap_bytes w64 (nine_high p v)) (nine_low-lt p n) (swap-lt (nine_high p v)) in
+both_words_9_to_16-lt : (p v n : ℕ) → both_words_9_to_16 p v n < 2 ^ 128
+unfolding both_words_9_to_16
+both_words_9_to_16-lt p v n =
+    let h = high_word_9_to_16-lt p v in
+    let l = xor_lt 64 (low_word_9_to_16 p n) (swap_bytes w64 (high_word_9_to_16 p v)) (low_word_9_to_16-lt p n) (swap-lt (high_word_9_to_16 p v)) in
     omega arith
 
 -- both halves of the value give the product
@@ -282,22 +282,22 @@ product_back z y a b low high =
     omega arith
 
 nine_told : (s m n : List ℕ) (x y : ℕ) → IsBytes m → IsBytes n → length m ≡ length n
-    → avalanche (nine_product x s m % 2 ^ 64) ≡ avalanche (nine_product y s n % 2 ^ 64)
-    → avalanche (nine_product x s m / 2 ^ 64) ≡ avalanche (nine_product y s n / 2 ^ 64)
-    → (nine_first x s m ≡ nine_first y s n) × (nine_second x s m ≡ nine_second y s n)
-unfolding nine_product
+    → avalanche (product_9_to_16 x s m % 2 ^ 64) ≡ avalanche (product_9_to_16 y s n % 2 ^ 64)
+    → avalanche (product_9_to_16 x s m / 2 ^ 64) ≡ avalanche (product_9_to_16 y s n / 2 ^ 64)
+    → (first_9_to_16 x s m ≡ first_9_to_16 y s n) × (second_9_to_16 x s m ≡ second_9_to_16 y s n)
+unfolding product_9_to_16
 nine_told s m n x y p q len e f =
-    let products = product_back (nine_product x s m) (nine_product y s n) (mod-lt _ (pow_pos 128)) (mod-lt _ (pow_pos 128)) e f in
-    let both = wide_one_to_one _ _ (nine_both-lt (nine_first x s m * prime64_1) (nine_second x s m) (length m))
-    (nine_both-lt (nine_first y s n * prime64_1) (nine_second y s n) (length n)) products in
-    both_words (nine_first x s m) (nine_first y s n) (nine_second x s m) (nine_second y s n) (length m)
-    (nine_first-lt x s m p) (nine_first-lt y s n q) (nine_second-lt x s m p) (nine_second-lt y s n q)
-    (both ∙ ap (nine_both (nine_first y s n * prime64_1) (nine_second y s n)) (sym len))
+    let products = product_back (product_9_to_16 x s m) (product_9_to_16 y s n) (mod-lt _ (pow_pos 128)) (mod-lt _ (pow_pos 128)) e f in
+    let both = wide_one_to_one _ _ (both_words_9_to_16-lt (first_9_to_16 x s m * prime64_1) (second_9_to_16 x s m) (length m))
+    (both_words_9_to_16-lt (first_9_to_16 y s n * prime64_1) (second_9_to_16 y s n) (length n)) products in
+    both_words (first_9_to_16 x s m) (first_9_to_16 y s n) (second_9_to_16 x s m) (second_9_to_16 y s n) (length m)
+    (first_9_to_16-lt x s m p) (first_9_to_16-lt y s n q) (second_9_to_16-lt x s m p) (second_9_to_16-lt y s n q)
+    (both ∙ ap (both_words_9_to_16 (first_9_to_16 y s n * prime64_1) (second_9_to_16 y s n)) (sym len))
 
 pub nine128_told : (seed : ℕ) (s m n : List ℕ) → IsBytes m → IsBytes n → length m ≡ length n → 9 ≤ length m → length m ≤ 16
-    → avalanche (nine_product seed s m % 2 ^ 64) ≡ avalanche (nine_product seed s n % 2 ^ 64)
-    → avalanche (nine_product seed s m / 2 ^ 64) ≡ avalanche (nine_product seed s n / 2 ^ 64) → m ≡ n
-unfolding nine_first nine_second
+    → avalanche (product_9_to_16 seed s m % 2 ^ 64) ≡ avalanche (product_9_to_16 seed s n % 2 ^ 64)
+    → avalanche (product_9_to_16 seed s m / 2 ^ 64) ≡ avalanche (product_9_to_16 seed s n / 2 ^ 64) → m ≡ n
+unfolding first_9_to_16 second_9_to_16
 nine128_told seed s m n p q len low high e f =
     let words = nine_told s m n seed seed p q len e f in
     let key = (pair64 s 32 + (2 ^ 64 - seed)) % 2 ^ 64 in
@@ -308,9 +308,9 @@ nine128_told seed s m n p q len low high e f =
     (told_by_word_64 m n (length m - 8) (length n - 8) p q (omega arith) (omega arith) last)
 
 pub nine128_in_seed : (s m : List ℕ) (x y : ℕ) → IsBytes m → x < 2 ^ 64 → y < 2 ^ 64
-    → avalanche (nine_product x s m % 2 ^ 64) ≡ avalanche (nine_product y s m % 2 ^ 64)
-    → avalanche (nine_product x s m / 2 ^ 64) ≡ avalanche (nine_product y s m / 2 ^ 64) → x ≡ y
-unfolding nine_first
+    → avalanche (product_9_to_16 x s m % 2 ^ 64) ≡ avalanche (product_9_to_16 y s m % 2 ^ 64)
+    → avalanche (product_9_to_16 x s m / 2 ^ 64) ≡ avalanche (product_9_to_16 y s m / 2 ^ 64) → x ≡ y
+unfolding first_9_to_16
 nine128_in_seed s m x y p bx by e f =
     let words = nine_told s m m x y p p refl e f in
     difference_one_to_one (pair64 s 32) x y bx by (xor_cancel_right (first64 m) _ _ (xor_cancel_right (last64 m) _ _ words.0))

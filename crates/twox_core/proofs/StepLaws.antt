@@ -9,7 +9,7 @@ use Rattle.twox_plain.proofs.Rotations.{rotated, rotated-lt, rotated-xor, rotate
 use Rattle.twox_plain.proofs.OneToOne.{IsOneToOne, then_one_to_one, xor_cancel_right, xor_shift_told, xor_shift_one_to_one, xor_shift-lt, multiple_one_to_one, rotated_one_to_one, avalanche_told}
 use Rattle.twox_core.specs.Primes.{prime64_2, prime64_3, prime_mx1, prime_mx2, prime32_2}
 use Rattle.twox_core.specs.Steps.{avalanche, avalanche_xxh64}
-use Rattle.twox_core.specs.Short.{xor_rotated, strong, mixed_seed, four_sum, four_xored, four128_low, four128_high}
+use Rattle.twox_core.specs.Short.{xor_rotated, strong, mixed_seed, sum_4_to_8, xor_4_to_8, low_4_to_8, high_4_to_8}
 
 product-lt : (x p : ℕ) → x * p % 2 ^ 64 < 2 ^ 64
 product-lt x p = mod-lt (x * p) (pow_pos 64)
@@ -149,19 +149,19 @@ difference_one_to_one c x y p q e = omega arith
 -- ---- 4 to 8 bytes at 128 bits: both halves come from the full product of x and an odd factor
 
 pub four128_one_to_one : (p q : ℕ) → p * q % 2 ^ 64 ≡ 1 → (x y : ℕ) → x < 2 ^ 64 → y < 2 ^ 64
-    → four128_low (x * p) ≡ four128_low (y * p) → four128_high (x * p) ≡ four128_high (y * p) → x ≡ y
-unfolding four128_low four128_high
+    → low_4_to_8 (x * p) ≡ low_4_to_8 (y * p) → high_4_to_8 (x * p) ≡ high_4_to_8 (y * p) → x ≡ y
+unfolding low_4_to_8 high_4_to_8
 four128_one_to_one p q odd x y bx by low high =
-    let sx : four_sum (x * p) < 2 ^ 64 = mod-lt _ (pow_pos 64) in
-    let sy : four_sum (y * p) < 2 ^ 64 = mod-lt _ (pow_pos 64) in
-    let hx : four_xored (x * p) < 2 ^ 64 = xor_lt 64 (x * p % 2 ^ 64) (four_sum (x * p) / 2 ^ 3) (product-lt x p) (omega arith) in
-    let hy : four_xored (y * p) < 2 ^ 64 = xor_lt 64 (y * p % 2 ^ 64) (four_sum (y * p) / 2 ^ 3) (product-lt y p) (omega arith) in
-    let sums : four_sum (x * p) ≡ four_sum (y * p) = avalanche_one_to_one _ _ sx sy high in
+    let sx : sum_4_to_8 (x * p) < 2 ^ 64 = mod-lt _ (pow_pos 64) in
+    let sy : sum_4_to_8 (y * p) < 2 ^ 64 = mod-lt _ (pow_pos 64) in
+    let hx : xor_4_to_8 (x * p) < 2 ^ 64 = xor_lt 64 (x * p % 2 ^ 64) (sum_4_to_8 (x * p) / 2 ^ 3) (product-lt x p) (omega arith) in
+    let hy : xor_4_to_8 (y * p) < 2 ^ 64 = xor_lt 64 (y * p % 2 ^ 64) (sum_4_to_8 (y * p) / 2 ^ 3) (product-lt y p) (omega arith) in
+    let sums : sum_4_to_8 (x * p) ≡ sum_4_to_8 (y * p) = avalanche_one_to_one _ _ sx sy high in
     let e3 = xor_shift_told 28 _ _ (lit≤ tt) low in
     let e2 = multiple_one_to_one prime_mx2 0x2ab9c720d1024ad (2 ^ 64) refl _ _ (xor_shift-lt 64 35 _ hx) (xor_shift-lt 64 35 _ hy) e3 in
-    let e1 : four_xored (x * p) ≡ four_xored (y * p) = xor_shift_told 35 _ _ (lit≤ tt) e2 in
+    let e1 : xor_4_to_8 (x * p) ≡ xor_4_to_8 (y * p) = xor_shift_told 35 _ _ (lit≤ tt) e2 in
     let e0 : x * p % 2 ^ 64 ≡ y * p % 2 ^ 64 =
-    xor_cancel_right (four_sum (y * p) / 2 ^ 3) _ _ (ap (λ (z : ℕ). bit_xor (x * p % 2 ^ 64) (z / 2 ^ 3)) (sym sums) ∙ e1) in
+    xor_cancel_right (sum_4_to_8 (y * p) / 2 ^ 3) _ _ (ap (λ (z : ℕ). bit_xor (x * p % 2 ^ 64) (z / 2 ^ 3)) (sym sums) ∙ e1) in
     multiple_one_to_one p q (2 ^ 64) odd x y bx by e0
 
 -- ---- 9 to 16 bytes at 128 bits

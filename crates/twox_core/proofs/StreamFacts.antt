@@ -1,87 +1,65 @@
 -- A stream follows the list of its pieces, joined.
-use Rattle.std.proofs.Common.{◌≡◌, ℕ, zero, suc, ◌+◌, ◌-◌, ◌*◌, ◌/◌, ◌^◌, ◌<◌, ◌≤◌, min, nat_le, nat_lt, if◌then◌else◌, Bool, true, false, List, [], ◌++◌, length, take, drop, refl, sym, ap, ◌∙◌, arith, lit<, length-append, length-drop}
+use Rattle.std.proofs.Common.{◌≡◌, ℕ, zero, suc, ◌+◌, ◌-◌, ◌*◌, ◌/◌, ◌%◌, ◌^◌, ◌<◌, ◌≤◌, min, nat_le, nat_lt, if◌then◌else◌, Bool, true, false, List, [], ◌++◌, length, take, drop, refl, sym, ap, ◌∙◌, arith, lit<, length-append, length-drop}
 use Rattle.std.proofs.Math.Seq.{take-append-add, drop-append-add}
 use Rattle.std.proofs.lemmas.Bool.Decides.{nat_tests}
 use Rattle.std.proofs.lemmas.List.{append-nil, append_assoc, drop-append-le, take-append-le, drop-drop, drop-take, drop_all, drop_at, take_at, take_all, length-take-le, take-append-drop}
 use Rattle.twox_plain.specs.Word.{counted}
 use Rattle.twox_core.specs.Secret.{default_secret}
 use Rattle.twox_core.specs.Long.{stripes_of}
-use Rattle.twox_core.specs.Stripes.{stripes_taken}
-use Rattle.twox_core.specs.Ending.{lanes_after, stream_lanes, stream_block, last_stripe}
-use Rattle.twox_core.specs.Held.{Held}
-use Rattle.twox_core.specs.Core.{Core, total_of, done_of, buffered_of}
-use Rattle.twox_core.specs.Written.{fresh, in_place, restarted, written_through, written_state, written}
-use Rattle.twox_core.specs.Finished.{last_bytes, buffered_bytes, stripes_left, end_lanes, end_block, finished_state, finished}
-use Rattle.twox_core.specs.Stands.{Holds, Late, Follows, StandsFor, IsCopy}
-use Rattle.twox_core.specs.declared.xxhash3.streaming.stripes.StripeAccumulator.{StripeAccumulator}
+use Rattle.twox_core.specs.Stripes.{after_stripes}
+use Rattle.twox_core.specs.Ending.{accumulators_after, stream_accumulators, stream_block, last_stripe}
+use Rattle.twox_core.specs.StreamKey.{StreamKey}
+use Rattle.twox_core.specs.CoreView.{CoreView, total_of, done_of, buffered_of}
+use Rattle.twox_core.specs.AfterWrite.{after_taking, empty_state, stripes_in_place, after_rest, after_long_piece, state_after_write, core_after_write}
+use Rattle.twox_core.specs.Finish.{last_bytes, buffered_bytes, stripes_left, end_accumulators, end_block, state_finish, core_finish}
+use Rattle.twox_core.specs.StandsFor.{Holds, LeavesLast, Follows, StandsFor, IsCopy}
+use Rattle.twox_core.specs.declared.xxhash3.streaming.taken_stripes.TakenStripes.{TakenStripes}
 use Rattle.twox_core.specs.declared.xxhash3.streaming.core_state.CoreState.{CoreState}
-use Rattle.twox_core.proofs.StripeFacts.{folded_none, folded_more, folded_longer}
+use Rattle.twox_core.proofs.StripeFacts.{folded_more}
+use Rattle.twox_core.proofs.TakenFacts.{took_none, took_longer, took_more}
 
 -- ---- a piece that the buffer has room for
 
-drop_past : (p q b : List ℕ) (w n : ℕ) → length p ≡ w → w ≤ n → q ≡ drop w b → drop n (p ++ q) ≡ drop n b
-drop_past p q b w n len fits e =
-    let there : length p + (n - w) ≡ n = omega arith in
-    let back : w + (n - w) ≡ n = omega arith in
-    rw there at (drop-append-add p q (n - w)) ∙ rw e (rw back at (drop-drop (n - w) w b))
-
-holds_added : (s m d b : List ℕ) (k u : ℕ) (a : StripeAccumulator) → Holds s m k a b u → length b ≡ 256 → u + length d ≤ 256
-    → Holds s (m ++ d) k a (take u b ++ (d ++ drop (length d) (drop u b))) (u + length d)
-holds_added s m d b k u a held size fits =
+holds_added : (s m d b : List ℕ) (k u : ℕ) (t : TakenStripes) → Holds s m k t b u → length b ≡ 512 → u + length d ≤ 512
+    → Holds s (m ++ d) k t (take u b ++ (d ++ drop (length d) (drop u b))) (u + length d)
+holds_added s m d b k u t held size fits =
     let all = held.all in
     let front : length (take u b) ≡ u = length-take-le u b (omega arith) in
-    let taken : take (length (take u b) + length d) (take u b ++ (d ++ drop (length d) (drop u b))) ≡ take u b ++ d =
+    let placed : take (length (take u b) + length d) (take u b ++ (d ++ drop (length d) (drop u b))) ≡ take u b ++ d =
     take-append-add (take u b) (d ++ drop (length d) (drop u b)) (length d) ∙ ap (λ (x : List ℕ). take u b ++ x) (take_at d (drop (length d) (drop u b)) (length d) refl) in
-    let same : (take u b ++ d) ++ drop (u + length d) b ≡ take u b ++ (d ++ drop (length d) (drop u b)) =
-    append_assoc (take u b) d (drop (u + length d) b) ∙ ap (λ (x : List ℕ). take u b ++ (d ++ x)) (sym (drop-drop (length d) u b)) in
     record {
-      folded = folded_longer s m d k a held.folded (omega arith);
+      taken = took_longer s m d k t held.taken (omega arith);
       all = omega (arith, length-append m d);
-      bytes = rw front at taken ∙ ap (λ (x : List ℕ). x ++ d) held.bytes ∙ sym (drop-append-le (64 * k) m d (omega arith));
-      tail = λ few some.
-          rw same at (drop_past (take u b ++ d) (drop (u + length d) b) b (u + length d) 192 (omega (arith, front, length-append (take u b) d)) (omega arith) refl)
-          ∙ held.tail (omega arith) some
-          ∙ sym (rw (drop-append-le (64 * k - 64) m d (omega arith)) (take-append-le 64 (drop (64 * k - 64) m) d (omega (arith, length-drop (64 * k - 64) m))));
+      bytes = rw front at placed ∙ ap (λ (x : List ℕ). x ++ d) held.bytes ∙ sym (drop-append-le (64 * k) m d (omega arith));
     }
 
--- ---- a full buffer
+-- ---- buffered bytes that are whole stripes
 
-holds_emptied : (s m b : List ℕ) (k : ℕ) (a : StripeAccumulator) → 0 < stripes_of s → Holds s m k a b 256 → length b ≡ 256
-    → Holds s m (k + 4) (stripes_taken s a b 4) b 0
-holds_emptied s m b k a some held size =
+holds_emptied : (s m b : List ℕ) (k u : ℕ) (t : TakenStripes) → 0 < stripes_of s → Holds s m k t b u → u ≤ length b → 64 * (u / 64) ≡ u
+    → Holds s m (k + u / 64) (after_taking s t (take u b) (u / 64)) b 0
+holds_emptied s m b k u t some held fits whole =
     let all = held.all in
-    let whole : b ≡ drop (64 * k) m = sym (take_all 256 b (omega arith)) ∙ held.bytes in
-    let place : 64 * (k + 4) - 64 ≡ 64 * k + 192 = omega arith in
     record {
-      folded = folded_more s m b [] k 4 a some held.folded (sym whole ∙ sym (append-nil b)) (omega arith);
+      taken = took_more s m (take u b) [] k (u / 64) t some held.taken (sym held.bytes ∙ sym (append-nil (take u b))) (omega (arith, length-take-le u b fits));
       all = omega arith;
-      bytes = sym (drop_all (64 * (k + 4)) m (omega arith));
-      tail = λ _ _.
-          ap (drop 192) whole ∙ drop-drop 192 (64 * k) m
-          ∙ rw place (sym (take_all 64 (drop (64 * k + 192) m) (omega (arith, length-drop (64 * k + 192) m))));
+      bytes = sym (drop_all (64 * (k + u / 64)) m (omega arith));
     }
 
--- ---- a piece that finds the buffer empty
+-- ---- bytes that find the buffer empty
 
-holds_restarted : (s m r b : List ℕ) (k n : ℕ) (a : StripeAccumulator) → 0 < stripes_of s → Holds s m k a b 0 → length b ≡ 256 → n ≡ in_place (length r)
-    → Holds s (m ++ r) (k + n) (stripes_taken s a r n) (drop (64 * n) r ++ drop (length r - 64 * n) b) (length r - 64 * n)
-holds_restarted s m r b k n a some held size count =
+holds_rest : (s m r b : List ℕ) (k n : ℕ) (t : TakenStripes) → 0 < stripes_of s → Holds s m k t b 0 → n ≡ stripes_in_place (length r)
+    → Holds s (m ++ r) (k + n) (after_taking s t r n) (drop (64 * n) r ++ drop (length r - 64 * n) b) (length r - 64 * n)
+holds_rest s m r b k n t some held count =
     let all = held.all in
     let here : drop (64 * k) (m ++ r) ≡ r = drop_at m r (64 * k) (omega arith) in
     let left : length (drop (64 * n) r) ≡ length r - 64 * n = length-drop (64 * n) r in
     let place : 64 * (k + n) ≡ 64 * k + 64 * n = omega arith in
     record {
-      folded = folded_more s (m ++ r) r [] k n a some (folded_longer s m r k a held.folded (omega arith)) (here ∙ sym (append-nil r)) (omega arith);
+      taken = took_more s (m ++ r) r [] k n t some (took_longer s m r k t held.taken (omega arith)) (here ∙ sym (append-nil r)) (omega arith);
       all = omega (arith, length-append m r);
       bytes =
           take_at (drop (64 * n) r) (drop (length r - 64 * n) b) (length r - 64 * n) left
           ∙ rw place (ap (drop (64 * n)) (sym here) ∙ drop-drop (64 * n) (64 * k) (m ++ r));
-      tail = λ few late.
-          let none : n ≡ 0 = omega arith in
-          let same : k + n ≡ k = omega arith in
-          drop_past (drop (64 * n) r) (drop (length r - 64 * n) b) b (length r - 64 * n) 192 left (omega arith) refl
-          ∙ held.tail (lit< tt) (omega arith)
-          ∙ rw same (sym (rw (drop-append-le (64 * k - 64) m r (omega arith)) (take-append-le 64 (drop (64 * k - 64) m) r (omega (arith, length-drop (64 * k - 64) m)))));
     }
 
 -- ---- a write
@@ -89,52 +67,52 @@ holds_restarted s m r b k n a some held size count =
 counted_more : (t n : ℕ) (m d : List ℕ) → t ≡ counted (length m) → n ≡ min (t + length d) (2 ^ 64 - 1) → n ≡ counted (length (m ++ d))
 counted_more t n m d count sum = omega (arith, length-append m d)
 
-late_more : (m d : List ℕ) (k u : ℕ) → Late m k u → Late (m ++ d) k (u + length d)
-late_more m d k u held = record { left = λ some. omega (arith, held.left some); long = λ some. omega (arith, held.long some, length-append m d) }
+late_more : (m d : List ℕ) (k u : ℕ) → LeavesLast m k u → LeavesLast (m ++ d) k (u + length d)
+late_more m d k u late = record { left = λ some. omega (arith, late.left some); long = λ some. omega (arith, late.long some, length-append m d) }
 
-written_in : (b : Bool) (s m d : List ℕ) (c : CoreState) → nat_le (length d) (256 - c.buffer_usage) ≡ b → 0 < stripes_of s → length c.buffer ≡ 256 → c.buffer_usage ≤ 256
-    → Follows s c m → Follows s (written_state s c d) (m ++ d)
-unfolding Follows written_state written_through restarted
+written_in : (b : Bool) (s m d : List ℕ) (c : CoreState) → nat_le (length d) (512 - c.buffer_usage) ≡ b → 0 < stripes_of s → length c.buffer ≡ 512 → c.buffer_usage ≤ 512
+    → Follows s c m → Follows s (state_after_write s c d) (m ++ d)
+unfolding Follows state_after_write after_long_piece after_rest
 written_in true s m d c e some size within held =
-    let fits : length d ≤ 256 - c.buffer_usage = grind (arith, nat_tests, e) in
+    let fits : length d ≤ 512 - c.buffer_usage = grind (arith, nat_tests, e) in
     rw e (
       held.0,
       counted_more c.total_bytes _ m d held.1 refl,
-      held.2,
-      late_more m d held.0 c.buffer_usage held.3,
-      holds_added s m d c.buffer held.0 c.buffer_usage c.stripes held.4 size (omega arith),
+      late_more m d held.0 c.buffer_usage held.2,
+      holds_added s m d c.buffer held.0 c.buffer_usage c.taken held.3 size (omega arith),
     )
 written_in false s m d c e some size within held =
-    let more : 256 - c.buffer_usage < length d = grind (arith, nat_tests, e) in
+    let more : 512 - c.buffer_usage < length d = grind (arith, nat_tests, e) in
     let u = c.buffer_usage in
     let k = held.0 in
-    let head = take (256 - u) d in
-    let rest = drop (256 - u) d in
-    let n = in_place (length rest) in
-    let all = held.4.all in
-    let width : length head ≡ 256 - u = length-take-le (256 - u) d (omega arith) in
-    let left : length rest ≡ length d - (256 - u) = length-drop (256 - u) d in
-    let full : u + length head ≡ 256 = omega arith in
+    let part = (64 - u % 64) % 64 in
+    let head = take part d in
+    let rest = drop part d in
+    let n = stripes_in_place (length rest) in
+    let all = held.3.all in
+    let width : length head ≡ part = length-take-le part d (omega arith) in
+    let left : length rest ≡ length d - part = length-drop part d in
+    let whole : 64 * ((u + length head) / 64) ≡ u + length head = omega arith in
+    let fits : u + length head ≤ 512 = omega arith in
     let buffer = take u c.buffer ++ (head ++ drop (length head) (drop u c.buffer)) in
-    let wide : length buffer ≡ 256 = omega (arith, length-append (take u c.buffer) (head ++ drop (length head) (drop u c.buffer)), length-append head (drop (length head) (drop u c.buffer)), length-take-le u c.buffer (omega arith), length-drop (length head) (drop u c.buffer), length-drop u c.buffer) in
-    let filled : Holds s (m ++ head) k c.stripes buffer 256 = rw full at (holds_added s m head c.buffer k u c.stripes held.4 size (omega arith)) in
-    let taken = holds_restarted s (m ++ head) rest buffer (k + 4) n _ some (holds_emptied s (m ++ head) buffer k c.stripes some filled wide) wide refl in
-    let whole : (m ++ head) ++ rest ≡ m ++ d = append_assoc m head rest ∙ ap (λ (x : List ℕ). m ++ x) (take-append-drop (256 - u) d) in
+    let wide : length buffer ≡ 512 = omega (arith, length-append (take u c.buffer) (head ++ drop (length head) (drop u c.buffer)), length-append head (drop (length head) (drop u c.buffer)), length-take-le u c.buffer (omega arith), length-drop (length head) (drop u c.buffer), length-drop u c.buffer) in
+    let filled = holds_added s m head c.buffer k u c.taken held.3 size fits in
+    let taken = holds_rest s (m ++ head) rest buffer (k + (u + length head) / 64) n _ some (holds_emptied s (m ++ head) buffer k (u + length head) c.taken some filled (omega arith) whole) refl in
+    let joined : (m ++ head) ++ rest ≡ m ++ d = append_assoc m head rest ∙ ap (λ (x : List ℕ). m ++ x) (take-append-drop part d) in
     rw e (
-      k + 4 + n,
+      k + (u + length head) / 64 + n,
       counted_more c.total_bytes _ m d held.1 refl,
-      rw held.2 (omega arith),
       record { left = λ _. omega arith; long = λ _. omega (arith, length-append m d) },
-      rw whole at taken,
+      rw joined at taken,
     )
 
-written_follows : (s m d : List ℕ) (c : CoreState) → 0 < stripes_of s → length c.buffer ≡ 256 → c.buffer_usage ≤ 256
-    → Follows s c m → Follows s (written_state s c d) (m ++ d)
-written_follows s m d c some size within held = written_in (nat_le (length d) (256 - c.buffer_usage)) s m d c refl some size within held
+written_follows : (s m d : List ℕ) (c : CoreState) → 0 < stripes_of s → length c.buffer ≡ 512 → c.buffer_usage ≤ 512
+    → Follows s c m → Follows s (state_after_write s c d) (m ++ d)
+written_follows s m d c some size within held = written_in (nat_le (length d) (512 - c.buffer_usage)) s m d c refl some size within held
 
 -- ---- the end
 
-no_stripes : (k n : ℕ) → (0 < k → 256 < n) → n ≤ 240 → k ≡ 0
+no_stripes : (k n : ℕ) → (0 < k → 512 < n) → n ≤ 240 → k ≡ 0
 no_stripes zero n late short = refl
 no_stripes (suc k) n late short = absurd (omega (arith, late (omega arith)))
 
@@ -149,65 +127,65 @@ follows_count s m c held = held.1
 short_bytes : (s m : List ℕ) (c : CoreState) → Follows s c m → length m ≤ 240 → take c.total_bytes c.buffer ≡ m
 unfolding Follows
 short_bytes s m c held short =
-    let none : held.0 ≡ 0 = no_stripes held.0 (length m) held.3.long short in
-    let all = held.4.all in
+    let none : held.0 ≡ 0 = no_stripes held.0 (length m) held.2.long short in
+    let all = held.3.all in
     let used : c.total_bytes ≡ c.buffer_usage = omega (arith, held.1) in
     let start : 64 * held.0 ≡ 0 = omega arith in
-    rw used (held.4.bytes ∙ rw start refl)
+    rw used (held.3.bytes ∙ rw start refl)
 
-end_lanes_follow : (s m : List ℕ) (c : CoreState) → 0 < stripes_of s → length c.buffer ≡ 256 → c.buffer_usage ≤ 256
-    → Follows s c m → 240 < length m → end_lanes s c ≡ stream_lanes s m
-unfolding Follows end_lanes stream_lanes lanes_after
-end_lanes_follow s m c some size within held long =
+end_accumulators_follow : (s m : List ℕ) (c : CoreState) → 0 < stripes_of s → length c.buffer ≡ 512 → c.buffer_usage ≤ 512
+    → Follows s c m → 240 < length m → end_accumulators s c ≡ stream_accumulators s m
+unfolding Follows end_accumulators stream_accumulators accumulators_after
+end_accumulators_follow s m c some size within held long =
     let k = held.0 in
     let n = stripes_left c in
-    let all = held.4.all in
-    let left = some_left k c.buffer_usage held.3.left (omega arith) in
+    let all = held.3.all in
+    let left = some_left k c.buffer_usage held.2.left (omega arith) in
     let last : k + n ≡ (length m - 1) / 64 = omega arith in
     let width : length (buffered_bytes c) ≡ c.buffer_usage = length-take-le c.buffer_usage c.buffer (omega arith) in
-    let done = folded_more s m (buffered_bytes c) [] k n c.stripes some held.4.folded (sym held.4.bytes ∙ sym (append-nil (buffered_bytes c))) (omega arith) in
-    rw (sym last) done.lanes
+    let done = folded_more s m (buffered_bytes c) [] k n c.taken.stripes some held.3.taken.stripes (sym held.3.bytes ∙ sym (append-nil (buffered_bytes c))) (omega arith) in
+    rw (sym last) done.accumulators
 
 end_block_follows : (s m : List ℕ) (c : CoreState) → Follows s c m → 240 < length m → end_block c ≡ stream_block m
 unfolding Follows end_block stream_block
 end_block_follows s m c held long =
     let k = held.0 in
     let n = stripes_left c in
-    let all = held.4.all in
-    let left = some_left k c.buffer_usage held.3.left (omega arith) in
+    let all = held.3.all in
+    let left = some_left k c.buffer_usage held.2.left (omega arith) in
     let last : 64 * k + 64 * n ≡ 64 * ((length m - 1) / 64) = omega arith in
-    ap (drop (64 * n)) held.4.bytes ∙ drop-drop (64 * n) (64 * k) m ∙ rw last refl
+    ap (drop (64 * n)) held.3.bytes ∙ drop-drop (64 * n) (64 * k) m ∙ rw last refl
 
-last_in : (b : Bool) (s m buffer : List ℕ) (k u : ℕ) (a : StripeAccumulator) → nat_lt u 64 ≡ b → Holds s m k a buffer u → 64 ≤ length m → last_bytes buffer u ≡ last_stripe m
+last_in : (b : Bool) (s m buffer : List ℕ) (k u : ℕ) (t : TakenStripes) → nat_lt u 64 ≡ b → Holds s m k t buffer u → 64 ≤ length m → last_bytes t.last buffer u ≡ last_stripe m
 unfolding last_bytes last_stripe
-last_in true s m buffer k u a e held long =
+last_in true s m buffer k u t e held long =
     let few : u < 64 = grind (arith, nat_tests, e) in
     let all = held.all in
     let some : 0 < k = omega arith in
-    let kept : drop (192 + u) buffer ≡ take (64 - u) (drop (length m - 64) m) =
+    let kept : drop u t.last ≡ take (64 - u) (drop (length m - 64) m) =
     let there : 64 * k - 64 + u ≡ length m - 64 = omega arith in
     let width : u + (64 - u) ≡ 64 = omega arith in
-    sym (drop-drop u 192 buffer) ∙ ap (drop u) (held.tail few some)
+    ap (drop u) (held.taken.last some)
     ∙ rw width at (drop-take u (64 - u) (drop (64 * k - 64) m))
     ∙ ap (take (64 - u)) (drop-drop u (64 * k - 64) m ∙ rw there refl) in
     let rest : take u buffer ≡ drop (64 - u) (drop (length m - 64) m) =
     let there : length m - 64 + (64 - u) ≡ 64 * k = omega arith in
     held.bytes ∙ sym (drop-drop (64 - u) (length m - 64) m ∙ rw there refl) in
     rw (e, kept, rest) (take-append-drop (64 - u) (drop (length m - 64) m))
-last_in false s m buffer k u a e held long =
+last_in false s m buffer k u t e held long =
     let many : 64 ≤ u = grind (arith, nat_tests, e) in
     let all = held.all in
     let width : u - 64 + 64 ≡ u = omega arith in
     let there : 64 * k + (u - 64) ≡ length m - 64 = omega arith in
     rw e (sym (rw width at (drop-take (u - 64) 64 buffer)) ∙ ap (drop (u - 64)) held.bytes ∙ drop-drop (u - 64) (64 * k) m ∙ rw there refl)
 
-end_stripe_follows : (s m : List ℕ) (c : CoreState) → Follows s c m → 240 < length m → last_bytes c.buffer c.buffer_usage ≡ last_stripe m
+end_stripe_follows : (s m : List ℕ) (c : CoreState) → Follows s c m → 240 < length m → last_bytes c.taken.last c.buffer c.buffer_usage ≡ last_stripe m
 unfolding Follows
-end_stripe_follows s m c held long = last_in (nat_lt c.buffer_usage 64) s m c.buffer held.0 c.buffer_usage c.stripes refl held.4 (omega arith)
+end_stripe_follows s m c held long = last_in (nat_lt c.buffer_usage 64) s m c.buffer held.0 c.buffer_usage c.taken refl held.3 (omega arith)
 
 -- ---- what the core's clauses say
 
-pub stands_fresh : {S : Type 0} (bytes : S → List ℕ) (h : Held S) → StandsFor bytes (record { held = h; state = fresh }) h.seed (bytes h.secret) []
+pub stands_fresh : {S : Type 0} (bytes : S → List ℕ) (h : StreamKey S) → StandsFor bytes (record { key = h; state = empty_state }) h.seed (bytes h.secret) []
 unfolding StandsFor Follows
 stands_fresh bytes h = (
   refl,
@@ -215,65 +193,64 @@ stands_fresh bytes h = (
   (
     0,
     refl,
-    refl,
     record { left = λ some. absurd (omega (arith, some)); long = λ some. absurd (omega (arith, some)) },
-    record { folded = folded_none (bytes h.secret) []; all = refl; bytes = refl; tail = λ _ some. absurd (omega (arith, some)) },
+    record { taken = took_none (bytes h.secret) []; all = refl; bytes = refl },
   ),
 )
 
-pub stands_written : {S : Type 0} (bytes : S → List ℕ) (h : Core S) (seed : ℕ) (s m d : List ℕ)
-    → 0 < stripes_of (bytes h.held.secret) → length h.state.buffer ≡ 256 → h.state.buffer_usage ≤ 256
-    → StandsFor bytes h seed s m → StandsFor bytes (written bytes h d) seed s (m ++ d)
-unfolding StandsFor written
+pub stands_written : {S : Type 0} (bytes : S → List ℕ) (h : CoreView S) (seed : ℕ) (s m d : List ℕ)
+    → 0 < stripes_of (bytes h.key.secret) → length h.state.buffer ≡ 512 → h.state.buffer_usage ≤ 512
+    → StandsFor bytes h seed s m → StandsFor bytes (core_after_write bytes h d) seed s (m ++ d)
+unfolding StandsFor core_after_write
 stands_written bytes h seed s m d some size within held =
     (held.0, held.1, rw held.1 (written_follows s m d h.state (rw held.1 at some) size within held.2))
 
-pub stands_count : {S : Type 0} (bytes : S → List ℕ) (h : Core S) (seed : ℕ) (s m : List ℕ) → StandsFor bytes h seed s m → total_of h ≡ counted (length m)
+pub stands_count : {S : Type 0} (bytes : S → List ℕ) (h : CoreView S) (seed : ℕ) (s m : List ℕ) → StandsFor bytes h seed s m → total_of h ≡ counted (length m)
 unfolding StandsFor
 stands_count bytes h seed s m held = follows_count s m h.state held.2
 
-pub stands_none : {S : Type 0} (bytes : S → List ℕ) (h : Core S) (seed : ℕ) (s : List ℕ) → StandsFor bytes h seed s [] → buffered_of h ≡ 0
+pub stands_none : {S : Type 0} (bytes : S → List ℕ) (h : CoreView S) (seed : ℕ) (s : List ℕ) → StandsFor bytes h seed s [] → buffered_of h ≡ 0
 unfolding StandsFor Follows
-stands_none bytes h seed s held = omega (arith, held.2.4.all)
+stands_none bytes h seed s held = omega (arith, held.2.3.all)
 
-pub stands_some : {S : Type 0} (bytes : S → List ℕ) (h : Core S) (seed : ℕ) (s m : List ℕ) → StandsFor bytes h seed s m → 0 < length m → 0 < buffered_of h
+pub stands_some : {S : Type 0} (bytes : S → List ℕ) (h : CoreView S) (seed : ℕ) (s m : List ℕ) → StandsFor bytes h seed s m → 0 < length m → 0 < buffered_of h
 unfolding StandsFor Follows
-stands_some bytes h seed s m held some = some_left held.2.0 h.state.buffer_usage held.2.3.left (omega (arith, held.2.4.all))
+stands_some bytes h seed s m held some = some_left held.2.0 h.state.buffer_usage held.2.2.left (omega (arith, held.2.3.all))
 
-pub stands_all : {S : Type 0} (bytes : S → List ℕ) (h : Core S) (seed : ℕ) (s m : List ℕ) → StandsFor bytes h seed s m → length m < 2 ^ 64
+pub stands_all : {S : Type 0} (bytes : S → List ℕ) (h : CoreView S) (seed : ℕ) (s m : List ℕ) → StandsFor bytes h seed s m → length m < 2 ^ 64
     → 64 * done_of h + buffered_of h ≡ length m
 unfolding StandsFor Follows
-stands_all bytes h seed s m held low = omega (arith, held.2.4.all, held.2.2)
+stands_all bytes h seed s m held low = omega (arith, held.2.3.all, held.2.3.taken.count)
 
-pub stands_secret : {S : Type 0} (bytes : S → List ℕ) (h : Core S) (seed : ℕ) (s m : List ℕ) → StandsFor bytes h seed s m → bytes h.held.secret ≡ s
+pub stands_secret : {S : Type 0} (bytes : S → List ℕ) (h : CoreView S) (seed : ℕ) (s m : List ℕ) → StandsFor bytes h seed s m → bytes h.key.secret ≡ s
 unfolding StandsFor
 stands_secret bytes h seed s m held = held.1
 
 finished_in : {R : Type 0} (b : Bool) (small : List ℕ → ℕ → List ℕ → R) (large : List ℕ → List ℕ → List ℕ → List ℕ → ℕ → R) (seed : ℕ) (s : List ℕ) (c : CoreState)
-    → nat_le c.total_bytes 240 ≡ b → finished_state small large seed s c
-    ≡ (if b then small default_secret seed (take c.total_bytes c.buffer) else large (end_lanes s c) (end_block c) (last_bytes c.buffer c.buffer_usage) s c.total_bytes)
-unfolding finished_state
+    → nat_le c.total_bytes 240 ≡ b → state_finish small large seed s c
+    ≡ (if b then small default_secret seed (take c.total_bytes c.buffer) else large (end_accumulators s c) (end_block c) (last_bytes c.taken.last c.buffer c.buffer_usage) s c.total_bytes)
+unfolding state_finish
 finished_in b small large seed s c e = rw e refl
 
-pub stands_finished_short : {S R : Type 0} (small : List ℕ → ℕ → List ℕ → R) (large : List ℕ → List ℕ → List ℕ → List ℕ → ℕ → R) (bytes : S → List ℕ) (h : Core S) (seed : ℕ) (s m : List ℕ)
-    → StandsFor bytes h seed s m → length m ≤ 240 → finished small large bytes h ≡ small default_secret seed m
-unfolding StandsFor finished
+pub stands_finished_short : {S R : Type 0} (small : List ℕ → ℕ → List ℕ → R) (large : List ℕ → List ℕ → List ℕ → List ℕ → ℕ → R) (bytes : S → List ℕ) (h : CoreView S) (seed : ℕ) (s m : List ℕ)
+    → StandsFor bytes h seed s m → length m ≤ 240 → core_finish small large bytes h ≡ small default_secret seed m
+unfolding StandsFor core_finish
 stands_finished_short small large bytes h seed s m held short =
     let test : nat_le h.state.total_bytes 240 ≡ true = grind (arith, nat_tests, follows_count s m h.state held.2) in
-    finished_in true small large h.held.seed (bytes h.held.secret) h.state test
+    finished_in true small large h.key.seed (bytes h.key.secret) h.state test
     ∙ rw (held.0, short_bytes s m h.state held.2 short) refl
 
-pub stands_finished_long : {S R : Type 0} (small : List ℕ → ℕ → List ℕ → R) (large : List ℕ → List ℕ → List ℕ → List ℕ → ℕ → R) (bytes : S → List ℕ) (h : Core S) (seed : ℕ) (s m : List ℕ)
-    → 0 < stripes_of (bytes h.held.secret) → length h.state.buffer ≡ 256 → h.state.buffer_usage ≤ 256
-    → StandsFor bytes h seed s m → 240 < length m → finished small large bytes h ≡ large (stream_lanes s m) (stream_block m) (last_stripe m) s (counted (length m))
-unfolding StandsFor finished
+pub stands_finished_long : {S R : Type 0} (small : List ℕ → ℕ → List ℕ → R) (large : List ℕ → List ℕ → List ℕ → List ℕ → ℕ → R) (bytes : S → List ℕ) (h : CoreView S) (seed : ℕ) (s m : List ℕ)
+    → 0 < stripes_of (bytes h.key.secret) → length h.state.buffer ≡ 512 → h.state.buffer_usage ≤ 512
+    → StandsFor bytes h seed s m → 240 < length m → core_finish small large bytes h ≡ large (stream_accumulators s m) (stream_block m) (last_stripe m) s (counted (length m))
+unfolding StandsFor core_finish
 stands_finished_long small large bytes h seed s m some size within held long =
     let test : nat_le h.state.total_bytes 240 ≡ false = grind (arith, nat_tests, follows_count s m h.state held.2) in
-    finished_in false small large h.held.seed (bytes h.held.secret) h.state test
-    ∙ rw (held.1, end_lanes_follow s m h.state (rw held.1 at some) size within held.2 long, end_block_follows s m h.state held.2 long, end_stripe_follows s m h.state held.2 long, follows_count s m h.state held.2) refl
+    finished_in false small large h.key.seed (bytes h.key.secret) h.state test
+    ∙ rw (held.1, end_accumulators_follow s m h.state (rw held.1 at some) size within held.2 long, end_block_follows s m h.state held.2 long, end_stripe_follows s m h.state held.2 long, follows_count s m h.state held.2) refl
 
 -- a copy
-pub stands_copied : {S : Type 0} (bytes : S → List ℕ) (a b : Core S) → b.held.seed ≡ a.held.seed → bytes b.held.secret ≡ bytes a.held.secret → b.state ≡ a.state
+pub stands_copied : {S : Type 0} (bytes : S → List ℕ) (a b : CoreView S) → b.key.seed ≡ a.key.seed → bytes b.key.secret ≡ bytes a.key.secret → b.state ≡ a.state
     → IsCopy bytes a b
 unfolding StandsFor
 stands_copied bytes a b seed secret state = record {

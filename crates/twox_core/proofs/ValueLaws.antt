@@ -6,34 +6,34 @@ use Rattle.std.proofs.lemmas.Grind.{same_number_lists}
 use Rattle.twox_plain.specs.Word.{IsBytes}
 use Rattle.twox_plain.proofs.OneToOne.{xor_shift-lt}
 use Rattle.twox_core.specs.Steps.{avalanche, avalanche_xxh64}
-use Rattle.twox_core.specs.Short.{empty64, empty128_low, empty128_high, combined, tiny_low, tiny_high, four64, four_product, four128_low, four128_high, nine_product}
-use Rattle.twox_core.specs.Long.{merged, long_low, long_high}
-use Rattle.twox_core.specs.Value.{Empty, Tiny, Four, Nine, Long, range_of, value64_in, low_in, high_in, xxh3_64, xxh3_128, effective_secret}
+use Rattle.twox_core.specs.Short.{value64_0, low_0, high_0, combined_bytes, low_1_to_3, high_1_to_3, value64_4_to_8, product_4_to_8, low_4_to_8, high_4_to_8, product_9_to_16}
+use Rattle.twox_core.specs.Long.{merge_accumulators, low_above_240, high_above_240}
+use Rattle.twox_core.specs.Value.{Bytes0, Bytes1To3, Bytes4To8, Bytes9To16, BytesAbove240, range_of, value64_in, low_in, high_in, xxh3_64, xxh3_128, effective_secret}
 use Rattle.twox_core.specs.Secret.{default_secret}
 use Rattle.twox_core.specs.OtherBytes.{IsOtherShort64, IsOtherShort128}
 use Rattle.twox_core.proofs.ShortLaws.{empty64_in_seed, empty128_in_seed, tiny_one_to_one, tiny_in_seed, four64_one_to_one, four64_in_seed, four128_told, four128_in_seed, nine128_told, nine128_in_seed}
 
 -- ---- the ranges of lengths
 
-range_empty : (n : ℕ) → n < 1 → range_of n ≡ Empty
+range_empty : (n : ℕ) → n < 1 → range_of n ≡ Bytes0
 unfolding range_of
 range_empty n high =
     let a : nat_lt n 1 ≡ true = grind (arith, nat_tests) in rw a refl
 
-range_tiny : (n : ℕ) → 1 ≤ n → n < 4 → range_of n ≡ Tiny
+range_tiny : (n : ℕ) → 1 ≤ n → n < 4 → range_of n ≡ Bytes1To3
 unfolding range_of
 range_tiny n low high =
     let a : nat_lt n 1 ≡ false = grind (arith, nat_tests) in
     let b : nat_lt n 4 ≡ true = grind (arith, nat_tests) in rw (a, b) refl
 
-range_four : (n : ℕ) → 4 ≤ n → n < 9 → range_of n ≡ Four
+range_four : (n : ℕ) → 4 ≤ n → n < 9 → range_of n ≡ Bytes4To8
 unfolding range_of
 range_four n low high =
     let a : nat_lt n 1 ≡ false = grind (arith, nat_tests) in
     let b : nat_lt n 4 ≡ false = grind (arith, nat_tests) in
     let c : nat_lt n 9 ≡ true = grind (arith, nat_tests) in rw (a, b, c) refl
 
-range_nine : (n : ℕ) → 9 ≤ n → n < 17 → range_of n ≡ Nine
+range_nine : (n : ℕ) → 9 ≤ n → n < 17 → range_of n ≡ Bytes9To16
 unfolding range_of
 range_nine n low high =
     let a : nat_lt n 1 ≡ false = grind (arith, nat_tests) in
@@ -41,9 +41,9 @@ range_nine n low high =
     let c : nat_lt n 9 ≡ false = grind (arith, nat_tests) in
     let d : nat_lt n 17 ≡ true = grind (arith, nat_tests) in rw (a, b, c, d) refl
 
-range_long : (n : ℕ) → 240 < n → range_of n ≡ Long
+range_above_240 : (n : ℕ) → 240 < n → range_of n ≡ BytesAbove240
 unfolding range_of
-range_long n low =
+range_above_240 n low =
     let a : nat_lt n 1 ≡ false = grind (arith, nat_tests) in
     let b : nat_lt n 4 ≡ false = grind (arith, nat_tests) in
     let c : nat_lt n 9 ≡ false = grind (arith, nat_tests) in
@@ -53,21 +53,21 @@ range_long n low =
 
 -- ---- 64 bits: the value of each range
 
-empty_64 : (seed : ℕ) (s m : List ℕ) → length m < 1 → xxh3_64 seed s m ≡ empty64 seed s
+empty_64 : (seed : ℕ) (s m : List ℕ) → length m < 1 → xxh3_64 seed s m ≡ value64_0 seed s
 unfolding xxh3_64 value64_in
 empty_64 seed s m high = rw (range_empty (length m) high) refl
 
-tiny_64 : (seed : ℕ) (s m : List ℕ) → 1 ≤ length m → length m < 4 → xxh3_64 seed s m ≡ tiny_low seed s (combined m)
+tiny_64 : (seed : ℕ) (s m : List ℕ) → 1 ≤ length m → length m < 4 → xxh3_64 seed s m ≡ low_1_to_3 seed s (combined_bytes m)
 unfolding xxh3_64 value64_in
 tiny_64 seed s m low high = rw (range_tiny (length m) low high) refl
 
-four_64 : (seed : ℕ) (s m : List ℕ) → 4 ≤ length m → length m < 9 → xxh3_64 seed s m ≡ four64 seed s m
+four_64 : (seed : ℕ) (s m : List ℕ) → 4 ≤ length m → length m < 9 → xxh3_64 seed s m ≡ value64_4_to_8 seed s m
 unfolding xxh3_64 value64_in
 four_64 seed s m low high = rw (range_four (length m) low high) refl
 
-long_64 : (seed : ℕ) (s m : List ℕ) → 240 < length m → xxh3_64 seed s m ≡ long_low s m
+long_64 : (seed : ℕ) (s m : List ℕ) → 240 < length m → xxh3_64 seed s m ≡ low_above_240 s m
 unfolding xxh3_64 value64_in
-long_64 seed s m low = rw (range_long (length m) low) refl
+long_64 seed s m low = rw (range_above_240 (length m) low) refl
 
 -- other bytes have another value
 pub changed_bytes_64 : (seed : ℕ) (s m n : List ℕ) → IsBytes m → IsOtherShort64 m n → xxh3_64 seed s n ≢ xxh3_64 seed s m
@@ -103,44 +103,44 @@ avalanche_xxh64-lt : (x : ℕ) → avalanche_xxh64 x < 2 ^ 64
 unfolding avalanche_xxh64
 avalanche_xxh64-lt x = xor_shift-lt 64 32 _ (mod-lt _ (pow_pos 64))
 
-empty_low-lt : (seed : ℕ) (s : List ℕ) → empty128_low seed s < 2 ^ 64
-unfolding empty128_low
+empty_low-lt : (seed : ℕ) (s : List ℕ) → low_0 seed s < 2 ^ 64
+unfolding low_0
 empty_low-lt seed s = avalanche_xxh64-lt _
 
-tiny_low-lt : (seed : ℕ) (s : List ℕ) (c : ℕ) → tiny_low seed s c < 2 ^ 64
-unfolding tiny_low
-tiny_low-lt seed s c = avalanche_xxh64-lt _
+low_1_to_3-lt : (seed : ℕ) (s : List ℕ) (c : ℕ) → low_1_to_3 seed s c < 2 ^ 64
+unfolding low_1_to_3
+low_1_to_3-lt seed s c = avalanche_xxh64-lt _
 
-four_low-lt : (p : ℕ) → four128_low p < 2 ^ 64
-unfolding four128_low
+four_low-lt : (p : ℕ) → low_4_to_8 p < 2 ^ 64
+unfolding low_4_to_8
 four_low-lt p = xor_shift-lt 64 28 _ (mod-lt _ (pow_pos 64))
 
-long_low-lt : (s m : List ℕ) → long_low s m < 2 ^ 64
-unfolding long_low merged
-long_low-lt s m = avalanche-lt _
+low_above_240-lt : (s m : List ℕ) → low_above_240 s m < 2 ^ 64
+unfolding low_above_240 merge_accumulators
+low_above_240-lt s m = avalanche-lt _
 
-empty_128 : (seed : ℕ) (s m : List ℕ) → length m < 1 → xxh3_128 seed s m ≡ empty128_high seed s * 2 ^ 64 + empty128_low seed s
+empty_128 : (seed : ℕ) (s m : List ℕ) → length m < 1 → xxh3_128 seed s m ≡ high_0 seed s * 2 ^ 64 + low_0 seed s
 unfolding xxh3_128 low_in high_in
 empty_128 seed s m high = rw (range_empty (length m) high) refl
 
 tiny_128 : (seed : ℕ) (s m : List ℕ) → 1 ≤ length m → length m < 4
-    → xxh3_128 seed s m ≡ tiny_high seed s (combined m) * 2 ^ 64 + tiny_low seed s (combined m)
+    → xxh3_128 seed s m ≡ high_1_to_3 seed s (combined_bytes m) * 2 ^ 64 + low_1_to_3 seed s (combined_bytes m)
 unfolding xxh3_128 low_in high_in
 tiny_128 seed s m low high = rw (range_tiny (length m) low high) refl
 
 four_128 : (seed : ℕ) (s m : List ℕ) → 4 ≤ length m → length m < 9
-    → xxh3_128 seed s m ≡ four128_high (four_product seed s m) * 2 ^ 64 + four128_low (four_product seed s m)
+    → xxh3_128 seed s m ≡ high_4_to_8 (product_4_to_8 seed s m) * 2 ^ 64 + low_4_to_8 (product_4_to_8 seed s m)
 unfolding xxh3_128 low_in high_in
 four_128 seed s m low high = rw (range_four (length m) low high) refl
 
 nine_128 : (seed : ℕ) (s m : List ℕ) → 9 ≤ length m → length m < 17
-    → xxh3_128 seed s m ≡ avalanche (nine_product seed s m / 2 ^ 64) * 2 ^ 64 + avalanche (nine_product seed s m % 2 ^ 64)
+    → xxh3_128 seed s m ≡ avalanche (product_9_to_16 seed s m / 2 ^ 64) * 2 ^ 64 + avalanche (product_9_to_16 seed s m % 2 ^ 64)
 unfolding xxh3_128 low_in high_in
 nine_128 seed s m low high = rw (range_nine (length m) low high) refl
 
-long_128 : (seed : ℕ) (s m : List ℕ) → 240 < length m → xxh3_128 seed s m ≡ long_high s m * 2 ^ 64 + long_low s m
+long_128 : (seed : ℕ) (s m : List ℕ) → 240 < length m → xxh3_128 seed s m ≡ high_above_240 s m * 2 ^ 64 + low_above_240 s m
 unfolding xxh3_128 low_in high_in
-long_128 seed s m low = rw (range_long (length m) low) refl
+long_128 seed s m low = rw (range_above_240 (length m) low) refl
 
 -- equal values have equal halves
 same_halves : (h l k r : ℕ) → l < 2 ^ 64 → r < 2 ^ 64 → h * 2 ^ 64 + l ≡ k * 2 ^ 64 + r → (l ≡ r) × (h ≡ k)
@@ -161,17 +161,17 @@ changed_bytes_128 seed s m n p apart e =
       | inl a ↦ apart.other (same_empty m n len a)
       | inr a ↦ elim (cases_lt (length m) 4) [
         | inl b ↦
-            let halves = same_halves _ _ _ _ (tiny_low-lt seed s (combined n)) (tiny_low-lt seed s (combined m))
+            let halves = same_halves _ _ _ _ (low_1_to_3-lt seed s (combined_bytes n)) (low_1_to_3-lt seed s (combined_bytes m))
             (sym (tiny_128 seed s n (omega arith) (omega arith)) ∙ e ∙ tiny_128 seed s m a b) in
             apart.other (tiny_one_to_one seed s n m apart.bytes p (omega arith) (omega arith) halves.0)
         | inr b ↦ elim (cases_lt (length m) 9) [
           | inl c ↦
-              let halves = same_halves _ _ _ _ (four_low-lt (four_product seed s n)) (four_low-lt (four_product seed s m))
+              let halves = same_halves _ _ _ _ (four_low-lt (product_4_to_8 seed s n)) (four_low-lt (product_4_to_8 seed s m))
               (sym (four_128 seed s n (omega arith) (omega arith)) ∙ e ∙ four_128 seed s m b c) in
               apart.other (four128_told seed s n m apart.bytes p len (omega arith) (omega arith) halves.0 halves.1)
           | inr c ↦
               let d : length m < 17 = omega arith in
-              let halves = same_halves _ _ _ _ (avalanche-lt (nine_product seed s n % 2 ^ 64)) (avalanche-lt (nine_product seed s m % 2 ^ 64))
+              let halves = same_halves _ _ _ _ (avalanche-lt (product_9_to_16 seed s n % 2 ^ 64)) (avalanche-lt (product_9_to_16 seed s m % 2 ^ 64))
               (sym (nine_128 seed s n (omega arith) (omega arith)) ∙ e ∙ nine_128 seed s m c d) in
               apart.other (nine128_told seed s n m apart.bytes p len (omega arith) (omega arith) halves.0 halves.1)
         ]
@@ -187,15 +187,15 @@ changed_seed_128 s m seed other p q small small' short differs e = elim (cases_l
       differs (empty128_in_seed s other seed p small' small halves.0)
   | inr a ↦ elim (cases_lt (length m) 4) [
     | inl b ↦
-        let halves = same_halves _ _ _ _ (tiny_low-lt other s (combined m)) (tiny_low-lt seed s (combined m)) (sym (tiny_128 other s m a b) ∙ e ∙ tiny_128 seed s m a b) in
+        let halves = same_halves _ _ _ _ (low_1_to_3-lt other s (combined_bytes m)) (low_1_to_3-lt seed s (combined_bytes m)) (sym (tiny_128 other s m a b) ∙ e ∙ tiny_128 seed s m a b) in
         differs (tiny_in_seed s m other seed q (omega arith) small' small halves.0)
     | inr b ↦ elim (cases_lt (length m) 9) [
       | inl c ↦
-          let halves = same_halves _ _ _ _ (four_low-lt (four_product other s m)) (four_low-lt (four_product seed s m)) (sym (four_128 other s m b c) ∙ e ∙ four_128 seed s m b c) in
+          let halves = same_halves _ _ _ _ (four_low-lt (product_4_to_8 other s m)) (four_low-lt (product_4_to_8 seed s m)) (sym (four_128 other s m b c) ∙ e ∙ four_128 seed s m b c) in
           differs (four128_in_seed s m other seed q b (omega arith) small' small halves.0 halves.1)
       | inr c ↦
           let d : length m < 17 = omega arith in
-          let halves = same_halves _ _ _ _ (avalanche-lt (nine_product other s m % 2 ^ 64)) (avalanche-lt (nine_product seed s m % 2 ^ 64))
+          let halves = same_halves _ _ _ _ (avalanche-lt (product_9_to_16 other s m % 2 ^ 64)) (avalanche-lt (product_9_to_16 seed s m % 2 ^ 64))
           (sym (nine_128 other s m c d) ∙ e ∙ nine_128 seed s m c d) in
           differs (nine128_in_seed s m other seed q small' small halves.0 halves.1)
     ]
@@ -207,13 +207,13 @@ pub low_half : (seed : ℕ) (s m : List ℕ) → ((1 ≤ length m) × (length m 
 low_half seed s m range = elim range [
   | inl tiny ↦
       let high : length m < 4 = omega (arith, tiny.1) in
-      ap (λ (x : ℕ). x % 2 ^ 64) (tiny_128 seed s m tiny.0 high) ∙ low_of _ _ (tiny_low-lt seed s (combined m)) ∙ sym (tiny_64 seed s m tiny.0 high)
-  | inr long ↦ ap (λ (x : ℕ). x % 2 ^ 64) (long_128 seed s m long) ∙ low_of _ _ (long_low-lt s m) ∙ sym (long_64 seed s m long)
+      ap (λ (x : ℕ). x % 2 ^ 64) (tiny_128 seed s m tiny.0 high) ∙ low_of _ _ (low_1_to_3-lt seed s (combined_bytes m)) ∙ sym (tiny_64 seed s m tiny.0 high)
+  | inr long ↦ ap (λ (x : ℕ). x % 2 ^ 64) (long_128 seed s m long) ∙ low_of _ _ (low_above_240-lt s m) ∙ sym (long_64 seed s m long)
 ]
 
-pub low_half_long : (seed value : ℕ) (own s m : List ℕ) → 240 < length m → own ≡ s → value ≡ long_high own m * 2 ^ 64 + long_low own m → value % 2 ^ 64 ≡ xxh3_64 seed s m
+pub low_half_long : (seed value : ℕ) (own s m : List ℕ) → 240 < length m → own ≡ s → value ≡ high_above_240 own m * 2 ^ 64 + low_above_240 own m → value % 2 ^ 64 ≡ xxh3_64 seed s m
 low_half_long seed value own s m long same told =
-    let whole : value ≡ xxh3_128 seed s m = told ∙ ap (λ (o : List ℕ). long_high o m * 2 ^ 64 + long_low o m) same ∙ sym (long_128 seed s m long) in
+    let whole : value ≡ xxh3_128 seed s m = told ∙ ap (λ (o : List ℕ). high_above_240 o m * 2 ^ 64 + low_above_240 o m) same ∙ sym (long_128 seed s m long) in
     ap (λ (x : ℕ). x % 2 ^ 64) whole ∙ low_half seed s m (inr long)
 
 -- ---- the secret that takes effect

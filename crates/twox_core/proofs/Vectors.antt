@@ -4,9 +4,9 @@ use Rattle.std.proofs.Common.{refl}
 use Rattle.twox_plain.specs.Word.{word_at}
 use Rattle.twox_core.specs.Steps.{avalanche, avalanche_xxh64, fold, mix, sum_below}
 use Rattle.twox_core.specs.Secret.{default_secret, derived_pairs, derived_secret}
-use Rattle.twox_core.specs.Short.{empty64, empty128_low, empty128_high, combined, tiny_low, tiny_high, mixed_seed, strong, four64, four_product, four128_low, four128_high, nine64, nine_first, nine_second, nine_high, nine_low, nine_both, nine_product}
-use Rattle.twox_core.specs.Middle.{both_ends, medium64, early, later, large64, lane_step, medium_first, medium_second, pairs_first, pairs_second, large_first, large_second, lanes_low, lanes_high}
-use Rattle.twox_core.specs.Long.{accumulated, scrambled, lane_after, last_lane, pair_fold, merged, long_low, long_high}
+use Rattle.twox_core.specs.Short.{value64_0, low_0, high_0, combined_bytes, low_1_to_3, high_1_to_3, mixed_seed, strong, value64_4_to_8, product_4_to_8, low_4_to_8, high_4_to_8, value64_9_to_16, first_9_to_16, second_9_to_16, high_word_9_to_16, low_word_9_to_16, both_words_9_to_16, product_9_to_16}
+use Rattle.twox_core.specs.Middle.{both_ends, value64_17_to_128, early, later, value64_129_to_240, accumulator_step, first_17_to_128, second_17_to_128, pairs_first, pairs_second, first_129_to_240, second_129_to_240, merge_low, merge_high}
+use Rattle.twox_core.specs.Long.{accumulate_one, scramble_one, accumulator_after, last_accumulator, pair_fold, merge_accumulators, low_above_240, high_above_240}
 use Rattle.twox_core.specs.Value.{range_of, value64_in, low_in, high_in, xxh3_64, xxh3_128, effective_secret}
 
 -- the n bytes i mod 251 for i from 0 on
@@ -39,7 +39,7 @@ pub values64_up_to_16 : values64 (0 ∷ 1 ∷ 2 ∷ 3 ∷ 4 ∷ 5 ∷ 8 ∷ 9 �
     0xe9612598145bb9dc ∷
     0x5ace6a511c10894b ∷
     0x8355e3a6f61770db ∷ []
-unfolding word_at gen_from avalanche avalanche_xxh64 fold mix sum_below empty64 empty128_low empty128_high combined tiny_low tiny_high mixed_seed strong four64 four_product four128_low four128_high nine64 nine_first nine_second nine_high nine_low nine_both nine_product both_ends medium64 early later large64 lane_step medium_first medium_second pairs_first pairs_second large_first large_second lanes_low lanes_high accumulated scrambled lane_after last_lane pair_fold merged long_low long_high range_of value64_in low_in high_in xxh3_64 xxh3_128 effective_secret default_secret derived_pairs derived_secret
+unfolding word_at gen_from avalanche avalanche_xxh64 fold mix sum_below value64_0 low_0 high_0 combined_bytes low_1_to_3 high_1_to_3 mixed_seed strong value64_4_to_8 product_4_to_8 low_4_to_8 high_4_to_8 value64_9_to_16 first_9_to_16 second_9_to_16 high_word_9_to_16 low_word_9_to_16 both_words_9_to_16 product_9_to_16 both_ends value64_17_to_128 early later value64_129_to_240 accumulator_step first_17_to_128 second_17_to_128 pairs_first pairs_second first_129_to_240 second_129_to_240 merge_low merge_high accumulate_one scramble_one accumulator_after last_accumulator pair_fold merge_accumulators low_above_240 high_above_240 range_of value64_in low_in high_in xxh3_64 xxh3_128 effective_secret default_secret derived_pairs derived_secret
 values64_up_to_16 = refl
 
 pub values128_up_to_16 : values128 (0 ∷ 1 ∷ 2 ∷ 3 ∷ 4 ∷ 5 ∷ 8 ∷ 9 ∷ 12 ∷ 16 ∷ []) ≡
@@ -53,7 +53,7 @@ pub values128_up_to_16 : values128 (0 ∷ 1 ∷ 2 ∷ 3 ∷ 4 ∷ 5 ∷ 8 ∷ 9 
     0x16c769d83e4aebce907931979dca3746 ∷
     0x38f92247a7f73cc57780eb31198f13ca ∷
     0x72950631827607e2842812cc870dcae2 ∷ []
-unfolding word_at gen_from avalanche avalanche_xxh64 fold mix sum_below empty64 empty128_low empty128_high combined tiny_low tiny_high mixed_seed strong four64 four_product four128_low four128_high nine64 nine_first nine_second nine_high nine_low nine_both nine_product both_ends medium64 early later large64 lane_step medium_first medium_second pairs_first pairs_second large_first large_second lanes_low lanes_high accumulated scrambled lane_after last_lane pair_fold merged long_low long_high range_of value64_in low_in high_in xxh3_64 xxh3_128 effective_secret default_secret derived_pairs derived_secret
+unfolding word_at gen_from avalanche avalanche_xxh64 fold mix sum_below value64_0 low_0 high_0 combined_bytes low_1_to_3 high_1_to_3 mixed_seed strong value64_4_to_8 product_4_to_8 low_4_to_8 high_4_to_8 value64_9_to_16 first_9_to_16 second_9_to_16 high_word_9_to_16 low_word_9_to_16 both_words_9_to_16 product_9_to_16 both_ends value64_17_to_128 early later value64_129_to_240 accumulator_step first_17_to_128 second_17_to_128 pairs_first pairs_second first_129_to_240 second_129_to_240 merge_low merge_high accumulate_one scramble_one accumulator_after last_accumulator pair_fold merge_accumulators low_above_240 high_above_240 range_of value64_in low_in high_in xxh3_64 xxh3_128 effective_secret default_secret derived_pairs derived_secret
 values128_up_to_16 = refl
 
 pub values64_up_to_240 : values64 (17 ∷ 32 ∷ 33 ∷ 128 ∷ 129 ∷ 239 ∷ 240 ∷ []) ≡
@@ -64,7 +64,7 @@ pub values64_up_to_240 : values64 (17 ∷ 32 ∷ 33 ∷ 128 ∷ 129 ∷ 239 ∷ 
     0xec7642b431ba3e5a ∷
     0x972b14e3c46f214b ∷
     0x375a384d957fe865 ∷ []
-unfolding word_at gen_from avalanche avalanche_xxh64 fold mix sum_below empty64 empty128_low empty128_high combined tiny_low tiny_high mixed_seed strong four64 four_product four128_low four128_high nine64 nine_first nine_second nine_high nine_low nine_both nine_product both_ends medium64 early later large64 lane_step medium_first medium_second pairs_first pairs_second large_first large_second lanes_low lanes_high accumulated scrambled lane_after last_lane pair_fold merged long_low long_high range_of value64_in low_in high_in xxh3_64 xxh3_128 effective_secret default_secret derived_pairs derived_secret
+unfolding word_at gen_from avalanche avalanche_xxh64 fold mix sum_below value64_0 low_0 high_0 combined_bytes low_1_to_3 high_1_to_3 mixed_seed strong value64_4_to_8 product_4_to_8 low_4_to_8 high_4_to_8 value64_9_to_16 first_9_to_16 second_9_to_16 high_word_9_to_16 low_word_9_to_16 both_words_9_to_16 product_9_to_16 both_ends value64_17_to_128 early later value64_129_to_240 accumulator_step first_17_to_128 second_17_to_128 pairs_first pairs_second first_129_to_240 second_129_to_240 merge_low merge_high accumulate_one scramble_one accumulator_after last_accumulator pair_fold merge_accumulators low_above_240 high_above_240 range_of value64_in low_in high_in xxh3_64 xxh3_128 effective_secret default_secret derived_pairs derived_secret
 values64_up_to_240 = refl
 
 pub values128_up_to_240 : values128 (17 ∷ 32 ∷ 33 ∷ 128 ∷ 129 ∷ 239 ∷ 240 ∷ []) ≡
@@ -75,21 +75,21 @@ pub values128_up_to_240 : values128 (17 ∷ 32 ∷ 33 ∷ 128 ∷ 129 ∷ 239 �
     0xdd5e74ac6b45f54ebc30b63382b09a3b ∷
     0x9843ab31a06be0dffe21374628fcc539 ∷
     0x65b5be86da5540e7c92b68e16f83bbb6 ∷ []
-unfolding word_at gen_from avalanche avalanche_xxh64 fold mix sum_below empty64 empty128_low empty128_high combined tiny_low tiny_high mixed_seed strong four64 four_product four128_low four128_high nine64 nine_first nine_second nine_high nine_low nine_both nine_product both_ends medium64 early later large64 lane_step medium_first medium_second pairs_first pairs_second large_first large_second lanes_low lanes_high accumulated scrambled lane_after last_lane pair_fold merged long_low long_high range_of value64_in low_in high_in xxh3_64 xxh3_128 effective_secret default_secret derived_pairs derived_secret
+unfolding word_at gen_from avalanche avalanche_xxh64 fold mix sum_below value64_0 low_0 high_0 combined_bytes low_1_to_3 high_1_to_3 mixed_seed strong value64_4_to_8 product_4_to_8 low_4_to_8 high_4_to_8 value64_9_to_16 first_9_to_16 second_9_to_16 high_word_9_to_16 low_word_9_to_16 both_words_9_to_16 product_9_to_16 both_ends value64_17_to_128 early later value64_129_to_240 accumulator_step first_17_to_128 second_17_to_128 pairs_first pairs_second first_129_to_240 second_129_to_240 merge_low merge_high accumulate_one scramble_one accumulator_after last_accumulator pair_fold merge_accumulators low_above_240 high_above_240 range_of value64_in low_in high_in xxh3_64 xxh3_128 effective_secret default_secret derived_pairs derived_secret
 values128_up_to_240 = refl
 
 pub values64_above_240 : values64 (241 ∷ 244 ∷ 1024 ∷ []) ≡
     0x02e8cd95421c6d02 ∷
     0xbc17c91ec3cf8d7f ∷
     0xe5d78bafa45b2aa5 ∷ []
-unfolding word_at gen_from avalanche avalanche_xxh64 fold mix sum_below empty64 empty128_low empty128_high combined tiny_low tiny_high mixed_seed strong four64 four_product four128_low four128_high nine64 nine_first nine_second nine_high nine_low nine_both nine_product both_ends medium64 early later large64 lane_step medium_first medium_second pairs_first pairs_second large_first large_second lanes_low lanes_high accumulated scrambled lane_after last_lane pair_fold merged long_low long_high range_of value64_in low_in high_in xxh3_64 xxh3_128 effective_secret default_secret derived_pairs derived_secret
+unfolding word_at gen_from avalanche avalanche_xxh64 fold mix sum_below value64_0 low_0 high_0 combined_bytes low_1_to_3 high_1_to_3 mixed_seed strong value64_4_to_8 product_4_to_8 low_4_to_8 high_4_to_8 value64_9_to_16 first_9_to_16 second_9_to_16 high_word_9_to_16 low_word_9_to_16 both_words_9_to_16 product_9_to_16 both_ends value64_17_to_128 early later value64_129_to_240 accumulator_step first_17_to_128 second_17_to_128 pairs_first pairs_second first_129_to_240 second_129_to_240 merge_low merge_high accumulate_one scramble_one accumulator_after last_accumulator pair_fold merge_accumulators low_above_240 high_above_240 range_of value64_in low_in high_in xxh3_64 xxh3_128 effective_secret default_secret derived_pairs derived_secret
 values64_above_240 = refl
 
 pub values128_above_240 : values128 (241 ∷ 244 ∷ 1024 ∷ []) ≡
     0x1da1cb61bcb8a2a102e8cd95421c6d02 ∷
     0x3ff493d7a8137ab6bc17c91ec3cf8d7f ∷
     0xd0ac1f7b93bf57b9e5d78bafa45b2aa5 ∷ []
-unfolding word_at gen_from avalanche avalanche_xxh64 fold mix sum_below empty64 empty128_low empty128_high combined tiny_low tiny_high mixed_seed strong four64 four_product four128_low four128_high nine64 nine_first nine_second nine_high nine_low nine_both nine_product both_ends medium64 early later large64 lane_step medium_first medium_second pairs_first pairs_second large_first large_second lanes_low lanes_high accumulated scrambled lane_after last_lane pair_fold merged long_low long_high range_of value64_in low_in high_in xxh3_64 xxh3_128 effective_secret default_secret derived_pairs derived_secret
+unfolding word_at gen_from avalanche avalanche_xxh64 fold mix sum_below value64_0 low_0 high_0 combined_bytes low_1_to_3 high_1_to_3 mixed_seed strong value64_4_to_8 product_4_to_8 low_4_to_8 high_4_to_8 value64_9_to_16 first_9_to_16 second_9_to_16 high_word_9_to_16 low_word_9_to_16 both_words_9_to_16 product_9_to_16 both_ends value64_17_to_128 early later value64_129_to_240 accumulator_step first_17_to_128 second_17_to_128 pairs_first pairs_second first_129_to_240 second_129_to_240 merge_low merge_high accumulate_one scramble_one accumulator_after last_accumulator pair_fold merge_accumulators low_above_240 high_above_240 range_of value64_in low_in high_in xxh3_64 xxh3_128 effective_secret default_secret derived_pairs derived_secret
 values128_above_240 = refl
 
 pub seeded64_values : seeded64 0xdeadcafe (0 ∷ 1 ∷ 4 ∷ 9 ∷ 17 ∷ 129 ∷ 241 ∷ 1024 ∷ []) ≡
@@ -101,7 +101,7 @@ pub seeded64_values : seeded64 0xdeadcafe (0 ∷ 1 ∷ 4 ∷ 9 ∷ 17 ∷ 129 �
     0x2bfdcaec30ff3000 ∷
     0xf98456bc25be0901 ∷
     0x24839f0fcdf4d078 ∷ []
-unfolding word_at gen_from avalanche avalanche_xxh64 fold mix sum_below empty64 empty128_low empty128_high combined tiny_low tiny_high mixed_seed strong four64 four_product four128_low four128_high nine64 nine_first nine_second nine_high nine_low nine_both nine_product both_ends medium64 early later large64 lane_step medium_first medium_second pairs_first pairs_second large_first large_second lanes_low lanes_high accumulated scrambled lane_after last_lane pair_fold merged long_low long_high range_of value64_in low_in high_in xxh3_64 xxh3_128 effective_secret default_secret derived_pairs derived_secret
+unfolding word_at gen_from avalanche avalanche_xxh64 fold mix sum_below value64_0 low_0 high_0 combined_bytes low_1_to_3 high_1_to_3 mixed_seed strong value64_4_to_8 product_4_to_8 low_4_to_8 high_4_to_8 value64_9_to_16 first_9_to_16 second_9_to_16 high_word_9_to_16 low_word_9_to_16 both_words_9_to_16 product_9_to_16 both_ends value64_17_to_128 early later value64_129_to_240 accumulator_step first_17_to_128 second_17_to_128 pairs_first pairs_second first_129_to_240 second_129_to_240 merge_low merge_high accumulate_one scramble_one accumulator_after last_accumulator pair_fold merge_accumulators low_above_240 high_above_240 range_of value64_in low_in high_in xxh3_64 xxh3_128 effective_secret default_secret derived_pairs derived_secret
 seeded64_values = refl
 
 -- the seed 0 derives the default secret

@@ -1,28 +1,28 @@
--- The two operations of a kernel on the eight lanes at once, each lane by the functions that the long
+-- The two operations of a kernel on the eight accumulators at once, each accumulator by the functions that the long
 -- definition follows it with: the xxHash specification, "XXH3 algorithm description (for large inputs)",
 -- step 2.
 use Rattle.std.specs.Prelude.{ℕ, ◌+◌, ◌%◌, ◌^◌, List, [], ◌∷◌, slice_index, bit_xor}
 use Rattle.twox_plain.specs.Word.{xor_shift}
 use Rattle.twox_core.specs.Primes.{prime32_1}
 use Rattle.twox_core.specs.Steps.{mul64}
-use Rattle.twox_core.specs.Long.{accumulated, halves_product, scrambled}
+use Rattle.twox_core.specs.Long.{accumulate_one, halves_product, scramble_one}
 
 -- the eight values f 0 to f 7
-abbrev pub lanes8 : (ℕ → ℕ) → List ℕ
-lanes8 f = f 0 ∷ f 1 ∷ f 2 ∷ f 3 ∷ f 4 ∷ f 5 ∷ f 6 ∷ f 7 ∷ []
+abbrev pub eight : (ℕ → ℕ) → List ℕ
+eight f = f 0 ∷ f 1 ∷ f 2 ∷ f 3 ∷ f 4 ∷ f 5 ∷ f 6 ∷ f 7 ∷ []
 
--- the lanes a after the 64 bytes t of a stripe, under the 64 bytes u of the secret
+-- the accumulators a after the 64 bytes t of a stripe, under the 64 bytes u of the secret
 abbrev pub accumulate : List ℕ → List ℕ → List ℕ → List ℕ
-accumulate a t u = lanes8 (λ i. accumulated i (slice_index a i) t 0 u 0)
+accumulate a t u = eight (λ i. accumulate_one i (slice_index a i) t 0 u 0)
 
--- the lanes a scrambled under the 64 bytes u of the secret
+-- the accumulators a scrambled under the 64 bytes u of the secret
 abbrev pub round_scramble : List ℕ → List ℕ → List ℕ
-round_scramble a u = lanes8 (λ i. scrambled i (slice_index a i) u 0)
+round_scramble a u = eight (λ i. scramble_one i (slice_index a i) u 0)
 
--- one lane of value a from its own word, its neighbour's and the secret's
-abbrev pub lane_sum : ℕ → ℕ → ℕ → ℕ → ℕ
-lane_sum a own other key = (a + other + halves_product (bit_xor own key)) % 2 ^ 64
+-- one accumulator of value a from its own word, its neighbour's and the secret's
+abbrev pub sum_with_words : ℕ → ℕ → ℕ → ℕ → ℕ
+sum_with_words a own other key = (a + other + halves_product (bit_xor own key)) % 2 ^ 64
 
--- one lane of value a scrambled under a word of the secret
-abbrev pub lane_mixed : ℕ → ℕ → ℕ
-lane_mixed a key = mul64 (bit_xor (xor_shift a 47) key) prime32_1
+-- one accumulator of value a scrambled under a word of the secret
+abbrev pub scramble_with_word : ℕ → ℕ → ℕ
+scramble_with_word a key = mul64 (bit_xor (xor_shift a 47) key) prime32_1

@@ -9,11 +9,12 @@ pub mod Middle
 pub mod Long
 pub mod Value
 pub mod OtherBytes
+pub mod Laws
 pub mod Kernel
-pub mod Held
+pub mod StreamKey
 pub mod Stripes
 pub mod Ending
-pub mod Core
-pub mod Written
-pub mod Finished
-pub mod Stands
+pub mod CoreView
+pub mod AfterWrite
+pub mod Finish
+pub mod StandsFor

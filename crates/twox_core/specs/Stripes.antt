@@ -1,9 +1,9 @@
--- What a stripe does to the lanes and to their place in the secret.
+-- What a stripe does to the accumulators and to their place in the secret.
 use Rattle.std.specs.Prelude.{◌≡◌, ℕ, zero, suc, ◌+◌, ◌-◌, ◌*◌, ◌%◌, ◌==◌, List, length, if◌then◌else◌}
-use Rattle.twox_core.specs.Long.{stripes_of, initial_lanes, lane_after}
-use Rattle.twox_core.specs.Kernel.{lanes8, accumulate, round_scramble}
+use Rattle.twox_core.specs.Long.{stripes_of, initial_accumulators, accumulator_after}
+use Rattle.twox_core.specs.Kernel.{eight, accumulate, round_scramble}
 use Rattle.twox_core.specs.Parts.{stripe_at}
-use Rattle.twox_core.specs.declared.xxhash3.streaming.stripes.StripeAccumulator.{StripeAccumulator}
+use Rattle.twox_core.specs.declared.xxhash3.stripes.StripeAccumulator.{StripeAccumulator}
 
 abbrev pub accumulators_of : StripeAccumulator → List ℕ
 accumulators_of a = a.accumulator
@@ -11,30 +11,30 @@ accumulators_of a = a.accumulator
 abbrev pub current_stripe_of : StripeAccumulator → ℕ
 current_stripe_of a = a.current_stripe
 
--- the lanes a at the secret's start, and those before the first stripe
+-- the accumulators a at the secret's start, and those before the first stripe
 abbrev pub at_start : List ℕ → StripeAccumulator
 at_start a = record { accumulator = a; current_stripe = 0 }
 
 abbrev pub no_stripe : StripeAccumulator
-no_stripe = at_start initial_lanes
+no_stripe = at_start initial_accumulators
 
--- the lanes with the stripe t accumulated, at their place in the secret s
-abbrev pub summed : List ℕ → StripeAccumulator → List ℕ → List ℕ
-summed s a t = accumulate a.accumulator t (stripe_at s (8 * a.current_stripe))
+-- the accumulators with the stripe t accumulated, at their place in the secret s
+abbrev pub sum_at_place : List ℕ → StripeAccumulator → List ℕ → List ℕ
+sum_at_place s a t = accumulate a.accumulator t (stripe_at s (8 * a.current_stripe))
 
 -- a after the stripe t: scrambled where it comes to the secret's last place
-unfoldable pub stripe_taken : List ℕ → StripeAccumulator → List ℕ → StripeAccumulator
-stripe_taken s a t =
+unfoldable pub after_stripe : List ℕ → StripeAccumulator → List ℕ → StripeAccumulator
+after_stripe s a t =
     if a.current_stripe + 1 == stripes_of s
-    then record { accumulator = round_scramble (summed s a t) (stripe_at s (length s - 64)); current_stripe = 0 }
-    else record { accumulator = summed s a t; current_stripe = a.current_stripe + 1 }
+    then record { accumulator = round_scramble (sum_at_place s a t) (stripe_at s (length s - 64)); current_stripe = 0 }
+    else record { accumulator = sum_at_place s a t; current_stripe = a.current_stripe + 1 }
 
 -- a after the first n stripes of xs
-unfoldable pub stripes_taken : List ℕ → StripeAccumulator → List ℕ → ℕ → StripeAccumulator
-stripes_taken s a xs zero = a
-stripes_taken s a xs (suc n) = stripe_taken s (stripes_taken s a xs n) (stripe_at xs (64 * n))
+unfoldable pub after_stripes : List ℕ → StripeAccumulator → List ℕ → ℕ → StripeAccumulator
+after_stripes s a xs zero = a
+after_stripes s a xs (suc n) = after_stripe s (after_stripes s a xs n) (stripe_at xs (64 * n))
 
 -- a has taken the first k stripes of m
-pub record Folded (s m : List ℕ) (k : ℕ) (a : StripeAccumulator) : Type 0 where
-  pub lanes : a.accumulator ≡ lanes8 (λ i. lane_after s m i k)
+pub record HasTaken (s m : List ℕ) (k : ℕ) (a : StripeAccumulator) : Type 0 where
+  pub accumulators : a.accumulator ≡ eight (λ i. accumulator_after s m i k)
   pub place : a.current_stripe ≡ k % stripes_of s

@@ -4,62 +4,62 @@ use Rattle.std.specs.Prelude.{ℕ, ◌+◌, ◌-◌, ◌*◌, ◌/◌, ◌^◌, 
 use Rattle.twox_plain.specs.Word.{low64, high64}
 use Rattle.twox_core.specs.Steps.{avalanche}
 use Rattle.twox_core.specs.Secret.{default_secret}
-use Rattle.twox_core.specs.Short.{empty64, empty128_low, empty128_high, combined, tiny_low, tiny_high, four64, four_product, four128_low, four128_high, nine64, nine_product}
-use Rattle.twox_core.specs.Middle.{medium64, large64, medium_first, medium_second, large_first, large_second, lanes_low, lanes_high}
-use Rattle.twox_core.specs.Long.{long_low, long_high}
+use Rattle.twox_core.specs.Short.{value64_0, low_0, high_0, combined_bytes, low_1_to_3, high_1_to_3, value64_4_to_8, product_4_to_8, low_4_to_8, high_4_to_8, value64_9_to_16, product_9_to_16}
+use Rattle.twox_core.specs.Middle.{value64_17_to_128, value64_129_to_240, first_17_to_128, second_17_to_128, first_129_to_240, second_129_to_240, merge_low, merge_high}
+use Rattle.twox_core.specs.Long.{low_above_240, high_above_240}
 
 -- the ranges of lengths: 0, 1 to 3, 4 to 8, 9 to 16, 17 to 128, 129 to 240 and above
 pub data Range : Type 0 where
-  Empty : Range
-  Tiny : Range
-  Four : Range
-  Nine : Range
-  Medium : Range
-  Large : Range
-  Long : Range
+  Bytes0 : Range
+  Bytes1To3 : Range
+  Bytes4To8 : Range
+  Bytes9To16 : Range
+  Bytes17To128 : Range
+  Bytes129To240 : Range
+  BytesAbove240 : Range
 
 unfoldable pub range_of : ℕ → Range
 range_of n =
-    if nat_lt n 1 then Empty
-    else if nat_lt n 4 then Tiny
-    else if nat_lt n 9 then Four
-    else if nat_lt n 17 then Nine
-    else if nat_lt n 129 then Medium
-    else if nat_lt n 241 then Large
-    else Long
+    if nat_lt n 1 then Bytes0
+    else if nat_lt n 4 then Bytes1To3
+    else if nat_lt n 9 then Bytes4To8
+    else if nat_lt n 17 then Bytes9To16
+    else if nat_lt n 129 then Bytes17To128
+    else if nat_lt n 241 then Bytes129To240
+    else BytesAbove240
 
--- the steps of the two lanes at 17 to 128 bytes
+-- the steps of the two accumulators at 17 to 128 bytes
 abbrev pub steps_of : List ℕ → ℕ
 steps_of m = (length m - 1) / 32 + 1
 
 unfoldable pub value64_in : Range → ℕ → List ℕ → List ℕ → ℕ
-value64_in Empty seed s m = empty64 seed s
-value64_in Tiny seed s m = tiny_low seed s (combined m)
-value64_in Four seed s m = four64 seed s m
-value64_in Nine seed s m = nine64 seed s m
-value64_in Medium seed s m = medium64 seed s m
-value64_in Large seed s m = large64 seed s m
-value64_in Long seed s m = long_low s m
+value64_in Bytes0 seed s m = value64_0 seed s
+value64_in Bytes1To3 seed s m = low_1_to_3 seed s (combined_bytes m)
+value64_in Bytes4To8 seed s m = value64_4_to_8 seed s m
+value64_in Bytes9To16 seed s m = value64_9_to_16 seed s m
+value64_in Bytes17To128 seed s m = value64_17_to_128 seed s m
+value64_in Bytes129To240 seed s m = value64_129_to_240 seed s m
+value64_in BytesAbove240 seed s m = low_above_240 s m
 
 unfoldable pub low_in : Range → ℕ → List ℕ → List ℕ → ℕ
-low_in Empty seed s m = empty128_low seed s
-low_in Tiny seed s m = tiny_low seed s (combined m)
-low_in Four seed s m = four128_low (four_product seed s m)
-low_in Nine seed s m = avalanche (low64 (nine_product seed s m))
-low_in Medium seed s m =
-    lanes_low (medium_first seed s m (steps_of m) (steps_of m)) (medium_second seed s m (steps_of m) (steps_of m))
-low_in Large seed s m = lanes_low (large_first seed s m) (large_second seed s m)
-low_in Long seed s m = long_low s m
+low_in Bytes0 seed s m = low_0 seed s
+low_in Bytes1To3 seed s m = low_1_to_3 seed s (combined_bytes m)
+low_in Bytes4To8 seed s m = low_4_to_8 (product_4_to_8 seed s m)
+low_in Bytes9To16 seed s m = avalanche (low64 (product_9_to_16 seed s m))
+low_in Bytes17To128 seed s m =
+    merge_low (first_17_to_128 seed s m (steps_of m) (steps_of m)) (second_17_to_128 seed s m (steps_of m) (steps_of m))
+low_in Bytes129To240 seed s m = merge_low (first_129_to_240 seed s m) (second_129_to_240 seed s m)
+low_in BytesAbove240 seed s m = low_above_240 s m
 
 unfoldable pub high_in : Range → ℕ → List ℕ → List ℕ → ℕ
-high_in Empty seed s m = empty128_high seed s
-high_in Tiny seed s m = tiny_high seed s (combined m)
-high_in Four seed s m = four128_high (four_product seed s m)
-high_in Nine seed s m = avalanche (high64 (nine_product seed s m))
-high_in Medium seed s m =
-    lanes_high seed (length m) (medium_first seed s m (steps_of m) (steps_of m)) (medium_second seed s m (steps_of m) (steps_of m))
-high_in Large seed s m = lanes_high seed (length m) (large_first seed s m) (large_second seed s m)
-high_in Long seed s m = long_high s m
+high_in Bytes0 seed s m = high_0 seed s
+high_in Bytes1To3 seed s m = high_1_to_3 seed s (combined_bytes m)
+high_in Bytes4To8 seed s m = high_4_to_8 (product_4_to_8 seed s m)
+high_in Bytes9To16 seed s m = avalanche (high64 (product_9_to_16 seed s m))
+high_in Bytes17To128 seed s m =
+    merge_high seed (length m) (first_17_to_128 seed s m (steps_of m) (steps_of m)) (second_17_to_128 seed s m (steps_of m) (steps_of m))
+high_in Bytes129To240 seed s m = merge_high seed (length m) (first_129_to_240 seed s m) (second_129_to_240 seed s m)
+high_in BytesAbove240 seed s m = high_above_240 s m
 
 -- the value of 64 bits
 unfoldable pub xxh3_64 : ℕ → List ℕ → List ℕ → ℕ

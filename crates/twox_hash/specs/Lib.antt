@@ -18,10 +18,11 @@ pub use Rattle.twox_core.specs.Secret
 pub use Rattle.twox_core.specs.SecretBytes
 pub use Rattle.twox_core.specs.Value
 pub use Rattle.twox_core.specs.OtherBytes
+pub use Rattle.twox_core.specs.Laws
 pub use Rattle.twox_core.specs.Ending
-pub use Rattle.twox_core.specs.Held
-pub use Rattle.twox_core.specs.Core
-pub use Rattle.twox_core.specs.Written
-pub use Rattle.twox_core.specs.Finished
-pub use Rattle.twox_core.specs.Stands
+pub use Rattle.twox_core.specs.StreamKey
+pub use Rattle.twox_core.specs.CoreView
+pub use Rattle.twox_core.specs.AfterWrite
+pub use Rattle.twox_core.specs.Finish
+pub use Rattle.twox_core.specs.StandsFor
 pub mod Streams

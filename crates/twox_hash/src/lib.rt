@@ -2,6 +2,7 @@
 //! xxHash definition.
 #![tactic(auto)]
 
+pub mod streams;
 pub mod xxhash3_128;
 pub mod xxhash3_64;
 

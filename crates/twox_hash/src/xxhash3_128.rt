@@ -3,29 +3,28 @@
 ghost use Rattle.std.specs.Prelude.{◌≡◌, ◌≢◌, ◌↔◌, ◌⊎◌, ◌+◌, ◌-◌, ◌*◌, ◌/◌, ◌^◌, ◌<◌, ◌≤◌, ℕ, List, bit_xor, length, MatchResult, IfOk, IsErr};
 ghost use Rattle.std.specs.Int.{w64};
 ghost use Rattle.twox_plain.specs.Word.{low64, high64};
-ghost use Rattle.twox_core.specs.OtherBytes.{IsOtherShort128};
-ghost use Rattle.twox_core.specs.Ending.{finalized_128};
-ghost use Rattle.twox_core.specs.Long.{long_low, long_high};
-ghost use Rattle.twox_core.specs.Middle.{lanes_high, lanes_low, medium_first, medium_second};
+ghost use Rattle.twox_core.specs.Laws.{TellsOthers128, HasLowHalf64};
+ghost use Rattle.twox_core.specs.Ending.{finalize_128};
+ghost use Rattle.twox_core.specs.Long.{low_above_240, high_above_240};
+ghost use Rattle.twox_core.specs.Middle.{merge_high, merge_low, first_17_to_128, second_17_to_128};
 ghost use Rattle.twox_core.specs.Primes.{prime64_1};
 ghost use Rattle.twox_core.specs.Secret.{default_secret, derived_secret};
 ghost use Rattle.twox_core.specs.SecretBytes.{secret_bytes};
-ghost use Rattle.twox_core.specs.Short.{combined, empty128_high, empty128_low, four128_high, four128_low, four_product, nine_product, tiny_high, tiny_low};
+ghost use Rattle.twox_core.specs.Short.{combined_bytes, high_0, low_0, high_4_to_8, low_4_to_8, product_4_to_8, product_9_to_16, high_1_to_3, low_1_to_3};
 ghost use Rattle.twox_core.specs.Steps.{add64, avalanche, mix, mul64, word64};
 ghost use Rattle.twox_core.specs.Value.{effective_secret, high_in, low_in, range_of, steps_of, xxh3_64, xxh3_128, Range};
 
-use std::alloc::{AllocError, Allocator, Global};
-use std::boxed::BoxedSlice;
-use std::marker::Model;
+use crate::streams::{BoxedStream, RawStream};
+use std::alloc::{Allocator, Global};
 use twox_core::xxhash3::primes::{PRIME_MX2, PRIME32_2, PRIME64_1, PRIME64_2, PRIME64_4};
 pub use twox_core::xxhash3::{
     ClonedBuffer, DEFAULT_SECRET_LENGTH, FixedBuffer, FixedMutBuffer, OneshotWithSecretError,
     SECRET_MINIMUM_LENGTH, SecretBuffer, SecretTooShortError, SecretWithSeedError,
 };
 use twox_core::xxhash3::{
-    Algorithm, AllocRawHasher, CUTOFF, DEFAULT_SEED, Finalize, Kernel, RawHasherCore, Secret,
-    Vector, avalanche, avalanche_xxh64, chunks_17_to_128, default_secret, derived_secret,
-    full_product, impl_1_to_3_bytes_combined, mix_step, pairs_of_u64_bytes, to_u64s,
+    Algorithm, CUTOFF, DEFAULT_SEED, Finalize, Kernel, Secret, Vector, avalanche, avalanche_xxh64,
+    chunks_17_to_128, default_secret, derived_secret, full_product, impl_1_to_3_bytes_combined,
+    mix_step, pairs_of_u64_bytes, to_u64s,
 };
 use twox_plain::words::{Halves, IntoU64, IntoU128, bp_as_chunks, u32_at, u64_at};
 
@@ -38,20 +37,17 @@ use twox_plain::words::{Halves, IntoU64, IntoU128, bp_as_chunks, u32_at, u64_at}
 /// hasher.write(b"bytes");
 /// assert_eq!(hasher.finish_128(), Hasher::oneshot_with_seed(7, b"some bytes"));
 /// ```
-#[derive(Drop)]
-pub struct Hasher<A: Allocator = Global> {
-    inner: AllocRawHasher<A>,
-}
+pub type Hasher<A = Global> = BoxedStream<Finalize128, A>;
 
-impl<A: Allocator> Model for Hasher<A> {
-    ghost use Rattle.std.specs.Prelude.{ℕ};
-    ghost use Rattle.std.specs.declared.boxed.BoxedSlice.{BoxedSlice};
-    ghost use Rattle.twox_core.specs.Core.{Core};
-
-    ghost Value = { Core (BoxedSlice ℕ A) };
-
-    ghost view = { λ h. h.inner };
-}
+/// A stream over a secret of the caller's, which takes no memory.
+///
+/// ```text
+/// let secret = SecretBuffer::with_seed(7, [0; DEFAULT_SECRET_LENGTH])?;
+/// let mut hasher = RawHasher::new(secret);
+/// hasher.write(b"some bytes");
+/// assert_eq!(hasher.finish_128(), Hasher::oneshot_with_seed(7, b"some bytes"));
+/// ```
+pub type RawHasher<S> = RawStream<Finalize128, S>;
 
 impl Hasher<Global> {
     /// The hash of all bytes at once, with the default secret and the seed 0.
@@ -60,41 +56,24 @@ impl Hasher<Global> {
     /// another seed, up to 16 bytes. Of 1 to 3 bytes and above 240 the low half is the hash of 64 bits. All that
     /// holds of the other one-shots too, under their secrets.
     #[inline]
-    #[tactic(auto, unfolding(twox_core::specs::Value::xxh3_128, twox_core::specs::Value::range_of, twox_core::specs::Value::low_in, twox_core::specs::Value::high_in))]
     pub fn oneshot(input: &[u8]) -> u128
         ensures value { result ≡ xxh3_128 0 default_secret input.now }
-        ensures changed_bytes { (n : List ℕ) → IsOtherShort128 input.now n → xxh3_128 0 default_secret n ≢ result }
-        ensures changed_seed { (other : ℕ) → other < 2 ^ 64 → other ≢ 0 → length input.now ≤ 16 → xxh3_128 other default_secret input.now ≢ result }
-        ensures low_half { ((1 ≤ length input.now) × (length input.now ≤ 3)) ⊎ (240 < length input.now) → low64 result ≡ xxh3_64 0 default_secret input.now }
+        ensures tells_others { TellsOthers128 0 default_secret input.now result }
+        ensures low_half { HasLowHalf64 0 default_secret input.now result }
     {
-        // The shortest come first: they then pay for no room that others take.
-        if input.len() <= 16 {
-            impl_oneshot(default_secret(), DEFAULT_SEED, input)
-        } else if input.len() <= CUTOFF {
-            impl_oneshot(default_secret(), DEFAULT_SEED, input)
-        } else {
-            impl_oneshot_long(default_secret(), input)
-        }
+        impl_oneshot_default(input)
     }
 
     /// The hash of all bytes at once, with a seed: up to 240 bytes with the default secret, above with the
     /// secret that the seed derives.
     #[inline]
-    #[tactic(auto, unfolding(twox_core::specs::Value::xxh3_128, twox_core::specs::Value::range_of, twox_core::specs::Value::low_in, twox_core::specs::Value::high_in, twox_core::specs::Value::effective_secret))]
     pub fn oneshot_with_seed(seed: u64, input: &[u8]) -> u128
-        ensures value { result ≡ xxh3_128 seed (effective_secret (derived_secret seed) input.now) input.now }
-        ensures changed_bytes { (n : List ℕ) → IsOtherShort128 input.now n → xxh3_128 seed default_secret n ≢ result }
-        ensures changed_seed { (other : ℕ) → other < 2 ^ 64 → other ≢ seed → length input.now ≤ 16 → xxh3_128 other default_secret input.now ≢ result }
-        ensures low_half { ((1 ≤ length input.now) × (length input.now ≤ 3)) ⊎ (240 < length input.now) → low64 result ≡ xxh3_64 seed (effective_secret (derived_secret seed) input.now) input.now }
+        ensures value { let s = effective_secret (derived_secret seed) input.now in
+            result ≡ xxh3_128 seed s input.now }
+        ensures tells_others { TellsOthers128 seed default_secret input.now result }
+        ensures low_half { HasLowHalf64 seed (effective_secret (derived_secret seed) input.now) input.now result }
     {
-        // The shortest come first here too.
-        if input.len() <= 16 {
-            impl_oneshot(default_secret(), seed, input)
-        } else if input.len() <= CUTOFF {
-            impl_oneshot(default_secret(), seed, input)
-        } else {
-            impl_oneshot_long_seeded(seed, input)
-        }
+        impl_oneshot_seeded(seed, input)
     }
 
     /// The hash of all bytes at once, with a secret and the seed 0, at every length.
@@ -103,19 +82,14 @@ impl Hasher<Global> {
     ///
     /// The secret has fewer than 136 bytes.
     #[inline]
-    #[tactic(auto, unfolding(twox_core::specs::Value::xxh3_128, twox_core::specs::Value::range_of, twox_core::specs::Value::low_in, twox_core::specs::Value::high_in))]
     pub fn oneshot_with_secret(secret: &[u8], input: &[u8]) -> Result<u128, OneshotWithSecretError>
-        ensures value { MatchResult result (λ x. (136 ≤ length secret.now) × (x ≡ xxh3_128 0 secret.now input.now)) (λ _. length secret.now < 136) }
-        ensures changed_bytes { IfOk result (λ x. (n : List ℕ) → IsOtherShort128 input.now n → xxh3_128 0 secret.now n ≢ x) }
-        ensures changed_seed { IfOk result (λ x. (other : ℕ) → other < 2 ^ 64 → other ≢ 0 → length input.now ≤ 16 → xxh3_128 other secret.now input.now ≢ x) }
-        ensures low_half { IfOk result (λ x. ((1 ≤ length input.now) × (length input.now ≤ 3)) ⊎ (240 < length input.now) → low64 x ≡ xxh3_64 0 secret.now input.now) }
+        ensures refused { IsErr result ↔ (length secret.now < 136) }
+        ensures value { IfOk result (λ x. x ≡ xxh3_128 0 secret.now input.now) }
+        ensures tells_others { IfOk result (λ x. TellsOthers128 0 secret.now input.now x) }
+        ensures low_half { IfOk result (λ x. HasLowHalf64 0 secret.now input.now x) }
     {
         let secret = Secret::new(secret)?;
-        if input.len() <= CUTOFF {
-            Ok(impl_oneshot(secret, DEFAULT_SEED, input))
-        } else {
-            Ok(impl_oneshot_long(secret, input))
-        }
+        Ok(impl_oneshot_keyed(secret, input))
     }
 
     /// The hash of all bytes at once, with a seed and a secret. Only one of the two has an effect: up to 240
@@ -132,200 +106,59 @@ impl Hasher<Global> {
         input: &[u8],
     ) -> Result<u128, OneshotWithSecretError>
         ensures refused { IsErr result ↔ ((240 < length input.now) × (length secret.now < 136)) }
-        ensures value { IfOk result (λ x. x ≡ xxh3_128 seed (effective_secret secret.now input.now) input.now) }
-        ensures changed_bytes { IfOk result (λ x. (n : List ℕ) → IsOtherShort128 input.now n → xxh3_128 seed default_secret n ≢ x) }
-        ensures changed_seed { IfOk result (λ x. (other : ℕ) → other < 2 ^ 64 → other ≢ seed → length input.now ≤ 16 → xxh3_128 other default_secret input.now ≢ x) }
-        ensures low_half { IfOk result (λ x. ((1 ≤ length input.now) × (length input.now ≤ 3)) ⊎ (240 < length input.now) → low64 x ≡ xxh3_64 seed (effective_secret secret.now input.now) input.now) }
+        ensures value { let s = effective_secret secret.now input.now in
+            IfOk result (λ x. x ≡ xxh3_128 seed s input.now) }
+        ensures tells_others { IfOk result (λ x. TellsOthers128 seed default_secret input.now x) }
+        ensures low_half { IfOk result (λ x. HasLowHalf64 seed (effective_secret secret.now input.now) input.now x) }
     {
         if input.len() <= CUTOFF {
             return Ok(impl_oneshot(default_secret(), seed, input));
         }
-        Ok(impl_oneshot_long(Secret::new(secret)?, input))
+        let own = Secret::new(secret)?;
+        Ok(impl_oneshot_long(own, input))
     }
 }
 
 impl<A: Allocator> Hasher<A> {
-    ghost use Rattle.std.specs.Prelude.{◌≡◌, ℕ, List, [], ◌++◌, ◌<◌, ◌≤◌, length, IfOk, MatchResult};
+    ghost use Rattle.std.specs.Prelude.{◌≡◌, ℕ, List};
     ghost use Rattle.std.specs.Box.{boxed_slice_items};
-    ghost use Rattle.twox_core.specs.Secret.{default_secret, derived_secret};
     ghost use Rattle.twox_core.specs.Value.{effective_secret, xxh3_128};
-    ghost use Rattle.twox_core.specs.Core.{Core};
-    ghost use Rattle.twox_core.specs.Written.{written};
-    ghost use Rattle.twox_core.specs.Stands.{StandsFor};
+    ghost use Rattle.twox_core.specs.StandsFor.{StandsFor};
     ghost use Rattle.twox_hash.specs.Streams.{value_128};
 
-    /// A stream with the seed 0 and the default secret.
-    ///
-    /// # Errors
-    ///
-    /// There is no memory for the secret.
-    pub fn new(alloc: A) -> Result<Hasher<A>, AllocError>
-        ensures { IfOk result (λ h. StandsFor boxed_slice_items h 0 default_secret []) }
-    {
-        let inner = AllocRawHasher::allocate_default(alloc)?;
-        Ok(Hasher { inner })
-    }
-
-    /// The same as `new`.
-    ///
-    /// # Errors
-    ///
-    /// There is no memory for the secret.
-    pub fn default(alloc: A) -> Result<Hasher<A>, AllocError>
-        ensures { IfOk result (λ h. StandsFor boxed_slice_items h 0 default_secret []) }
-    {
-        Hasher::new(alloc)
-    }
-
-    /// A stream with the seed and the secret that it derives.
-    ///
-    /// # Errors
-    ///
-    /// There is no memory for the secret.
-    pub fn with_seed(alloc: A, seed: u64) -> Result<Hasher<A>, AllocError>
-        ensures { IfOk result (λ h. StandsFor boxed_slice_items h seed (derived_secret seed) []) }
-    {
-        let inner = AllocRawHasher::allocate_with_seed(alloc, seed)?;
-        Ok(Hasher { inner })
-    }
-
-    /// A stream with the seed and the secret, which takes no memory.
-    ///
-    /// # Errors
-    ///
-    /// The secret has fewer than 136 bytes; it is handed back.
-    pub fn with_seed_and_secret(
-        seed: u64,
-        secret: BoxedSlice<u8, A>,
-    ) -> Result<Hasher<A>, SecretTooShortError<BoxedSlice<u8, A>>>
-        ensures { MatchResult result
-            (λ h. (136 ≤ length (boxed_slice_items secret)) × StandsFor boxed_slice_items h seed (boxed_slice_items secret) [])
-            (λ e. (length (boxed_slice_items secret) < 136) × (e ≡ secret)) }
-    {
-        let inner = AllocRawHasher::allocate_with_seed_and_secret(seed, secret)?;
-        Ok(Hasher { inner })
-    }
-
-    /// Takes the bytes of a piece after those taken before.
-    #[inline]
-    pub fn write(&mut self, input: &[u8])
-        ensures message { (seed : ℕ) (s m : List ℕ) → StandsFor boxed_slice_items self.old seed s m → StandsFor boxed_slice_items self.new seed s (m ++ input.now) }
-        ensures exact { self.new ≡ written boxed_slice_items self.old input.now }
-    {
-        self.inner.write(input);
-    }
-
     /// The hash of the bytes taken so far, which stay: up to 240 bytes with the default secret and the seed,
-    /// above with the secret that is held, where no seed enters.
+    /// above with the stream's secret, where no seed enters.
     #[inline]
     #[tactic(auto, unfolding(crate::specs::Streams::value_128))]
     pub fn finish_128(&self) -> u128
-        ensures message { (seed : ℕ) (s m : List ℕ) → StandsFor boxed_slice_items self.now seed s m → result ≡ xxh3_128 seed (effective_secret s m) m }
+        ensures message { (seed : ℕ) (s m : List ℕ) → StandsFor boxed_slice_items self.now seed s m
+            → result ≡ xxh3_128 seed (effective_secret s m) m }
         ensures exact { result ≡ value_128 boxed_slice_items self.now }
     {
-        self.inner.finish(Finalize128)
+        self.inner().finish(Finalize128)
     }
-
-    /// The secret that is held.
-    pub fn into_secret(self) -> BoxedSlice<u8, A>
-        ensures exact { result ≡ self.held.secret }
-        ensures message { (seed : ℕ) (s m : List ℕ) → StandsFor boxed_slice_items self seed s m → boxed_slice_items result ≡ s }
-    {
-        self.inner.into_secret()
-    }
-}
-
-impl<A: Allocator + Clone> Clone for Hasher<A> {
-    ghost use Rattle.std.specs.Box.{boxed_slice_items};
-    ghost use Rattle.twox_core.specs.Stands.{IsCopy};
-
-    ghost is_clone = { λ a b. IsCopy boxed_slice_items a b };
-
-    fn clone(&self) -> Result<Hasher<A>, AllocError> {
-        let inner = self.inner.clone()?;
-        Ok(Hasher { inner })
-    }
-}
-
-/// A stream over a secret of the caller's, which takes no memory.
-///
-/// ```text
-/// let secret = SecretBuffer::with_seed(7, [0; DEFAULT_SECRET_LENGTH])?;
-/// let mut hasher = RawHasher::new(secret);
-/// hasher.write(b"some bytes");
-/// assert_eq!(hasher.finish_128(), Hasher::oneshot_with_seed(7, b"some bytes"));
-/// ```
-#[derive(Drop)]
-pub struct RawHasher<S: FixedBuffer> {
-    core: RawHasherCore<S>,
-}
-
-impl<S: FixedBuffer> Model for RawHasher<S> {
-    ghost use Rattle.twox_core.specs.Core.{Core};
-
-    ghost Value = { Core S };
-
-    ghost view = { λ h. h.core };
 }
 
 impl<S: FixedBuffer> RawHasher<S> {
-    ghost use Rattle.std.specs.Prelude.{◌≡◌, ℕ, List, [], ◌++◌};
+    ghost use Rattle.std.specs.Prelude.{◌≡◌, ℕ, List};
     ghost use Rattle.twox_core.specs.Value.{effective_secret, xxh3_128};
-    ghost use Rattle.twox_core.specs.Core.{Core};
-    ghost use Rattle.twox_core.specs.Written.{written};
-    ghost use Rattle.twox_core.specs.Stands.{StandsFor};
+    ghost use Rattle.twox_core.specs.StandsFor.{StandsFor};
     ghost use Rattle.twox_hash.specs.Streams.{value_128};
 
-    /// A stream of no bytes yet, with the seed and the secret that are held.
-    pub fn new(secret_buffer: SecretBuffer<S>) -> RawHasher<S>
-        ensures { StandsFor S.bytes result secret_buffer.seed (S.bytes secret_buffer.secret) [] }
-    {
-        RawHasher {
-            core: RawHasherCore::new(secret_buffer),
-        }
-    }
-
-    /// Takes the bytes of a piece after those taken before.
-    #[inline]
-    pub fn write(&mut self, input: &[u8])
-        ensures message { (seed : ℕ) (s m : List ℕ) → StandsFor S.bytes self.old seed s m → StandsFor S.bytes self.new seed s (m ++ input.now) }
-        ensures exact { self.new ≡ written S.bytes self.old input.now }
-    {
-        self.core.write(input);
-    }
-
     /// The hash of the bytes taken so far, which stay: up to 240 bytes with the default secret and the seed,
-    /// above with the secret that is held, where no seed enters.
+    /// above with the stream's secret, where no seed enters.
     #[inline]
     #[tactic(auto, unfolding(crate::specs::Streams::value_128))]
     pub fn finish_128(&self) -> u128
-        ensures message { (seed : ℕ) (s m : List ℕ) → StandsFor S.bytes self.now seed s m → result ≡ xxh3_128 seed (effective_secret s m) m }
+        ensures message { (seed : ℕ) (s m : List ℕ) → StandsFor S.bytes self.now seed s m
+            → result ≡ xxh3_128 seed (effective_secret s m) m }
         ensures exact { result ≡ value_128 S.bytes self.now }
     {
-        self.core.finish(Finalize128)
-    }
-
-    /// The secret that is held.
-    pub fn into_secret(self) -> S
-        ensures exact { result ≡ self.held.secret }
-        ensures message { (seed : ℕ) (s m : List ℕ) → StandsFor S.bytes self seed s m → S.bytes result ≡ s }
-    {
-        self.core.into_secret()
+        self.core().finish(Finalize128)
     }
 }
 
-impl<S: ClonedBuffer> Clone for RawHasher<S> {
-    ghost use Rattle.twox_core.specs.Stands.{IsCopy};
-
-    ghost is_clone = { λ a b. IsCopy S.FixedBuffer.bytes a b };
-
-    fn clone(&self) -> Result<RawHasher<S>, AllocError> {
-        let core = self.core.clone()?;
-        Ok(RawHasher { core })
-    }
-}
-
-/// The end of the hash of 128 bits, of short inputs and of long ones.
+/// The finalizer of 128 bits: what is made of short inputs and of long ones.
 #[derive(Clone, Copy)]
 pub struct Finalize128;
 
@@ -334,7 +167,7 @@ impl Finalize for Finalize128 {
 
     ghost small_of = { λ _ s seed m. xxh3_128 seed s m };
 
-    ghost large_of = { λ _ a b t s n. finalized_128 a b t s n };
+    ghost large_of = { λ _ a b t s n. finalize_128 a b t s n };
 
     #[inline(always)]
     fn small(&self, secret: Secret<'_>, seed: u64, input: &[u8]) -> u128 {
@@ -355,12 +188,56 @@ impl Finalize for Finalize128 {
     }
 }
 
-// Apart, so that short inputs pay nothing for the room that long ones take.
+// The shortest inputs come first: they then pay nothing for the room that longer ones take, and the calls that
+// look alike become different code.
+#[inline(always)]
+#[tactic(auto, unfolding(twox_core::specs::Value::xxh3_128, twox_core::specs::Value::range_of, twox_core::specs::Value::low_in, twox_core::specs::Value::high_in))]
+fn impl_oneshot_default(input: &[u8]) -> u128
+    ensures { result ≡ xxh3_128 0 default_secret input.now }
+{
+    if input.len() <= 16 {
+        impl_oneshot(default_secret(), DEFAULT_SEED, input)
+    } else if input.len() <= CUTOFF {
+        impl_oneshot(default_secret(), DEFAULT_SEED, input)
+    } else {
+        impl_oneshot_long(default_secret(), input)
+    }
+}
+
+// The same order, with a seed.
+#[inline(always)]
+#[tactic(auto, unfolding(twox_core::specs::Value::xxh3_128, twox_core::specs::Value::range_of, twox_core::specs::Value::low_in, twox_core::specs::Value::high_in, twox_core::specs::Value::effective_secret))]
+fn impl_oneshot_seeded(seed: u64, input: &[u8]) -> u128
+    ensures { result ≡ xxh3_128 seed (effective_secret (derived_secret seed) input.now) input.now }
+{
+    if input.len() <= 16 {
+        impl_oneshot(default_secret(), seed, input)
+    } else if input.len() <= CUTOFF {
+        impl_oneshot(default_secret(), seed, input)
+    } else {
+        impl_oneshot_long_seeded(seed, input)
+    }
+}
+
+// With a secret of the caller's and the seed 0.
+#[inline(always)]
+#[tactic(auto, unfolding(twox_core::specs::Value::xxh3_128, twox_core::specs::Value::range_of, twox_core::specs::Value::low_in, twox_core::specs::Value::high_in))]
+fn impl_oneshot_keyed(secret: Secret<'_>, input: &[u8]) -> u128
+    ensures { result ≡ xxh3_128 0 (secret_bytes secret.entry) input.now }
+{
+    if input.len() <= CUTOFF {
+        impl_oneshot(secret, DEFAULT_SEED, input)
+    } else {
+        impl_oneshot_long(secret, input)
+    }
+}
+
+// A call of its own, so that short inputs pay nothing for the room that long ones take.
 #[inline(never)]
 #[tactic(auto, using(twox_core::proofs::EndingFacts::block_both))]
 fn impl_oneshot_long(secret: Secret<'_>, input: &[u8]) -> u128
     requires { 240 < length input.now }
-    ensures { let s = secret_bytes secret.entry in result ≡ long_high s input.now * 2 ^ 64 + long_low s input.now }
+    ensures { let s = secret_bytes secret.entry in result ≡ high_above_240 s input.now * 2 ^ 64 + low_above_240 s input.now }
 {
     Algorithm(Kernel {}).oneshot(secret, input, Finalize128)
 }
@@ -370,7 +247,7 @@ fn impl_oneshot_long(secret: Secret<'_>, input: &[u8]) -> u128
 #[tactic(auto, using(twox_core::proofs::Vectors::derived_secret_none))]
 fn impl_oneshot_long_seeded(seed: u64, input: &[u8]) -> u128
     requires { 240 < length input.now }
-    ensures { let s = derived_secret seed in result ≡ long_high s input.now * 2 ^ 64 + long_low s input.now }
+    ensures { let s = derived_secret seed in result ≡ high_above_240 s input.now * 2 ^ 64 + low_above_240 s input.now }
 {
     if seed == DEFAULT_SEED {
         impl_oneshot_long(default_secret(), input)
@@ -383,7 +260,7 @@ fn impl_oneshot_long_seeded(seed: u64, input: &[u8]) -> u128
 #[inline(never)]
 fn impl_oneshot_long_derived(seed: u64, input: &[u8]) -> u128
     requires { 240 < length input.now }
-    ensures { let s = derived_secret seed in result ≡ long_high s input.now * 2 ^ 64 + long_low s input.now }
+    ensures { let s = derived_secret seed in result ≡ high_above_240 s input.now * 2 ^ 64 + low_above_240 s input.now }
 {
     let secret = derived_secret(seed);
     impl_oneshot_long(Secret::new(&secret).unwrap(), input)
@@ -440,10 +317,10 @@ fn impl_0_to_16_bytes(secret: Secret<'_>, seed: u64, input: &[u8]) -> X128
 }
 
 #[inline(always)]
-#[tactic(auto, unfolding(twox_core::specs::Short::empty128_low, twox_core::specs::Short::empty128_high))]
+#[tactic(auto, unfolding(twox_core::specs::Short::low_0, twox_core::specs::Short::high_0))]
 fn impl_0_bytes(secret: Secret<'_>, seed: u64) -> X128
-    ensures low { result.low ≡ empty128_low seed (secret_bytes secret.entry) }
-    ensures high { result.high ≡ empty128_high seed (secret_bytes secret.entry) }
+    ensures low { result.low ≡ low_0 seed (secret_bytes secret.entry) }
+    ensures high { result.high ≡ high_0 seed (secret_bytes secret.entry) }
 {
     let words = secret.for_128().words_for_0();
     let low = avalanche_xxh64(seed ^ words[0] ^ words[1]);
@@ -452,19 +329,19 @@ fn impl_0_bytes(secret: Secret<'_>, seed: u64) -> X128
 }
 
 #[inline(always)]
-#[tactic(auto, unfolding(twox_core::specs::Short::tiny_low, twox_core::specs::Short::tiny_high))]
+#[tactic(auto, unfolding(twox_core::specs::Short::low_1_to_3, twox_core::specs::Short::high_1_to_3))]
 fn impl_1_to_3_bytes(secret: Secret<'_>, seed: u64, input: &[u8]) -> X128
     requires some { 1 ≤ length input.now }
     requires few { length input.now ≤ 3 }
-    ensures low { result.low ≡ tiny_low seed (secret_bytes secret.entry) (combined input.now) }
-    ensures high { result.high ≡ tiny_high seed (secret_bytes secret.entry) (combined input.now) }
+    ensures low { result.low ≡ low_1_to_3 seed (secret_bytes secret.entry) (combined_bytes input.now) }
+    ensures high { result.high ≡ high_1_to_3 seed (secret_bytes secret.entry) (combined_bytes input.now) }
 {
-    let combined = impl_1_to_3_bytes_combined(input);
+    let combined_bytes = impl_1_to_3_bytes_combined(input);
     let words = secret.for_128().words_for_1_to_3();
     let low_key = (words[0] ^ words[1]).into_u64();
     let high_key = (words[2] ^ words[3]).into_u64();
-    let low = low_key.wrapping_add(seed) ^ combined.into_u64();
-    let high = high_key.wrapping_sub(seed) ^ combined.swap_bytes().rotate_left(13).into_u64();
+    let low = low_key.wrapping_add(seed) ^ combined_bytes.into_u64();
+    let high = high_key.wrapping_sub(seed) ^ combined_bytes.swap_bytes().rotate_left(13).into_u64();
     X128 {
         low: avalanche_xxh64(low),
         high: avalanche_xxh64(high),
@@ -472,19 +349,19 @@ fn impl_1_to_3_bytes(secret: Secret<'_>, seed: u64, input: &[u8]) -> X128
 }
 
 #[inline(always)]
-#[tactic(auto, unfolding(twox_core::specs::Short::four128_low, twox_core::specs::Short::four128_high, twox_core::specs::Short::four_product, twox_core::specs::Short::mixed_seed))]
+#[tactic(auto, unfolding(twox_core::specs::Short::low_4_to_8, twox_core::specs::Short::high_4_to_8, twox_core::specs::Short::product_4_to_8, twox_core::specs::Short::mixed_seed))]
 fn impl_4_to_8_bytes(secret: Secret<'_>, seed: u64, input: &[u8]) -> X128
     requires some { 4 ≤ length input.now }
     requires few { length input.now ≤ 8 }
-    ensures low { result.low ≡ four128_low (four_product seed (secret_bytes secret.entry) input.now) }
-    ensures high { result.high ≡ four128_high (four_product seed (secret_bytes secret.entry) input.now) }
+    ensures low { result.low ≡ low_4_to_8 (product_4_to_8 seed (secret_bytes secret.entry) input.now) }
+    ensures high { result.high ≡ high_4_to_8 (product_4_to_8 seed (secret_bytes secret.entry) input.now) }
 {
     let first = u32_at(input, 0);
     let last = u32_at(input, input.len() - 4);
     let mixed_seed = seed ^ (seed.lower_half().swap_bytes().into_u64() << 32);
     let words = secret.for_128().words_for_4_to_8();
-    let combined = first.into_u64() | (last.into_u64() << 32);
-    let lhs = (words[0] ^ words[1]).wrapping_add(mixed_seed) ^ combined;
+    let combined_bytes = first.into_u64() | (last.into_u64() << 32);
+    let lhs = (words[0] ^ words[1]).wrapping_add(mixed_seed) ^ combined_bytes;
     let rhs = PRIME64_1.wrapping_add(input.len().into_u64() << 2);
     let product = full_product(lhs, rhs);
 
@@ -499,12 +376,12 @@ fn impl_4_to_8_bytes(secret: Secret<'_>, seed: u64, input: &[u8]) -> X128
 }
 
 #[inline(always)]
-#[tactic(auto, unfolding(twox_core::specs::Short::nine_product, twox_core::specs::Short::nine_both, twox_core::specs::Short::nine_high, twox_core::specs::Short::nine_low, twox_core::specs::Short::nine_first, twox_core::specs::Short::nine_second))]
+#[tactic(auto, unfolding(twox_core::specs::Short::product_9_to_16, twox_core::specs::Short::both_words_9_to_16, twox_core::specs::Short::high_word_9_to_16, twox_core::specs::Short::low_word_9_to_16, twox_core::specs::Short::first_9_to_16, twox_core::specs::Short::second_9_to_16))]
 fn impl_9_to_16_bytes(secret: Secret<'_>, seed: u64, input: &[u8]) -> X128
     requires some { 9 ≤ length input.now }
     requires few { length input.now ≤ 16 }
-    ensures low { result.low ≡ avalanche (low64 (nine_product seed (secret_bytes secret.entry) input.now)) }
-    ensures high { result.high ≡ avalanche (high64 (nine_product seed (secret_bytes secret.entry) input.now)) }
+    ensures low { result.low ≡ avalanche (low64 (product_9_to_16 seed (secret_bytes secret.entry) input.now)) }
+    ensures high { result.high ≡ avalanche (high64 (product_9_to_16 seed (secret_bytes secret.entry) input.now)) }
 {
     let first = u64_at(input, 0);
     let last = u64_at(input, input.len() - 8);
@@ -529,54 +406,66 @@ fn impl_9_to_16_bytes(secret: Secret<'_>, seed: u64, input: &[u8]) -> X128
     }
 }
 
-// The two lanes of 17 to 240 bytes.
+// The two accumulators of 17 to 240 bytes.
 #[derive(Clone, Copy)]
-struct Lanes {
+struct Accumulators {
     first: u64,
     second: u64,
 }
 
-// The lanes before the first chunk.
+// The accumulators before the first chunk.
 #[inline(always)]
-fn initial_lanes(input: &[u8]) -> Lanes
+fn initial_accumulators(input: &[u8]) -> Accumulators
     ensures first { result.first ≡ mul64 (length input.now) prime64_1 }
     ensures second { result.second ≡ 0 }
 {
-    Lanes {
+    Accumulators {
         first: input.len().into_u64().wrapping_mul(PRIME64_1),
         second: 0,
     }
 }
 
-// A lane after the 16 bytes `own` under the secret's, and then the words of the 16 bytes `other`.
+// A accumulator after the 16 bytes `own` under the secret's, and then the words of the 16 bytes `other`.
 #[inline(always)]
-fn lane_step(lane: u64, own: &[u8; 16], words: &[u8; 16], other: &[u8; 16], seed: u64) -> u64
-    ensures { result ≡ bit_xor (add64 lane (mix own.now 0 words.now 0 seed)) (add64 (word64 other.now 0) (word64 other.now 8)) }
+fn accumulator_step(
+    accumulator: u64,
+    own: &[u8; 16],
+    words: &[u8; 16],
+    other: &[u8; 16],
+    seed: u64,
+) -> u64
+    ensures { result ≡ bit_xor (add64 accumulator (mix own.now 0 words.now 0 seed)) (add64 (word64 other.now 0) (word64 other.now 8)) }
 {
     let other = to_u64s(other);
-    lane.wrapping_add(mix_step(own, words, seed)) ^ other[0].wrapping_add(other[1])
+    accumulator.wrapping_add(mix_step(own, words, seed)) ^ other[0].wrapping_add(other[1])
 }
 
-// The lanes after chunk `c` from the front and from the back, where there is one.
+// The accumulators after chunk `c` from the front and from the back, where there is one.
 #[inline(always)]
-fn mix_two_chunks(lanes: Lanes, secret: Secret<'_>, seed: u64, input: &[u8], c: usize) -> Lanes
+fn mix_two_chunks(
+    accumulators: Accumulators,
+    secret: Secret<'_>,
+    seed: u64,
+    input: &[u8],
+    c: usize,
+) -> Accumulators
     requires some { 17 ≤ length input.now }
     requires few { length input.now ≤ 128 }
     requires chunk { c < 4 }
     ensures first { let s = secret_bytes secret.entry in
         let n = steps_of input.now in
-        lanes.first ≡ medium_first seed s input.now n (n - 1 - c) → result.first ≡ medium_first seed s input.now n (n - c) }
+        accumulators.first ≡ first_17_to_128 seed s input.now n (n - 1 - c) → result.first ≡ first_17_to_128 seed s input.now n (n - c) }
     ensures second { let s = secret_bytes secret.entry in
         let n = steps_of input.now in
-        lanes.second ≡ medium_second seed s input.now n (n - 1 - c) → result.second ≡ medium_second seed s input.now n (n - c) }
+        accumulators.second ≡ second_17_to_128 seed s input.now n (n - 1 - c) → result.second ≡ second_17_to_128 seed s input.now n (n - c) }
 {
     if input.len() <= 32 * c {
-        return lanes;
+        return accumulators;
     }
     let (forward, backward, words) = chunks_17_to_128(secret, input, c);
-    Lanes {
-        first: lane_step(lanes.first, forward, &words[0], backward, seed),
-        second: lane_step(lanes.second, backward, &words[1], forward, seed),
+    Accumulators {
+        first: accumulator_step(accumulators.first, forward, &words[0], backward, seed),
+        second: accumulator_step(accumulators.second, backward, &words[1], forward, seed),
     }
 }
 
@@ -584,47 +473,47 @@ fn mix_two_chunks(lanes: Lanes, secret: Secret<'_>, seed: u64, input: &[u8], c: 
 fn impl_17_to_128_bytes(secret: Secret<'_>, seed: u64, input: &[u8]) -> X128
     requires some { 17 ≤ length input.now }
     requires few { length input.now ≤ 128 }
-    ensures low { result.low ≡ low_in Range.Medium seed (secret_bytes secret.entry) input.now }
-    ensures high { result.high ≡ high_in Range.Medium seed (secret_bytes secret.entry) input.now }
+    ensures low { result.low ≡ low_in Range.Bytes17To128 seed (secret_bytes secret.entry) input.now }
+    ensures high { result.high ≡ high_in Range.Bytes17To128 seed (secret_bytes secret.entry) input.now }
 {
-    let mut lanes = initial_lanes(input);
+    let mut accumulators = initial_accumulators(input);
     for step in 0..4 {
-        lanes = mix_two_chunks(lanes, secret, seed, input, 3 - step);
+        accumulators = mix_two_chunks(accumulators, secret, seed, input, 3 - step);
     }
-    finalize_medium(lanes, input.len().into_u64(), seed)
+    finalize_medium(accumulators, input.len().into_u64(), seed)
 }
 
 #[inline(never)]
 fn impl_129_to_240_bytes(secret: Secret<'_>, seed: u64, input: &[u8]) -> X128
     requires some { 129 ≤ length input.now }
     requires few { length input.now ≤ 240 }
-    ensures low { result.low ≡ low_in Range.Large seed (secret_bytes secret.entry) input.now }
-    ensures high { result.high ≡ high_in Range.Large seed (secret_bytes secret.entry) input.now }
+    ensures low { result.low ≡ low_in Range.Bytes129To240 seed (secret_bytes secret.entry) input.now }
+    ensures high { result.high ≡ high_in Range.Bytes129To240 seed (secret_bytes secret.entry) input.now }
 {
     let pairs = pairs_of_u64_bytes(input);
-    let Lanes {
+    let Accumulators {
         mut first,
         mut second,
-    } = initial_lanes(input);
+    } = initial_accumulators(input);
 
     let words = secret.for_128().words_for_129_to_240_part1();
     'early: for p in 0..4 {
-        first = lane_step(first, &pairs[p][0], &words[p][0], &pairs[p][1], seed);
-        second = lane_step(second, &pairs[p][1], &words[p][1], &pairs[p][0], seed);
+        first = accumulator_step(first, &pairs[p][0], &words[p][0], &pairs[p][1], seed);
+        second = accumulator_step(second, &pairs[p][1], &words[p][1], &pairs[p][0], seed);
     }
     first = avalanche(first);
     second = avalanche(second);
 
     let words = secret.for_128().words_for_129_to_240_part2();
     'later: for p in 0..pairs.len() - 4 {
-        first = lane_step(
+        first = accumulator_step(
             first,
             &pairs[4 + p][0],
             &words[p][0],
             &pairs[4 + p][1],
             seed,
         );
-        second = lane_step(
+        second = accumulator_step(
             second,
             &pairs[4 + p][1],
             &words[p][1],
@@ -638,25 +527,25 @@ fn impl_129_to_240_bytes(secret: Secret<'_>, seed: u64, input: &[u8]) -> X128
     let (tail, _) = bp_as_chunks(tail);
     let words = secret.for_128().words_for_129_to_240_part3();
     let negated = seed.wrapping_neg();
-    let lanes = Lanes {
-        first: lane_step(first, &tail[1], &words[0], &tail[0], negated),
-        second: lane_step(second, &tail[0], &words[1], &tail[1], negated),
+    let accumulators = Accumulators {
+        first: accumulator_step(first, &tail[1], &words[0], &tail[0], negated),
+        second: accumulator_step(second, &tail[0], &words[1], &tail[1], negated),
     };
-    finalize_medium(lanes, input.len().into_u64(), seed)
+    finalize_medium(accumulators, input.len().into_u64(), seed)
 }
 
-// The value of the lanes.
+// The value of the accumulators.
 #[inline(always)]
-#[tactic(auto, unfolding(twox_core::specs::Middle::lanes_low, twox_core::specs::Middle::lanes_high))]
-fn finalize_medium(lanes: Lanes, input_len: u64, seed: u64) -> X128
-    ensures low { result.low ≡ lanes_low lanes.first lanes.second }
-    ensures high { result.high ≡ lanes_high seed input_len lanes.first lanes.second }
+#[tactic(auto, unfolding(twox_core::specs::Middle::merge_low, twox_core::specs::Middle::merge_high))]
+fn finalize_medium(accumulators: Accumulators, input_len: u64, seed: u64) -> X128
+    ensures low { result.low ≡ merge_low accumulators.first accumulators.second }
+    ensures high { result.high ≡ merge_high seed input_len accumulators.first accumulators.second }
 {
-    let low = lanes.first.wrapping_add(lanes.second);
-    let high = lanes
+    let low = accumulators.first.wrapping_add(accumulators.second);
+    let high = accumulators
         .first
         .wrapping_mul(PRIME64_1)
-        .wrapping_add(lanes.second.wrapping_mul(PRIME64_4))
+        .wrapping_add(accumulators.second.wrapping_mul(PRIME64_4))
         .wrapping_add(input_len.wrapping_sub(seed).wrapping_mul(PRIME64_2));
     X128 {
         low: avalanche(low),

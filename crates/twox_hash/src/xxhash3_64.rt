@@ -2,29 +2,28 @@
 
 ghost use Rattle.std.specs.Prelude.{◌≡◌, ◌≢◌, ◌↔◌, ◌+◌, ◌-◌, ◌*◌, ◌/◌, ◌%◌, ◌^◌, ◌<◌, ◌≤◌, ℕ, List, length, drop, MatchResult, IfOk, IsErr};
 ghost use Rattle.twox_core.specs.Primes.{prime64_1};
-ghost use Rattle.twox_core.specs.OtherBytes.{IsOtherShort64};
-ghost use Rattle.twox_core.specs.Ending.{finalized_64};
-ghost use Rattle.twox_core.specs.Long.{long_low};
-ghost use Rattle.twox_core.specs.Middle.{both_ends, large64, medium64};
+ghost use Rattle.twox_core.specs.Laws.{TellsOthers64};
+ghost use Rattle.twox_core.specs.Ending.{finalize_64};
+ghost use Rattle.twox_core.specs.Long.{low_above_240};
+ghost use Rattle.twox_core.specs.Middle.{both_ends, value64_129_to_240, value64_17_to_128};
 ghost use Rattle.twox_core.specs.Secret.{default_secret, derived_secret};
 ghost use Rattle.twox_core.specs.SecretBytes.{secret_bytes};
-ghost use Rattle.twox_core.specs.Short.{combined, empty64, four64, nine64, strong, tiny_low};
+ghost use Rattle.twox_core.specs.Short.{combined_bytes, value64_0, value64_4_to_8, value64_9_to_16, strong, low_1_to_3};
 ghost use Rattle.twox_core.specs.Steps.{mix, sum_below};
 ghost use Rattle.twox_core.specs.Value.{effective_secret, xxh3_64};
 
-use std::alloc::{AllocError, Allocator, Global};
-use std::boxed::BoxedSlice;
+use crate::streams::{BoxedStream, RawStream};
+use std::alloc::{Allocator, Global};
 use std::hash;
-use std::marker::Model;
 use twox_core::xxhash3::primes::{PRIME_MX2, PRIME64_1};
 pub use twox_core::xxhash3::{
     ClonedBuffer, DEFAULT_SECRET_LENGTH, FixedBuffer, FixedMutBuffer, OneshotWithSecretError,
     SECRET_MINIMUM_LENGTH, SecretBuffer, SecretTooShortError, SecretWithSeedError,
 };
 use twox_core::xxhash3::{
-    Algorithm, AllocRawHasher, CUTOFF, DEFAULT_SEED, Finalize, Kernel, RawHasherCore, Secret,
-    Vector, avalanche, avalanche_xxh64, chunks_17_to_128, default_secret, derived_secret, fold,
-    impl_1_to_3_bytes_combined, mix_step, mix_words,
+    Algorithm, CUTOFF, DEFAULT_SEED, Finalize, Kernel, Secret, Vector, avalanche, avalanche_xxh64,
+    chunks_17_to_128, default_secret, derived_secret, fold, impl_1_to_3_bytes_combined, mix_step,
+    mix_words,
 };
 use twox_plain::words::{Halves, IntoU64, u32_at, u64_at};
 
@@ -37,20 +36,17 @@ use twox_plain::words::{Halves, IntoU64, u32_at, u64_at};
 /// hasher.write(b"bytes");
 /// assert_eq!(hasher.finish(), Hasher::oneshot_with_seed(7, b"some bytes"));
 /// ```
-#[derive(Drop)]
-pub struct Hasher<A: Allocator = Global> {
-    inner: AllocRawHasher<A>,
-}
+pub type Hasher<A = Global> = BoxedStream<Finalize64, A>;
 
-impl<A: Allocator> Model for Hasher<A> {
-    ghost use Rattle.std.specs.Prelude.{ℕ};
-    ghost use Rattle.std.specs.declared.boxed.BoxedSlice.{BoxedSlice};
-    ghost use Rattle.twox_core.specs.Core.{Core};
-
-    ghost Value = { Core (BoxedSlice ℕ A) };
-
-    ghost view = { λ h. h.inner };
-}
+/// A stream over a secret of the caller's, which takes no memory.
+///
+/// ```text
+/// let secret = SecretBuffer::with_seed(7, [0; DEFAULT_SECRET_LENGTH])?;
+/// let mut hasher = RawHasher::new(secret);
+/// hasher.write(b"some bytes");
+/// assert_eq!(hasher.finish(), Hasher::oneshot_with_seed(7, b"some bytes"));
+/// ```
+pub type RawHasher<S> = RawStream<Finalize64, S>;
 
 impl Hasher<Global> {
     /// The hash of all bytes at once, with the default secret and the seed 0.
@@ -59,39 +55,22 @@ impl Hasher<Global> {
     /// no two have the same hash. So is another seed, up to 8 bytes. All that holds of the other one-shots
     /// too, under their secrets.
     #[inline]
-    #[tactic(auto, unfolding(twox_core::specs::Value::xxh3_64, twox_core::specs::Value::range_of, twox_core::specs::Value::value64_in))]
     pub fn oneshot(input: &[u8]) -> u64
         ensures value { result ≡ xxh3_64 0 default_secret input.now }
-        ensures changed_bytes { (n : List ℕ) → IsOtherShort64 input.now n → xxh3_64 0 default_secret n ≢ result }
-        ensures changed_seed { (other : ℕ) → other < 2 ^ 64 → other ≢ 0 → length input.now ≤ 8 → xxh3_64 other default_secret input.now ≢ result }
+        ensures tells_others { TellsOthers64 0 default_secret input.now result }
     {
-        // The shortest come first: they then pay for no room that others take.
-        if input.len() <= 16 {
-            impl_oneshot(default_secret(), DEFAULT_SEED, input)
-        } else if input.len() <= CUTOFF {
-            impl_oneshot(default_secret(), DEFAULT_SEED, input)
-        } else {
-            impl_oneshot_long(default_secret(), input)
-        }
+        impl_oneshot_default(input)
     }
 
     /// The hash of all bytes at once, with a seed: up to 240 bytes with the default secret, above with the
     /// secret that the seed derives.
     #[inline]
-    #[tactic(auto, unfolding(twox_core::specs::Value::xxh3_64, twox_core::specs::Value::range_of, twox_core::specs::Value::value64_in, twox_core::specs::Value::effective_secret))]
     pub fn oneshot_with_seed(seed: u64, input: &[u8]) -> u64
-        ensures value { result ≡ xxh3_64 seed (effective_secret (derived_secret seed) input.now) input.now }
-        ensures changed_bytes { (n : List ℕ) → IsOtherShort64 input.now n → xxh3_64 seed default_secret n ≢ result }
-        ensures changed_seed { (other : ℕ) → other < 2 ^ 64 → other ≢ seed → length input.now ≤ 8 → xxh3_64 other default_secret input.now ≢ result }
+        ensures value { let s = effective_secret (derived_secret seed) input.now in
+            result ≡ xxh3_64 seed s input.now }
+        ensures tells_others { TellsOthers64 seed default_secret input.now result }
     {
-        // The shortest come first here too.
-        if input.len() <= 16 {
-            impl_oneshot(default_secret(), seed, input)
-        } else if input.len() <= CUTOFF {
-            impl_oneshot(default_secret(), seed, input)
-        } else {
-            impl_oneshot_long_seeded(seed, input)
-        }
+        impl_oneshot_seeded(seed, input)
     }
 
     /// The hash of all bytes at once, with a secret and the seed 0, at every length.
@@ -100,18 +79,13 @@ impl Hasher<Global> {
     ///
     /// The secret has fewer than 136 bytes.
     #[inline]
-    #[tactic(auto, unfolding(twox_core::specs::Value::xxh3_64, twox_core::specs::Value::range_of, twox_core::specs::Value::value64_in))]
     pub fn oneshot_with_secret(secret: &[u8], input: &[u8]) -> Result<u64, OneshotWithSecretError>
-        ensures value { MatchResult result (λ x. (136 ≤ length secret.now) × (x ≡ xxh3_64 0 secret.now input.now)) (λ _. length secret.now < 136) }
-        ensures changed_bytes { IfOk result (λ x. (n : List ℕ) → IsOtherShort64 input.now n → xxh3_64 0 secret.now n ≢ x) }
-        ensures changed_seed { IfOk result (λ x. (other : ℕ) → other < 2 ^ 64 → other ≢ 0 → length input.now ≤ 8 → xxh3_64 other secret.now input.now ≢ x) }
+        ensures refused { IsErr result ↔ (length secret.now < 136) }
+        ensures value { IfOk result (λ x. x ≡ xxh3_64 0 secret.now input.now) }
+        ensures tells_others { IfOk result (λ x. TellsOthers64 0 secret.now input.now x) }
     {
         let secret = Secret::new(secret)?;
-        if input.len() <= CUTOFF {
-            Ok(impl_oneshot(secret, DEFAULT_SEED, input))
-        } else {
-            Ok(impl_oneshot_long(secret, input))
-        }
+        Ok(impl_oneshot_keyed(secret, input))
     }
 
     /// The hash of all bytes at once, with a seed and a secret. Only one of the two has an effect: up to 240
@@ -128,114 +102,63 @@ impl Hasher<Global> {
         input: &[u8],
     ) -> Result<u64, OneshotWithSecretError>
         ensures refused { IsErr result ↔ ((240 < length input.now) × (length secret.now < 136)) }
-        ensures value { IfOk result (λ x. x ≡ xxh3_64 seed (effective_secret secret.now input.now) input.now) }
-        ensures changed_bytes { IfOk result (λ x. (n : List ℕ) → IsOtherShort64 input.now n → xxh3_64 seed default_secret n ≢ x) }
-        ensures changed_seed { IfOk result (λ x. (other : ℕ) → other < 2 ^ 64 → other ≢ seed → length input.now ≤ 8 → xxh3_64 other default_secret input.now ≢ x) }
+        ensures value { let s = effective_secret secret.now input.now in
+            IfOk result (λ x. x ≡ xxh3_64 seed s input.now) }
+        ensures tells_others { IfOk result (λ x. TellsOthers64 seed default_secret input.now x) }
     {
         if input.len() <= CUTOFF {
             return Ok(impl_oneshot(default_secret(), seed, input));
         }
-        Ok(impl_oneshot_long(Secret::new(secret)?, input))
+        let own = Secret::new(secret)?;
+        Ok(impl_oneshot_long(own, input))
     }
 }
 
 impl<A: Allocator> Hasher<A> {
-    ghost use Rattle.std.specs.Prelude.{◌≡◌, ℕ, List, [], ◌++◌, ◌<◌, ◌≤◌, length, IfOk, MatchResult};
+    ghost use Rattle.std.specs.Prelude.{◌≡◌, ℕ, List};
     ghost use Rattle.std.specs.Box.{boxed_slice_items};
-    ghost use Rattle.twox_core.specs.Secret.{default_secret, derived_secret};
     ghost use Rattle.twox_core.specs.Value.{effective_secret, xxh3_64};
-    ghost use Rattle.twox_core.specs.Core.{Core};
-    ghost use Rattle.twox_core.specs.Written.{written};
-    ghost use Rattle.twox_core.specs.Stands.{StandsFor};
+    ghost use Rattle.twox_core.specs.StandsFor.{StandsFor};
     ghost use Rattle.twox_hash.specs.Streams.{value_64};
 
-    /// A stream with the seed 0 and the default secret.
-    ///
-    /// # Errors
-    ///
-    /// There is no memory for the secret.
-    pub fn new(alloc: A) -> Result<Hasher<A>, AllocError>
-        ensures { IfOk result (λ h. StandsFor boxed_slice_items h 0 default_secret []) }
-    {
-        let inner = AllocRawHasher::allocate_default(alloc)?;
-        Ok(Hasher { inner })
-    }
-
-    /// The same as `new`.
-    ///
-    /// # Errors
-    ///
-    /// There is no memory for the secret.
-    pub fn default(alloc: A) -> Result<Hasher<A>, AllocError>
-        ensures { IfOk result (λ h. StandsFor boxed_slice_items h 0 default_secret []) }
-    {
-        Hasher::new(alloc)
-    }
-
-    /// A stream with the seed and the secret that it derives.
-    ///
-    /// # Errors
-    ///
-    /// There is no memory for the secret.
-    pub fn with_seed(alloc: A, seed: u64) -> Result<Hasher<A>, AllocError>
-        ensures { IfOk result (λ h. StandsFor boxed_slice_items h seed (derived_secret seed) []) }
-    {
-        let inner = AllocRawHasher::allocate_with_seed(alloc, seed)?;
-        Ok(Hasher { inner })
-    }
-
-    /// A stream with the seed and the secret, which takes no memory.
-    ///
-    /// # Errors
-    ///
-    /// The secret has fewer than 136 bytes; it is handed back.
-    pub fn with_seed_and_secret(
-        seed: u64,
-        secret: BoxedSlice<u8, A>,
-    ) -> Result<Hasher<A>, SecretTooShortError<BoxedSlice<u8, A>>>
-        ensures { MatchResult result
-            (λ h. (136 ≤ length (boxed_slice_items secret)) × StandsFor boxed_slice_items h seed (boxed_slice_items secret) [])
-            (λ e. (length (boxed_slice_items secret) < 136) × (e ≡ secret)) }
-    {
-        let inner = AllocRawHasher::allocate_with_seed_and_secret(seed, secret)?;
-        Ok(Hasher { inner })
-    }
-
-    /// Takes the bytes of a piece after those taken before.
-    #[inline]
-    pub fn write(&mut self, input: &[u8])
-        ensures message { (seed : ℕ) (s m : List ℕ) → StandsFor boxed_slice_items self.old seed s m → StandsFor boxed_slice_items self.new seed s (m ++ input.now) }
-        ensures exact { self.new ≡ written boxed_slice_items self.old input.now }
-    {
-        self.inner.write(input);
-    }
-
     /// The hash of the bytes taken so far, which stay: up to 240 bytes with the default secret and the seed,
-    /// above with the secret that is held, where no seed enters.
+    /// above with the stream's secret, where no seed enters.
     #[inline]
     #[tactic(auto, unfolding(crate::specs::Streams::value_64))]
     pub fn finish(&self) -> u64
-        ensures message { (seed : ℕ) (s m : List ℕ) → StandsFor boxed_slice_items self.now seed s m → result ≡ xxh3_64 seed (effective_secret s m) m }
+        ensures message { (seed : ℕ) (s m : List ℕ) → StandsFor boxed_slice_items self.now seed s m
+            → result ≡ xxh3_64 seed (effective_secret s m) m }
         ensures exact { result ≡ value_64 boxed_slice_items self.now }
     {
-        self.inner.finish(Finalize64)
+        self.inner().finish(Finalize64)
     }
+}
 
-    /// The secret that is held.
-    pub fn into_secret(self) -> BoxedSlice<u8, A>
-        ensures exact { result ≡ self.held.secret }
-        ensures message { (seed : ℕ) (s m : List ℕ) → StandsFor boxed_slice_items self seed s m → boxed_slice_items result ≡ s }
+impl<S: FixedBuffer> RawHasher<S> {
+    ghost use Rattle.std.specs.Prelude.{◌≡◌, ℕ, List};
+    ghost use Rattle.twox_core.specs.Value.{effective_secret, xxh3_64};
+    ghost use Rattle.twox_core.specs.StandsFor.{StandsFor};
+    ghost use Rattle.twox_hash.specs.Streams.{value_64};
+
+    /// The hash of the bytes taken so far, which stay: up to 240 bytes with the default secret and the seed,
+    /// above with the stream's secret, where no seed enters.
+    #[inline]
+    #[tactic(auto, unfolding(crate::specs::Streams::value_64))]
+    pub fn finish(&self) -> u64
+        ensures message { (seed : ℕ) (s m : List ℕ) → StandsFor S.bytes self.now seed s m
+            → result ≡ xxh3_64 seed (effective_secret s m) m }
+        ensures exact { result ≡ value_64 S.bytes self.now }
     {
-        self.inner.into_secret()
+        self.core().finish(Finalize64)
     }
 }
 
 impl<A: Allocator> hash::Hasher for Hasher<A> {
     ghost use Rattle.std.specs.Box.{boxed_slice_items};
-    ghost use Rattle.twox_core.specs.Written.{written};
+    ghost use Rattle.twox_core.specs.AfterWrite.{core_after_write};
     ghost use Rattle.twox_hash.specs.Streams.{value_64};
 
-    ghost write = { λ h bytes. written boxed_slice_items h bytes };
+    ghost write = { λ h bytes. core_after_write boxed_slice_items h bytes };
 
     ghost finish = { λ h. value_64 boxed_slice_items h };
 
@@ -244,94 +167,15 @@ impl<A: Allocator> hash::Hasher for Hasher<A> {
     }
 
     fn write(&mut self, bytes: &[u8]) {
-        Hasher::write(self, bytes);
-    }
-}
-
-impl<A: Allocator + Clone> Clone for Hasher<A> {
-    ghost use Rattle.std.specs.Box.{boxed_slice_items};
-    ghost use Rattle.twox_core.specs.Stands.{IsCopy};
-
-    ghost is_clone = { λ a b. IsCopy boxed_slice_items a b };
-
-    fn clone(&self) -> Result<Hasher<A>, AllocError> {
-        let inner = self.inner.clone()?;
-        Ok(Hasher { inner })
-    }
-}
-
-/// A stream over a secret of the caller's, which takes no memory.
-///
-/// ```text
-/// let secret = SecretBuffer::with_seed(7, [0; DEFAULT_SECRET_LENGTH])?;
-/// let mut hasher = RawHasher::new(secret);
-/// hasher.write(b"some bytes");
-/// assert_eq!(hasher.finish(), Hasher::oneshot_with_seed(7, b"some bytes"));
-/// ```
-#[derive(Drop)]
-pub struct RawHasher<S: FixedBuffer> {
-    core: RawHasherCore<S>,
-}
-
-impl<S: FixedBuffer> Model for RawHasher<S> {
-    ghost use Rattle.twox_core.specs.Core.{Core};
-
-    ghost Value = { Core S };
-
-    ghost view = { λ h. h.core };
-}
-
-impl<S: FixedBuffer> RawHasher<S> {
-    ghost use Rattle.std.specs.Prelude.{◌≡◌, ℕ, List, [], ◌++◌};
-    ghost use Rattle.twox_core.specs.Value.{effective_secret, xxh3_64};
-    ghost use Rattle.twox_core.specs.Core.{Core};
-    ghost use Rattle.twox_core.specs.Written.{written};
-    ghost use Rattle.twox_core.specs.Stands.{StandsFor};
-    ghost use Rattle.twox_hash.specs.Streams.{value_64};
-
-    /// A stream of no bytes yet, with the seed and the secret that are held.
-    pub fn new(secret_buffer: SecretBuffer<S>) -> RawHasher<S>
-        ensures { StandsFor S.bytes result secret_buffer.seed (S.bytes secret_buffer.secret) [] }
-    {
-        RawHasher {
-            core: RawHasherCore::new(secret_buffer),
-        }
-    }
-
-    /// Takes the bytes of a piece after those taken before.
-    #[inline]
-    pub fn write(&mut self, input: &[u8])
-        ensures message { (seed : ℕ) (s m : List ℕ) → StandsFor S.bytes self.old seed s m → StandsFor S.bytes self.new seed s (m ++ input.now) }
-        ensures exact { self.new ≡ written S.bytes self.old input.now }
-    {
-        self.core.write(input);
-    }
-
-    /// The hash of the bytes taken so far, which stay: up to 240 bytes with the default secret and the seed,
-    /// above with the secret that is held, where no seed enters.
-    #[inline]
-    #[tactic(auto, unfolding(crate::specs::Streams::value_64))]
-    pub fn finish(&self) -> u64
-        ensures message { (seed : ℕ) (s m : List ℕ) → StandsFor S.bytes self.now seed s m → result ≡ xxh3_64 seed (effective_secret s m) m }
-        ensures exact { result ≡ value_64 S.bytes self.now }
-    {
-        self.core.finish(Finalize64)
-    }
-
-    /// The secret that is held.
-    pub fn into_secret(self) -> S
-        ensures exact { result ≡ self.held.secret }
-        ensures message { (seed : ℕ) (s m : List ℕ) → StandsFor S.bytes self seed s m → S.bytes result ≡ s }
-    {
-        self.core.into_secret()
+        BoxedStream::write(self, bytes);
     }
 }
 
 impl<S: FixedBuffer> hash::Hasher for RawHasher<S> {
-    ghost use Rattle.twox_core.specs.Written.{written};
+    ghost use Rattle.twox_core.specs.AfterWrite.{core_after_write};
     ghost use Rattle.twox_hash.specs.Streams.{value_64};
 
-    ghost write = { λ h bytes. written S.bytes h bytes };
+    ghost write = { λ h bytes. core_after_write S.bytes h bytes };
 
     ghost finish = { λ h. value_64 S.bytes h };
 
@@ -340,22 +184,11 @@ impl<S: FixedBuffer> hash::Hasher for RawHasher<S> {
     }
 
     fn write(&mut self, bytes: &[u8]) {
-        RawHasher::write(self, bytes);
+        RawStream::write(self, bytes);
     }
 }
 
-impl<S: ClonedBuffer> Clone for RawHasher<S> {
-    ghost use Rattle.twox_core.specs.Stands.{IsCopy};
-
-    ghost is_clone = { λ a b. IsCopy S.FixedBuffer.bytes a b };
-
-    fn clone(&self) -> Result<RawHasher<S>, AllocError> {
-        let core = self.core.clone()?;
-        Ok(RawHasher { core })
-    }
-}
-
-/// The end of the hash of 64 bits, of short inputs and of long ones.
+/// The finalizer of 64 bits: what is made of short inputs and of long ones.
 #[derive(Clone, Copy)]
 pub struct Finalize64;
 
@@ -364,7 +197,7 @@ impl Finalize for Finalize64 {
 
     ghost small_of = { λ _ s seed m. xxh3_64 seed s m };
 
-    ghost large_of = { λ _ a b t s n. finalized_64 a b t s n };
+    ghost large_of = { λ _ a b t s n. finalize_64 a b t s n };
 
     #[inline(always)]
     fn small(&self, secret: Secret<'_>, seed: u64, input: &[u8]) -> u64 {
@@ -385,12 +218,56 @@ impl Finalize for Finalize64 {
     }
 }
 
-// Apart, so that short inputs pay nothing for the room that long ones take.
+// The shortest inputs come first: they then pay nothing for the room that longer ones take, and the calls that
+// look alike become different code.
+#[inline(always)]
+#[tactic(auto, unfolding(twox_core::specs::Value::xxh3_64, twox_core::specs::Value::range_of, twox_core::specs::Value::value64_in))]
+fn impl_oneshot_default(input: &[u8]) -> u64
+    ensures { result ≡ xxh3_64 0 default_secret input.now }
+{
+    if input.len() <= 16 {
+        impl_oneshot(default_secret(), DEFAULT_SEED, input)
+    } else if input.len() <= CUTOFF {
+        impl_oneshot(default_secret(), DEFAULT_SEED, input)
+    } else {
+        impl_oneshot_long(default_secret(), input)
+    }
+}
+
+// The same order, with a seed.
+#[inline(always)]
+#[tactic(auto, unfolding(twox_core::specs::Value::xxh3_64, twox_core::specs::Value::range_of, twox_core::specs::Value::value64_in, twox_core::specs::Value::effective_secret))]
+fn impl_oneshot_seeded(seed: u64, input: &[u8]) -> u64
+    ensures { result ≡ xxh3_64 seed (effective_secret (derived_secret seed) input.now) input.now }
+{
+    if input.len() <= 16 {
+        impl_oneshot(default_secret(), seed, input)
+    } else if input.len() <= CUTOFF {
+        impl_oneshot(default_secret(), seed, input)
+    } else {
+        impl_oneshot_long_seeded(seed, input)
+    }
+}
+
+// With a secret of the caller's and the seed 0.
+#[inline(always)]
+#[tactic(auto, unfolding(twox_core::specs::Value::xxh3_64, twox_core::specs::Value::range_of, twox_core::specs::Value::value64_in))]
+fn impl_oneshot_keyed(secret: Secret<'_>, input: &[u8]) -> u64
+    ensures { result ≡ xxh3_64 0 (secret_bytes secret.entry) input.now }
+{
+    if input.len() <= CUTOFF {
+        impl_oneshot(secret, DEFAULT_SEED, input)
+    } else {
+        impl_oneshot_long(secret, input)
+    }
+}
+
+// A call of its own, so that short inputs pay nothing for the room that long ones take.
 #[inline(never)]
 #[tactic(auto, using(twox_core::proofs::EndingFacts::block_low))]
 fn impl_oneshot_long(secret: Secret<'_>, input: &[u8]) -> u64
     requires { 240 < length input.now }
-    ensures { let s = secret_bytes secret.entry in result ≡ long_low s input.now }
+    ensures { let s = secret_bytes secret.entry in result ≡ low_above_240 s input.now }
 {
     Algorithm(Kernel {}).oneshot(secret, input, Finalize64)
 }
@@ -400,7 +277,7 @@ fn impl_oneshot_long(secret: Secret<'_>, input: &[u8]) -> u64
 #[tactic(auto, using(twox_core::proofs::Vectors::derived_secret_none))]
 fn impl_oneshot_long_seeded(seed: u64, input: &[u8]) -> u64
     requires { 240 < length input.now }
-    ensures { let s = derived_secret seed in result ≡ long_low s input.now }
+    ensures { let s = derived_secret seed in result ≡ low_above_240 s input.now }
 {
     if seed == DEFAULT_SEED {
         impl_oneshot_long(default_secret(), input)
@@ -413,7 +290,7 @@ fn impl_oneshot_long_seeded(seed: u64, input: &[u8]) -> u64
 #[inline(never)]
 fn impl_oneshot_long_derived(seed: u64, input: &[u8]) -> u64
     requires { 240 < length input.now }
-    ensures { let s = derived_secret seed in result ≡ long_low s input.now }
+    ensures { let s = derived_secret seed in result ≡ low_above_240 s input.now }
 {
     let secret = derived_secret(seed);
     impl_oneshot_long(Secret::new(&secret).unwrap(), input)
@@ -452,20 +329,20 @@ fn impl_0_to_16_bytes(secret: Secret<'_>, seed: u64, input: &[u8]) -> u64
 }
 
 #[inline(always)]
-#[tactic(auto, unfolding(twox_core::specs::Short::empty64))]
+#[tactic(auto, unfolding(twox_core::specs::Short::value64_0))]
 fn impl_0_bytes(secret: Secret<'_>, seed: u64) -> u64
-    ensures { result ≡ empty64 seed (secret_bytes secret.entry) }
+    ensures { result ≡ value64_0 seed (secret_bytes secret.entry) }
 {
     let words = secret.for_64().words_for_0();
     avalanche_xxh64(seed ^ words[0] ^ words[1])
 }
 
 #[inline(always)]
-#[tactic(auto, unfolding(twox_core::specs::Short::tiny_low))]
+#[tactic(auto, unfolding(twox_core::specs::Short::low_1_to_3))]
 fn impl_1_to_3_bytes(secret: Secret<'_>, seed: u64, input: &[u8]) -> u64
     requires some { 1 ≤ length input.now }
     requires few { length input.now ≤ 3 }
-    ensures { result ≡ tiny_low seed (secret_bytes secret.entry) (combined input.now) }
+    ensures { result ≡ low_1_to_3 seed (secret_bytes secret.entry) (combined_bytes input.now) }
 {
     let words = secret.for_64().words_for_1_to_3();
     let key = (words[0] ^ words[1]).into_u64();
@@ -473,18 +350,18 @@ fn impl_1_to_3_bytes(secret: Secret<'_>, seed: u64, input: &[u8]) -> u64
 }
 
 #[inline(always)]
-#[tactic(auto, unfolding(twox_core::specs::Short::four64, twox_core::specs::Short::mixed_seed))]
+#[tactic(auto, unfolding(twox_core::specs::Short::value64_4_to_8, twox_core::specs::Short::mixed_seed))]
 fn impl_4_to_8_bytes(secret: Secret<'_>, seed: u64, input: &[u8]) -> u64
     requires some { 4 ≤ length input.now }
     requires few { length input.now ≤ 8 }
-    ensures { result ≡ four64 seed (secret_bytes secret.entry) input.now }
+    ensures { result ≡ value64_4_to_8 seed (secret_bytes secret.entry) input.now }
 {
     let first = u32_at(input, 0);
     let last = u32_at(input, input.len() - 4);
     let mixed_seed = seed ^ (seed.lower_half().swap_bytes().into_u64() << 32);
     let words = secret.for_64().words_for_4_to_8();
-    let combined = last.into_u64() | (first.into_u64() << 32);
-    let value = (words[0] ^ words[1]).wrapping_sub(mixed_seed) ^ combined;
+    let combined_bytes = last.into_u64() | (first.into_u64() << 32);
+    let value = (words[0] ^ words[1]).wrapping_sub(mixed_seed) ^ combined_bytes;
     strong(value, input.len().into_u64())
 }
 
@@ -503,11 +380,11 @@ fn strong(value: u64, len: u64) -> u64
 }
 
 #[inline(always)]
-#[tactic(auto, unfolding(twox_core::specs::Short::nine64))]
+#[tactic(auto, unfolding(twox_core::specs::Short::value64_9_to_16))]
 fn impl_9_to_16_bytes(secret: Secret<'_>, seed: u64, input: &[u8]) -> u64
     requires some { 9 ≤ length input.now }
     requires few { length input.now ≤ 16 }
-    ensures { result ≡ nine64 seed (secret_bytes secret.entry) input.now }
+    ensures { result ≡ value64_9_to_16 seed (secret_bytes secret.entry) input.now }
 {
     let first = u64_at(input, 0);
     let last = u64_at(input, input.len() - 8);
@@ -526,7 +403,7 @@ fn impl_9_to_16_bytes(secret: Secret<'_>, seed: u64, input: &[u8]) -> u64
 fn impl_17_to_128_bytes(secret: Secret<'_>, seed: u64, input: &[u8]) -> u64
     requires some { 17 ≤ length input.now }
     requires few { length input.now ≤ 128 }
-    ensures { result ≡ medium64 seed (secret_bytes secret.entry) input.now }
+    ensures { result ≡ value64_17_to_128 seed (secret_bytes secret.entry) input.now }
 {
     avalanche(sum_17_to_128(secret, seed, input))
 }
@@ -585,7 +462,7 @@ fn impl_129_to_240_bytes(secret: Secret<'_>, seed: u64, input: &[u8], from_8: &[
     requires some { 129 ≤ length input.now }
     requires few { length input.now ≤ 240 }
     requires from_8 { from_8.now ≡ drop 8 input.now }
-    ensures { result ≡ large64 seed (secret_bytes secret.entry) input.now }
+    ensures { result ≡ value64_129_to_240 seed (secret_bytes secret.entry) input.now }
 {
     let mut acc = input.len().into_u64().wrapping_mul(PRIME64_1);
 

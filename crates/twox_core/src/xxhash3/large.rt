@@ -2,9 +2,8 @@
 //! inputs)".
 
 ghost use Rattle.std.specs.Prelude.{◌≡◌, ◌+◌, ◌-◌, ◌*◌, ◌/◌, ◌^◌, ◌<◌, ◌≤◌, ℕ, List, length, take, drop, slice_index};
-ghost use Rattle.twox_core.specs.Kernel.{accumulate, round_scramble};
-ghost use Rattle.twox_core.specs.Long.{merged, stripes_of};
-ghost use Rattle.twox_core.specs.Ending.{accumulated_block, block_lanes, last_block, last_stripe, lanes_at_end, finalized_64, finalized_128};
+ghost use Rattle.twox_core.specs.Long.{merge_accumulators, stripes_of};
+ghost use Rattle.twox_core.specs.Ending.{accumulate_block, block_accumulators, last_block, last_stripe, final_accumulators, finalize_64, finalize_128};
 ghost use Rattle.twox_core.specs.SecretBytes.{secret_bytes};
 
 pub mod lanes2;
@@ -13,31 +12,13 @@ pub mod scalar;
 pub mod split2;
 
 use super::parts::array_at;
-use super::primes::{
-    PRIME32_1, PRIME32_2, PRIME32_3, PRIME64_1, PRIME64_2, PRIME64_3, PRIME64_4, PRIME64_5,
-};
-use super::streaming::StripeAccumulator;
-use super::{Secret, avalanche, fold};
+use super::primes::{PRIME64_1, PRIME64_2};
+use super::stripes::StripeAccumulator;
+use super::{Secret, Vector, avalanche, fold};
 use twox_plain::words::{IntoU64, IntoU128, u64_at};
-
-/// A kernel: the two operations of XXH3 on its eight lanes. All kernels compute the same.
-pub trait Vector: Copy {
-    /// Scrambles the lanes under the secret's last 64 bytes.
-    fn round_scramble(&self, acc: &mut [u64; 8], secret_end: &[u8; 64])
-        ensures { acc.new ≡ round_scramble acc.old secret_end.now };
-
-    /// Takes a stripe into the lanes, under 64 bytes of the secret.
-    fn accumulate(&self, acc: &mut [u64; 8], stripe: &[u8; 64], secret: &[u8; 64])
-        ensures { acc.new ≡ accumulate acc.old stripe.now secret.now };
-}
 
 /// The kernel of this program.
 pub type Kernel = lanes4::Impl;
-
-/// The lanes before the first stripe.
-pub const INITIAL_ACCUMULATORS: [u64; 8] = [
-    PRIME32_3, PRIME64_1, PRIME64_2, PRIME64_3, PRIME64_4, PRIME32_2, PRIME64_5, PRIME32_1,
-];
 
 /// What a hash makes of an input: one value for short ones and one for long ones.
 ///
@@ -49,7 +30,7 @@ pub trait Finalize {
     // The value of a short input: of the secret, the seed and the bytes.
     ghost small_of: { Self → List ℕ → ℕ → List ℕ → Self.Output };
 
-    // The value of a long input: of the lanes, the last block, the last 64 bytes, the secret and the length.
+    // The value of a long input: of the accumulators, the last block, the last 64 bytes, the secret and the length.
     ghost large_of: { Self → List ℕ → List ℕ → List ℕ → List ℕ → ℕ → Self.Output };
 
     /// The value of an input, which the caller shows to have at most 240 bytes.
@@ -57,7 +38,7 @@ pub trait Finalize {
         requires { length input.now ≤ 240 }
         ensures { result ≡ small_of self.now (secret_bytes secret.entry) seed input.now };
 
-    /// The value of an input of `len` bytes that ends with the last block, from the lanes before that block,
+    /// The value of an input of `len` bytes that ends with the last block, from the accumulators before that block,
     /// and the input's last 64 bytes.
     ///
     /// The caller shows that the block isn't empty and that the secret has places for its stripes.
@@ -82,7 +63,7 @@ pub struct Algorithm<V>(pub V);
 impl<V: Vector> Algorithm<V> {
     /// What `finalize` makes of an input, which the caller shows to have at least 241 bytes.
     ///
-    /// The lanes handed to it are those after all whole blocks but the last, which has the rest of the input;
+    /// The accumulators handed to it are those after all whole blocks but the last, which has the rest of the input;
     /// a block has as many stripes as the secret has places.
     #[inline(always)]
     pub fn oneshot<F: Finalize + Drop>(
@@ -93,7 +74,7 @@ impl<V: Vector> Algorithm<V> {
     ) -> F::Output
         requires { 241 ≤ length input.now }
         ensures { let s = secret_bytes secret.entry in let m = input.now in
-            result ≡ F.large_of finalize (block_lanes s m) (last_block s m) (last_stripe m) s (length m) }
+            result ≡ F.large_of finalize (block_accumulators s m) (last_block s m) (last_stripe m) s (length m) }
     {
         let count = stripes_before_last_block(input.len(), secret.n_stripes());
         let (blocks, last_block) = input.split_at(64 * count);
@@ -110,7 +91,7 @@ impl<V: Vector> Algorithm<V> {
     }
 
     /// The value of 64 bits of an input of `len` bytes: the last block's stripes but its last are accumulated
-    /// from the secret's start on, then the last 64 bytes, and the lanes are merged.
+    /// from the secret's start on, then the last 64 bytes, and the accumulators are merged.
     ///
     /// The caller shows that the block isn't empty and that the secret has places for its stripes.
     #[inline(always)]
@@ -124,7 +105,7 @@ impl<V: Vector> Algorithm<V> {
     ) -> u64
         requires some { 0 < length last_block.now }
         requires places { (length last_block.now - 1) / 64 ≤ stripes_of (secret_bytes secret) }
-        ensures { result ≡ finalized_64 acc last_block.now last_stripe.now (secret_bytes secret.entry) len }
+        ensures { result ≡ finalize_64 acc last_block.now last_stripe.now (secret_bytes secret.entry) len }
     {
         let acc = self.last_round(acc, last_block, last_stripe, secret);
         let init = len.wrapping_mul(PRIME64_1);
@@ -132,7 +113,7 @@ impl<V: Vector> Algorithm<V> {
     }
 
     /// The value of 128 bits, likewise: its low half is the value of 64 bits, and the high half merges the
-    /// same lanes under other bytes of the secret.
+    /// same accumulators under other bytes of the secret.
     #[inline(always)]
     pub fn finalize_128(
         &self,
@@ -144,7 +125,7 @@ impl<V: Vector> Algorithm<V> {
     ) -> u128
         requires some { 0 < length last_block.now }
         requires places { (length last_block.now - 1) / 64 ≤ stripes_of (secret_bytes secret) }
-        ensures { result ≡ finalized_128 acc last_block.now last_stripe.now (secret_bytes secret.entry) len }
+        ensures { result ≡ finalize_128 acc last_block.now last_stripe.now (secret_bytes secret.entry) len }
     {
         let acc = self.last_round(acc, last_block, last_stripe, secret);
         let low = len.wrapping_mul(PRIME64_1);
@@ -154,7 +135,7 @@ impl<V: Vector> Algorithm<V> {
         from_halves(high, low)
     }
 
-    // The lanes with the last block's stripes but its last, and then the last 64 bytes.
+    // The accumulators with the last block's stripes but its last, and then the last 64 bytes.
     #[inline(always)]
     fn last_round(
         &self,
@@ -165,7 +146,7 @@ impl<V: Vector> Algorithm<V> {
     ) -> [u64; 8]
         requires some { 0 < length last_block.now }
         requires places { (length last_block.now - 1) / 64 ≤ stripes_of (secret_bytes secret) }
-        ensures { result ≡ lanes_at_end acc last_block.now last_stripe.now (secret_bytes secret.entry) }
+        ensures { result ≡ final_accumulators acc last_block.now last_stripe.now (secret_bytes secret.entry) }
     {
         let mut acc = self.accumulate_block(acc, last_block, (last_block.len() - 1) / 64, secret);
         self.0.accumulate(
@@ -176,7 +157,7 @@ impl<V: Vector> Algorithm<V> {
         acc
     }
 
-    // The lanes with the first stripes of a block, from the secret's start on. No scramble follows the stripe
+    // The accumulators with the first stripes of a block, from the secret's start on. No scramble follows the stripe
     // at the secret's last place here, so that one is taken by itself.
     #[inline(always)]
     fn accumulate_block(
@@ -188,7 +169,7 @@ impl<V: Vector> Algorithm<V> {
     ) -> [u64; 8]
         requires there { 64 * count ≤ length block.now }
         requires places { count ≤ stripes_of (secret_bytes secret) }
-        ensures { result ≡ accumulated_block (secret_bytes secret.entry) acc block.now count }
+        ensures { result ≡ accumulate_block (secret_bytes secret.entry) acc block.now count }
     {
         let last_place = secret.n_stripes() - 1;
         let (front, rest) = block.split_at(64 * count.min(last_place));
@@ -219,10 +200,10 @@ fn stripes_before_last_block(len: usize, n_stripes: usize) -> usize
     n_stripes * (count / n_stripes)
 }
 
-// The lanes merged under 64 bytes of the secret: the sum of the folds of neighbours, mixed.
+// The accumulators merged under 64 bytes of the secret: the sum of the folds of neighbours, mixed.
 #[inline(never)]
 fn final_merge(acc: &[u64; 8], init: u64, secret: &[u8; 64]) -> u64
-    ensures { result ≡ merged init secret.now 0 (slice_index acc.now) }
+    ensures { result ≡ merge_accumulators init secret.now 0 (slice_index acc.now) }
 {
     let mut sum = init;
     for i in 0..4 {

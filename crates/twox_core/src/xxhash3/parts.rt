@@ -1,8 +1,11 @@
-//! Parts of a slice of bytes that the caller shows to lie within it, lent with no test.
+//! Parts of an input or a secret, lent: where the caller shows that they lie within it, with no test.
 
-ghost use Rattle.std.specs.Prelude.{◌≡◌, ◌+◌, ◌*◌, ◌<◌, ◌≤◌, length, take, drop};
-ghost use Rattle.twox_core.specs.Parts.{chunks_at, pair_at, pairs_at};
+ghost use Rattle.std.specs.Prelude.{◌≡◌, ◌+◌, ◌-◌, ◌*◌, ◌/◌, ◌<◌, ◌≤◌, length, take, drop};
+ghost use Rattle.std.specs.Simd.{first_chunks};
+ghost use Rattle.twox_core.specs.Parts.{chunk_at, chunks_at, pair_at, pairs_at};
+ghost use Rattle.twox_core.specs.SecretBytes.{secret_bytes};
 
+use super::Secret;
 use twox_plain::words::bp_as_chunks;
 
 // The `n` bytes from byte `from` on.
@@ -59,4 +62,51 @@ pub(crate) fn pair_at(bytes: &[u8], from: usize) -> &[[u8; 16]; 2]
     let (chunks, _) = bp_as_chunks(part_at(bytes, from, 32));
     let (pairs, _) = bp_as_chunks(chunks);
     &pairs[0]
+}
+
+/// Chunk `c` of 16 bytes from the front, chunk `c` from the back, and the secret's 32 bytes at `32 * c`.
+///
+/// The caller shows that there are 17 to 128 bytes and that `c` is at most a 32nd of their number less one.
+#[inline(always)]
+pub fn chunks_17_to_128<'a>(
+    secret: Secret<'a>,
+    input: &'a [u8],
+    c: usize,
+) -> (&'a [u8; 16], &'a [u8; 16], &'a [[u8; 16]; 2])
+    requires some { 17 ≤ length input.now }
+    requires few { length input.now ≤ 128 }
+    requires chunk { c ≤ (length input.now - 1) / 32 }
+    ensures forward { result.0.now ≡ chunk_at input.now (16 * c) }
+    ensures backward { result.1.now ≡ chunk_at input.now (length input.now - 16 * (c + 1)) }
+    ensures words { result.2.now ≡ pair_at (secret_bytes secret.entry) (32 * c) }
+{
+    let forward = array_at(input, 16 * c);
+    let backward = array_at(input, input.len() - 16 * (c + 1));
+    let (words, _) = bp_as_chunks(secret.words_for_17_to_128());
+    (forward, backward, &words[c])
+}
+
+/// The whole pairs of 16 bytes from the front; fewer than 32 bytes are left out.
+#[inline(always)]
+pub fn pairs_of_u64_bytes(bytes: &[u8]) -> &[[[u8; 16]; 2]]
+    ensures pairs { result.now ≡ pairs_at bytes.now 0 (length bytes.now / 32) }
+    ensures count { length result.now ≡ length bytes.now / 32 }
+{
+    let (chunks, _) = bp_as_chunks(bytes);
+    let (pairs, _) = bp_as_chunks(chunks);
+    pairs
+}
+
+/// All whole stripes of 64 bytes but a last one that ends the block, and the 1 to 64 bytes after them. Of
+/// an empty block both are empty.
+#[inline(always)]
+pub fn stripes_with_tail(block: &[u8]) -> (&[[u8; 64]], &[u8])
+    ensures stripes { result.0.now ≡ first_chunks 64 ((length block.now - 1) / 64) block.now }
+    ensures count { length result.0.now ≡ (length block.now - 1) / 64 }
+    ensures tail { result.1.now ≡ drop ((length block.now - 1) / 64 * 64) block.now }
+{
+    let count = block.len().saturating_sub(1) / 64;
+    let (front, tail) = block.split_at(count * 64);
+    let (stripes, _) = bp_as_chunks(front);
+    (stripes, tail)
 }

@@ -3,7 +3,7 @@
 ghost use Rattle.std.specs.Prelude.{◌≤◌, length};
 
 use super::parts::{array_at, chunks_at, pair_at, pairs_at};
-use thiserror::Error;
+use std::{error, fmt};
 use twox_plain::words::{u32_at, u64_at};
 
 /// The minimum length of a secret.
@@ -17,9 +17,42 @@ pub struct Secret<'a> {
 }
 
 /// The secret has fewer than 136 bytes.
-#[derive(Clone, Copy, Debug, PartialEq, Eq, Error)]
-#[error("The secret must have at least {SECRET_MINIMUM_LENGTH} bytes")]
+#[derive(Clone, Copy, Debug, PartialEq, Eq)]
 pub struct Error;
+
+impl fmt::Display for Error {
+    ghost use Rattle.std.specs.Prelude.{Some, codes};
+
+    ghost output = { λ _. Some (codes "The secret must have at least 136 bytes") };
+
+    fn fmt<W: fmt::Write>(&self, f: &mut fmt::Formatter<W>) -> fmt::Result {
+        f.write_str("The secret must have at least 136 bytes")
+    }
+}
+
+impl error::Error for Error {}
+
+/// A one-shot was handed a secret of fewer than 136 bytes.
+#[derive(Clone, Copy, Debug, PartialEq, Eq)]
+pub struct OneshotWithSecretError(Error);
+
+impl From<Error> for OneshotWithSecretError {
+    fn from(error: Error) -> Self {
+        OneshotWithSecretError(error)
+    }
+}
+
+impl fmt::Display for OneshotWithSecretError {
+    ghost use Rattle.std.specs.Prelude.{Some, codes};
+
+    ghost output = { λ _. Some (codes "The secret must have at least 136 bytes") };
+
+    fn fmt<W: fmt::Write>(&self, f: &mut fmt::Formatter<W>) -> fmt::Result {
+        fmt::Display::fmt(&self.0, f)
+    }
+}
+
+impl error::Error for OneshotWithSecretError {}
 
 impl<'a> Secret<'a> {
     ghost use Rattle.std.specs.Prelude.{◌≡◌, ◌-◌, ◌*◌, ◌<◌, ◌≤◌, length, take, true, MatchResult};

@@ -4,10 +4,9 @@ mod buffers;
 mod core_state;
 mod raw;
 mod secret_buffer;
-mod stripes;
+mod taken_stripes;
 
 pub use buffers::{ClonedBuffer, FixedBuffer, FixedMutBuffer};
 pub use core_state::BUFFERED_BYTES;
 pub use raw::{AllocRawHasher, RawHasherCore};
 pub use secret_buffer::{SecretBuffer, SecretTooShortError, SecretWithSeedError};
-pub use stripes::StripeAccumulator;

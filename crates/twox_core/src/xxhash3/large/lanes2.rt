@@ -1,15 +1,15 @@
-//! The kernel that works on two lanes at a time, by `std::simd`.
+//! The kernel that works on two accumulators at a time, by `std::simd`.
 
 ghost use Rattle.std.specs.Prelude.{◌≡◌, List, [], ◌∷◌, ◌+◌, ◌≤◌, ◌*◌, slice_index};
 ghost use Rattle.twox_core.specs.Steps.{word64};
-ghost use Rattle.twox_core.specs.Kernel.{lane_sum, lane_mixed};
+ghost use Rattle.twox_core.specs.Kernel.{sum_with_words, scramble_with_word};
 
-use super::Vector;
 use super::scalar::word;
+use crate::xxhash3::Vector;
 use crate::xxhash3::primes::PRIME32_1;
 use std::simd::u64x2;
 
-/// The kernel of two lanes at a time.
+/// The kernel of two accumulators at a time.
 #[derive(Clone, Copy)]
 pub struct Impl;
 
@@ -17,30 +17,30 @@ impl Vector for Impl {
     #[inline(always)]
     fn round_scramble(&self, acc: &mut [u64; 8], secret_end: &[u8; 64]) {
         let [a, b, c, d, e, f, g, h] = *acc;
-        let [a, b] = scrambled([a, b], words(secret_end, 0));
-        let [c, d] = scrambled([c, d], words(secret_end, 2));
-        let [e, f] = scrambled([e, f], words(secret_end, 4));
-        let [g, h] = scrambled([g, h], words(secret_end, 6));
+        let [a, b] = scramble_two([a, b], words(secret_end, 0));
+        let [c, d] = scramble_two([c, d], words(secret_end, 2));
+        let [e, f] = scramble_two([e, f], words(secret_end, 4));
+        let [g, h] = scramble_two([g, h], words(secret_end, 6));
         *acc = [a, b, c, d, e, f, g, h];
     }
 
     #[inline(always)]
     fn accumulate(&self, acc: &mut [u64; 8], stripe: &[u8; 64], secret: &[u8; 64]) {
         let [a, b, c, d, e, f, g, h] = *acc;
-        let [a, b] = accumulated([a, b], words(stripe, 0), words(secret, 0));
-        let [c, d] = accumulated([c, d], words(stripe, 2), words(secret, 2));
-        let [e, f] = accumulated([e, f], words(stripe, 4), words(secret, 4));
-        let [g, h] = accumulated([g, h], words(stripe, 6), words(secret, 6));
+        let [a, b] = accumulate_two([a, b], words(stripe, 0), words(secret, 0));
+        let [c, d] = accumulate_two([c, d], words(stripe, 2), words(secret, 2));
+        let [e, f] = accumulate_two([e, f], words(stripe, 4), words(secret, 4));
+        let [g, h] = accumulate_two([g, h], words(stripe, 6), words(secret, 6));
         *acc = [a, b, c, d, e, f, g, h];
     }
 }
 
-// Two lanes: each gains its neighbour's word and the product of the halves of its own word under its key.
-// The neighbours come first, so that the lanes before are done with and their registers are free.
+// Two accumulators: each gains its neighbour's word and the product of the halves of its own word under its key.
+// The neighbours come first, so that the accumulators before are done with and their registers are free.
 #[inline]
-pub(super) fn accumulated(acc: [u64; 2], words: [u64; 2], keys: [u64; 2]) -> [u64; 2]
-    ensures a { slice_index result 0 ≡ lane_sum (slice_index acc 0) (slice_index words 0) (slice_index words 1) (slice_index keys 0) }
-    ensures b { slice_index result 1 ≡ lane_sum (slice_index acc 1) (slice_index words 1) (slice_index words 0) (slice_index keys 1) }
+pub(super) fn accumulate_two(acc: [u64; 2], words: [u64; 2], keys: [u64; 2]) -> [u64; 2]
+    ensures a { slice_index result 0 ≡ sum_with_words (slice_index acc 0) (slice_index words 0) (slice_index words 1) (slice_index keys 0) }
+    ensures b { slice_index result 1 ≡ sum_with_words (slice_index acc 1) (slice_index words 1) (slice_index words 0) (slice_index keys 1) }
 {
     let [a0, a1] = acc;
     let [w0, w1] = words;
@@ -54,9 +54,9 @@ pub(super) fn accumulated(acc: [u64; 2], words: [u64; 2], keys: [u64; 2]) -> [u6
 }
 
 #[inline]
-fn scrambled(acc: [u64; 2], keys: [u64; 2]) -> [u64; 2]
-    ensures a { slice_index result 0 ≡ lane_mixed (slice_index acc 0) (slice_index keys 0) }
-    ensures b { slice_index result 1 ≡ lane_mixed (slice_index acc 1) (slice_index keys 1) }
+fn scramble_two(acc: [u64; 2], keys: [u64; 2]) -> [u64; 2]
+    ensures a { slice_index result 0 ≡ scramble_with_word (slice_index acc 0) (slice_index keys 0) }
+    ensures b { slice_index result 1 ≡ scramble_with_word (slice_index acc 1) (slice_index keys 1) }
 {
     let [a0, a1] = acc;
     let [k0, k1] = keys;

@@ -1,15 +1,15 @@
-//! The kernel that works on four lanes at a time, by `std::simd`.
+//! The kernel that works on four accumulators at a time, by `std::simd`.
 
 ghost use Rattle.std.specs.Prelude.{◌≡◌, List, [], ◌∷◌, ◌+◌, ◌≤◌, ◌*◌, slice_index};
 ghost use Rattle.twox_core.specs.Steps.{word64};
-ghost use Rattle.twox_core.specs.Kernel.{lane_sum, lane_mixed};
+ghost use Rattle.twox_core.specs.Kernel.{sum_with_words, scramble_with_word};
 
-use super::Vector;
 use super::scalar::word;
+use crate::xxhash3::Vector;
 use crate::xxhash3::primes::PRIME32_1;
 use std::simd::u64x4;
 
-/// The kernel of four lanes at a time.
+/// The kernel of four accumulators at a time.
 #[derive(Clone, Copy)]
 pub struct Impl;
 
@@ -17,28 +17,28 @@ impl Vector for Impl {
     #[inline(always)]
     fn round_scramble(&self, acc: &mut [u64; 8], secret_end: &[u8; 64]) {
         let [a, b, c, d, e, f, g, h] = *acc;
-        let [a, b, c, d] = scrambled([a, b, c, d], words(secret_end, 0));
-        let [e, f, g, h] = scrambled([e, f, g, h], words(secret_end, 4));
+        let [a, b, c, d] = scramble_four([a, b, c, d], words(secret_end, 0));
+        let [e, f, g, h] = scramble_four([e, f, g, h], words(secret_end, 4));
         *acc = [a, b, c, d, e, f, g, h];
     }
 
     #[inline(always)]
     fn accumulate(&self, acc: &mut [u64; 8], stripe: &[u8; 64], secret: &[u8; 64]) {
         let [a, b, c, d, e, f, g, h] = *acc;
-        let [a, b, c, d] = accumulated([a, b, c, d], words(stripe, 0), words(secret, 0));
-        let [e, f, g, h] = accumulated([e, f, g, h], words(stripe, 4), words(secret, 4));
+        let [a, b, c, d] = accumulate_four([a, b, c, d], words(stripe, 0), words(secret, 0));
+        let [e, f, g, h] = accumulate_four([e, f, g, h], words(stripe, 4), words(secret, 4));
         *acc = [a, b, c, d, e, f, g, h];
     }
 }
 
-// Four lanes: each gains its neighbour's word and the product of the halves of its own word under its key.
-// The neighbours come first, so that the lanes before are done with and their registers are free.
+// Four accumulators: each gains its neighbour's word and the product of the halves of its own word under its key.
+// The neighbours come first, so that the accumulators before are done with and their registers are free.
 #[inline]
-fn accumulated(acc: [u64; 4], words: [u64; 4], keys: [u64; 4]) -> [u64; 4]
-    ensures a { slice_index result 0 ≡ lane_sum (slice_index acc 0) (slice_index words 0) (slice_index words 1) (slice_index keys 0) }
-    ensures b { slice_index result 1 ≡ lane_sum (slice_index acc 1) (slice_index words 1) (slice_index words 0) (slice_index keys 1) }
-    ensures c { slice_index result 2 ≡ lane_sum (slice_index acc 2) (slice_index words 2) (slice_index words 3) (slice_index keys 2) }
-    ensures d { slice_index result 3 ≡ lane_sum (slice_index acc 3) (slice_index words 3) (slice_index words 2) (slice_index keys 3) }
+fn accumulate_four(acc: [u64; 4], words: [u64; 4], keys: [u64; 4]) -> [u64; 4]
+    ensures a { slice_index result 0 ≡ sum_with_words (slice_index acc 0) (slice_index words 0) (slice_index words 1) (slice_index keys 0) }
+    ensures b { slice_index result 1 ≡ sum_with_words (slice_index acc 1) (slice_index words 1) (slice_index words 0) (slice_index keys 1) }
+    ensures c { slice_index result 2 ≡ sum_with_words (slice_index acc 2) (slice_index words 2) (slice_index words 3) (slice_index keys 2) }
+    ensures d { slice_index result 3 ≡ sum_with_words (slice_index acc 3) (slice_index words 3) (slice_index words 2) (slice_index keys 3) }
 {
     let [a0, a1, a2, a3] = acc;
     let [w0, w1, w2, w3] = words;
@@ -52,11 +52,11 @@ fn accumulated(acc: [u64; 4], words: [u64; 4], keys: [u64; 4]) -> [u64; 4]
 }
 
 #[inline]
-fn scrambled(acc: [u64; 4], keys: [u64; 4]) -> [u64; 4]
-    ensures a { slice_index result 0 ≡ lane_mixed (slice_index acc 0) (slice_index keys 0) }
-    ensures b { slice_index result 1 ≡ lane_mixed (slice_index acc 1) (slice_index keys 1) }
-    ensures c { slice_index result 2 ≡ lane_mixed (slice_index acc 2) (slice_index keys 2) }
-    ensures d { slice_index result 3 ≡ lane_mixed (slice_index acc 3) (slice_index keys 3) }
+fn scramble_four(acc: [u64; 4], keys: [u64; 4]) -> [u64; 4]
+    ensures a { slice_index result 0 ≡ scramble_with_word (slice_index acc 0) (slice_index keys 0) }
+    ensures b { slice_index result 1 ≡ scramble_with_word (slice_index acc 1) (slice_index keys 1) }
+    ensures c { slice_index result 2 ≡ scramble_with_word (slice_index acc 2) (slice_index keys 2) }
+    ensures d { slice_index result 3 ≡ scramble_with_word (slice_index acc 3) (slice_index keys 3) }
 {
     let [a0, a1, a2, a3] = acc;
     let [k0, k1, k2, k3] = keys;

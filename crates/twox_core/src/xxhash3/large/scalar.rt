@@ -1,10 +1,10 @@
-//! The kernel that works on one lane after another.
+//! The kernel that works on one accumulator after another.
 
 ghost use Rattle.std.specs.Prelude.{◌≡◌, ◌*◌, ◌<◌};
 ghost use Rattle.twox_core.specs.Steps.{word64};
-ghost use Rattle.twox_core.specs.Long.{accumulated, halves_product, scrambled};
+ghost use Rattle.twox_core.specs.Long.{accumulate_one, halves_product, scramble_one};
 
-use super::Vector;
+use crate::xxhash3::Vector;
 use crate::xxhash3::primes::PRIME32_1;
 
 /// The scalar kernel.
@@ -16,14 +16,14 @@ impl Vector for Impl {
     fn round_scramble(&self, acc: &mut [u64; 8], secret_end: &[u8; 64]) {
         let [a, b, c, d, e, f, g, h] = *acc;
         *acc = [
-            scrambled(a, secret_end, 0),
-            scrambled(b, secret_end, 1),
-            scrambled(c, secret_end, 2),
-            scrambled(d, secret_end, 3),
-            scrambled(e, secret_end, 4),
-            scrambled(f, secret_end, 5),
-            scrambled(g, secret_end, 6),
-            scrambled(h, secret_end, 7),
+            scramble_one(a, secret_end, 0),
+            scramble_one(b, secret_end, 1),
+            scramble_one(c, secret_end, 2),
+            scramble_one(d, secret_end, 3),
+            scramble_one(e, secret_end, 4),
+            scramble_one(f, secret_end, 5),
+            scramble_one(g, secret_end, 6),
+            scramble_one(h, secret_end, 7),
         ];
     }
 
@@ -31,27 +31,28 @@ impl Vector for Impl {
     fn accumulate(&self, acc: &mut [u64; 8], stripe: &[u8; 64], secret: &[u8; 64]) {
         let [a, b, c, d, e, f, g, h] = *acc;
         *acc = [
-            accumulated(a, stripe, secret, 0),
-            accumulated(b, stripe, secret, 1),
-            accumulated(c, stripe, secret, 2),
-            accumulated(d, stripe, secret, 3),
-            accumulated(e, stripe, secret, 4),
-            accumulated(f, stripe, secret, 5),
-            accumulated(g, stripe, secret, 6),
-            accumulated(h, stripe, secret, 7),
+            accumulate_one(a, stripe, secret, 0),
+            accumulate_one(b, stripe, secret, 1),
+            accumulate_one(c, stripe, secret, 2),
+            accumulate_one(d, stripe, secret, 3),
+            accumulate_one(e, stripe, secret, 4),
+            accumulate_one(f, stripe, secret, 5),
+            accumulate_one(g, stripe, secret, 6),
+            accumulate_one(h, stripe, secret, 7),
         ];
     }
 }
 
-// Lane `i`, which gains its neighbour's word of the stripe and the product of the halves of its own.
+// Accumulator `i`, which gains its neighbour's word of the stripe and the product of the halves of its own.
 #[inline(always)]
-#[tactic(auto, unfolding(crate::specs::Long::accumulated))]
-fn accumulated(lane: u64, stripe: &[u8; 64], secret: &[u8; 64], i: usize) -> u64
+#[tactic(auto, unfolding(crate::specs::Long::accumulate_one))]
+fn accumulate_one(accumulator: u64, stripe: &[u8; 64], secret: &[u8; 64], i: usize) -> u64
     requires { i < 8 }
-    ensures { result ≡ accumulated i lane stripe.now 0 secret.now 0 }
+    ensures { result ≡ accumulate_one i accumulator stripe.now 0 secret.now 0 }
 {
     let value = word(stripe, i) ^ word(secret, i);
-    lane.wrapping_add(word(stripe, i ^ 1))
+    accumulator
+        .wrapping_add(word(stripe, i ^ 1))
         .wrapping_add(halves_product(value))
 }
 
@@ -70,12 +71,12 @@ fn full_product(a: u32, b: u32) -> u64
 }
 
 #[inline(always)]
-#[tactic(auto, unfolding(crate::specs::Long::scrambled))]
-fn scrambled(lane: u64, secret_end: &[u8; 64], i: usize) -> u64
+#[tactic(auto, unfolding(crate::specs::Long::scramble_one))]
+fn scramble_one(accumulator: u64, secret_end: &[u8; 64], i: usize) -> u64
     requires { i < 8 }
-    ensures { result ≡ scrambled i lane secret_end.now 0 }
+    ensures { result ≡ scramble_one i accumulator secret_end.now 0 }
 {
-    (lane ^ (lane >> 47) ^ word(secret_end, i)).wrapping_mul(PRIME32_1)
+    (accumulator ^ (accumulator >> 47) ^ word(secret_end, i)).wrapping_mul(PRIME32_1)
 }
 
 // Word `i`, read whole, so that the compiler can load several words at once.

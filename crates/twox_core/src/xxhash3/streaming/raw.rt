@@ -4,7 +4,7 @@ ghost use Rattle.std.specs.Prelude.{◌≡◌, ℕ, List, [], ◌++◌, ◌+◌,
 
 use super::core_state::CoreState;
 use super::{BUFFERED_BYTES, ClonedBuffer, FixedBuffer, SecretBuffer, SecretTooShortError};
-use crate::xxhash3::large::{Finalize, Kernel, Vector};
+use crate::xxhash3::{Finalize, Kernel, Vector};
 use std::alloc::{AllocError, Allocator};
 use std::boxed::BoxedSlice;
 use std::marker::Model;
@@ -21,25 +21,25 @@ pub struct RawHasherCore<S: FixedBuffer> {
 impl<S: FixedBuffer> Model for RawHasherCore<S> {
     ghost use Rattle.std.specs.Prelude.{◌≤◌, ◌<◌, min, length};
     ghost use Rattle.twox_core.specs.Long.{stripes_of};
-    ghost use Rattle.twox_core.specs.Core.{Core};
+    ghost use Rattle.twox_core.specs.CoreView.{CoreView};
 
-    ghost Value = { Core S };
+    ghost Value = { CoreView S };
 
-    ghost view = { λ h. record { held = h.secret_buffer; state = h.state } };
+    ghost view = { λ h. record { key = h.secret_buffer; state = h.state } };
 
-    ghost invariant = { λ h. (136 ≤ length (S.bytes h.secret_buffer.secret) → h.state.stripes.current_stripe < stripes_of (S.bytes h.secret_buffer.secret))
-        × (h.state.buffer_usage ≤ 256) × (min h.state.total_bytes 1 ≤ h.state.buffer_usage) };
+    ghost invariant = { λ h. (136 ≤ length (S.bytes h.secret_buffer.secret) → h.state.taken.stripes.current_stripe < stripes_of (S.bytes h.secret_buffer.secret))
+        × (h.state.buffer_usage ≤ 512) × (min h.state.total_bytes 1 ≤ h.state.buffer_usage) };
 }
 
 impl<S: FixedBuffer> RawHasherCore<S> {
     ghost use Rattle.std.specs.Prelude.{◌≡◌, ℕ, List, [], ◌++◌, ◌+◌, ◌*◌, ◌^◌, ◌<◌, ◌≤◌, length};
     ghost use Rattle.twox_plain.specs.Word.{counted};
     ghost use Rattle.twox_core.specs.Secret.{default_secret};
-    ghost use Rattle.twox_core.specs.Ending.{stream_lanes, stream_block, last_stripe};
-    ghost use Rattle.twox_core.specs.Core.{total_of, done_of, buffered_of};
-    ghost use Rattle.twox_core.specs.Written.{written};
-    ghost use Rattle.twox_core.specs.Finished.{finished};
-    ghost use Rattle.twox_core.specs.Stands.{StandsFor};
+    ghost use Rattle.twox_core.specs.Ending.{stream_accumulators, stream_block, last_stripe};
+    ghost use Rattle.twox_core.specs.CoreView.{total_of, done_of, buffered_of};
+    ghost use Rattle.twox_core.specs.AfterWrite.{core_after_write};
+    ghost use Rattle.twox_core.specs.Finish.{core_finish};
+    ghost use Rattle.twox_core.specs.StandsFor.{StandsFor, TakesPiece};
 
     /// A stream of no bytes yet.
     #[tactic(auto, using(crate::proofs::StreamFacts::stands_fresh))]
@@ -55,8 +55,10 @@ impl<S: FixedBuffer> RawHasherCore<S> {
     /// Takes the bytes of a piece after those taken before.
     #[inline]
     pub fn write(&mut self, input: &[u8])
-        ensures message { (seed : ℕ) (s m : List ℕ) → StandsFor S.bytes self.old seed s m → StandsFor S.bytes self.new seed s (m ++ input.now) }
-        ensures exact { self.new ≡ written S.bytes self.old input.now }
+        ensures message { TakesPiece S.bytes self.old self.new input.now }
+        ensures in_place { BUFFERED_BYTES < length input.now
+            → (64 ≤ buffered_of self.new) × (buffered_of self.new ≤ 127) }
+        ensures exact { self.new ≡ core_after_write S.bytes self.old input.now }
     {
         self.write_with(Kernel {}, input);
     }
@@ -64,8 +66,10 @@ impl<S: FixedBuffer> RawHasherCore<S> {
     /// Takes the bytes of a piece after those taken before, by a kernel. Each call may have another kernel.
     #[inline]
     pub fn write_with(&mut self, v: impl Vector, input: &[u8])
-        ensures message { (seed : ℕ) (s m : List ℕ) → StandsFor S.bytes self.old seed s m → StandsFor S.bytes self.new seed s (m ++ input.now) }
-        ensures exact { self.new ≡ written S.bytes self.old input.now }
+        ensures message { TakesPiece S.bytes self.old self.new input.now }
+        ensures in_place { BUFFERED_BYTES < length input.now
+            → (64 ≤ buffered_of self.new) × (buffered_of self.new ≤ 127) }
+        ensures exact { self.new ≡ core_after_write S.bytes self.old input.now }
     {
         self.state.write(v, input, self.secret_buffer.secret());
     }
@@ -77,8 +81,8 @@ impl<S: FixedBuffer> RawHasherCore<S> {
         ensures short { (seed : ℕ) (s m : List ℕ) → StandsFor S.bytes self.now seed s m → length m ≤ 240
             → result ≡ F.small_of finalize default_secret seed m }
         ensures long { (seed : ℕ) (s m : List ℕ) → StandsFor S.bytes self.now seed s m → 240 < length m
-            → result ≡ F.large_of finalize (stream_lanes s m) (stream_block m) (last_stripe m) s (counted (length m)) }
-        ensures exact { result ≡ finished (F.small_of finalize) (F.large_of finalize) S.bytes self.now }
+            → result ≡ F.large_of finalize (stream_accumulators s m) (stream_block m) (last_stripe m) s (counted (length m)) }
+        ensures exact { result ≡ core_finish (F.small_of finalize) (F.large_of finalize) S.bytes self.now }
     {
         self.finish_with(Kernel {}, finalize)
     }
@@ -89,8 +93,8 @@ impl<S: FixedBuffer> RawHasherCore<S> {
         ensures short { (seed : ℕ) (s m : List ℕ) → StandsFor S.bytes self.now seed s m → length m ≤ 240
             → result ≡ F.small_of finalize default_secret seed m }
         ensures long { (seed : ℕ) (s m : List ℕ) → StandsFor S.bytes self.now seed s m → 240 < length m
-            → result ≡ F.large_of finalize (stream_lanes s m) (stream_block m) (last_stripe m) s (counted (length m)) }
-        ensures exact { result ≡ finished (F.small_of finalize) (F.large_of finalize) S.bytes self.now }
+            → result ≡ F.large_of finalize (stream_accumulators s m) (stream_block m) (last_stripe m) s (counted (length m)) }
+        ensures exact { result ≡ core_finish (F.small_of finalize) (F.large_of finalize) S.bytes self.now }
     {
         let secret = self.secret_buffer.secret();
         self.state
@@ -106,7 +110,7 @@ impl<S: FixedBuffer> RawHasherCore<S> {
         self.state.total_bytes
     }
 
-    /// The number of stripes that the lanes have taken; from 2^64 - 1 on it stays there.
+    /// The number of stripes that the accumulators have taken; from 2^64 - 1 on it stays there.
     ///
     /// With the bytes that `buffered` counts, these are all bytes taken so far.
     #[tactic(auto, using(crate::proofs::StreamFacts::stands_all))]
@@ -115,7 +119,7 @@ impl<S: FixedBuffer> RawHasherCore<S> {
         ensures all { (seed : ℕ) (s m : List ℕ) → StandsFor S.bytes self.now seed s m → length m < 2 ^ 64
             → 64 * result + buffered_of self.now ≡ length m }
     {
-        self.state.stripes_done
+        self.state.taken.count
     }
 
     /// The number of bytes that are kept for later: none before the first byte, and then from 1 to
@@ -135,7 +139,7 @@ impl<S: FixedBuffer> RawHasherCore<S> {
     /// The secret that is held.
     #[tactic(auto, using(crate::proofs::StreamFacts::stands_secret))]
     pub fn into_secret(self) -> S
-        ensures exact { result ≡ self.held.secret }
+        ensures exact { result ≡ self.key.secret }
         ensures message { (seed : ℕ) (s m : List ℕ) → StandsFor S.bytes self seed s m → S.bytes result ≡ s }
     {
         let RawHasherCore {
@@ -147,7 +151,7 @@ impl<S: FixedBuffer> RawHasherCore<S> {
 }
 
 impl<S: ClonedBuffer> Clone for RawHasherCore<S> {
-    ghost use Rattle.twox_core.specs.Stands.{IsCopy};
+    ghost use Rattle.twox_core.specs.StandsFor.{IsCopy};
 
     ghost is_clone = { λ a b. IsCopy S.FixedBuffer.bytes a b };
 
@@ -167,7 +171,7 @@ impl<A: Allocator> AllocRawHasher<A> {
     ghost use Rattle.std.specs.Prelude.{◌≡◌, [], ◌<◌, ◌≤◌, length, IfOk, MatchResult};
     ghost use Rattle.std.specs.Box.{boxed_slice_items};
     ghost use Rattle.twox_core.specs.Secret.{default_secret, derived_secret};
-    ghost use Rattle.twox_core.specs.Stands.{StandsFor};
+    ghost use Rattle.twox_core.specs.StandsFor.{StandsFor};
 
     /// A stream with the seed 0 and the default secret.
     ///

@@ -20,9 +20,9 @@ pub struct SecretBuffer<S: FixedBuffer> {
 
 impl<S: FixedBuffer> Model for SecretBuffer<S> {
     ghost use Rattle.std.specs.Prelude.{◌≤◌, length};
-    ghost use Rattle.twox_core.specs.Held.{Held};
+    ghost use Rattle.twox_core.specs.StreamKey.{StreamKey};
 
-    ghost Value = { Held S };
+    ghost Value = { StreamKey S };
 
     ghost view = { λ b. record { seed = b.seed; secret = b.secret } };
 
@@ -31,7 +31,7 @@ impl<S: FixedBuffer> Model for SecretBuffer<S> {
 
 impl<S: FixedBuffer> SecretBuffer<S> {
     ghost use Rattle.std.specs.Prelude.{◌≡◌, ◌<◌, ◌≤◌, length, MatchResult};
-    ghost use Rattle.twox_core.specs.Held.{Held};
+    ghost use Rattle.twox_core.specs.StreamKey.{StreamKey};
     ghost use Rattle.twox_core.specs.SecretBytes.{secret_bytes};
 
     /// Holds the seed and the secret as they are.
@@ -78,7 +78,7 @@ impl<S: FixedBuffer> SecretBuffer<S> {
 impl<S: FixedMutBuffer> SecretBuffer<S> {
     ghost use Rattle.std.specs.Prelude.{◌≡◌, ◌≢◌, length, MatchResult};
     ghost use Rattle.twox_core.specs.Secret.{derived_secret};
-    ghost use Rattle.twox_core.specs.Held.{Held};
+    ghost use Rattle.twox_core.specs.StreamKey.{StreamKey};
 
     /// Overwrites the buffer with the secret that the seed derives, and holds it.
     ///
@@ -100,7 +100,7 @@ impl<S: FixedMutBuffer> SecretBuffer<S> {
 impl SecretBuffer<DefaultSecret> {
     ghost use Rattle.std.specs.Prelude.{◌≡◌};
     ghost use Rattle.twox_core.specs.Secret.{default_secret};
-    ghost use Rattle.twox_core.specs.Held.{Held};
+    ghost use Rattle.twox_core.specs.StreamKey.{StreamKey};
 
     /// The seed 0 and the default secret.
     #[tactic(auto, unfolding(crate::specs::Secret::default_secret))]
@@ -119,7 +119,7 @@ impl<A: Allocator> SecretBuffer<BoxedSlice<u8, A>> {
     ghost use Rattle.std.specs.Prelude.{◌≡◌, ◌<◌, ◌≤◌, length, IfOk, MatchResult};
     ghost use Rattle.std.specs.Box.{boxed_slice_items};
     ghost use Rattle.twox_core.specs.Secret.{default_secret, derived_secret};
-    ghost use Rattle.twox_core.specs.Held.{Held};
+    ghost use Rattle.twox_core.specs.StreamKey.{StreamKey};
 
     /// The seed 0 and the default secret, in memory of its own.
     ///
@@ -171,7 +171,7 @@ impl<A: Allocator> SecretBuffer<BoxedSlice<u8, A>> {
 
 impl<S: ClonedBuffer> Clone for SecretBuffer<S> {
     ghost use Rattle.std.specs.Prelude.{◌≡◌};
-    ghost use Rattle.twox_core.specs.Held.{Held};
+    ghost use Rattle.twox_core.specs.StreamKey.{StreamKey};
 
     ghost is_clone = { λ a b. (b.seed ≡ a.seed) × (S.FixedBuffer.bytes b.secret ≡ S.FixedBuffer.bytes a.secret) };
 

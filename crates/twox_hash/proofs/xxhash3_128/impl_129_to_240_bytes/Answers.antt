@@ -3,15 +3,15 @@ use Rattle.twox_core.specs.Parts.{chunk_at, pair_at, pairs_at}
 use Rattle.twox_core.specs.SecretBytes.{secret_bytes}
 use Rattle.twox_core.specs.Primes.{prime64_1}
 use Rattle.twox_core.specs.Steps.{avalanche, mul64, sub64}
-use Rattle.twox_core.specs.Middle.{lane_step, lanes_high, lanes_low, large_first, large_second, pairs_first, pairs_second}
+use Rattle.twox_core.specs.Middle.{accumulator_step, merge_high, merge_low, first_129_to_240, second_129_to_240, pairs_first, pairs_second}
 use Rattle.twox_core.specs.Value.{high_in, low_in}
-use Rattle.twox_core.proofs.MixFacts.{lane_step-of_chunks, pairs_first-next, pairs_second-next}
+use Rattle.twox_core.proofs.MixFacts.{accumulator_step-of_chunks, pairs_first-next, pairs_second-next}
 use Rattle.twox_core.proofs.PartFacts.{pairs_at-pair, last-pair}
 use Rattle.twox_hash.proofs.xxhash3_128.impl_129_to_240_bytes.Goals as goal
 
 pub early-init : goal.early-init
 unfolding pairs_first pairs_second
-early-init c = record { first = c.initial_lanes-first.ensures.first; second = c.initial_lanes-first.ensures.second }
+early-init c = record { first = c.initial_accumulators-first.ensures.first; second = c.initial_accumulators-first.ensures.second }
 
 pub early-preserved : goal.early-preserved
 early-preserved c =
@@ -26,11 +26,11 @@ early-preserved c =
     let chunk : (k : ℕ) → get_or (get_or c.pairs_of_u64_bytes-pairs.result.now p []) k [] ≡ get_or (pair_at m (0 + 32 * p)) k [] = λ k. ap (λ (l : List (List ℕ)). get_or l k []) pair in
     let key : (k : ℕ) → get_or (get_or c.words_for_129_to_240_part1-words.result.now p []) k [] ≡ get_or (pair_at s (0 + 32 * p)) k [] = λ k. ap (λ (l : List (List ℕ)). get_or l k []) word in
     record {
-      first = c.lane_step-first.ensures
-          ∙ lane_step-of_chunks seed s m _ _ _ _ _ (0 + 32 * p) (0 + 32 * p) (0 + 32 * p + 16) before.first (chunk 0) (key 0) (chunk 1)
+      first = c.accumulator_step-first.ensures
+          ∙ accumulator_step-of_chunks seed s m _ _ _ _ _ (0 + 32 * p) (0 + 32 * p) (0 + 32 * p + 16) before.first (chunk 0) (key 0) (chunk 1)
           ∙ sym (pairs_first-next seed s m 0 0 _ p);
-      second = c.lane_step-second.ensures
-          ∙ lane_step-of_chunks seed s m _ _ _ _ _ (0 + 32 * p + 16) (0 + 32 * p + 16) (0 + 32 * p) before.second (chunk 1) (key 1) (chunk 0)
+      second = c.accumulator_step-second.ensures
+          ∙ accumulator_step-of_chunks seed s m _ _ _ _ _ (0 + 32 * p + 16) (0 + 32 * p + 16) (0 + 32 * p) before.second (chunk 1) (key 1) (chunk 0)
           ∙ sym (pairs_second-next seed s m 0 0 _ p);
     }
 
@@ -62,11 +62,11 @@ later-preserved c =
     let chunk : (k : ℕ) → get_or (get_or c.pairs_of_u64_bytes-pairs.result.now (4 + p) []) k [] ≡ get_or (pair_at m i) k [] = λ k. ap (λ (l : List (List ℕ)). get_or l k []) pair in
     let key : (k : ℕ) → get_or (get_or c.words_for_129_to_240_part2-words.result.now p []) k [] ≡ get_or (pair_at s j) k [] = λ k. ap (λ (l : List (List ℕ)). get_or l k []) word in
     record {
-      first = c.lane_step-first-in-later.ensures
-          ∙ lane_step-of_chunks seed s m _ _ _ _ _ i j (i + 16) before.first (chunk 0) (key 0) (chunk 1)
+      first = c.accumulator_step-first-in-later.ensures
+          ∙ accumulator_step-of_chunks seed s m _ _ _ _ _ i j (i + 16) before.first (chunk 0) (key 0) (chunk 1)
           ∙ sym (pairs_first-next seed s m 128 3 _ p);
-      second = c.lane_step-second-in-later.ensures
-          ∙ lane_step-of_chunks seed s m _ _ _ _ _ (i + 16) (j + 16) i before.second (chunk 1) (key 1) (chunk 0)
+      second = c.accumulator_step-second-in-later.ensures
+          ∙ accumulator_step-of_chunks seed s m _ _ _ _ _ (i + 16) (j + 16) i before.second (chunk 1) (key 1) (chunk 0)
           ∙ sym (pairs_second-next seed s m 128 3 _ p);
     }
 
@@ -83,9 +83,9 @@ last_chunk c =
     let place : length c.args.input.now - 32 + 16 ≡ length c.args.input.now - 16 = omega arith in
     ap (λ l. get_or l 1 []) (tail_pair c) ∙ ap (chunk_at c.args.input.now) place
 
--- each lane after the last step
-last_first : (c : goal.After-finalize_medium) → c.lane_step.result ≡ large_first c.args.seed (secret_bytes c.args.secret) c.args.input.now
-unfolding large_first
+-- each accumulator after the last step
+last_first : (c : goal.After-finalize_medium) → c.accumulator_step.result ≡ first_129_to_240 c.args.seed (secret_bytes c.args.secret) c.args.input.now
+unfolding first_129_to_240
 last_first c =
     let m = c.args.input.now in
     let s = secret_bytes c.args.secret in
@@ -93,13 +93,13 @@ last_first c =
     let start : ℕ = avalanche (pairs_first seed s m 0 0 (mul64 (length m) prime64_1) 4) in
     let negated : c.wrapping_neg-negated.result ≡ sub64 0 seed = omega arith in
     let done : c.later.p ≡ (length m - 128) / 32 = omega (arith, c.pairs_of_u64_bytes-pairs.ensures.count) in
-    c.lane_step.ensures
-    ∙ lane_step-of_chunks _ s m _ _ _ _ _ (length m - 16) 103 (length m - 32) (c.later.invariant.first ∙ ap (pairs_first seed s m 128 3 start) done)
+    c.accumulator_step.ensures
+    ∙ accumulator_step-of_chunks _ s m _ _ _ _ _ (length m - 16) 103 (length m - 32) (c.later.invariant.first ∙ ap (pairs_first seed s m 128 3 start) done)
     (last_chunk c) (ap (λ l. get_or l 0 []) (tail_words c)) (ap (λ l. get_or l 0 []) (tail_pair c))
-    ∙ ap (λ (x : ℕ). lane_step x s m (pairs_first seed s m 128 3 start ((length m - 128) / 32)) (length m - 16) 103 (length m - 32)) negated
+    ∙ ap (λ (x : ℕ). accumulator_step x s m (pairs_first seed s m 128 3 start ((length m - 128) / 32)) (length m - 16) 103 (length m - 32)) negated
 
-last_second : (c : goal.After-finalize_medium) → c.lane_step-2.result ≡ large_second c.args.seed (secret_bytes c.args.secret) c.args.input.now
-unfolding large_second
+last_second : (c : goal.After-finalize_medium) → c.accumulator_step-2.result ≡ second_129_to_240 c.args.seed (secret_bytes c.args.secret) c.args.input.now
+unfolding second_129_to_240
 last_second c =
     let m = c.args.input.now in
     let s = secret_bytes c.args.secret in
@@ -107,18 +107,18 @@ last_second c =
     let start : ℕ = avalanche (pairs_second seed s m 0 0 0 4) in
     let negated : c.wrapping_neg-negated.result ≡ sub64 0 seed = omega arith in
     let done : c.later.p ≡ (length m - 128) / 32 = omega (arith, c.pairs_of_u64_bytes-pairs.ensures.count) in
-    c.lane_step-2.ensures
-    ∙ lane_step-of_chunks _ s m _ _ _ _ _ (length m - 32) 119 (length m - 16) (c.later.invariant.second ∙ ap (pairs_second seed s m 128 3 start) done)
+    c.accumulator_step-2.ensures
+    ∙ accumulator_step-of_chunks _ s m _ _ _ _ _ (length m - 32) 119 (length m - 16) (c.later.invariant.second ∙ ap (pairs_second seed s m 128 3 start) done)
     (ap (λ l. get_or l 0 []) (tail_pair c)) (ap (λ l. get_or l 1 []) (tail_words c)) (last_chunk c)
-    ∙ ap (λ (x : ℕ). lane_step x s m (pairs_second seed s m 128 3 start ((length m - 128) / 32)) (length m - 32) 119 (length m - 16)) negated
+    ∙ ap (λ (x : ℕ). accumulator_step x s m (pairs_second seed s m 128 3 start ((length m - 128) / 32)) (length m - 32) 119 (length m - 16)) negated
 
 pub returns-clause-low : goal.returns-clause-low
 unfolding low_in
-returns-clause-low c = c.finalize_medium.ensures.low ∙ ap₂ lanes_low (last_first c) (last_second c)
+returns-clause-low c = c.finalize_medium.ensures.low ∙ ap₂ merge_low (last_first c) (last_second c)
 
 pub returns-clause-high : goal.returns-clause-high
 unfolding high_in
 returns-clause-high c =
     c.finalize_medium.ensures.high
-    ∙ ap (λ len. lanes_high c.args.seed len c.lane_step.result c.lane_step-2.result) c.into_u64.ensures
-    ∙ ap₂ (lanes_high c.args.seed (length c.args.input.now)) (last_first c) (last_second c)
+    ∙ ap (λ len. merge_high c.args.seed len c.accumulator_step.result c.accumulator_step-2.result) c.into_u64.ensures
+    ∙ ap₂ (merge_high c.args.seed (length c.args.input.now)) (last_first c) (last_second c)

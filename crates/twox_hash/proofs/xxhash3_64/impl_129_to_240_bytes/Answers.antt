@@ -3,7 +3,7 @@ use Rattle.twox_core.specs.Primes.{prime64_1}
 use Rattle.twox_core.specs.Parts.{chunk_at, chunks_at}
 use Rattle.twox_core.specs.SecretBytes.{secret_bytes}
 use Rattle.twox_core.specs.Steps.{avalanche, sum_below}
-use Rattle.twox_core.specs.Middle.{early, later, large64}
+use Rattle.twox_core.specs.Middle.{early, later, value64_129_to_240}
 use Rattle.twox_core.proofs.MixFacts.{sum_below-next, mix-of_key}
 use Rattle.twox_core.proofs.PartFacts.{chunks_at-chunk}
 use Rattle.twox_hash.proofs.xxhash3_64.impl_129_to_240_bytes.Goals as goal
@@ -63,7 +63,7 @@ later-preserved c =
     ]
 
 pub returns : goal.returns
-unfolding large64
+unfolding value64_129_to_240
 returns c =
     let m = c.args.input.now in
     let s = secret_bytes c.args.secret in

@@ -1,6 +1,6 @@
 use Rattle.std.proofs.Common.{◌≡◌, ℕ, ◌+◌, ◌*◌, ◌%◌, ◌^◌, slice_index, bit_xor, arith, ap, ap₂, ◌∙◌, zero-add}
 use Rattle.twox_core.specs.Steps.{avalanche, fold, sum_below}
-use Rattle.twox_core.specs.Long.{pair_fold, merged}
+use Rattle.twox_core.specs.Long.{pair_fold, merge_accumulators}
 use Rattle.twox_core.proofs.MixFacts.{sum_below-next}
 use Rattle.twox_core.proofs.xxhash3.large.final_merge.Goals as goal
 
@@ -20,7 +20,7 @@ loop-i-preserved c =
     omega (arith, here, sum_below-next (pair_fold f s 0) i)
 
 pub returns : goal.returns
-unfolding merged
+unfolding merge_accumulators
 returns c =
     let done : c.loop-i.i ≡ 4 = omega arith in
     c.avalanche.ensures ∙ ap avalanche (c.loop-i.invariant

@@ -1,28 +1,18 @@
-use Rattle.std.proofs.Common.{rules, ◌≡◌, ℕ, ◌^◌, ◌%◌, ◌∙◌, ap, arith, lit<}
+use Rattle.std.proofs.Common.{rules, ◌≡◌, ap, arith, lit<, ◌∙◌}
 use Rattle.twox_core.specs.SecretBytes.{secret_bytes}
 use Rattle.twox_core.specs.Value.{xxh3_128}
-use Rattle.twox_core.proofs.ValueLaws.{changed_bytes_128, changed_seed_128, low_half, low_half_long}
+use Rattle.twox_core.proofs.OneshotLaws.{tells_others_128, has_low_half_64}
 use Rattle.twox_hash.proofs.xxhash3_128.Hasher+Global.oneshot_with_secret.Goals as goal
 
-pub returns-then-input-le-CUTOFF-clause-changed_bytes : goal.returns-then-input-le-CUTOFF-clause-changed_bytes
-returns-then-input-le-CUTOFF-clause-changed_bytes c =
-    let told : secret_bytes c.in_ok-secret.secret ≡ c.args.secret.now = grind (arith, rules) in
-    let value : c.impl_oneshot.result ≡ xxh3_128 0 c.args.secret.now c.args.input.now = c.impl_oneshot.ensures ∙ ap (λ s. xxh3_128 0 s c.args.input.now) told in
-    λ n apart same. changed_bytes_128 0 c.args.secret.now c.args.input.now n (λ k. omega (arith, c.type_inv.input k)) apart (same ∙ value)
+pub returns-clause-tells_others : goal.returns-clause-tells_others
+returns-clause-tells_others c =
+    let same : secret_bytes c.in_ok-secret.secret ≡ c.args.secret.now = grind (arith, rules) in
+    tells_others_128 0 _ c.args.secret.now c.args.input.now (λ k. omega (arith, c.type_inv.secret k))
+    (λ k. omega (arith, c.type_inv.input k)) (lit< tt)
+    (λ _. c.impl_oneshot_keyed.ensures ∙ ap (λ s. xxh3_128 0 s c.args.input.now) same)
 
-pub returns-then-input-le-CUTOFF-clause-changed_seed : goal.returns-then-input-le-CUTOFF-clause-changed_seed
-returns-then-input-le-CUTOFF-clause-changed_seed c =
-    let told : secret_bytes c.in_ok-secret.secret ≡ c.args.secret.now = grind (arith, rules) in
-    let value : c.impl_oneshot.result ≡ xxh3_128 0 c.args.secret.now c.args.input.now = c.impl_oneshot.ensures ∙ ap (λ s. xxh3_128 0 s c.args.input.now) told in
-    λ other small differs short same. changed_seed_128 c.args.secret.now c.args.input.now 0 other (λ k. omega (arith, c.type_inv.secret k)) (λ k. omega (arith, c.type_inv.input k)) (lit< tt) small short differs (same ∙ value)
-
-pub returns-then-input-le-CUTOFF-clause-low_half : goal.returns-then-input-le-CUTOFF-clause-low_half
-returns-then-input-le-CUTOFF-clause-low_half c =
-    let told : secret_bytes c.in_ok-secret.secret ≡ c.args.secret.now = grind (arith, rules) in
-    let value : c.impl_oneshot.result ≡ xxh3_128 0 c.args.secret.now c.args.input.now = c.impl_oneshot.ensures ∙ ap (λ s. xxh3_128 0 s c.args.input.now) told in
-    λ range. ap (λ (x : ℕ). x % 2 ^ 64) value ∙ low_half 0 c.args.secret.now c.args.input.now range
-
-pub returns-else-input-le-CUTOFF-clause-low_half : goal.returns-else-input-le-CUTOFF-clause-low_half
-returns-else-input-le-CUTOFF-clause-low_half c =
-    let told : secret_bytes c.in_ok-secret.secret ≡ c.args.secret.now = grind (arith, rules) in
-    λ range. low_half_long 0 c.impl_oneshot_long.result _ c.args.secret.now c.args.input.now (omega arith) told c.impl_oneshot_long.ensures
+pub returns-clause-low_half : goal.returns-clause-low_half
+returns-clause-low_half c =
+    let same : secret_bytes c.in_ok-secret.secret ≡ c.args.secret.now = grind (arith, rules) in
+    has_low_half_64 0 _ c.args.secret.now c.args.input.now
+    (c.impl_oneshot_keyed.ensures ∙ ap (λ s. xxh3_128 0 s c.args.input.now) same)

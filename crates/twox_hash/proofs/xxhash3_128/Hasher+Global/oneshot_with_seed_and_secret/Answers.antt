@@ -1,27 +1,30 @@
-use Rattle.std.proofs.Common.{rules, ◌≡◌, ℕ, ◌^◌, ◌%◌, ◌∙◌, ap, sym, arith}
+use Rattle.std.proofs.Common.{rules, ◌≡◌, ap, arith, sym, ◌∙◌}
 use Rattle.twox_core.specs.Secret.{default_secret}
 use Rattle.twox_core.specs.SecretBytes.{secret_bytes}
-use Rattle.twox_core.specs.Value.{xxh3_64, xxh3_128, effective_secret}
+use Rattle.twox_core.specs.Value.{effective_secret, xxh3_128}
+use Rattle.twox_core.proofs.OneshotLaws.{tells_others_128, has_low_half_64}
 use Rattle.twox_core.proofs.ShortLaws.{default_secret-bytes}
-use Rattle.twox_core.proofs.ValueLaws.{changed_bytes_128, changed_seed_128, low_half, low_half_long, effective_short, effective_long}
+use Rattle.twox_core.proofs.ValueLaws.{effective_short, effective_long, low_half_long}
 use Rattle.twox_hash.proofs.xxhash3_128.Hasher+Global.oneshot_with_seed_and_secret.Goals as goal
 
-pub returns-then-input-le-CUTOFF-clause-changed_bytes : goal.returns-then-input-le-CUTOFF-clause-changed_bytes
-returns-then-input-le-CUTOFF-clause-changed_bytes c =
-    let value : c.impl_oneshot.result ≡ xxh3_128 c.args.seed default_secret c.args.input.now = c.impl_oneshot.ensures ∙ ap (λ s. xxh3_128 c.args.seed s c.args.input.now) c.default_secret.ensures in
-    λ n apart same. changed_bytes_128 c.args.seed default_secret c.args.input.now n (λ k. omega (arith, c.type_inv.input k)) apart (same ∙ value)
-
-pub returns-then-input-le-CUTOFF-clause-changed_seed : goal.returns-then-input-le-CUTOFF-clause-changed_seed
-returns-then-input-le-CUTOFF-clause-changed_seed c =
-    let value : c.impl_oneshot.result ≡ xxh3_128 c.args.seed default_secret c.args.input.now = c.impl_oneshot.ensures ∙ ap (λ s. xxh3_128 c.args.seed s c.args.input.now) c.default_secret.ensures in
-    λ other small differs short same. changed_seed_128 default_secret c.args.input.now c.args.seed other default_secret-bytes (λ k. omega (arith, c.type_inv.input k)) (omega arith) small short differs (same ∙ value)
+pub returns-then-input-le-CUTOFF-clause-tells_others : goal.returns-then-input-le-CUTOFF-clause-tells_others
+returns-then-input-le-CUTOFF-clause-tells_others c =
+    let m = c.args.input.now in
+    tells_others_128 c.args.seed _ default_secret m default_secret-bytes (λ k. omega (arith, c.type_inv.input k)) (omega arith)
+    (λ _. c.impl_oneshot.ensures ∙ ap (λ s. xxh3_128 c.args.seed s m) c.default_secret.ensures)
 
 pub returns-then-input-le-CUTOFF-clause-low_half : goal.returns-then-input-le-CUTOFF-clause-low_half
 returns-then-input-le-CUTOFF-clause-low_half c =
-    let value : c.impl_oneshot.result ≡ xxh3_128 c.args.seed default_secret c.args.input.now = c.impl_oneshot.ensures ∙ ap (λ s. xxh3_128 c.args.seed s c.args.input.now) c.default_secret.ensures in
-    λ range. ap (λ (x : ℕ). x % 2 ^ 64) value ∙ low_half c.args.seed default_secret c.args.input.now range ∙ ap (λ s. xxh3_64 c.args.seed s c.args.input.now) (sym (effective_short (c.args.secret.now) c.args.input.now (omega arith)))
+    let m = c.args.input.now in
+    let given = c.args.secret.now in
+    has_low_half_64 c.args.seed _ (effective_secret given m) m
+    (c.impl_oneshot.ensures
+    ∙ ap (λ s. xxh3_128 c.args.seed s m) (c.default_secret.ensures ∙ sym (effective_short given m (omega arith))))
 
 pub returns-clause-low_half : goal.returns-clause-low_half
 returns-clause-low_half c =
-    let told : secret_bytes c.in_ok-new.field-0 ≡ c.args.secret.now = grind (arith, rules) in
-    λ range. low_half_long c.args.seed c.impl_oneshot_long.result _ (effective_secret c.args.secret.now c.args.input.now) c.args.input.now (omega arith) (told ∙ sym (effective_long c.args.secret.now c.args.input.now (omega arith))) c.impl_oneshot_long.ensures
+    let m = c.args.input.now in
+    let given = c.args.secret.now in
+    let same : secret_bytes c.in_ok-own.own ≡ given = grind (arith, rules) in
+    λ _. low_half_long c.args.seed c.impl_oneshot_long.result _ (effective_secret given m) m (omega arith)
+    (same ∙ sym (effective_long given m (omega arith))) c.impl_oneshot_long.ensures

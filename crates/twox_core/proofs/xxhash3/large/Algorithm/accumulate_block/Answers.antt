@@ -1,6 +1,6 @@
 use Rattle.std.proofs.Common.{◌≡◌, ◌+◌, ◌-◌, ◌∙◌, arith}
 use Rattle.twox_core.specs.SecretBytes.{secret_bytes}
-use Rattle.twox_core.proofs.EndingFacts.{front_taken, accumulated_block-next}
+use Rattle.twox_core.proofs.EndingFacts.{front_taken, accumulate_block-next}
 use Rattle.twox_core.proofs.xxhash3.large.Algorithm.accumulate_block.Goals as goal
 
 pub returns-then-count-last_place : goal.returns-then-count-last_place
@@ -11,9 +11,9 @@ returns-then-count-last_place g c =
     let more : k + 1 ≡ c.args.count = omega arith in
     let place : c.n_stripes-last_place.result - 1 ≡ k = omega arith in
     let taken = rw (c.split_at.ensures.front, c.starting_with-stripes.ensures) at c.process_near.ensures.exact ∙ front_taken s c.args.acc b k (omega arith) (omega arith) in
-    let lanes = rw taken at c.accumulators-acc.ensures in
+    let accumulators = rw taken at c.accumulators-acc.ensures in
     let stripe = rw c.split_at.ensures.back at c.array_at.ensures in
-    rw lanes at c.accumulate.ensures ∙ rw more at (accumulated_block-next s c.args.acc b _ _ k stripe (rw place at c.stripe.ensures))
+    rw accumulators at c.accumulate.ensures ∙ rw more at (accumulate_block-next s c.args.acc b _ _ k stripe (rw place at c.stripe.ensures))
 
 pub returns-else-count-last_place : goal.returns-else-count-last_place
 returns-else-count-last_place g c =

@@ -4,12 +4,12 @@ use Rattle.std.proofs.lemmas.List.{length-take-le, take_all}
 use Rattle.twox_core.specs.Long.{stripes_of}
 use Rattle.twox_core.specs.SecretBytes.{secret_bytes}
 use Rattle.twox_core.specs.Stripes.{no_stripe}
-use Rattle.twox_core.specs.Ending.{lanes_after, stripes_before, block_lanes, last_block, last_stripe}
-use Rattle.twox_core.proofs.StripeFacts.{stripes_taken-take, folded_first}
+use Rattle.twox_core.specs.Ending.{accumulators_after, stripes_before, block_accumulators, last_block, last_stripe}
+use Rattle.twox_core.proofs.StripeFacts.{after_stripes-take, folded_first}
 use Rattle.twox_core.proofs.xxhash3.large.Algorithm.oneshot.Goals as goal
 
 pub returns : goal.returns
-unfolding block_lanes lanes_after last_block last_stripe
+unfolding block_accumulators accumulators_after last_block last_stripe
 returns g c =
     let s = secret_bytes c.args.secret in
     let m = c.args.input.now in
@@ -18,8 +18,8 @@ returns g c =
     let count : c.stripes_before_last_block-count.result ≡ k = rw c.n_stripes.ensures at c.stripes_before_last_block-count.ensures in
     let width : length (take (64 * k) m) / 64 ≡ k = omega (arith, length-take-le (64 * k) m fits) in
     let front = rw count at c.split_at.ensures.front in
-    let taken = rw (front, width, c.new-stripes.ensures) at c.process_stripes.ensures.exact ∙ stripes_taken-take s no_stripe m (64 * k) k (omega arith) in
-    let lanes = rw taken at c.accumulators.ensures ∙ (folded_first s m k (omega arith) fits).lanes in
+    let taken = rw (front, width, c.new-stripes.ensures) at c.process_stripes.ensures.exact ∙ after_stripes-take s no_stripe m (64 * k) k (omega arith) in
+    let accumulators = rw taken at c.accumulators.ensures ∙ (folded_first s m k (omega arith) fits).accumulators in
     let block = rw count at c.split_at.ensures.back in
     let end = c.array_at.ensures ∙ take_all 64 (drop (length m - 64) m) (omega (arith, length-drop (length m - 64) m)) in
-    rw (lanes, block, end, c.into_u64.ensures) at c.large.ensures
+    rw (accumulators, block, end, c.into_u64.ensures) at c.large.ensures

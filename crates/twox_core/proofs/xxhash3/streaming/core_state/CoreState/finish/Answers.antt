@@ -2,18 +2,18 @@ use Rattle.std.proofs.Common.{◌≡◌, ◌*◌, ◌/◌, nat_le, true, false, 
 use Rattle.std.proofs.lemmas.Bool.Decides.{nat_tests}
 use Rattle.std.proofs.lemmas.List.{length-take-le}
 use Rattle.twox_core.specs.SecretBytes.{secret_bytes}
-use Rattle.twox_core.specs.Finished.{buffered_bytes, stripes_left, end_lanes, end_block, finished_state}
-use Rattle.twox_core.proofs.StripeFacts.{stripes_taken-take}
+use Rattle.twox_core.specs.Finish.{buffered_bytes, stripes_left, end_accumulators, end_block, state_finish}
+use Rattle.twox_core.proofs.StripeFacts.{after_stripes-take}
 use Rattle.twox_core.proofs.xxhash3.streaming.core_state.CoreState.finish.Goals as goal
 
 pub returns-then-self-into_u64-clause-exact : goal.returns-then-self-into_u64-clause-exact
-unfolding finished_state
+unfolding state_finish
 returns-then-self-into_u64-clause-exact g c =
     let test : nat_le c.args.self.now.total_bytes 240 ≡ true = grind (arith, nat_tests) in
     rw test (rw c.default_secret.ensures at c.small.ensures)
 
 pub returns-clause-exact : goal.returns-clause-exact
-unfolding finished_state end_lanes end_block
+unfolding state_finish end_accumulators end_block
 returns-clause-exact g c =
     let s = secret_bytes c.args.secret in
     let now = c.args.self.now in
@@ -21,6 +21,6 @@ returns-clause-exact g c =
     let test : nat_le now.total_bytes 240 ≡ false = grind (arith, nat_tests) in
     let width = length-take-le now.buffer_usage now.buffer (omega arith) in
     let number : length c.split_at.result.0.now / 64 ≡ n = omega (arith, length-take-le (64 * n) (buffered_bytes now) (omega arith)) in
-    let taken = rw (number, c.split_at.ensures.front) at c.process_near.ensures.exact ∙ stripes_taken-take s now.stripes (buffered_bytes now) (64 * n) n (omega arith) in
-    let lanes = rw taken at c.accumulators.ensures in
-    rw test (rw (lanes, c.split_at.ensures.back, c.last_stripe-last_stripe.ensures) at c.large.ensures)
+    let taken = rw (number, c.split_at.ensures.front) at c.process_near.ensures.exact ∙ after_stripes-take s now.taken.stripes (buffered_bytes now) (64 * n) n (omega arith) in
+    let accumulators = rw taken at c.accumulators.ensures in
+    rw test (rw (accumulators, c.split_at.ensures.back, c.last_stripe-last_stripe.ensures) at c.large.ensures)

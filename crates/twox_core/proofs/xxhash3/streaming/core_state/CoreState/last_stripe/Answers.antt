@@ -1,7 +1,7 @@
-use Rattle.std.proofs.Common.{◌≡◌, ◌+◌, ◌-◌, List, ℕ, ◌++◌, take, drop, nat_lt, true, arith, ap, ◌∙◌, length-drop}
+use Rattle.std.proofs.Common.{◌≡◌, ◌-◌, List, ℕ, ◌++◌, take, drop, nat_lt, true, arith, ap, ◌∙◌, length-drop}
 use Rattle.std.proofs.lemmas.Bool.Decides.{nat_tests}
 use Rattle.std.proofs.lemmas.List.{take_all}
-use Rattle.twox_core.specs.Finished.{last_bytes}
+use Rattle.twox_core.specs.Finish.{last_bytes}
 use Rattle.twox_core.proofs.xxhash3.streaming.core_state.CoreState.last_stripe.Goals as goal
 
 pub returns-then-used-lt64 : goal.returns-then-used-lt64
@@ -9,6 +9,7 @@ unfolding last_bytes
 returns-then-used-lt64 c =
     let u = c.args.self.now.buffer_usage in
     let b = c.args.self.now.buffer in
+    let last = c.args.self.now.taken.last in
     let test : nat_lt u 64 ≡ true = grind (arith, nat_tests, c.if-used-lt64.true) in
-    let kept = take_all (256 - (192 + u)) (drop (192 + u) b) (omega (arith, length-drop (192 + u) b)) in
-    rw test (c.joined.ensures ∙ ap (λ (x : List ℕ). x ++ take u b) kept)
+    let kept = take_all (64 - u) (drop u last) (omega (arith, length-drop u last)) in
+    rw test (c.stripe_of_parts.ensures ∙ ap (λ (x : List ℕ). x ++ take u b) kept)

@@ -1,21 +1,20 @@
 use Rattle.std.proofs.Common.{◌≡◌, ◌*◌, ◌/◌, length, take, refl, arith, ◌∙◌, length-drop}
 use Rattle.std.proofs.lemmas.List.{length-take-le}
 use Rattle.twox_core.specs.SecretBytes.{secret_bytes}
-use Rattle.twox_core.specs.Stripes.{stripes_taken}
-use Rattle.twox_core.specs.Written.{restarted, in_place}
-use Rattle.twox_core.proofs.StripeFacts.{stripes_taken-take}
+use Rattle.twox_core.specs.AfterWrite.{after_rest, after_taking, stripes_in_place}
+use Rattle.twox_core.proofs.TakenFacts.{after_taking-take}
 use Rattle.twox_core.proofs.xxhash3.streaming.core_state.CoreState.restart.Goals as goal
 
 pub returns-clause-exact : goal.returns-clause-exact
-unfolding restarted
+unfolding after_rest
 returns-clause-exact g c =
     let s = secret_bytes c.args.secret in
-    let a = c.args.self.now.stripes in
+    let t = c.args.self.now.taken in
     let r = c.args.rest.now in
-    let n = in_place (length r) in
+    let n = stripes_in_place (length r) in
     let width : length (take (64 * n) r) / 64 ≡ n = omega (arith, length-take-le (64 * n) r (omega arith)) in
     let part = rw c.saturating_sub-count.ensures at c.split_at.ensures.front in
     let back = rw c.saturating_sub-count.ensures at c.split_at.ensures.back in
-    let taken : c.process_near.new.self ≡ stripes_taken s a r n =
-    rw (part, width) at c.process_near.ensures.exact ∙ stripes_taken-take s a r (64 * n) n (omega arith) in
-    rw (taken, c.saturating_add-self.ensures, c.into_u64.ensures, c.saturating_sub-count.ensures, c.copy_from_slice.ensures.after, back, length-drop (64 * n) r) refl
+    let taken : c.take.new.self ≡ after_taking s t r n =
+    rw (part, width) at c.take.ensures.exact ∙ after_taking-take s t r (64 * n) n (omega arith) in
+    rw (taken, c.copy_from_slice.ensures.after, back, length-drop (64 * n) r) refl

@@ -1,22 +1,22 @@
 use Rattle.std.proofs.Common.{◌≡◌, ◌-◌, length, nat_le, true, false, refl, arith}
 use Rattle.std.proofs.lemmas.Bool.Decides.{nat_tests}
-use Rattle.twox_core.specs.Written.{written_state}
+use Rattle.twox_core.specs.AfterWrite.{state_after_write}
 use Rattle.twox_core.proofs.xxhash3.streaming.core_state.CoreState.write.Goals as goal
 
 pub returns-then-input-self-clause-exact : goal.returns-then-input-self-clause-exact
-unfolding written_state
+unfolding state_after_write
 returns-then-input-self-clause-exact g c =
-    let test : nat_le (length c.args.input.now) (256 - c.args.self.now.buffer_usage) ≡ true = grind (arith, nat_tests) in
+    let test : nat_le (length c.args.input.now) (512 - c.args.self.now.buffer_usage) ≡ true = grind (arith, nat_tests) in
     rw (test, c.add.ensures, c.saturating_add-self.ensures, c.into_u64.ensures) refl
 
 pub returns-then-input-lt-BYTES_TO_READ_AHEAD-clause-exact : goal.returns-then-input-lt-BYTES_TO_READ_AHEAD-clause-exact
-unfolding written_state
+unfolding state_after_write
 returns-then-input-lt-BYTES_TO_READ_AHEAD-clause-exact g c =
-    let test : nat_le (length c.args.input.now) (256 - c.args.self.now.buffer_usage) ≡ false = grind (arith, nat_tests) in
+    let test : nat_le (length c.args.input.now) (512 - c.args.self.now.buffer_usage) ≡ false = grind (arith, nat_tests) in
     rw (test, c.write_through.ensures.exact, c.saturating_add-self.ensures, c.into_u64.ensures) refl
 
 pub returns-else-input-lt-BYTES_TO_READ_AHEAD-clause-exact : goal.returns-else-input-lt-BYTES_TO_READ_AHEAD-clause-exact
-unfolding written_state
+unfolding state_after_write
 returns-else-input-lt-BYTES_TO_READ_AHEAD-clause-exact g c =
-    let test : nat_le (length c.args.input.now) (256 - c.args.self.now.buffer_usage) ≡ false = grind (arith, nat_tests) in
-    rw (test, c.write_far.ensures.exact, c.saturating_add-self.ensures, c.into_u64.ensures) refl
+    let test : nat_le (length c.args.input.now) (512 - c.args.self.now.buffer_usage) ≡ false = grind (arith, nat_tests) in
+    rw (test, c.write_through-else-input-lt-BYTES_TO_READ_AHEAD.ensures.exact, c.saturating_add-self.ensures, c.into_u64.ensures) refl

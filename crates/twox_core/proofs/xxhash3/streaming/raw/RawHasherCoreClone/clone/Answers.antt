@@ -1,6 +1,6 @@
 use Rattle.std.proofs.Common.{refl, subst}
-use Rattle.twox_core.specs.Core.{Core}
-use Rattle.twox_core.specs.Stands.{IsCopy}
+use Rattle.twox_core.specs.CoreView.{CoreView}
+use Rattle.twox_core.specs.StandsFor.{IsCopy}
 use Rattle.twox_core.proofs.StreamFacts.{stands_copied}
 use Rattle.twox_core.proofs.xxhash3.streaming.raw.RawHasherCoreClone.clone.Goals as goal
 
@@ -8,5 +8,5 @@ pub returns : goal.returns
 returns g c =
     let bytes = g.S.FixedBuffer.bytes in
     let same = c.in_ok-secret_buffer.ensures.cases in
-    let copy : Core g.row.S.Denot = record { held = c.in_ok-secret_buffer.secret_buffer; state = c.self.inside.state } in
+    let copy : CoreView g.row.S.Denot = record { key = c.in_ok-secret_buffer.secret_buffer; state = c.self.inside.state } in
     record { cases = subst (λ h. IsCopy bytes h copy) c.self.view_is (stands_copied bytes _ copy same.0 same.1 refl) }

@@ -1,0 +1,35 @@
+-- What the answers of the one-shots tell apart follows from their values.
+use Rattle.std.proofs.Common.{◌≡◌, ℕ, ◌<◌, ◌≤◌, ◌^◌, ◌%◌, List, length, ap, ◌∙◌, arith, inl, inr}
+use Rattle.twox_plain.specs.Word.{IsBytes}
+use Rattle.twox_core.specs.OtherBytes.{IsOtherShort64}
+use Rattle.twox_core.specs.Laws.{TellsOthers64, TellsOthers128, HasLowHalf64}
+use Rattle.twox_core.specs.Value.{xxh3_64, xxh3_128}
+use Rattle.twox_core.proofs.ValueLaws.{changed_bytes_64, changed_seed_64, changed_bytes_128, changed_seed_128, low_half}
+
+short_64 : (m n : List ℕ) → IsOtherShort64 m n → length m ≤ 240
+short_64 m n other = elim other.range [
+  | inl few ↦ omega (arith, few)
+  | inr more ↦ omega (arith, more)
+]
+
+-- the value is asked for up to 240 bytes alone, where every call that takes a seed has the default secret
+pub tells_others_64 : (seed result : ℕ) (s m : List ℕ) → IsBytes s → IsBytes m → seed < 2 ^ 64
+    → (length m ≤ 240 → result ≡ xxh3_64 seed s m) → TellsOthers64 seed s m result
+tells_others_64 seed result s m secret bytes small value = record {
+  changed_bytes = λ n other same. changed_bytes_64 seed s m n bytes other (same ∙ value (short_64 m n other));
+  changed_seed = λ other below differs short same.
+      changed_seed_64 s m seed other secret bytes small below short differs (same ∙ value (omega arith));
+}
+
+pub tells_others_128 : (seed result : ℕ) (s m : List ℕ) → IsBytes s → IsBytes m → seed < 2 ^ 64
+    → (length m ≤ 240 → result ≡ xxh3_128 seed s m) → TellsOthers128 seed s m result
+tells_others_128 seed result s m secret bytes small value = record {
+  changed_bytes = λ n other same.
+      let short : length m ≤ 240 = omega (arith, other.short) in
+      changed_bytes_128 seed s m n bytes other (same ∙ value short);
+  changed_seed = λ other below differs short same.
+      changed_seed_128 s m seed other secret bytes small below short differs (same ∙ value (omega arith));
+}
+
+pub has_low_half_64 : (seed result : ℕ) (s m : List ℕ) → result ≡ xxh3_128 seed s m → HasLowHalf64 seed s m result
+has_low_half_64 seed result s m value range = ap (λ (x : ℕ). x % 2 ^ 64) value ∙ low_half seed s m range

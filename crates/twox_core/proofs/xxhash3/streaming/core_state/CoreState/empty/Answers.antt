@@ -1,0 +1,8 @@
+use Rattle.std.proofs.Common.{refl, arith}
+use Rattle.std.proofs.lemmas.List.{length-take-le}
+use Rattle.twox_core.proofs.xxhash3.streaming.core_state.CoreState.empty.Goals as goal
+
+pub returns-clause-exact : goal.returns-clause-exact
+returns-clause-exact g c =
+    let now = c.args.self.now in
+    rw (rw (length-take-le now.buffer_usage now.buffer (omega arith)) at c.take.ensures.exact) refl

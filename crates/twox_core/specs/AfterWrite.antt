@@ -1,0 +1,79 @@
+-- What one write does to a stream, unread buffer bytes included.
+use Rattle.std.specs.Prelude.{ℕ, zero, suc, List, ◌++◌, ◌+◌, ◌-◌, ◌*◌, ◌/◌, ◌%◌, ◌^◌, min, nat_le, replicate, length, take, drop, if◌then◌else◌}
+use Rattle.twox_core.specs.Parts.{stripe_at}
+use Rattle.twox_core.specs.Stripes.{after_stripes, no_stripe}
+use Rattle.twox_core.specs.CoreView.{CoreView}
+use Rattle.twox_core.specs.declared.xxhash3.streaming.taken_stripes.TakenStripes.{TakenStripes}
+use Rattle.twox_core.specs.declared.xxhash3.streaming.core_state.CoreState.{CoreState}
+
+-- nothing taken, and the state of no bytes
+abbrev pub none_taken : TakenStripes
+none_taken = record { stripes = no_stripe; last = replicate 64 0; count = 0 }
+
+abbrev pub empty_state : CoreState
+empty_state = record { taken = none_taken; buffer = replicate 512 0; buffer_usage = 0; total_bytes = 0 }
+
+-- the last of the first n stripes of xs, or the old one where n is 0
+unfoldable pub newest_stripe : List ℕ → List ℕ → ℕ → List ℕ
+newest_stripe old xs zero = old
+newest_stripe old xs (suc n) = stripe_at xs (64 * n)
+
+-- t after the first n stripes of xs, under the secret s
+unfoldable pub after_taking : List ℕ → TakenStripes → List ℕ → ℕ → TakenStripes
+after_taking s t xs n = record {
+  stripes = after_stripes s t.stripes xs n;
+  last = newest_stripe t.last xs n;
+  count = min (t.count + n) (2 ^ 64 - 1);
+}
+
+-- the bytes d put after the buffered ones
+abbrev pub with_buffered : CoreState → List ℕ → CoreState
+with_buffered c d = record c {
+  buffer = take c.buffer_usage c.buffer ++ (d ++ drop (length d) (drop c.buffer_usage c.buffer));
+  buffer_usage = c.buffer_usage + length d;
+}
+
+-- the buffered stripes are taken
+abbrev pub with_empty_buffer : List ℕ → CoreState → CoreState
+with_empty_buffer s c = record c {
+  taken = after_taking s c.taken (take c.buffer_usage c.buffer) (c.buffer_usage / 64);
+  buffer_usage = 0;
+}
+
+-- how many stripes of n bytes are taken where they lie: all but a last one, whole or not
+abbrev pub stripes_in_place : ℕ → ℕ
+stripes_in_place n = (n - 64) / 64
+
+-- stripes of r are taken where they lie, and its other bytes begin the buffer
+unfoldable pub after_rest : List ℕ → CoreState → List ℕ → CoreState
+after_rest s c r =
+    let n = stripes_in_place (length r) in
+    record c {
+      taken = after_taking s c.taken r n;
+      buffer = drop (64 * n) r ++ drop (length r - 64 * n) c.buffer;
+      buffer_usage = length r - 64 * n;
+    }
+
+-- the length of d is counted
+abbrev pub with_longer_length : CoreState → List ℕ → CoreState
+with_longer_length c d = record c { total_bytes = min (c.total_bytes + length d) (2 ^ 64 - 1) }
+
+-- how many bytes fill the buffered ones up to whole stripes
+abbrev pub bytes_to_stripe_end : CoreState → ℕ
+bytes_to_stripe_end c = (64 - c.buffer_usage % 64) % 64
+
+-- the piece d fills a stripe, the buffered stripes are taken, and the rest of d comes after them
+unfoldable pub after_long_piece : List ℕ → CoreState → List ℕ → CoreState
+after_long_piece s c d =
+    let n = bytes_to_stripe_end c in
+    after_rest s (with_empty_buffer s (with_buffered c (take n d))) (drop n d)
+
+-- the state after the piece d, under the secret s
+unfoldable pub state_after_write : List ℕ → CoreState → List ℕ → CoreState
+state_after_write s c d =
+    if nat_le (length d) (512 - c.buffer_usage) then with_buffered (with_longer_length c d) d
+    else after_long_piece s (with_longer_length c d) d
+
+-- the core after the piece d, where `bytes` gives those of its secret
+unfoldable pub core_after_write : {S : Type 0} → (S → List ℕ) → CoreView S → List ℕ → CoreView S
+core_after_write bytes h d = record h { state = state_after_write (bytes h.key.secret) h.state d }

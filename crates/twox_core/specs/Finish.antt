@@ -1,0 +1,35 @@
+-- What the last call of a stream reads of it.
+use Rattle.std.specs.Prelude.{ℕ, List, ◌++◌, ◌+◌, ◌-◌, ◌*◌, ◌/◌, nat_le, nat_lt, take, drop, if◌then◌else◌}
+use Rattle.twox_core.specs.Secret.{default_secret}
+use Rattle.twox_core.specs.Stripes.{after_stripes}
+use Rattle.twox_core.specs.CoreView.{CoreView}
+use Rattle.twox_core.specs.declared.xxhash3.streaming.core_state.CoreState.{CoreState}
+
+-- the last 64 bytes, from the last stripe taken, t, and a buffer with u bytes in use
+unfoldable pub last_bytes : List ℕ → List ℕ → ℕ → List ℕ
+last_bytes t b u = if nat_lt u 64 then drop u t ++ take u b else take 64 (drop (u - 64) b)
+
+abbrev pub buffered_bytes : CoreState → List ℕ
+buffered_bytes c = take c.buffer_usage c.buffer
+
+-- how many of the buffered stripes come before the last one
+abbrev pub stripes_left : CoreState → ℕ
+stripes_left c = (c.buffer_usage - 1) / 64
+
+-- the accumulators after those, and the bytes after those
+unfoldable pub end_accumulators : List ℕ → CoreState → List ℕ
+end_accumulators s c = (after_stripes s c.taken.stripes (buffered_bytes c) (stripes_left c)).accumulator
+
+unfoldable pub end_block : CoreState → List ℕ
+end_block c = drop (64 * stripes_left c) (buffered_bytes c)
+
+-- what a finalizer makes of a state, from what it makes of short and of long inputs: short ones have the default
+-- secret and the seed, long ones the secret s
+unfoldable pub state_finish : {R : Type 0} → (List ℕ → ℕ → List ℕ → R) → (List ℕ → List ℕ → List ℕ → List ℕ → ℕ → R) → ℕ → List ℕ → CoreState → R
+state_finish small large seed s c =
+    if nat_le c.total_bytes 240 then small default_secret seed (take c.total_bytes c.buffer)
+    else large (end_accumulators s c) (end_block c) (last_bytes c.taken.last c.buffer c.buffer_usage) s c.total_bytes
+
+-- of a core, where `bytes` gives those of its secret
+unfoldable pub core_finish : {S R : Type 0} → (List ℕ → ℕ → List ℕ → R) → (List ℕ → List ℕ → List ℕ → List ℕ → ℕ → R) → (S → List ℕ) → CoreView S → R
+core_finish small large bytes h = state_finish small large h.key.seed (bytes h.key.secret) h.state

@@ -1,0 +1,101 @@
+//! The mixing steps: the xxHash specification, "XXH3 algorithm overview".
+
+ghost use Rattle.std.specs.Prelude.{◌≡◌, ◌+◌, ◌*◌, ◌≤◌, [], ◌∷◌, ℕ, List, length};
+ghost use Rattle.std.specs.Int.{w64};
+ghost use Rattle.twox_plain.specs.Word.{word_at};
+ghost use Rattle.twox_core.specs.Short.{combined_bytes};
+ghost use Rattle.twox_core.specs.Steps.{avalanche, avalanche_xxh64, fold, mix, word64};
+
+use super::primes::{PRIME_MX1, PRIME64_2, PRIME64_3};
+use twox_plain::words::{Halves, IntoU32, IntoU128, u64_at};
+
+/// The last byte, the number of bytes, the first byte and the middle one, from the low byte up: the xxHash
+/// specification, "XXH3 algorithm description (for small inputs)", 1 to 3 bytes.
+///
+/// The caller shows that there are 1 to 3 bytes.
+#[inline(always)]
+#[tactic(auto, unfolding(crate::specs::Short::combined_bytes))]
+pub fn impl_1_to_3_bytes_combined(input: &[u8]) -> u32
+    requires some { 1 ≤ length input.now }
+    requires few { length input.now ≤ 3 }
+    ensures { result ≡ combined_bytes input.now }
+{
+    let input_length = input.len() as u8;
+    input[input.len() - 1].into_u32()
+        | input_length.into_u32() << 8
+        | input[0].into_u32() << 16
+        | input[input.len() >> 1].into_u32() << 24
+}
+
+/// The 16 bytes mixed with 16 bytes of the secret and the seed: the xxHash specification, "XXH3 algorithm
+/// overview", mixing operation.
+#[inline(always)]
+#[tactic(auto, unfolding(crate::specs::Steps::mix))]
+pub fn mix_step(bytes: &[u8; 16], secret: &[u8; 16], seed: u64) -> u64
+    ensures { result ≡ mix bytes.now 0 secret.now 0 seed }
+{
+    let [first, second] = to_u64s(bytes);
+    mix_words(first, second, secret, seed)
+}
+
+/// The same of 16 bytes that were read as their two words.
+#[inline(always)]
+#[tactic(auto, unfolding(crate::specs::Steps::mix))]
+pub fn mix_words(first: u64, second: u64, secret: &[u8; 16], seed: u64) -> u64
+    ensures { (m : List ℕ) (i : ℕ) → first ≡ word64 m i → second ≡ word64 m (i + 8) → result ≡ mix m i secret.now 0 seed }
+{
+    let words = to_u64s(secret);
+    let a = first ^ words[0].wrapping_add(seed);
+    let b = second ^ words[1].wrapping_sub(seed);
+    fold(a, b)
+}
+
+/// The full product.
+#[inline(always)]
+pub fn full_product(a: u64, b: u64) -> u128
+    ensures { result ≡ a * b }
+{
+    a.into_u128() * b.into_u128()
+}
+
+/// The low half of the full product xor its high half.
+#[inline(always)]
+#[tactic(auto, unfolding(crate::specs::Steps::fold))]
+pub fn fold(a: u64, b: u64) -> u64
+    ensures { result ≡ fold a b }
+{
+    let product = full_product(a, b);
+    product.lower_half() ^ product.upper_half()
+}
+
+/// The eight-byte words at 0 and 8.
+#[inline(always)]
+pub fn to_u64s(bytes: &[u8; 16]) -> [u64; 2]
+    ensures { result ≡ word_at w64 bytes.now 0 ∷ word_at w64 bytes.now 8 ∷ [] }
+{
+    [u64_at(bytes, 0), u64_at(bytes, 8)]
+}
+
+/// The final mixing step of XXH3: the xxHash specification, "XXH3 algorithm overview".
+#[inline(always)]
+#[tactic(auto, unfolding(crate::specs::Steps::avalanche))]
+pub fn avalanche(x: u64) -> u64
+    ensures { result ≡ avalanche x }
+{
+    let x = x ^ (x >> 37);
+    let x = x.wrapping_mul(PRIME_MX1);
+    x ^ (x >> 32)
+}
+
+/// The last step of XXH64, with which XXH3 mixes up to 3 bytes.
+#[inline(always)]
+#[tactic(auto, unfolding(crate::specs::Steps::avalanche_xxh64))]
+pub fn avalanche_xxh64(x: u64) -> u64
+    ensures { result ≡ avalanche_xxh64 x }
+{
+    let x = x ^ (x >> 33);
+    let x = x.wrapping_mul(PRIME64_2);
+    let x = x ^ (x >> 29);
+    let x = x.wrapping_mul(PRIME64_3);
+    x ^ (x >> 32)
+}

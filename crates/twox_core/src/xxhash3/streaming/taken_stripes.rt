@@ -1,0 +1,54 @@
+//! The stripes that a stream has taken.
+
+ghost use Rattle.std.specs.Prelude.{◌≡◌, ◌/◌, ◌<◌, length};
+ghost use Rattle.twox_core.specs.Long.{stripes_of};
+ghost use Rattle.twox_core.specs.SecretBytes.{secret_bytes};
+
+use crate::xxhash3::parts::array_at;
+use crate::xxhash3::{Secret, StripeAccumulator, Vector};
+use twox_plain::words::IntoU64;
+
+// What stripes left: the accumulators, the last stripe, of which a short last one of the stream is made, and
+// how many there were.
+#[derive(Clone, Copy)]
+pub(crate) struct TakenStripes {
+    pub(crate) stripes: StripeAccumulator,
+    pub(crate) last: [u8; 64],
+    pub(crate) count: u64,
+}
+
+impl TakenStripes {
+    ghost use Rattle.twox_core.specs.AfterWrite.{after_taking, none_taken};
+
+    #[inline(always)]
+    pub(crate) fn new() -> TakenStripes
+        ensures { result ≡ none_taken }
+    {
+        TakenStripes {
+            stripes: StripeAccumulator::new(),
+            last: [0; 64],
+            count: 0,
+        }
+    }
+
+    // Takes the whole stripes of `bytes`. `FAR` says that these may lie beyond the first cache.
+    #[inline(always)]
+    pub(crate) fn take<V: Vector, const FAR: bool>(
+        &mut self,
+        v: V,
+        bytes: &[u8],
+        secret: Secret<'_>,
+    )
+        requires { self.old.stripes.current_stripe < stripes_of (secret_bytes secret) }
+        ensures exact { let s = secret_bytes secret.entry in
+            self.new ≡ after_taking s self.old bytes.now (length bytes.now / 64) }
+        ensures place { self.new.stripes.current_stripe < stripes_of (secret_bytes secret.entry) }
+    {
+        self.stripes.process::<V, FAR>(v, bytes, secret);
+        let count = bytes.len() / 64;
+        self.count = self.count.saturating_add(count.into_u64());
+        if count > 0 {
+            self.last = *array_at(bytes, 64 * (count - 1));
+        }
+    }
+}

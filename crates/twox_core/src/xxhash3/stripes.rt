@@ -1,0 +1,188 @@
+//! The accumulators, and their place in the secret.
+
+ghost use Rattle.std.specs.Prelude.{◌≡◌, ◌/◌, ◌<◌, length};
+ghost use Rattle.twox_core.specs.Long.{stripes_of};
+ghost use Rattle.twox_core.specs.SecretBytes.{secret_bytes};
+ghost use Rattle.twox_core.specs.Stripes.{current_stripe_of, after_stripes};
+
+use super::primes::PRIME64_1;
+use super::{INITIAL_ACCUMULATORS, Secret, Vector};
+use twox_plain::words::{bp_as_chunks, u64_at};
+
+/// From how many bytes on a stripe further on is read ahead.
+pub(crate) const BYTES_TO_READ_AHEAD: usize = 49_152;
+
+/// How many stripes further on is read.
+const STRIPES_AHEAD: usize = 16;
+
+/// The accumulators, and how many stripes they have taken since the last scramble.
+#[derive(Clone, Copy)]
+pub struct StripeAccumulator {
+    accumulator: [u64; 8],
+    current_stripe: usize,
+}
+
+impl StripeAccumulator {
+    ghost use Rattle.twox_core.specs.Stripes.{accumulators_of, at_start, current_stripe_of, no_stripe, after_stripe, after_stripes};
+
+    /// The accumulators before the first stripe.
+    #[inline(always)]
+    pub fn new() -> StripeAccumulator
+        ensures { result ≡ no_stripe }
+    {
+        StripeAccumulator::starting_with(INITIAL_ACCUMULATORS)
+    }
+
+    // These accumulators, at the secret's start.
+    #[inline(always)]
+    pub(crate) fn starting_with(accumulator: [u64; 8]) -> StripeAccumulator
+        ensures { result ≡ at_start accumulator }
+    {
+        StripeAccumulator {
+            accumulator,
+            current_stripe: 0,
+        }
+    }
+
+    /// The accumulators.
+    #[inline(always)]
+    pub fn accumulators(&self) -> [u64; 8]
+        ensures { result ≡ accumulators_of self.now }
+    {
+        self.accumulator
+    }
+
+    /// How many stripes were taken since the last scramble.
+    #[inline(always)]
+    pub fn current_stripe(&self) -> usize
+        ensures { result ≡ current_stripe_of self.now }
+    {
+        self.current_stripe
+    }
+
+    /// Takes a stripe, under the secret's 64 bytes at `8 * current_stripe()`. Where that makes `n_stripes`
+    /// stripes since the last scramble, the accumulators are scrambled and the count begins again.
+    ///
+    /// The caller shows that `n_stripes` is the secret's number of places and that the count is below it.
+    #[inline(always)]
+    pub fn process_stripe(
+        &mut self,
+        v: impl Vector,
+        stripe: &[u8; 64],
+        n_stripes: usize,
+        secret: Secret<'_>,
+    )
+        requires all { n_stripes ≡ stripes_of (secret_bytes secret) }
+        requires place { current_stripe_of self.old < n_stripes }
+        ensures exact { self.new ≡ after_stripe (secret_bytes secret.entry) self.old stripe.now }
+        ensures place { current_stripe_of self.new < n_stripes }
+    {
+        v.accumulate(
+            &mut self.accumulator,
+            stripe,
+            secret.stripe(self.current_stripe),
+        );
+        self.current_stripe += 1;
+        if self.current_stripe == n_stripes {
+            v.round_scramble(&mut self.accumulator, secret.last_stripe());
+            self.current_stripe = 0;
+        }
+    }
+
+    // Takes the whole stripes of `bytes`.
+    #[inline(always)]
+    pub(crate) fn process_stripes<V: Vector>(&mut self, v: V, bytes: &[u8], secret: Secret<'_>)
+        requires { current_stripe_of self.old < stripes_of (secret_bytes secret) }
+        ensures exact { self.new ≡ after_stripes (secret_bytes secret.entry) self.old bytes.now (length bytes.now / 64) }
+        ensures place { current_stripe_of self.new < stripes_of (secret_bytes secret.entry) }
+    {
+        if bytes.len() < BYTES_TO_READ_AHEAD {
+            self.process_near(v, bytes, secret);
+        } else {
+            *self = taken_far(*self, v, bytes, secret);
+        }
+    }
+
+    // The same, where the caller knows whether the bytes are many.
+    #[inline(always)]
+    pub(crate) fn process<V: Vector, const FAR: bool>(
+        &mut self,
+        v: V,
+        bytes: &[u8],
+        secret: Secret<'_>,
+    )
+        requires { current_stripe_of self.old < stripes_of (secret_bytes secret) }
+        ensures exact { let s = secret_bytes secret.entry in
+            self.new ≡ after_stripes s self.old bytes.now (length bytes.now / 64) }
+        ensures place { current_stripe_of self.new < stripes_of (secret_bytes secret.entry) }
+    {
+        if FAR {
+            *self = taken_far(*self, v, bytes, secret);
+        } else {
+            self.process_near(v, bytes, secret);
+        }
+    }
+
+    // Takes the stripes. The accumulators are a copy in the loop, so that they stay in registers.
+    #[inline(always)]
+    pub(crate) fn process_near<V: Vector>(&mut self, v: V, bytes: &[u8], secret: Secret<'_>)
+        requires { current_stripe_of self.old < stripes_of (secret_bytes secret) }
+        ensures exact { self.new ≡ after_stripes (secret_bytes secret.entry) self.old bytes.now (length bytes.now / 64) }
+        ensures place { current_stripe_of self.new < stripes_of (secret_bytes secret.entry) }
+    {
+        let n_stripes = secret.n_stripes();
+        let (stripes, _) = bp_as_chunks(bytes);
+        let mut taken = *self;
+        'stripes: for stripe in stripes {
+            taken.process_stripe(v, stripe, n_stripes, secret);
+        }
+        *self = taken;
+    }
+}
+
+// The accumulators with the stripes taken, out of line.
+#[inline(never)]
+fn taken_near<V: Vector>(
+    from: StripeAccumulator,
+    v: V,
+    bytes: &[u8],
+    secret: Secret<'_>,
+) -> StripeAccumulator
+    requires { current_stripe_of from < stripes_of (secret_bytes secret) }
+    ensures exact { result ≡ after_stripes (secret_bytes secret.entry) from bytes.now (length bytes.now / 64) }
+    ensures place { current_stripe_of result < stripes_of (secret_bytes secret.entry) }
+{
+    let mut taken = from;
+    taken.process_near(v, bytes, secret);
+    taken
+}
+
+// The same of bytes that may lie outside the first cache: while a stripe is taken, a word of the stripe
+// `STRIPES_AHEAD` further on is read, so that it is there in time. What is read decides nothing but which of
+// two ways to the same accumulators is gone, since the compiler reads nothing that isn't needed.
+#[inline(never)]
+fn taken_far<V: Vector>(
+    from: StripeAccumulator,
+    v: V,
+    bytes: &[u8],
+    secret: Secret<'_>,
+) -> StripeAccumulator
+    requires { current_stripe_of from < stripes_of (secret_bytes secret) }
+    ensures exact { result ≡ after_stripes (secret_bytes secret.entry) from bytes.now (length bytes.now / 64) }
+    ensures place { current_stripe_of result < stripes_of (secret_bytes secret.entry) }
+{
+    let n_stripes = secret.n_stripes();
+    let (stripes, _) = bp_as_chunks::<u8, 64>(bytes);
+    let count = stripes.len().saturating_sub(STRIPES_AHEAD);
+    let mut taken = from;
+    let mut seen = 0;
+    'stripes: for i in 0..count {
+        seen ^= u64_at(&stripes[i + STRIPES_AHEAD], 0);
+        taken.process_stripe(v, &stripes[i], n_stripes, secret);
+    }
+    if seen == PRIME64_1 {
+        return taken_near(from, v, bytes, secret);
+    }
+    let (_, rest) = bytes.split_at(64 * count);
+    taken_near(taken, v, rest, secret)
+}

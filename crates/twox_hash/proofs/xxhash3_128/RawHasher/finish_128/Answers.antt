@@ -1,9 +1,0 @@
-use Rattle.std.proofs.Common.{sym, subst}
-use Rattle.twox_core.specs.Stands.{StandsFor}
-use Rattle.twox_hash.proofs.StreamFacts.{value_128_stands}
-use Rattle.twox_hash.proofs.xxhash3_128.RawHasher.finish_128.Goals as goal
-
-pub returns-clause-message : goal.returns-clause-message
-returns-clause-message g c = λ seed s m held.
-    let inner = subst (λ h. StandsFor g.S.FixedBuffer.bytes h seed s m) (sym c.self.view_is) held in
-    value_128_stands _ seed s m (λ short. c.finish.ensures.short seed s m inner short) (λ long. c.finish.ensures.long seed s m inner long)

@@ -1,0 +1,211 @@
+//! What the streams of both widths share: a core that takes the bytes, and the finalizer that says what is made
+//! of them. Each width's module gives them its names, `Hasher` and `RawHasher`, and their last call.
+
+use std::alloc::{AllocError, Allocator, Global};
+use std::boxed::BoxedSlice;
+use std::marker::{Model, PhantomData};
+use twox_core::xxhash3::{
+    AllocRawHasher, ClonedBuffer, Finalize, FixedBuffer, RawHasherCore, SecretBuffer,
+    SecretTooShortError,
+};
+
+/// A stream over a secret of the caller's, which takes no memory: `xxhash3_64::RawHasher` and
+/// `xxhash3_128::RawHasher`.
+#[derive(Drop)]
+pub struct RawStream<F: Finalize, S: FixedBuffer> {
+    core: RawHasherCore<S>,
+    finalizer: PhantomData<F>,
+}
+
+impl<F: Finalize, S: FixedBuffer> Model for RawStream<F, S> {
+    ghost use Rattle.twox_core.specs.CoreView.{CoreView};
+
+    ghost Value = { CoreView S };
+
+    ghost view = { λ h. h.core };
+}
+
+impl<F: Finalize, S: FixedBuffer> RawStream<F, S> {
+    ghost use Rattle.std.specs.Prelude.{◌≡◌, ℕ, List, []};
+    ghost use Rattle.twox_core.specs.CoreView.{CoreView};
+    ghost use Rattle.twox_core.specs.AfterWrite.{core_after_write};
+    ghost use Rattle.twox_core.specs.StandsFor.{StandsFor, TakesPiece};
+
+    /// A stream of no bytes yet, with the seed and the secret of the buffer.
+    pub fn new(secret_buffer: SecretBuffer<S>) -> RawStream<F, S>
+        ensures { StandsFor S.bytes result secret_buffer.seed (S.bytes secret_buffer.secret) [] }
+    {
+        RawStream {
+            core: RawHasherCore::new(secret_buffer),
+            finalizer: PhantomData,
+        }
+    }
+
+    /// Takes the bytes of a piece after those taken before.
+    #[inline]
+    pub fn write(&mut self, input: &[u8])
+        ensures message { TakesPiece S.bytes self.old self.new input.now }
+        ensures exact { self.new ≡ core_after_write S.bytes self.old input.now }
+    {
+        self.core.write(input);
+    }
+
+    /// The secret, as it was handed in.
+    pub fn into_secret(self) -> S
+        ensures exact { result ≡ self.key.secret }
+        ensures message { (seed : ℕ) (s m : List ℕ) → StandsFor S.bytes self seed s m → S.bytes result ≡ s }
+    {
+        let RawStream { core, finalizer: _ } = self;
+        core.into_secret()
+    }
+
+    // The core, lent to the last call of a width.
+    #[inline(always)]
+    pub(crate) fn core(&self) -> &RawHasherCore<S>
+        ensures { result.now ≡ self.now }
+    {
+        &self.core
+    }
+}
+
+impl<F: Finalize, S: ClonedBuffer> Clone for RawStream<F, S> {
+    ghost use Rattle.twox_core.specs.StandsFor.{IsCopy};
+
+    ghost is_clone = { λ a b. IsCopy S.FixedBuffer.bytes a b };
+
+    fn clone(&self) -> Result<RawStream<F, S>, AllocError> {
+        let core = self.core.clone()?;
+        Ok(RawStream {
+            core,
+            finalizer: PhantomData,
+        })
+    }
+}
+
+/// A stream whose secret is in memory of its own: `xxhash3_64::Hasher` and `xxhash3_128::Hasher`.
+#[derive(Drop)]
+pub struct BoxedStream<F: Finalize, A: Allocator = Global> {
+    inner: AllocRawHasher<A>,
+    finalizer: PhantomData<F>,
+}
+
+impl<F: Finalize, A: Allocator> Model for BoxedStream<F, A> {
+    ghost use Rattle.std.specs.Prelude.{ℕ};
+    ghost use Rattle.std.specs.declared.boxed.BoxedSlice.{BoxedSlice};
+    ghost use Rattle.twox_core.specs.CoreView.{CoreView};
+
+    ghost Value = { CoreView (BoxedSlice ℕ A) };
+
+    ghost view = { λ h. h.inner };
+}
+
+impl<F: Finalize, A: Allocator> BoxedStream<F, A> {
+    ghost use Rattle.std.specs.Prelude.{◌≡◌, ℕ, List, [], ◌<◌, ◌≤◌, length, IfOk, MatchResult};
+    ghost use Rattle.std.specs.Box.{boxed_slice_items};
+    ghost use Rattle.twox_core.specs.Secret.{default_secret, derived_secret};
+    ghost use Rattle.twox_core.specs.CoreView.{CoreView};
+    ghost use Rattle.twox_core.specs.AfterWrite.{core_after_write};
+    ghost use Rattle.twox_core.specs.StandsFor.{StandsFor, TakesPiece};
+
+    fn over(inner: AllocRawHasher<A>) -> BoxedStream<F, A>
+        ensures { result ≡ inner }
+    {
+        BoxedStream {
+            inner,
+            finalizer: PhantomData,
+        }
+    }
+
+    /// A stream of no bytes yet, with the seed 0 and the default secret.
+    ///
+    /// # Errors
+    ///
+    /// There is no memory for the secret.
+    pub fn new(alloc: A) -> Result<BoxedStream<F, A>, AllocError>
+        ensures { IfOk result (λ h. StandsFor boxed_slice_items h 0 default_secret []) }
+    {
+        Ok(BoxedStream::over(AllocRawHasher::allocate_default(alloc)?))
+    }
+
+    /// The same as `new`.
+    ///
+    /// # Errors
+    ///
+    /// There is no memory for the secret.
+    pub fn default(alloc: A) -> Result<BoxedStream<F, A>, AllocError>
+        ensures { IfOk result (λ h. StandsFor boxed_slice_items h 0 default_secret []) }
+    {
+        BoxedStream::new(alloc)
+    }
+
+    /// A stream of no bytes yet, with the seed and the secret that it derives.
+    ///
+    /// # Errors
+    ///
+    /// There is no memory for the secret.
+    pub fn with_seed(alloc: A, seed: u64) -> Result<BoxedStream<F, A>, AllocError>
+        ensures { IfOk result (λ h. StandsFor boxed_slice_items h seed (derived_secret seed) []) }
+    {
+        let inner = AllocRawHasher::allocate_with_seed(alloc, seed)?;
+        Ok(BoxedStream::over(inner))
+    }
+
+    /// A stream of no bytes yet, with the seed and the secret. It takes no memory.
+    ///
+    /// # Errors
+    ///
+    /// The secret has fewer than 136 bytes; it is handed back.
+    pub fn with_seed_and_secret(
+        seed: u64,
+        secret: BoxedSlice<u8, A>,
+    ) -> Result<BoxedStream<F, A>, SecretTooShortError<BoxedSlice<u8, A>>>
+        ensures { let s = boxed_slice_items secret in
+            MatchResult result (λ h. (136 ≤ length s) × StandsFor boxed_slice_items h seed s [])
+            (λ e. (length s < 136) × (e ≡ secret)) }
+    {
+        let inner = AllocRawHasher::allocate_with_seed_and_secret(seed, secret)?;
+        Ok(BoxedStream::over(inner))
+    }
+
+    /// Takes the bytes of a piece after those taken before.
+    #[inline]
+    pub fn write(&mut self, input: &[u8])
+        ensures message { TakesPiece boxed_slice_items self.old self.new input.now }
+        ensures exact { self.new ≡ core_after_write boxed_slice_items self.old input.now }
+    {
+        self.inner.write(input);
+    }
+
+    /// The secret, as it was handed in or made.
+    pub fn into_secret(self) -> BoxedSlice<u8, A>
+        ensures exact { result ≡ self.key.secret }
+        ensures message { (seed : ℕ) (s m : List ℕ) → StandsFor boxed_slice_items self seed s m
+            → boxed_slice_items result ≡ s }
+    {
+        let BoxedStream {
+            inner,
+            finalizer: _,
+        } = self;
+        inner.into_secret()
+    }
+
+    // The core, lent to the last call of a width.
+    #[inline(always)]
+    pub(crate) fn inner(&self) -> &AllocRawHasher<A>
+        ensures { result.now ≡ self.now }
+    {
+        &self.inner
+    }
+}
+
+impl<F: Finalize, A: Allocator + Clone> Clone for BoxedStream<F, A> {
+    ghost use Rattle.std.specs.Box.{boxed_slice_items};
+    ghost use Rattle.twox_core.specs.StandsFor.{IsCopy};
+
+    ghost is_clone = { λ a b. IsCopy boxed_slice_items a b };
+
+    fn clone(&self) -> Result<BoxedStream<F, A>, AllocError> {
+        let inner = self.inner.clone()?;
+        Ok(BoxedStream::over(inner))
+    }
+}
