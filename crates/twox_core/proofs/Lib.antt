@@ -4,6 +4,8 @@ pub mod KernelFacts
 pub mod AccumulatorFacts
 pub mod MixFacts
 pub mod OneshotLaws
+pub mod OutsideVectors128
+pub mod OutsideVectors64
 pub mod PairBytes
 pub mod PartFacts
 pub mod ShortLaws

@@ -13,6 +13,12 @@ pub mod OneToOne
 pub mod Reachability32
 pub mod Reachability64
 pub mod Reachability
+pub mod OutsideVectors
+pub mod OutsideVectors32
+pub mod OutsideVectors64
+pub mod Reached32
+pub mod Reached64
+pub mod Reaching
 pub mod Rotations
 pub mod SavedTexts
 pub mod SavedTexts32

@@ -1,0 +1,159 @@
+"""Changes of one token of the definitions, and whether a row notices them."""
+import os
+import sys
+
+import antt
+import table
+
+OTHERS = {word: [other for other in "+ - * / %".split() if other != word] for word in "+ - * / %".split()}
+OTHERS["^"] = ["*"]
+LIBRARY_PAIRS = {"w32": "w64", "take": "drop", "from_le_bytes": "to_le_bytes", "rotate_left": "swap_bytes", "min": "max"}
+LIBRARY_PAIRS.update({other: word for word, other in list(LIBRARY_PAIRS.items())})
+
+
+class Change:
+    """Another word in one place of a definition's clause. Definitions are named, so that a change crosses processes."""
+
+    def __init__(self, definition, clause, place, word):
+        words = [w for w, _ in definition.clauses[clause][1]]
+        self.path, self.name, self.clause, self.place, self.word = definition.module.path, definition.name, clause, place, word
+        marked = words[:place] + [f"[{words[place]} -> {word}]"] + words[place + 1:]
+        line = definition.module.text.count("\n", 0, definition.clauses[clause][1][place][1]) + 1
+        file = definition.module.path.replace("Rattle.", "").replace(".", "/") + ".antt"
+        near = " ".join(marked[max(0, place - 8):place + 9])
+        self.text = f"{file}:{line} {definition.name}: {near}"
+
+
+def types_of(definition):
+    """The types of a definition's arguments, as written."""
+    parts, depth, part = [], 0, []
+    for word in definition.type_words:
+        depth += (word == "(") - (word == ")")
+        if word == "→" and depth == 0:
+            parts.append(" ".join(part))
+            part = []
+        else:
+            part.append(word)
+    return parts
+
+
+def meaning_of(program, module, name):
+    """What the name means in the module, None where it is no word of a definition."""
+    try:
+        return program.definitions.resolve(module, name)
+    except antt.Unreadable:
+        return None
+
+
+def reachable(program):
+    """For each definition all that it reaches."""
+    direct = {}
+    for definition in program.order:
+        words = {word for _, right in definition.clauses for word, _ in right}
+        meanings = {meaning_of(program, definition.module, word) for word in words}
+        direct[definition] = {meaning for meaning in meanings if isinstance(meaning, antt.Definition)}
+    reached = {}
+    for definition in program.order:
+        seen, todo = set(), [definition]
+        while todo:
+            for other in direct.get(todo.pop(), ()):
+                if other not in seen:
+                    seen.add(other)
+                    todo.append(other)
+        reached[definition] = seen
+    return reached
+
+
+def in_scope(program, definition):
+    """The definitions that the file names or imports."""
+    module = definition.module
+    found = {name: d for name, d in module.definitions.items() if d.clauses}
+    for name in module.names:
+        meaning = meaning_of(program, module, name)
+        if isinstance(meaning, antt.Definition):
+            found[name] = meaning
+    return found
+
+
+def changes_of(program, reached, definition):
+    scope, types, out = in_scope(program, definition), types_of(definition), []
+    for number, (_, right) in enumerate(definition.clauses):
+        local = {}
+        for k, pattern in enumerate(definition.patterns(number)):
+            if pattern[0] in ("name", "suc"):
+                local[pattern[1]] = types[k] if k < len(types) else "ℕ"
+        words = [word for word, _ in right]
+        for place, word in enumerate(words):
+            if place and words[place - 1] in ("let", "λ"):
+                local[word] = "ℕ"
+        for place, word in enumerate(words):
+            bound = place and words[place - 1] in ("let", "λ")
+            for other in [] if bound else others(program, reached, definition, scope, local, word):
+                out.append(Change(definition, number, place, other))
+    return out
+
+
+def others(program, reached, definition, scope, local, word):
+    """The words that may stand in a word's place: of numbers the next and the one before, of operators other ones,
+    of names those of the same type."""
+    if word in OTHERS:
+        return OTHERS[word]
+    if word[0].isdigit():
+        value = int(word, 0)
+        return [str(value + d) for d in (1, -1) if value + d >= 0]
+    if word in local:
+        return [name for name, kind in local.items() if name != word and kind == local[word]]
+    meaning = meaning_of(program, definition.module, word)
+    if meaning is None:
+        return []
+    if isinstance(meaning, antt.Definition):
+        return [name for name, d in scope.items() if d is not meaning and d.type_words == meaning.type_words
+                and d is not definition and definition not in reached.get(d, ())]
+    if meaning[0] == "constructor":
+        return [name for name, data in definition.module.constructors.items() if data == meaning[1] and name != word]
+    other = LIBRARY_PAIRS.get(meaning[1])
+    return [other] if other in definition.module.names else []
+
+
+def all_changes(program):
+    reached = reachable(program)
+    return [change for definition in program.order for change in changes_of(program, reached, definition)]
+
+
+def rows_by_definition(program, rows):
+    """For each definition the rows that reach it, those of the fewest bytes first."""
+    table = {}
+    for row in sorted(rows, key=lambda row: row.length):
+        traced = set()
+        row.agrees(program.run(traced=traced))
+        for definition in traced:
+            table.setdefault(definition, []).append(row)
+    return table
+
+
+def reasons():
+    """The changes that change no value, by words of their texts, each with its reason."""
+    with open(os.path.join(table.FOLDER, "equal_changes.txt"), encoding="utf-8") as file:
+        return dict(line.strip().split(" | ") for line in file if line.strip() and not line.startswith("#"))
+
+
+def outcome(program, rows, change):
+    """"noticed", "unnoticed" or "unreadable" of a change."""
+    definition = program.definitions.modules[change.path].definitions[change.name]
+    sides = [[word for word, _ in right] for _, right in definition.clauses]
+    sides[change.clause][change.place] = change.word
+    known = len(program.order)
+    try:
+        entries = program.run({definition: sides})
+    except antt.Unreadable:
+        return "unreadable"
+    if len(program.order) != known:  # it reaches a definition that was not reached before
+        entries = program.run({definition: sides})
+    sys.setrecursionlimit(8000)
+    for row in rows.get(definition, ()):
+        try:
+            if not row.agrees(entries):
+                return "noticed"
+        except (antt.Unreadable, TypeError, AttributeError, IndexError, OverflowError, ValueError, RecursionError, NameError, MemoryError):
+            return "noticed"
+    return "unnoticed"

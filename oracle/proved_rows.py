@@ -1,0 +1,58 @@
+"""Which rows of the oracle's table the proofs compute: for each hash each edge of each range, with seeds of every
+kind; secrets from 136 bytes on; and values past a scramble."""
+import table
+
+PLAIN = {
+    "32": [0, 1, 3, 4, 7, 13, 15, 16, 17, 31, 32, 47, 64, 65],
+    "64": [0, 1, 3, 4, 7, 8, 31, 32, 33, 35, 56, 63, 64, 65, 67, 95, 99, 128],
+}
+SHORT = [0, 1, 2, 3, 4, 5, 8, 9, 15, 16, 17, 32, 33, 64, 65, 96, 97, 128, 129, 144, 159, 160, 191, 192, 224, 239, 240, 241]
+KEYED_SHORT = [0, 3, 8, 16, 128, 240]
+KEYED_LONG = [(136, 577), (136, 640), (137, 641), (143, 577), (143, 640), (143, 641), (144, 640), (144, 641), (192, 1025), (300, 577)]
+SEEDED_LONG = [320, 512, 1024, 1025, 1088, 1089]
+FIXED = ["0", "1", "ffffffff", "8000000000000000", "ffffffffffffffff"]
+
+
+# The length that enters a value, of lengths that no input of the table has: the rule of this repository, and no
+# answer of the reference library.
+COUNTED = [(2 ** 64 + d, 2 ** 64 + min(d, -1)) for d in (-2, -1, 0, 1)] + [(2 ** 65, 2 ** 64 - 1)]
+
+
+class CountedLength:
+    """What `counted` says of a length."""
+
+    def __init__(self, length, value):
+        self.length, self.value = length, value
+
+    def agrees(self, entries):
+        return entries["counted"](self.length) == self.value
+
+
+def counted_lengths():
+    return [CountedLength(length, value) for length, value in COUNTED]
+
+
+def choose():
+    """The rows, in the table's order, each once."""
+    rows = [table.Row(line) for line in table.lines()]
+    found = {}
+    for row in rows:
+        words = row.line.split()
+        seed = words[1] if words[1] in FIXED + ["-"] else "drawn"
+        secret = 0 if row.secret is None else row.secret[0]
+        found.setdefault((words[0], seed, secret, row.length), row)
+    wanted = []
+    for name, lengths in PLAIN.items():
+        wanted += [(name, "drawn", 0, n) for n in lengths]
+        wanted += [(name, seed, 0, n) for seed, n in zip(["0", "ffffffff"], lengths[-2:])]
+    for name in ("3-64", "3-128"):
+        wanted += [(name, "drawn", 0, n) for n in SHORT + SEEDED_LONG]
+        wanted += [(name, seed, 0, n) for n in (3, 8, 16, 128, 240) for seed in ("0", "8000000000000000", "ffffffffffffffff")]
+        wanted += [(name, "-", 136, n) for n in KEYED_SHORT]
+        wanted += [(name, seed, m, n) for m, n in KEYED_LONG for seed in ("-", "drawn")]
+        wanted += [(name, "drawn", 136, 240), (name, "0", 0, 1025)]
+    missing = [key for key in wanted if key not in found]
+    if missing:
+        raise SystemExit(f"no rows in the table: {missing}")
+    chosen = {id(found[key]) for key in wanted}
+    return [row for row in rows if id(row) in chosen]

@@ -1,0 +1,58 @@
+"""The rows of the oracle's table, and how the definition is asked for each."""
+import os
+
+FOLDER = os.path.dirname(os.path.abspath(__file__))
+TOP = os.path.dirname(FOLDER)
+CRATES = ["twox_plain", "twox_core"]
+# The names by which the definitions are asked.
+ENTRIES = ["xxh32", "xxh64", "xxh3_64", "xxh3_128", "default_secret", "derived_secret", "effective_secret", "counted"]
+HASHES = {"32": "xxh32", "64": "xxh64", "3-64": "xxh3_64", "3-128": "xxh3_128"}
+
+
+def drawn(start, length):
+    """The bytes that a row stands for: oracle/vectors.c says which."""
+    out, x = bytearray(), start
+    for _ in range(length):
+        x = (x * 6364136223846793005 + 1442695040888963407) % 2 ** 64
+        out.append(x >> 56)
+    return memoryview(bytes(out))
+
+
+class Row:
+    """A request and the reference library's answer. `seed` and `secret` are None where the row has none."""
+
+    def __init__(self, line):
+        self.line = line.strip()
+        hash_name, seed, secret, length, start, answer = line.split()
+        self.entry = HASHES[hash_name]
+        self.seed = None if seed == "-" else int(seed, 16)
+        self.secret = None if secret == "-" else (int(secret.split(":")[0]), int(secret.split(":")[1], 16))
+        self.length, self.start, self.answer = int(length), int(start, 16), int(answer, 16)
+
+    def is_plain(self):
+        return self.entry in ("xxh32", "xxh64")
+
+    def ask(self, entries):
+        """What the definition says, by the rule for which seed and secret take effect."""
+        message, seed = drawn(self.start, self.length), self.seed or 0
+        if self.is_plain():
+            return entries[self.entry](seed, message)
+        secret = None if self.secret is None else drawn(self.secret[1], self.secret[0])
+        if self.seed is None and secret is not None:
+            return entries[self.entry](0, secret, message)
+        own = entries["derived_secret"](seed) if secret is None else secret
+        return entries[self.entry](seed, entries["effective_secret"](own, message), message)
+
+    def agrees(self, entries):
+        return self.ask(entries) == self.answer
+
+
+def lines():
+    with open(os.path.join(FOLDER, "vectors.txt"), encoding="utf-8") as file:
+        return [line for line in file if not line.startswith("#")]
+
+
+def heading():
+    """The table's first line, which names the reference library's version."""
+    with open(os.path.join(FOLDER, "vectors.txt"), encoding="utf-8") as file:
+        return file.readline().lstrip("# ").strip()
