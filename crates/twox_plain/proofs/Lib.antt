@@ -16,9 +16,6 @@ pub mod Reachability
 pub mod OutsideVectors
 pub mod OutsideVectors32
 pub mod OutsideVectors64
-pub mod Reached32
-pub mod Reached64
-pub mod Reaching
 pub mod Rotations
 pub mod SavedTexts
 pub mod SavedTexts32
