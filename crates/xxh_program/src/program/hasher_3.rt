@@ -1,6 +1,6 @@
 //! XXH3 of both widths in the digest engine.
 
-ghost use Rattle.std.specs.Prelude.{◌≡◌, []};
+ghost use Rattle.std.specs.Prelude.{◌≡◌, [], Some};
 ghost use Rattle.twox_hash.specs.Secret.{derived_secret};
 ghost use Rattle.xxh_program.specs.Kind.{seeded_64, seeded_128};
 ghost use Rattle.xxh_program.specs.Streams.{AnySeed, FollowsDerived};
@@ -43,7 +43,7 @@ impl Feed for xxhash3_128::RawHasher<DefaultSecret> {
 
 // The seed and the secret that it derives.
 fn derived(seed: u64) -> SecretBuffer<DefaultSecret>
-    ensures seed { result.seed ≡ seed }
+    ensures seed { result.seed ≡ Some seed }
     ensures secret { result.secret ≡ derived_secret seed }
 {
     SecretBuffer::with_seed(seed, [0; DEFAULT_SECRET_LENGTH]).unwrap()

@@ -1,4 +1,4 @@
-use Rattle.std.proofs.Common.{◌≡◌, ◌<◌, ◌+◌, ◌*◌, ◌/◌, ◌%◌, ◌++◌, length, drop, arith, sym, ap, ◌∙◌, subst}
+use Rattle.std.proofs.Common.{Some, ◌≡◌, ◌<◌, ◌+◌, ◌*◌, ◌/◌, ◌%◌, ◌++◌, length, drop, arith, sym, ap, ◌∙◌, subst}
 use Rattle.twox_hash.specs.Secret.{default_secret}
 use Rattle.twox_hash.specs.Value.{xxh3_128}
 use Rattle.xxh_program.specs.Blocks.{offset_line, added_lines}
@@ -13,9 +13,9 @@ returns-clause-follows c = λ m before.
     let some : 0 < b = omega (arith, c.requires) in
     let ends : length m % b + length d ≡ b = omega (arith, before.size, c.requires) in
     let bytes = drop (length m / b * b) m ++ d in
-    let fed = c.write.ensures.message 0 default_secret (drop (length m / b * b) m) before.follows in
+    let fed = c.write.ensures.message (Some 0) default_secret (drop (length m / b * b) m) before.follows in
     let value : c.finish_128.result ≡ xxh3_128 0 default_secret bytes =
-    c.finish_128.ensures.message 0 default_secret bytes fed ∙ ap (λ s. xxh3_128 0 s bytes) (effective-default bytes) in
+    c.finish_128.ensures.message (Some 0) default_secret bytes fed ∙ ap (λ s. xxh3_128 0 s bytes) (effective-default bytes) in
     let line : offset_line c.args.self.now.offset c.finish_128.result ≡ added_lines b m d =
     rw (before.start, value) (sym (added_at_end b m d some ends)) in (
       record {

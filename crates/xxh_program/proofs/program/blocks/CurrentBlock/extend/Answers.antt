@@ -1,4 +1,4 @@
-use Rattle.std.proofs.Common.{◌<◌, ◌+◌, ◌*◌, ◌/◌, ◌%◌, ◌^◌, ◌-◌, min, length, drop, arith, sym, ap, ◌∙◌, subst}
+use Rattle.std.proofs.Common.{Some, ◌<◌, ◌+◌, ◌*◌, ◌/◌, ◌%◌, ◌^◌, ◌-◌, min, length, drop, arith, sym, ap, ◌∙◌, subst}
 use Rattle.twox_hash.specs.Secret.{default_secret}
 use Rattle.xxh_program.specs.Streams.{FollowsDefault}
 use Rattle.xxh_program.proofs.BlockFacts.{counts_inside, rest_inside, added_inside}
@@ -12,7 +12,7 @@ returns-clause-follows c = λ m before.
       record {
         size = omega (arith, before.size, (counts_inside b m d short).1);
         start = before.start ∙ ap (λ k. min (k * b) (2 ^ 64 - 1)) (sym (counts_inside b m d short).0);
-        follows = subst (FollowsDefault c.write.new.self) (sym (rest_inside b m d short)) (c.write.ensures.message 0 default_secret (drop (length m / b * b) m) before.follows);
+        follows = subst (FollowsDefault c.write.new.self) (sym (rest_inside b m d short)) (c.write.ensures.message (Some 0) default_secret (drop (length m / b * b) m) before.follows);
       },
       added_inside b m d short,
     )

@@ -1,4 +1,4 @@
-use Rattle.std.proofs.Common.{◌≡◌, ◌<◌, ◌*◌, ◌/◌, ◌%◌, List, ℕ, length, drop, arith, sym, ap, ◌∙◌, subst}
+use Rattle.std.proofs.Common.{Some, ◌≡◌, ◌<◌, ◌*◌, ◌/◌, ◌%◌, List, ℕ, length, drop, arith, sym, ap, ◌∙◌, subst}
 use Rattle.twox_hash.specs.Secret.{default_secret}
 use Rattle.twox_hash.specs.Value.{xxh3_128}
 use Rattle.xxh_program.specs.Blocks.{offset_line, last_lines}
@@ -14,7 +14,7 @@ returns-clause-writes g c = λ m before.
     let some : 0 < b = omega arith in
     let short : 0 < length m % b = omega (arith, before.size, c.if-self-eq0.false) in
     let value : c.finish_128.result ≡ xxh3_128 0 default_secret bytes =
-    c.finish_128.ensures.message 0 default_secret bytes before.follows ∙ ap (λ s. xxh3_128 0 s bytes) (effective-default bytes) in
+    c.finish_128.ensures.message (Some 0) default_secret bytes before.follows ∙ ap (λ s. xxh3_128 0 s bytes) (effective-default bytes) in
     let line : offset_line c.args.self.now.offset c.finish_128.result ≡ last_lines b m =
     rw (before.start, value) (sym (last_short b m some short)) in
     subst (λ (bytes : List ℕ). Writes g.W.Sink.takes g.W.Sink.refuses bytes c.args.w.now c.write_all.new.w c.write_all.result) (c.offset_line-line.ensures ∙ line) c.write_all.ensures.writes
