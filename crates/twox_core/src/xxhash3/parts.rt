@@ -92,8 +92,8 @@ pub fn pairs_of_u64_bytes(bytes: &[u8]) -> &[[[u8; 16]; 2]]
     ensures pairs { result.now ≡ pairs_at bytes.now 0 (length bytes.now / 32) }
     ensures count { length result.now ≡ length bytes.now / 32 }
 {
-    let (chunks, _) = bp_as_chunks(bytes);
-    let (pairs, _) = bp_as_chunks(chunks);
+    let (halves, _) = bp_as_chunks(bytes);
+    let (pairs, _) = bp_as_chunks(halves);
     pairs
 }
 

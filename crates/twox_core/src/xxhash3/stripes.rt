@@ -57,7 +57,8 @@ impl StripeAccumulator {
     pub fn current_stripe(&self) -> usize
         ensures { result ≡ current_stripe_of self.now }
     {
-        self.current_stripe
+        let StripeAccumulator { current_stripe, .. } = *self;
+        current_stripe
     }
 
     /// Takes a stripe, under the secret's 64 bytes at `8 * current_stripe()`. Where that makes `n_stripes`
@@ -99,7 +100,7 @@ impl StripeAccumulator {
         if bytes.len() < BYTES_TO_READ_AHEAD {
             self.process_near(v, bytes, secret);
         } else {
-            *self = taken_far(*self, v, bytes, secret);
+            *self = take_stripes_reading_ahead(*self, v, bytes, secret);
         }
     }
 
@@ -117,7 +118,7 @@ impl StripeAccumulator {
         ensures place { current_stripe_of self.new < stripes_of (secret_bytes secret.entry) }
     {
         if FAR {
-            *self = taken_far(*self, v, bytes, secret);
+            *self = take_stripes_reading_ahead(*self, v, bytes, secret);
         } else {
             self.process_near(v, bytes, secret);
         }
@@ -142,7 +143,7 @@ impl StripeAccumulator {
 
 // The accumulators with the stripes taken, out of line.
 #[inline(never)]
-fn taken_near<V: Vector>(
+fn take_stripes<V: Vector>(
     from: StripeAccumulator,
     v: V,
     bytes: &[u8],
@@ -161,7 +162,7 @@ fn taken_near<V: Vector>(
 // `STRIPES_AHEAD` further on is read, so that it is there in time. What is read decides nothing but which of
 // two ways to the same accumulators is gone, since the compiler reads nothing that isn't needed.
 #[inline(never)]
-fn taken_far<V: Vector>(
+fn take_stripes_reading_ahead<V: Vector>(
     from: StripeAccumulator,
     v: V,
     bytes: &[u8],
@@ -181,8 +182,8 @@ fn taken_far<V: Vector>(
         taken.process_stripe(v, &stripes[i], n_stripes, secret);
     }
     if seen == PRIME64_1 {
-        return taken_near(from, v, bytes, secret);
+        return take_stripes(from, v, bytes, secret);
     }
     let (_, rest) = bytes.split_at(64 * count);
-    taken_near(taken, v, rest, secret)
+    take_stripes(taken, v, rest, secret)
 }

@@ -44,7 +44,7 @@ impl<const N: usize> FixedBuffer for [u8; N] {
 
     #[inline(always)]
     fn as_ref(&self) -> &[u8] {
-        self
+        &self[..]
     }
 }
 
@@ -55,7 +55,7 @@ impl<const N: usize> FixedMutBuffer for [u8; N] {
 
     #[inline(always)]
     fn as_mut(&mut self) -> &mut [u8] {
-        self.as_mut_slice()
+        &mut self[..]
     }
 }
 
@@ -68,7 +68,7 @@ impl<const N: usize> FixedBuffer for &[u8; N] {
 
     #[inline(always)]
     fn as_ref(&self) -> &[u8] {
-        &**self
+        *self
     }
 }
 
