@@ -13,6 +13,7 @@ pub mod OneToOne
 pub mod Reachability32
 pub mod Reachability64
 pub mod Reachability
+pub mod RecordFacts
 pub mod Rotations
 pub mod SavedTexts
 pub mod SavedTexts32

@@ -5,11 +5,12 @@ use Rattle.twox_plain.specs.Word.{IsBytes, word_at}
 use Rattle.twox_plain.specs.Units.{after_units}
 use Rattle.twox_plain.specs.Xxh64.{p1, p2, round, accumulator}
 use Rattle.twox_plain.specs.Core64.{core_of_stripes, core_after_stripes}
-use Rattle.twox_plain.specs.Record64.{StandsFor, UsageFits, CoreFits, block_state}
+use Rattle.twox_plain.specs.Record64.{StandsFor, UsageFits, CoreFits, parts}
 use Rattle.twox_plain.specs.declared.xxhash64.Core.{Core}
 use Rattle.twox_plain.specs.declared.xxhash64.SavedState.{SavedState}
 use Rattle.twox_plain.proofs.Core64Facts.{core_of_stripes_longer, core_of_stripes_one}
-use Rattle.twox_plain.proofs.Reachability.{IsReaching, words_of, length-words_of, IsBytes-words_of, writable_64, round_reaches, accumulator_reached, some_followed}
+use Rattle.twox_plain.proofs.Reachability.{IsReaching, words_of, length-words_of, IsBytes-words_of, writable_64, round_reaches, accumulator_reached}
+use Rattle.twox_plain.proofs.RecordFacts
 
 -- each accumulator is a word
 pub record IsCore (c : Core) : Type 0 where
@@ -52,7 +53,7 @@ pub fits_stands : (s : SavedState) → s.total_len < 2 ^ 64 → s.seed < 2 ^ 64 
     → (m : List ℕ) × IsBytes m × StandsFor s m
 unfolding StandsFor
 fits_stands s small seed core bytes size usage initial =
-    some_followed 32 (core_of_stripes s.seed) core_after_stripes (lit< tt) (core_of_stripes_longer s.seed) (core_of_stripes_one s.seed) s.total_len (block_state s) usage.known usage.lost initial small bytes size (λ k.
+    RecordFacts.fits_stands 32 core_of_stripes core_after_stripes (lit< tt) core_of_stripes_longer core_of_stripes_one (parts s) small bytes size usage initial (λ k.
     let zeros = replicate (k * 32) 0 in
     let words = between (core_of_stripes s.seed zeros k) s.core in
     record {
