@@ -44,4 +44,3 @@ AgreeInUse-same {C = C} r s same = record {
     size = ap (λ (x : Record C). length x.state.buffer) same;
   };
 }
-

@@ -14,11 +14,20 @@ use Rattle.twox_plain.specs.declared.xxhash64.RestoreError.TheVariants.{BufferUs
 
 -- the record as the parts that both plain hashes have, and back
 abbrev pub parts : SavedState → Plain.Record Core
-parts s = record { total_len = s.total_len; seed = s.seed; state = record { accumulators = s.core; buffer = s.buffer; usage = s.buffer_usage } }
+parts s = record {
+  total_len = s.total_len;
+  seed = s.seed;
+  state = record { accumulators = s.core; buffer = s.buffer; usage = s.buffer_usage };
+}
 
 abbrev pub record_of_parts : Plain.Record Core → SavedState
-record_of_parts r =
-    record { total_len = r.total_len; seed = r.seed; core = r.state.accumulators; buffer = r.state.buffer; buffer_usage = r.state.usage }
+record_of_parts r = record {
+  total_len = r.total_len;
+  seed = r.seed;
+  core = r.state.accumulators;
+  buffer = r.state.buffer;
+  buffer_usage = r.state.usage;
+}
 
 -- the record has counted m, and its accumulators and its buffer follow m under its seed
 unfoldable pub StandsFor : SavedState → List ℕ → Type 0
@@ -39,7 +48,8 @@ after_write s d = record_of_parts (Plain.after_write 32 core_after_stripes (part
 -- the value from the counted length, the accumulators and the bytes that fill no stripe
 unfoldable pub value_of : ℕ → ℕ → Core → List ℕ → ℕ
 value_of seed len core rest =
-    avalanche (after_tail rest 0 (wrap_add w64 (if nat_lt len 32 then wrap_add w64 seed p5 else convergence core.v1 core.v2 core.v3 core.v4) len) (length rest))
+    let start = if nat_lt len 32 then wrap_add w64 seed p5 else convergence core.v1 core.v2 core.v3 core.v4 in
+    avalanche (after_tail rest 0 (wrap_add w64 start len) (length rest))
 
 -- the value that a record's hasher answers
 abbrev pub finish_value : SavedState → ℕ
@@ -56,11 +66,15 @@ CoreFits s = Plain.CoreFits 32 core_of_stripes (parts s)
 abbrev pub AgreeInUse : SavedState → SavedState → Type 0
 AgreeInUse r s = Plain.AgreeInUse (parts r) (parts s)
 
--- the records agree in every field, the bytes of the buffer that are not in use included
+-- the accumulators are equal
 abbrev pub cores_equal : Core → Core → Bool
 cores_equal =
-    eq_of_both (on (λ c. c.v1) ◌==◌) (eq_of_both (on (λ c. c.v2) ◌==◌) (eq_of_both (on (λ c. c.v3) ◌==◌) (on (λ c. c.v4) ◌==◌)))
+    eq_of_both (on (λ c. c.v1) ◌==◌)
+    (eq_of_both (on (λ c. c.v2) ◌==◌)
+    (eq_of_both (on (λ c. c.v3) ◌==◌)
+    (on (λ c. c.v4) ◌==◌)))
 
+-- the records are equal in every field, the bytes of the buffer that are not in use included
 abbrev pub records_equal : SavedState → SavedState → Bool
 records_equal =
     eq_of_both (on (λ s. s.total_len) ◌==◌)
