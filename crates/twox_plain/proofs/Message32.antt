@@ -1,5 +1,5 @@
 -- What a record of XXH32 stands for, from call to call, and the value of the message.
-use Rattle.std.proofs.Common.{◌≡◌, ℕ, ◌*◌, ◌/◌, ◌%◌, ◌+◌, ◌-◌, ◌<◌, ◌^◌, min, List, [], ◌++◌, take, drop, length, nat_lt, if◌then◌else◌, true, false, inl, inr, refl, ap, ◌∙◌, arith, lit<, length-drop}
+use Rattle.std.proofs.Common.{◌≡◌, ℕ, ◌*◌, ◌/◌, ◌%◌, ◌<◌, ◌^◌, List, [], ◌++◌, drop, length, nat_lt, if◌then◌else◌, true, false, inl, inr, refl, ap, ◌∙◌, arith, lit<, length-drop}
 use Rattle.std.proofs.lemmas.Bool.{cases_lt}
 use Rattle.std.proofs.lemmas.Bool.Decides.{nat_tests}
 use Rattle.std.specs.Int.{w32}

@@ -1,5 +1,5 @@
 -- The record of an XXH64 hasher: the lists that it stands for, and what each call makes of it.
-use Rattle.std.specs.Prelude.{ℕ, ◌%◌, ◌^◌, List, length, take, nat_lt, Bool, ◌==◌, codes, if◌then◌else◌}
+use Rattle.std.specs.Prelude.{ℕ, List, length, take, nat_lt, Bool, ◌==◌, codes, if◌then◌else◌}
 use Rattle.std.specs.Cmp.Lexicographic.{pointwise}
 use Rattle.std.specs.Ordering.{on, eq_of_both}
 use Rattle.std.specs.Int.{w64}
