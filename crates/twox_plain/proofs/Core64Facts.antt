@@ -1,5 +1,5 @@
 -- The accumulators of XXH64 follow the message stripe by stripe.
-use Rattle.std.proofs.Common.{◌≡◌, ℕ, ◌+◌, ◌*◌, ◌≤◌, List, [], ◌∷◌, ◌++◌, take, drop, length, slice_index}
+use Rattle.std.proofs.Common.{◌≡◌, ℕ, ◌+◌, ◌*◌, ◌≤◌, List, ◌++◌, take, drop, length, slice_index}
 use Rattle.std.specs.Int.{w64}
 use Rattle.twox_plain.specs.Xxh64.{initial_accumulators, round, accumulator}
 use Rattle.twox_plain.specs.Core64.{core_of_stripes, core_after_stripes}

@@ -16,6 +16,7 @@ pub mod Reachability
 pub mod OutsideVectors
 pub mod OutsideVectors32
 pub mod OutsideVectors64
+pub mod RecordFacts
 pub mod Rotations
 pub mod SavedTexts
 pub mod SavedTexts32
@@ -28,3 +29,4 @@ pub mod Vectors32
 pub mod Vectors64
 pub mod WordFacts
 pub mod WordLaws
+

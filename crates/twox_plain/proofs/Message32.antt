@@ -1,15 +1,15 @@
 -- What a record of XXH32 stands for, from call to call, and the value of the message.
-use Rattle.std.proofs.Common.{◌≡◌, ℕ, ◌*◌, ◌/◌, ◌%◌, ◌+◌, ◌-◌, ◌<◌, ◌^◌, min, List, [], ◌++◌, take, drop, length, nat_lt, if◌then◌else◌, true, false, inl, inr, refl, ap, ◌∙◌, arith, lit<, length-drop}
+use Rattle.std.proofs.Common.{◌≡◌, ℕ, ◌*◌, ◌/◌, ◌%◌, ◌<◌, ◌^◌, List, [], ◌++◌, drop, length, nat_lt, if◌then◌else◌, true, false, inl, inr, refl, ap, ◌∙◌, arith, lit<, length-drop}
 use Rattle.std.proofs.lemmas.Bool.{cases_lt}
 use Rattle.std.proofs.lemmas.Bool.Decides.{nat_tests}
 use Rattle.std.specs.Int.{w32}
 use Rattle.twox_plain.specs.Word.{wrap_add, counted}
 use Rattle.twox_plain.specs.Xxh32.{p5, convergence, start, after_tail, avalanche, xxh32}
 use Rattle.twox_plain.specs.Core32.{core_of_stripes, core_after_stripes}
-use Rattle.twox_plain.specs.Record32.{StandsFor, AgreeInUse, block_state, initial_record, after_write, value_of, finish_value}
+use Rattle.twox_plain.specs.Record32.{StandsFor, AgreeInUse, parts, initial_record, after_write, value_of, finish_value}
 use Rattle.twox_plain.specs.declared.xxhash32.Core.{Core}
 use Rattle.twox_plain.specs.declared.xxhash32.SavedState.{SavedState}
-use Rattle.twox_plain.proofs.BlockStateFacts.{counted_more, after_piece_follows, after_piece_agree}
+use Rattle.twox_plain.proofs.RecordFacts
 use Rattle.twox_plain.proofs.Core32Facts.{core_of_stripes_longer, core_of_stripes_one, core_of_stripes_more}
 use Rattle.twox_plain.proofs.Tail32.{after_tail-drop}
 
@@ -21,10 +21,8 @@ initial_record_stands seed = (refl, record { whole = refl; left = refl; bytes = 
 -- a piece more
 pub after_write_stands : (s : SavedState) (m d : List ℕ) → length s.buffer ≡ 16 → StandsFor s m → StandsFor (after_write s d) (m ++ d)
 unfolding StandsFor after_write
-after_write_stands s m d size stands = (
-  counted_more s.total_len m d stands.0,
-  after_piece_follows 16 (core_of_stripes s.seed) core_after_stripes (lit< tt) (core_of_stripes_longer s.seed) (core_of_stripes_one s.seed) (core_of_stripes_more s.seed) m d (block_state s) stands.1 size,
-)
+after_write_stands s m d size stands =
+    RecordFacts.after_write_stands 16 core_of_stripes core_after_stripes (lit< tt) core_of_stripes_longer core_of_stripes_one core_of_stripes_more (parts s) m d size stands
 
 -- the value before the tail, in a message with a stripe and in one without
 starts : (seed : ℕ) (m : List ℕ) (core : Core) → core ≡ core_of_stripes seed m (length m / 16)
@@ -67,23 +65,10 @@ short_message seed m short =
 pub after_write_agree : (r s : SavedState) (d : List ℕ) → length r.buffer ≡ 16 → r.buffer_usage < 16 → AgreeInUse r s
     → AgreeInUse (after_write r d) (after_write s d)
 unfolding after_write
-after_write_agree r s d size short agree = record {
-  total_len = ap (λ (n : ℕ). min (n + length d) (2 ^ 64 - 1)) agree.total_len;
-  seed = agree.seed;
-  state = after_piece_agree 16 core_after_stripes (block_state r) (block_state s) d size short agree.state;
-}
+after_write_agree r s = RecordFacts.after_write_agree 16 core_after_stripes (parts r) (parts s)
 
 pub finish_value_agree : (r s : SavedState) → AgreeInUse r s → finish_value s ≡ finish_value r
 finish_value_agree r s agree = rw (agree.total_len, agree.seed, agree.state.accumulators, agree.state.bytes) refl
 
 pub AgreeInUse-same : (r s : SavedState) → s ≡ r → AgreeInUse r s
-AgreeInUse-same r s same = record {
-  total_len = ap (λ (x : SavedState). x.total_len) same;
-  seed = ap (λ (x : SavedState). x.seed) same;
-  state = record {
-    accumulators = ap (λ (x : SavedState). x.core) same;
-    usage = ap (λ (x : SavedState). x.buffer_usage) same;
-    bytes = ap (λ (x : SavedState). take x.buffer_usage x.buffer) same;
-    size = ap (λ (x : SavedState). length x.buffer) same;
-  };
-}
+AgreeInUse-same r s same = RecordFacts.AgreeInUse-same (parts r) (parts s) (ap parts same)

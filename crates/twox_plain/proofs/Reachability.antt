@@ -1,6 +1,6 @@
 -- Any accumulators are reached: a block of words takes them from any values to any others, so what is held follows
 -- some list of bytes. For any width, any block length and any accumulators.
-use Rattle.std.proofs.Common.{◌≡◌, ℕ, zero, suc, ◌+◌, ◌-◌, ◌*◌, ◌/◌, ◌%◌, ◌^◌, ◌<◌, ◌≤◌, List, [], ◌∷◌, ◌++◌, length, take, drop, replicate, inl, inr, refl, sym, ap, ◌∙◌, arith, lit<, mod-lt, pow_pos, zero-mul, length-append}
+use Rattle.std.proofs.Common.{◌≡◌, ℕ, zero, suc, ◌+◌, ◌-◌, ◌*◌, ◌/◌, ◌%◌, ◌^◌, ◌<◌, ◌≤◌, List, [], ◌∷◌, ◌++◌, length, take, drop, replicate, inl, inr, refl, sym, ap, ◌∙◌, arith, lit<, mod-lt, pow_pos, zero-mul, zero-add, slice_index, length-append}
 use Rattle.std.proofs.lemmas.Bool.{cases_lt}
 use Rattle.std.proofs.lemmas.List.{drop_at, take_at, drop-drop, length-replicate, length-take-le, take_all}
 use Rattle.std.proofs.lemmas.Nat.{from_le_bytes-to_le_bytes_4, from_le_bytes-to_le_bytes_8, div-add-mod', mod_below, mul-le, le-div}
@@ -8,12 +8,14 @@ use Rattle.std.proofs.Math.Nat.{add-mod-mod, add-mod_left, mod-eq_of_lt, eq-or-l
 use Rattle.std.specs.Int.{Width, w32, w64, byte_len, from_le_bytes, to_le_bytes, rotate_left}
 use mir.Val.{bits}
 use Rattle.twox_plain.specs.Word.{IsBytes, word_at, wrap_add, wrap_mul, counted}
+use Rattle.twox_plain.specs.Units.{after_units}
 use Rattle.twox_plain.specs.BlockState.{BlockState, Follows}
 use Rattle.twox_plain.proofs.Rotations.{rotated, turned_back, left_is_rotated, rotated-lt}
 use Rattle.twox_plain.proofs.OneToOne.{multiple_back}
 use Rattle.twox_plain.proofs.WordFacts.{word_at-append, word_at-append_right}
 use Rattle.twox_plain.proofs.WordLaws.{IsBytes-part}
 use Rattle.twox_plain.proofs.BlockStateFacts.{follows_from}
+use Rattle.twox_plain.proofs.FourAccumulators.{after_stripes}
 
 -- ---- lists of bytes
 
@@ -133,6 +135,38 @@ pub accumulator_reached : (w : Width) → IsWritable w → (step : ℕ → ℕ �
     → step (a j) (word_at w (words_of w (λ i. reaches.word (a i) (c i)) n) (j * byte_len w)) ≡ c j
 accumulator_reached w writable step reaches a c n j low p q =
     ap (step (a j)) (word_at-words_of w writable (λ i. reaches.word (a i) (c i)) n j low (reaches.below (a j) (c j))) ∙ reaches.leads (a j) (c j) p q
+
+-- ---- four accumulators
+
+-- each of the four is a word
+pub record AreWords (w : Width) (a b c d : ℕ) : Type 0 where
+  pub v1 : a < 2 ^ bits w
+  pub v2 : b < 2 ^ bits w
+  pub v3 : c < 2 ^ bits w
+  pub v4 : d < 2 ^ bits w
+
+module _ {C : Type 0} (w : Width) (writable : IsWritable w) (round : ℕ → ℕ → ℕ) (reaches : IsReaching w round) (core : ℕ → ℕ → ℕ → ℕ → C) (a b c d x y z t : ℕ) where
+  -- the stripe that takes a, b, c and d to x, y, z and t
+  abbrev pub stripe_between : List ℕ
+  stripe_between = words_of w (λ j. reaches.word (slice_index (a ∷ b ∷ c ∷ d ∷ []) j) (slice_index (x ∷ y ∷ z ∷ t ∷ []) j)) 4
+
+  pub IsBytes-stripe_between : IsBytes stripe_between
+  IsBytes-stripe_between = IsBytes-words_of w writable _ 4
+
+  pub length-stripe_between : length stripe_between ≡ 4 * byte_len w
+  length-stripe_between = length-words_of w writable _ 4
+
+  pub four_reached : AreWords w a b c d → AreWords w x y z t → after_stripes w round core a b c d stripe_between 1 ≡ core x y z t
+  unfolding after_units
+  four_reached p q =
+      let place = λ (j : ℕ). ap (λ (n : ℕ). n + j * byte_len w) (zero-mul (4 * byte_len w)) ∙ zero-add (j * byte_len w) in
+      let reached = λ (j : ℕ) (low : j < 4).
+      accumulator_reached w writable round reaches (slice_index (a ∷ b ∷ c ∷ d ∷ [])) (slice_index (x ∷ y ∷ z ∷ t ∷ [])) 4 j low in
+      let e1 = ap (λ (i : ℕ). round a (word_at w stripe_between i)) (place 0) ∙ reached 0 (lit< tt) p.v1 q.v1 in
+      let e2 = ap (λ (i : ℕ). round b (word_at w stripe_between i)) (place 1) ∙ reached 1 (lit< tt) p.v2 q.v2 in
+      let e3 = ap (λ (i : ℕ). round c (word_at w stripe_between i)) (place 2) ∙ reached 2 (lit< tt) p.v3 q.v3 in
+      let e4 = ap (λ (i : ℕ). round d (word_at w stripe_between i)) (place 3) ∙ reached 3 (lit< tt) p.v4 q.v4 in
+      λ i. core (e1 i) (e2 i) (e3 i) (e4 i)
 
 -- ---- the list of bytes
 

@@ -1,9 +1,9 @@
 -- Accumulators that take whole blocks, and a buffer for the bytes that fill none: for any block length and any
--- type of accumulators. `after m k` is the accumulators after the first k blocks of m, and `from x d k` the accumulators that x
+-- type of accumulators. `after m k` is the accumulators after the first k blocks of m, and `from x d k` what x
 -- becomes by the first k blocks of d.
 use Rattle.std.specs.Prelude.{◌≡◌, ◌+◌, ◌-◌, ◌*◌, ◌/◌, ◌%◌, ℕ, List, ◌++◌, take, drop, length, nat_lt, if◌then◌else◌}
 
--- what is held of a message: the accumulators, the buffer, and how many of its bytes are in use
+-- what is kept of a message: the accumulators, the buffer, and how many of its bytes are in use
 pub record BlockState (X : Type 0) : Type 0 where
   pub accumulators : X
   pub buffer : List ℕ
@@ -23,15 +23,20 @@ buffer_with h d = take h.usage h.buffer ++ (d ++ drop (length d) (drop h.usage h
 abbrev pub after_blocks : {X : Type 0} → ℕ → (X → List ℕ → ℕ → X) → X → List ℕ → List ℕ → BlockState X
 after_blocks block from x buffer d =
     let tail = drop (length d / block * block) d in
-    record { accumulators = from x d (length d / block); buffer = tail ++ drop (length tail) buffer; usage = length tail }
+    record {
+      accumulators = from x d (length d / block);
+      buffer = tail ++ drop (length tail) buffer;
+      usage = length tail;
+    }
 
--- what is held after one more piece, bytes of the buffer that are not in use included
+-- the state after one more piece, bytes of the buffer that are not in use included
 unfoldable pub after_piece : {X : Type 0} → ℕ → (X → List ℕ → ℕ → X) → BlockState X → List ℕ → BlockState X
 after_piece block from h d =
     let room = block - h.usage in
     let block_of = buffer_with h (take room d) in
     if nat_lt 0 h.usage then
-    (if nat_lt (length d) room then record { accumulators = h.accumulators; buffer = buffer_with h d; usage = h.usage + length d }
+    (if nat_lt (length d) room then
+    record { accumulators = h.accumulators; buffer = buffer_with h d; usage = h.usage + length d }
     else after_blocks block from (from h.accumulators block_of 1) block_of (drop room d))
     else after_blocks block from h.accumulators h.buffer d
 

@@ -8,7 +8,12 @@ use Rattle.twox_plain.specs.declared.xxhash32.Core.{Core}
 
 -- the accumulators of the seed and m after k stripes
 unfoldable pub core_of_stripes : ℕ → List ℕ → ℕ → Core
-core_of_stripes seed m k = record { v1 = accumulator seed m 0 k; v2 = accumulator seed m 1 k; v3 = accumulator seed m 2 k; v4 = accumulator seed m 3 k }
+core_of_stripes seed m k = record {
+  v1 = accumulator seed m 0 k;
+  v2 = accumulator seed m 1 k;
+  v3 = accumulator seed m 2 k;
+  v4 = accumulator seed m 3 k;
+}
 
 -- the accumulators that c becomes by the first k stripes of d
 unfoldable pub core_after_stripes : Core → List ℕ → ℕ → Core

@@ -2,6 +2,7 @@ pub mod ChangedUnit
 pub mod BlockState
 pub mod Core32
 pub mod Core64
+pub mod Record
 pub mod Record32
 pub mod Record64
 pub mod Saved32

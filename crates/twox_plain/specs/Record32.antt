@@ -1,25 +1,37 @@
 -- The record of an XXH32 hasher: the lists that it stands for, and what each call makes of it.
-use Rattle.std.specs.Prelude.{◌≡◌, ◌<◌, ◌+◌, ◌-◌, ◌%◌, ◌^◌, ℕ, List, [], length, take, min, nat_lt, replicate, Bool, ◌==◌, codes, if◌then◌else◌}
+use Rattle.std.specs.Prelude.{ℕ, ◌%◌, ◌^◌, List, length, take, nat_lt, Bool, ◌==◌, codes, if◌then◌else◌}
 use Rattle.std.specs.Cmp.Lexicographic.{pointwise}
 use Rattle.std.specs.Ordering.{on, eq_of_both}
 use Rattle.std.specs.Int.{w32}
-use Rattle.twox_plain.specs.Word.{IsBytes, wrap_add, counted}
+use Rattle.twox_plain.specs.Word.{IsBytes, wrap_add}
 use Rattle.twox_plain.specs.Xxh32.{p5, convergence, after_tail, avalanche}
-use Rattle.twox_plain.specs.BlockState.{BlockState, Follows, after_piece}
-use Rattle.twox_plain.specs.BlockState as Block
 use Rattle.twox_plain.specs.Core32.{core_of_stripes, core_after_stripes}
+use Rattle.twox_plain.specs.Record as Plain
 use Rattle.twox_plain.specs.declared.xxhash32.Core.{Core}
 use Rattle.twox_plain.specs.declared.xxhash32.SavedState.{SavedState}
 use Rattle.twox_plain.specs.declared.xxhash32.RestoreError.{RestoreError}
 use Rattle.twox_plain.specs.declared.xxhash32.RestoreError.TheVariants.{BufferUsage, Core as WrongCore}
 
--- what the record holds of the message
-abbrev pub block_state : SavedState → BlockState Core
-block_state s = record { accumulators = s.core; buffer = s.buffer; usage = s.buffer_usage }
+-- the record as the parts that both plain hashes have, and back
+abbrev pub parts : SavedState → Plain.Record Core
+parts s = record {
+  total_len = s.total_len;
+  seed = s.seed;
+  state = record { accumulators = s.core; buffer = s.buffer; usage = s.buffer_usage };
+}
+
+abbrev pub record_of_parts : Plain.Record Core → SavedState
+record_of_parts r = record {
+  total_len = r.total_len;
+  seed = r.seed;
+  core = r.state.accumulators;
+  buffer = r.state.buffer;
+  buffer_usage = r.state.usage;
+}
 
 -- the record has counted m, and its accumulators and its buffer follow m under its seed
 unfoldable pub StandsFor : SavedState → List ℕ → Type 0
-StandsFor s m = (s.total_len ≡ counted (length m)) × Follows 16 (core_of_stripes s.seed) m (block_state s)
+StandsFor s m = Plain.StandsFor 16 core_of_stripes (parts s) m
 
 -- some list of bytes makes the record stand for it
 abbrev pub IsReachable : SavedState → Type 0
@@ -27,43 +39,42 @@ IsReachable s = (m : List ℕ) × IsBytes m × StandsFor s m
 
 -- the record of no bytes
 abbrev pub initial_record : ℕ → SavedState
-initial_record seed = record { total_len = 0; seed = seed; core = core_of_stripes seed [] 0; buffer = replicate 16 0; buffer_usage = 0 }
+initial_record seed = record_of_parts (Plain.initial_record 16 core_of_stripes seed)
 
 -- the record after one more piece, exactly
 unfoldable pub after_write : SavedState → List ℕ → SavedState
-after_write s d =
-    let h = after_piece 16 core_after_stripes (block_state s) d in
-    record { total_len = min (s.total_len + length d) (2 ^ 64 - 1); seed = s.seed; core = h.accumulators; buffer = h.buffer; buffer_usage = h.usage }
+after_write s d = record_of_parts (Plain.after_write 16 core_after_stripes (parts s) d)
 
 -- the value from the counted length, the accumulators and the bytes that fill no stripe
 unfoldable pub value_of : ℕ → ℕ → Core → List ℕ → ℕ
 value_of seed len core rest =
-    avalanche (after_tail rest 0 (wrap_add w32 (if nat_lt len 16 then wrap_add w32 seed p5 else convergence core.v1 core.v2 core.v3 core.v4) (len % 2 ^ 32)) (length rest))
+    let start = if nat_lt len 16 then wrap_add w32 seed p5 else convergence core.v1 core.v2 core.v3 core.v4 in
+    avalanche (after_tail rest 0 (wrap_add w32 start (len % 2 ^ 32)) (length rest))
 
 -- the value that a record's hasher answers
 abbrev pub finish_value : SavedState → ℕ
 finish_value s = value_of s.seed s.total_len s.core (take s.buffer_usage s.buffer)
 
--- the buffer usage agrees with the length: it is its remainder, and where that was lost, less than a stripe
-pub record UsageFits (s : SavedState) : Type 0 where
-  pub known : s.total_len < 2 ^ 64 - 1 → s.buffer_usage ≡ s.total_len % 16
-  pub lost : s.total_len ≡ 2 ^ 64 - 1 → s.buffer_usage < 16
+-- the buffer usage agrees with the length, and accumulators that have taken no stripe with the seed
+abbrev pub UsageFits : SavedState → Type 0
+UsageFits s = Plain.UsageFits 16 (parts s)
 
--- accumulators that have taken no stripe are the seed's initial ones
 abbrev pub CoreFits : SavedState → Type 0
-CoreFits s = s.total_len < 16 → s.core ≡ core_of_stripes s.seed [] 0
+CoreFits s = Plain.CoreFits 16 core_of_stripes (parts s)
 
 -- the records agree but for bytes of the buffer that are not in use
-pub record AgreeInUse (r s : SavedState) : Type 0 where
-  pub total_len : s.total_len ≡ r.total_len
-  pub seed : s.seed ≡ r.seed
-  pub state : Block.AgreeInUse (block_state r) (block_state s)
+abbrev pub AgreeInUse : SavedState → SavedState → Type 0
+AgreeInUse r s = Plain.AgreeInUse (parts r) (parts s)
 
--- the records agree in every field, the bytes of the buffer that are not in use included
+-- the accumulators are equal
 abbrev pub cores_equal : Core → Core → Bool
 cores_equal =
-    eq_of_both (on (λ c. c.v1) ◌==◌) (eq_of_both (on (λ c. c.v2) ◌==◌) (eq_of_both (on (λ c. c.v3) ◌==◌) (on (λ c. c.v4) ◌==◌)))
+    eq_of_both (on (λ c. c.v1) ◌==◌)
+    (eq_of_both (on (λ c. c.v2) ◌==◌)
+    (eq_of_both (on (λ c. c.v3) ◌==◌)
+    (on (λ c. c.v4) ◌==◌)))
 
+-- the records are equal in every field, the bytes of the buffer that are not in use included
 abbrev pub records_equal : SavedState → SavedState → Bool
 records_equal =
     eq_of_both (on (λ s. s.total_len) ◌==◌)

@@ -26,7 +26,9 @@ record_of_text text = option_and_then record_of_data (read text)
 -- ---- writing
 
 abbrev pub saved_text : SavedState → List ℕ
-saved_text s = Text.saved_text s.total_len s.seed (Text.core_text s.core.v1 s.core.v2 s.core.v3 s.core.v4) s.buffer s.buffer_usage
+saved_text s =
+    let core = Text.core_text s.core.v1 s.core.v2 s.core.v3 s.core.v4 in
+    Text.saved_text s.total_len s.seed core s.buffer s.buffer_usage
 
 -- the JSON values of the accumulators and of a record
 abbrev pub core_data : Core → Data

@@ -40,14 +40,21 @@ bytes_of_data n d = option_and_then (bytes_of_count n) (as_array d)
 abbrev pub core_of_data : {C : Type 0} → ℕ → (ℕ → ℕ → ℕ → ℕ → C) → Data → Option C
 core_of_data limit core d =
     option_and_then (λ a. option_and_then (λ b. option_and_then (λ c. option_map (λ e. core a b c e)
-    (number_member limit (codes "v4") d)) (number_member limit (codes "v3") d)) (number_member limit (codes "v2") d)) (number_member limit (codes "v1") d)
+    (number_member limit (codes "v4") d))
+    (number_member limit (codes "v3") d))
+    (number_member limit (codes "v2") d))
+    (number_member limit (codes "v1") d)
 
 -- the record of an object's members: a stripe of bytes, and a seed below the limit; others are passed over
-abbrev pub record_of_data : {C S : Type 0} → ℕ → ℕ → (Data → Option C) → (ℕ → ℕ → C → List ℕ → ℕ → S) → Data → Option S
+abbrev pub record_of_data : {C S : Type 0} → ℕ → ℕ → (Data → Option C) → (ℕ → ℕ → C → List ℕ → ℕ → S)
+    → Data → Option S
 record_of_data limit stripe core_of record_of d =
     option_and_then (λ bs. option_and_then (λ u. option_and_then (λ c. option_and_then (λ s. option_map (λ t. record_of t s c bs u)
-    (number_member (2 ^ 64) (codes "total_len") d)) (number_member limit (codes "seed") d)) (option_and_then core_of (get (codes "core") d)))
-    (number_member (2 ^ 64) (codes "buffer_usage") d)) (option_and_then (bytes_of_data stripe) (get (codes "buffer") d))
+    (number_member (2 ^ 64) (codes "total_len") d))
+    (number_member limit (codes "seed") d))
+    (option_and_then core_of (get (codes "core") d)))
+    (number_member (2 ^ 64) (codes "buffer_usage") d))
+    (option_and_then (bytes_of_data stripe) (get (codes "buffer") d))
 
 -- ---- writing
 
@@ -71,18 +78,32 @@ bytes_data bytes = array (items_of_bytes bytes)
 -- the text of four accumulators
 abbrev pub core_text : ℕ → ℕ → ℕ → ℕ → List ℕ
 core_text a b c d =
-    codes "{\"v1\":" ++ (decimal a ++ (codes ",\"v2\":" ++ (decimal b ++ (codes ",\"v3\":" ++ (decimal c ++ (codes ",\"v4\":" ++ (decimal d ++ codes "}")))))))
+    codes "{\"v1\":" ++ (decimal a
+    ++ (codes ",\"v2\":" ++ (decimal b
+    ++ (codes ",\"v3\":" ++ (decimal c
+    ++ (codes ",\"v4\":" ++ (decimal d ++ codes "}")))))))
 
 -- the saved text of a record: compact JSON, its members in the order of their names
 abbrev pub saved_text : ℕ → ℕ → List ℕ → List ℕ → ℕ → List ℕ
 saved_text total_len seed core buffer usage =
-    codes "{\"buffer\":" ++ (numbers_text buffer ++ (codes ",\"buffer_usage\":" ++ (decimal usage ++ (codes ",\"core\":" ++ (core ++ (codes ",\"seed\":" ++ (decimal seed ++ (codes ",\"total_len\":" ++ (decimal total_len ++ codes "}")))))))))
+    codes "{\"buffer\":" ++ (numbers_text buffer
+    ++ (codes ",\"buffer_usage\":" ++ (decimal usage
+    ++ (codes ",\"core\":" ++ (core
+    ++ (codes ",\"seed\":" ++ (decimal seed
+    ++ (codes ",\"total_len\":" ++ (decimal total_len ++ codes "}")))))))))
 
 -- the JSON values of four accumulators and of a record
 abbrev pub core_data : ℕ → ℕ → ℕ → ℕ → Data
 core_data a b c d =
-    object (member (codes "v1") (number (unsigned a)) (member (codes "v2") (number (unsigned b)) (member (codes "v3") (number (unsigned c)) (member (codes "v4") (number (unsigned d)) no_members))))
+    object (member (codes "v1") (number (unsigned a))
+    (member (codes "v2") (number (unsigned b))
+    (member (codes "v3") (number (unsigned c))
+    (member (codes "v4") (number (unsigned d)) no_members))))
 
 abbrev pub record_data : ℕ → ℕ → Data → Data → ℕ → Data
 record_data total_len seed core buffer usage =
-    object (member (codes "buffer") buffer (member (codes "buffer_usage") (number (unsigned usage)) (member (codes "core") core (member (codes "seed") (number (unsigned seed)) (member (codes "total_len") (number (unsigned total_len)) no_members)))))
+    object (member (codes "buffer") buffer
+    (member (codes "buffer_usage") (number (unsigned usage))
+    (member (codes "core") core
+    (member (codes "seed") (number (unsigned seed))
+    (member (codes "total_len") (number (unsigned total_len)) no_members)))))

@@ -31,12 +31,15 @@ round a word = wrap_mul w32 (rotate_left w32 (wrap_add w32 a (wrap_mul w32 word 
 
 -- accumulator j after k stripes, of which stripe i gives it the word at byte 16 * i + 4 * j
 unfoldable pub accumulator : ℕ → List ℕ → ℕ → ℕ → ℕ
-accumulator seed m j k = after_units round (λ i. word_at w32 m (i * 16 + j * 4)) (slice_index (initial_accumulators seed) j) k
+accumulator seed m j k =
+    let initial = slice_index (initial_accumulators seed) j in
+    after_units round (λ i. word_at w32 m (i * 16 + j * 4)) initial k
 
 -- step 3: the four accumulators as one value
 abbrev pub convergence : ℕ → ℕ → ℕ → ℕ → ℕ
 convergence a b c d =
-    wrap_add w32 (wrap_add w32 (wrap_add w32 (rotate_left w32 a 1) (rotate_left w32 b 7)) (rotate_left w32 c 12)) (rotate_left w32 d 18)
+    let two = wrap_add w32 (rotate_left w32 a 1) (rotate_left w32 b 7) in
+    wrap_add w32 (wrap_add w32 two (rotate_left w32 c 12)) (rotate_left w32 d 18)
 
 -- steps 1, 3 and 4: the value before the bytes that fill no stripe. Of the length its low 32 bits enter.
 unfoldable pub start : ℕ → List ℕ → ℕ
@@ -44,7 +47,8 @@ start seed m =
     let k = length m / 16 in
     wrap_add w32
     (if nat_lt (length m) 16 then wrap_add w32 seed p5
-    else convergence (accumulator seed m 0 k) (accumulator seed m 1 k) (accumulator seed m 2 k) (accumulator seed m 3 k))
+    else
+    convergence (accumulator seed m 0 k) (accumulator seed m 1 k) (accumulator seed m 2 k) (accumulator seed m 3 k))
     (counted (length m) % 2 ^ 32)
 
 -- step 5: a value takes a word and a byte

@@ -31,7 +31,9 @@ round a word = wrap_mul w64 (rotate_left w64 (wrap_add w64 a (wrap_mul w64 word 
 
 -- accumulator j after k stripes, of which stripe i gives it the word at byte 32 * i + 8 * j
 unfoldable pub accumulator : ℕ → List ℕ → ℕ → ℕ → ℕ
-accumulator seed m j k = after_units round (λ i. word_at w64 m (i * 32 + j * 8)) (slice_index (initial_accumulators seed) j) k
+accumulator seed m j k =
+    let initial = slice_index (initial_accumulators seed) j in
+    after_units round (λ i. word_at w64 m (i * 32 + j * 8)) initial k
 
 -- step 3: a value takes in a accumulator
 abbrev pub merge : ℕ → ℕ → ℕ
@@ -40,7 +42,9 @@ merge x a = wrap_add w64 (wrap_mul w64 (bit_xor x (round 0 a)) p1) p4
 -- the four accumulators as one value
 abbrev pub convergence : ℕ → ℕ → ℕ → ℕ → ℕ
 convergence a b c d =
-    merge (merge (merge (merge (wrap_add w64 (wrap_add w64 (wrap_add w64 (rotate_left w64 a 1) (rotate_left w64 b 7)) (rotate_left w64 c 12)) (rotate_left w64 d 18)) a) b) c) d
+    let two = wrap_add w64 (rotate_left w64 a 1) (rotate_left w64 b 7) in
+    let sum = wrap_add w64 (wrap_add w64 two (rotate_left w64 c 12)) (rotate_left w64 d 18) in
+    merge (merge (merge (merge sum a) b) c) d
 
 -- steps 1, 3 and 4: the value before the bytes that fill no stripe
 unfoldable pub start : ℕ → List ℕ → ℕ
@@ -48,7 +52,8 @@ start seed m =
     let k = length m / 32 in
     wrap_add w64
     (if nat_lt (length m) 32 then wrap_add w64 seed p5
-    else convergence (accumulator seed m 0 k) (accumulator seed m 1 k) (accumulator seed m 2 k) (accumulator seed m 3 k))
+    else
+    convergence (accumulator seed m 0 k) (accumulator seed m 1 k) (accumulator seed m 2 k) (accumulator seed m 3 k))
     (counted (length m))
 
 -- step 5: a value takes an eight-byte word, a four-byte word and a byte

@@ -255,8 +255,10 @@ fn chunks_and_rest_mut<T, const N: usize>(
 ) -> (&mut [[T; N]], &mut [T])
     requires whole { count * N ≡ mid }
     requires in_bounds { mid ≤ length items.old }
-    ensures* writes_back { sem 𝓛 (LendsBoth (Array T.row 0) (Array (Array T.row N) 0) (Array T.row 0) items.entry result (λ chunks rest. flat_map (λ x. x) chunks ++ rest)) }
-    ensures value { (result.0.now ≡ first_chunks N count (take mid items.old)) × (length result.0.now ≡ count) × (result.1.now ≡ drop mid items.old) }
+    ensures* writes_back { sem 𝓛 (LendsBoth (Array T.row 0) (Array (Array T.row N) 0) (Array T.row 0)
+        items.entry result (λ chunks rest. flat_map (λ x. x) chunks ++ rest)) }
+    ensures value { (result.0.now ≡ first_chunks N count (take mid items.old))
+        × (length result.0.now ≡ count) × (result.1.now ≡ drop mid items.old) }
 {
     let n = items.len();
     let p = items.as_mut_ptr();
@@ -275,7 +277,8 @@ fn chunks_and_rest_mut<T, const N: usize>(
 #[inline(always)]
 pub fn bp_as_chunks_mut<T, const N: usize>(items: &mut [T]) -> (&mut [[T; N]], &mut [T])
     requires { 0 < N }
-    ensures* writes_back { sem 𝓛 (LendsBoth (Array T.row 0) (Array (Array T.row N) 0) (Array T.row 0) items.entry result (λ chunks rest. flat_map (λ x. x) chunks ++ rest)) }
+    ensures* writes_back { sem 𝓛 (LendsBoth (Array T.row 0) (Array (Array T.row N) 0) (Array T.row 0)
+        items.entry result (λ chunks rest. flat_map (λ x. x) chunks ++ rest)) }
     ensures chunks { result.0.now ≡ first_chunks N (length items.old / N) items.old }
     ensures count { length result.0.now ≡ length items.old / N }
     ensures rest { result.1.now ≡ drop (length items.old / N * N) items.old }

@@ -1,4 +1,3 @@
-use Rattle.std.proofs.Common.{refl}
 use Rattle.twox_plain.specs.Xxh32.{accumulator}
 use Rattle.textbook.proofs.xxhash32.accumulator.Goals as goal
 

@@ -1,4 +1,3 @@
-use Rattle.std.proofs.Common.{refl}
 use Rattle.twox_plain.specs.Xxh64.{accumulator}
 use Rattle.textbook.proofs.xxhash64.accumulator.Goals as goal
 

@@ -1,5 +1,5 @@
 use Rattle.std.proofs.Common.{subst, sym, ◌∙◌}
-use Rattle.twox_hash.specs.Record32.{AgreeInUse, after_write}
+use Rattle.twox_hash.specs.Record32.{AgreeInUse}
 use Rattle.twox_plain.proofs.Message32.{AgreeInUse-same}
 use Rattle.uses.proofs.records.values_after_32.Goals as goal
 

@@ -1,5 +1,5 @@
 use Rattle.std.proofs.Common.{subst, sym, ◌∙◌}
-use Rattle.twox_hash.specs.Record64.{AgreeInUse, after_write}
+use Rattle.twox_hash.specs.Record64.{AgreeInUse}
 use Rattle.twox_plain.proofs.Message64.{AgreeInUse-same}
 use Rattle.uses.proofs.records.values_after_64.Goals as goal
 

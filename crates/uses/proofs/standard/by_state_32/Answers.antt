@@ -1,5 +1,5 @@
-use Rattle.std.proofs.Common.{[], ◌∙◌, ap, arith, refl}
-use Rattle.twox_hash.specs.Record32.{initial_record, after_write, finish_value}
+use Rattle.std.proofs.Common.{[], ◌∙◌, refl}
+use Rattle.twox_hash.specs.Record32.{initial_record, after_write}
 use Rattle.twox_plain.proofs.Message32.{initial_record_stands, after_write_stands, finish_value_of_message}
 use Rattle.uses.proofs.standard.by_state_32.Goals as goal
 

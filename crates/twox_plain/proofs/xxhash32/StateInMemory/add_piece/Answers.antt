@@ -1,7 +1,7 @@
 use Rattle.std.proofs.Common.{◌≡◌, ◌+◌, ◌-◌, ◌++◌, length, take, refl, sym, subst, arith}
 use Rattle.std.proofs.lemmas.List.{take_rest, length-take-le}
 use Rattle.twox_plain.specs.Core32.{core_after_stripes}
-use Rattle.twox_plain.specs.Record32.{StandsFor, block_state, after_write}
+use Rattle.twox_plain.specs.Record32.{StandsFor, parts, after_write}
 use Rattle.twox_plain.specs.StateInMemory32.{record_of}
 use Rattle.twox_plain.specs.declared.xxhash32.SavedState.{SavedState}
 use Rattle.twox_plain.proofs.BlockStateFacts.{after_piece_short, after_piece_full, after_piece_empty}
@@ -15,7 +15,7 @@ returns-then-input-room-clause-exact c =
     let old = record_of c.args.self.now in
     let d = c.args.input.now in
     let width : old.buffer_usage + length d - old.buffer_usage ≡ length d = omega arith in
-    rw (after_piece_short 16 core_after_stripes (block_state old) d c.if-used-gt0.true c.if-input-room.true, c.saturating_add-self.ensures, c.into_u64.ensures, width, c.copy_from_slice.ensures.after) refl
+    rw (after_piece_short 16 core_after_stripes (parts old).state d c.if-used-gt0.true c.if-input-room.true, c.saturating_add-self.ensures, c.into_u64.ensures, width, c.copy_from_slice.ensures.after) refl
 
 pub returns-clause-exact : goal.returns-clause-exact
 unfolding after_write
@@ -28,9 +28,9 @@ returns-clause-exact c =
     elim c.if-used-gt0.branch [
       | then-used-gt0+else-input-room w ↦
           let room : length (take (16 - old.buffer_usage) d) ≡ 16 - old.buffer_usage = length-take-le (16 - old.buffer_usage) d (omega arith) in
-          rw (after_piece_full 16 core_after_stripes (block_state old) d w.if-used-gt0.true (omega arith), c.put_front.ensures, c.set_core-2.ensures, rw w.taken-is at taken, rw w.taken-is at cut, w.self-is, w.set_core.ensures, w.write.ensures, w.core-core.ensures, w.copy_from_slice-then-used-gt0.ensures.after, room, c.saturating_add-self.ensures, c.into_u64.ensures) refl
+          rw (after_piece_full 16 core_after_stripes (parts old).state d w.if-used-gt0.true (omega arith), c.put_front.ensures, c.set_core-2.ensures, rw w.taken-is at taken, rw w.taken-is at cut, w.self-is, w.set_core.ensures, w.write.ensures, w.core-core.ensures, w.copy_from_slice-then-used-gt0.ensures.after, room, c.saturating_add-self.ensures, c.into_u64.ensures) refl
       | else-used-gt0 w ↦
-          rw (after_piece_empty 16 core_after_stripes (block_state old) d (omega arith), c.put_front.ensures, c.set_core-2.ensures, rw w.taken-is at taken, rw w.taken-is at cut, w.self-is, c.saturating_add-self.ensures, c.into_u64.ensures) refl
+          rw (after_piece_empty 16 core_after_stripes (parts old).state d (omega arith), c.put_front.ensures, c.set_core-2.ensures, rw w.taken-is at taken, rw w.taken-is at cut, w.self-is, c.saturating_add-self.ensures, c.into_u64.ensures) refl
     ]
 
 pub returns-then-input-room-clause-message : goal.returns-then-input-room-clause-message
