@@ -1,8 +1,6 @@
 //! Lines of blocks, and refusals. The expected values come from the definition's formulas, computed outside
 //! this code, and from the C library 0.8.1; where a row says so, from the one-shot of the block.
 
-ghost use Rattle.std.specs.Prelude.{◌<◌};
-
 use crate::ends::{Pieces, Taken};
 use crate::over_memory::{Ran, run_line};
 use std::alloc::{AllocError, Global};
@@ -147,12 +145,10 @@ fn cycling(alloc: Global, len: usize) -> Result<Vec<u8>, AllocError> {
 }
 
 // Each line with the one-shot of its block.
-fn lines_by_one_shots(alloc: Global, bytes: &[u8], size: usize) -> Result<Vec<u8>, AllocError>
-    requires { 0 < size }
-{
+fn lines_by_one_shots(alloc: Global, bytes: &[u8], size: usize) -> Result<Vec<u8>, AllocError> {
     let mut lines = Vec::new(alloc);
     let mut offset = 0u64;
-    for block in bytes.chunks(size) {
+    for block in bytes.chunks(size.max(1)) {
         let value = XxHash3_128::oneshot(block);
         let line = format!(in alloc; "{offset:016x} {value:032x}\n")?;
         lines.extend_from_slice(line.as_bytes())?;
@@ -163,12 +159,10 @@ fn lines_by_one_shots(alloc: Global, bytes: &[u8], size: usize) -> Result<Vec<u8
 
 // The lines of the engine, which is offered so many bytes a read, and those of the program, which reads and
 // writes more at once.
-fn both_lines(alloc: Global, input: &[u8], size: usize) -> Result<(Vec<u8>, Vec<u8>), Fail>
-    requires { 0 < size }
-{
+fn both_lines(alloc: Global, input: &[u8], size: usize) -> Result<(Vec<u8>, Vec<u8>), Fail> {
     let mut r = Pieces::new(input, &[9999; 9], 0);
     let mut w = FromWrite::new(Vec::new(alloc));
-    digest_blocks(&mut r, &mut w, size as u64, MANY)?;
+    digest_blocks(&mut r, &mut w, size.max(1) as u64, MANY)?;
     if r.offers() != (4096, 4096) {
         return Err(Fail::from("a read was offered another number of bytes"));
     }
