@@ -6,9 +6,12 @@ use std::alloc::{AllocError, Global};
 use std::test::Fail;
 use xxh_program::program::run;
 
-const USAGE: &[u8] = b"xxh: usage: xxh hash|save|resume 32|64|3-64|3-128 [SEED|JSON]\n";
+const USAGE: &[u8] =
+    b"xxh: usage: xxh hash|save|resume 32|64|3-64|3-128 [SEED|JSON] or xxh blocks SIZE\n";
 
 const BAD_SEED: &[u8] = b"xxh: bad seed\n";
+
+const BAD_SIZE: &[u8] = b"xxh: bad size\n";
 
 // Words, the input and the digits that are printed, which the C library answers too.
 const DIGESTS: &str = "\
@@ -85,7 +88,12 @@ resume 64 {} 1
 hash 64 1234 
 hash 64 1 2 3
 hash 3-64 1 2
-hash 3-128 1 2";
+hash 3-128 1 2
+blocks
+Blocks 4
+block 4
+blocks 4 5
+blocks 32 4 5";
 
 #[test]
 fn words_that_are_no_command(rt: HostRuntime) -> Result<(), Fail> {
@@ -120,6 +128,24 @@ save 64 +1";
 #[test]
 fn words_that_are_no_seed(rt: HostRuntime) -> Result<(), Fail> {
     refused(&rt, NO_SEEDS, BAD_SEED)
+}
+
+// No block, no digits, other characters, and numbers that are too great.
+const NO_SIZES: &str = "\
+blocks 0
+blocks 000
+blocks 
+blocks +1
+blocks -1
+blocks 4k
+blocks 0x10
+blocks 4096.0
+blocks 18446744073709551616
+blocks 99999999999999999999999999";
+
+#[test]
+fn words_that_are_no_size(rt: HostRuntime) -> Result<(), Fail> {
+    refused(&rt, NO_SIZES, BAD_SIZE)
 }
 
 // Each row is answered by this line and status 2, and reads and prints nothing.

@@ -164,10 +164,36 @@ fn each_write_fails_in_turn(rt: HostRuntime) {
     }
 }
 
-// One byte a read: what comes of so many bytes, of which three reads are allowed.
+// One byte a read, of which three are allowed: the lines of no, one and two bytes, and too long from three on.
 #[test]
 fn one_byte_a_read(rt: HostRuntime) {
-    for case in [SOME, SOME_3_64, SOME_3_128, HELLO] {
+    for (case, lines) in [
+        (
+            SOME,
+            [
+                "e80dc1ad52e210e4\n",
+                "58736a8b8b0cacae\n",
+                "7b8f459eb26ff3eb\n",
+            ],
+        ),
+        (
+            SOME_3_64,
+            [
+                "f35ab113ab655b45\n",
+                "841e8e30ffd5f648\n",
+                "7e9ea5ed84024150\n",
+            ],
+        ),
+        (
+            SOME_3_128,
+            [
+                "afaec08c9afb18eaaab3643ec3994e5d\n",
+                "a097157fdcf6409f841e8e30ffd5f648\n",
+                "5ae80027fd7c77c87e9ea5ed84024150\n",
+            ],
+        ),
+        (HELLO, ["02cc5d05\n", "26837556\n", "1631b926\n"]),
+    ] {
         for count in 0..5 {
             let script = Case {
                 bytes: &case.bytes[..count],
@@ -176,10 +202,13 @@ fn one_byte_a_read(rt: HostRuntime) {
                 ..case
             };
             let done = digested(rt.alloc(), script);
-            let fits = count < 3;
-            assert_eq!(rt; done.answer == Ok(()), fits, "{count}");
-            assert_eq!(rt; done.answer == Err(DigestError::TooLong), !fits, "{count}");
-            assert_eq!(rt; done.written.is_empty(), !fits, "{count}");
+            if count < 3 {
+                assert_eq!(rt; done.answer, Ok(()), "{count}");
+                assert_eq!(rt; done.written.as_slice(), lines[count].as_bytes(), "{count}");
+            } else {
+                assert_eq!(rt; done.answer, Err(DigestError::TooLong), "{count}");
+                assert_eq!(rt; done.written.len(), 0, "{count}");
+            }
         }
         let script = Case {
             sizes: &[1, 1],

@@ -15,6 +15,14 @@ mod digests;
 #[cfg(test)]
 mod ends;
 #[cfg(test)]
+mod errors;
+#[cfg(test)]
 mod over_memory;
+#[cfg(test)]
+mod process;
+#[cfg(test)]
+mod resumes;
+#[cfg(test)]
+mod script;
 #[cfg(test)]
 mod states;

@@ -152,7 +152,11 @@ fn a_digest_of_long_parts_over_two_runs(rt: HostRuntime) -> Result<(), Fail> {
     let input = [255; 100];
     for (kind, save, hash) in [
         ("32", "save 32 4294967295", "hash 32 4294967295"),
-        ("64", "save 64 18446744073709551615", "hash 64 18446744073709551615"),
+        (
+            "64",
+            "save 64 18446744073709551615",
+            "hash 64 18446744073709551615",
+        ),
     ] {
         let whole = run_line(rt.alloc(), hash, &input)?;
         assert_eq!(rt; whole.status, 0, "{kind}");

@@ -1,0 +1,176 @@
+//! The program over a process of the tests: its arguments, its streams, and the flush at the end.
+
+use std::alloc::{Alloc, Global};
+use std::env::{Env, FillError};
+use std::io;
+use std::io::{ErrorKind, Write};
+use std::test::Fail;
+use xxh_program::program::run_process;
+
+/// The arguments of a process, the program's name first, and its memory.
+#[derive(Drop)]
+struct Arguments<'a> {
+    words: &'a [&'a [u8]],
+    alloc: Global,
+}
+
+impl Env for Arguments<'_> {
+    fn arg(&self, i: usize, buf: &mut [u8]) -> Result<usize, FillError> {
+        let Some(word) = self.words.get(i) else {
+            return Err(FillError::NotPresent);
+        };
+        let len = word.len();
+        if len > buf.len() {
+            return Err(FillError::TooLong);
+        }
+        buf[..len].copy_from_slice(word);
+        Ok(len)
+    }
+
+    fn var(&self, _name: &str, _buf: &mut [u8]) -> Result<usize, FillError> {
+        Err(FillError::NotPresent)
+    }
+
+    fn var_at(&self, _i: usize, _buf: &mut [u8]) -> Result<usize, FillError> {
+        Err(FillError::NotPresent)
+    }
+}
+
+impl Alloc for Arguments<'_> {
+    type A = Global;
+
+    fn alloc(&self) -> Global {
+        self.alloc
+    }
+}
+
+/// Keeps what is written, and counts the flushes, of which each fails where it is to.
+#[derive(Drop)]
+struct Stream {
+    bytes: Vec<u8>,
+    flushes: usize,
+    flush_fails: bool,
+}
+
+impl Stream {
+    fn new(alloc: Global, flush_fails: bool) -> Stream {
+        Stream {
+            bytes: Vec::new(alloc),
+            flushes: 0,
+            flush_fails,
+        }
+    }
+}
+
+impl Write for Stream {
+    fn write(&mut self, buf: &[u8]) -> io::Result<usize> {
+        self.bytes.extend_from_slice(buf)?;
+        Ok(buf.len())
+    }
+
+    fn flush(&mut self) -> io::Result<()> {
+        self.flushes = self.flushes.saturating_add(1);
+        if self.flush_fails {
+            Err(io::Error::from(ErrorKind::StorageFull))
+        } else {
+            Ok(())
+        }
+    }
+}
+
+/// What a process came to.
+#[derive(Drop)]
+struct Ended {
+    status: u8,
+    out: Stream,
+    err: Stream,
+    unread: usize,
+}
+
+fn run_with(alloc: Global, words: &[&[u8]], flush_fails: bool) -> Ended {
+    let process = Arguments { words, alloc };
+    let mut input = b"some bytes".as_slice();
+    let mut out = Stream::new(alloc, flush_fails);
+    let mut err = Stream::new(alloc, false);
+    let status = run_process(&process, &mut input, &mut out, &mut err);
+    Ended {
+        status,
+        out,
+        err,
+        unread: input.len(),
+    }
+}
+
+#[test]
+fn the_words_are_those_after_the_name(rt: HostRuntime) {
+    for name in [b"xxh".as_slice(), b"".as_slice(), b"hash".as_slice()] {
+        let done = run_with(rt.alloc(), &[name, b"hash", b"64", b"1234"], false);
+        assert_eq!(rt; done.status, 0);
+        assert_eq!(rt; done.out.bytes.as_slice(), b"eab55659a496d78b\n".as_slice());
+        assert_eq!(rt; done.out.flushes, 1);
+        assert_eq!(rt; done.err.bytes.len(), 0);
+        assert_eq!(rt; done.unread, 0);
+    }
+}
+
+const USAGE: &[u8] =
+    b"xxh: usage: xxh hash|save|resume 32|64|3-64|3-128 [SEED|JSON] or xxh blocks SIZE\n";
+
+// The usage line and the status 2; nothing is read or printed.
+fn is_no_command(alloc: Global, words: &[&[u8]]) -> bool {
+    let done = run_with(alloc, words, false);
+    let printed = done.out.bytes.len();
+    let told = done.err.bytes.as_slice();
+    done.status == 2 && printed == 0 && told == USAGE && done.unread == 10
+}
+
+#[test]
+fn words_that_are_no_command(rt: HostRuntime) {
+    assert!(rt; is_no_command(rt.alloc(), &[b"xxh", b"hash", b"64", b"1", b"2"]));
+    assert!(rt; is_no_command(rt.alloc(), &[b"xxh", b"hash", b"64 "]));
+    assert!(rt; is_no_command(rt.alloc(), &[b"xxh", b" hash", b"64"]));
+    assert!(rt; is_no_command(rt.alloc(), &[b"xxh"]));
+    assert!(rt; is_no_command(rt.alloc(), &[]));
+}
+
+// The name, a command, a seed, and one word too many.
+#[test]
+fn arguments_that_are_not_utf_8(rt: HostRuntime) {
+    assert!(rt; is_no_command(rt.alloc(), &[b"xxh\xff", b"hash", b"64"]));
+    assert!(rt; is_no_command(rt.alloc(), &[b"xxh", b"\xff", b"64"]));
+    assert!(rt; is_no_command(rt.alloc(), &[b"xxh", b"hash", b"64", b"\xc3"]));
+    assert!(rt; is_no_command(rt.alloc(), &[b"xxh", b"hash", b"64", b"1", b"\x80"]));
+}
+
+#[test]
+fn a_flush_that_fails(rt: HostRuntime) {
+    let done = run_with(rt.alloc(), &[b"xxh", b"hash", b"64", b"1234"], true);
+    assert_eq!(rt; done.status, 1);
+    assert_eq!(rt; done.out.bytes.as_slice(), b"eab55659a496d78b\n".as_slice());
+    assert_eq!(rt;
+        done.err.bytes.as_slice(),
+        b"xxh: write failed\n".as_slice()
+    );
+    // A fault that came before stays the one that is told.
+    let done = run_with(rt.alloc(), &[b"xxh", b"hash", b"64", b"x"], true);
+    assert_eq!(rt; done.status, 2);
+    assert_eq!(rt; done.err.bytes.as_slice(), b"xxh: bad seed\n".as_slice());
+}
+
+// A word that is longer than any buffer of the system's.
+#[test]
+fn a_long_word(rt: HostRuntime) -> Result<(), Fail> {
+    let mut zeros = Vec::new(rt.alloc());
+    for _ in 0..10000u64 {
+        zeros.push(b'0')?;
+    }
+    zeros.extend_from_slice(b"1234")?;
+    let done = run_with(
+        rt.alloc(),
+        &[b"xxh", b"hash", b"64", zeros.as_slice()],
+        false,
+    );
+    assert_eq!(rt; done.status, 0);
+    assert_eq!(rt; done.out.bytes.as_slice(), b"eab55659a496d78b\n".as_slice());
+    Ok(())
+}
