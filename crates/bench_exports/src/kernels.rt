@@ -1,7 +1,6 @@
 //! XXH3 of 64 bits by each kernel.
 
 ghost use Rattle.std.specs.Prelude.{◌≡◌, ◌^◌, ◌<◌, ◌≤◌, length, min, take};
-ghost use Rattle.twox_core.specs.Long.{long_low};
 ghost use Rattle.twox_hash.specs.Secret.{default_secret};
 ghost use Rattle.twox_core.specs.SecretBytes.{secret_bytes};
 ghost use Rattle.twox_hash.specs.Value.{xxh3_64};
@@ -16,7 +15,6 @@ use twox_hash::xxhash3_64::Finalize64;
 
 // The hash under the seed 0. Up to 240 bytes no kernel has a part in it.
 #[inline(always)]
-#[tactic(auto, unfolding(twox_core::specs::Value::xxh3_64, twox_core::specs::Value::range_of, twox_core::specs::Value::value64_in))]
 fn oneshot<V: Vector>(kernel: V, input: &[u8]) -> u64
     ensures { result ≡ xxh3_64 0 default_secret input.now }
 {
@@ -29,10 +27,10 @@ fn oneshot<V: Vector>(kernel: V, input: &[u8]) -> u64
 
 // A call of its own, as in the one-shots of the library.
 #[inline(never)]
-#[tactic(auto, using(twox_core::proofs::EndingFacts::block_low))]
+#[tactic(auto, unfolding(twox_core::specs::Value::xxh3_64, twox_core::specs::Value::range_of, twox_core::specs::Value::value64_in), using(twox_core::proofs::EndingFacts::block_low))]
 fn long<V: Vector>(kernel: V, secret: Secret<'_>, input: &[u8]) -> u64
     requires { 240 < length input.now }
-    ensures { let s = secret_bytes secret.entry in result ≡ long_low s input.now }
+    ensures { result ≡ xxh3_64 0 (secret_bytes secret.entry) input.now }
 {
     Algorithm(kernel).oneshot(secret, input, Finalize64)
 }
