@@ -1,17 +1,26 @@
-//! XXH3 of 64 bits by each kernel.
+//! What the benchmark links from C: XXH3 of 64 bits by each kernel.
+//!
+//! It stands in a crate of its own, so that the code of `bench_exports` has no other callers than there. The input
+//! crosses as it does there.
+#![tactic(auto)]
 
 ghost use Rattle.std.specs.Prelude.{◌≡◌, ◌^◌, ◌<◌, ◌≤◌, length, min, take};
 ghost use Rattle.twox_hash.specs.Secret.{default_secret};
 ghost use Rattle.twox_core.specs.SecretBytes.{secret_bytes};
 ghost use Rattle.twox_hash.specs.Value.{xxh3_64};
 
-use crate::{Input, ROOM};
 use twox_hash::XxHash3_64;
 use twox_hash::xxhash3::large::{lanes2, lanes4, scalar, split2};
 use twox_hash::xxhash3::{
     Algorithm, CUTOFF, RawHasherCore, Secret, SecretBuffer, Vector, default_secret,
 };
 use twox_hash::xxhash3_64::Finalize64;
+
+/// The bytes of the room that holds the input; of a longer one the front is hashed.
+pub const ROOM: usize = 67_108_864;
+
+/// The room that holds the input.
+pub type Input = [u8; ROOM];
 
 // The hash under the seed 0. Up to 240 bytes no kernel has a part in it.
 #[inline(always)]
