@@ -22,20 +22,25 @@ need_file() {
     apt-get update -qq && apt-get install -y -qq "$1" > /dev/null || fail "no $2, and its package $1 could not be installed"
 }
 
-# our_library TREE SET FILE: builds the library of bench_exports in a tree, proved, for an instruction set, as an
-# object. An older build is removed first, so that what is measured is what was proved.
+# our_library TREE SET FILE: builds the libraries of the benchmark's crates in a tree, proved, for an instruction
+# set, as one object. An older build is removed first, so that what is measured is what was proved. A tree may
+# lack all crates but the first.
 our_library() {
-    local tree=$1 set=$2 file=$3 crate=$1/crates/bench_exports cpu=()
-    [ -d "$crate" ] || fail "$tree has no crate bench_exports"
+    local tree=$1 set=$2 file=$3 crate libraries=() cpu=()
+    [ -d "$tree/crates/bench_exports" ] || fail "$tree has no crate bench_exports"
     [ "$set" = x86-64-v2 ] || cpu=(--cpu="$set")
-    rm -f "$crate/out/libbench_exports.a"
-    (cd "$crate" && rt lib "${cpu[@]}") > "$room/lib.log" 2>&1 || {
-        grep -E 'error|^[a-z]+ \S+::' "$room/lib.log" | grep -v ': proved' | head -n 20 >&2
-        cp "$room/lib.log" "${TMPDIR:-/tmp}/bench-lib.log"
-        fail "$tree is not proved or not built for $set: ${TMPDIR:-/tmp}/bench-lib.log"
-    }
-    [ -f "$crate/out/libbench_exports.a" ] || fail "rt lib made no library in $tree"
-    ld -r --whole-archive "$crate/out/libbench_exports.a" -o "$file"
+    for crate in bench_exports bench_calls bench_kernels; do
+        [ -d "$tree/crates/$crate/src" ] || continue
+        libraries+=("$tree/crates/$crate/out/lib$crate.a")
+        rm -f "${libraries[-1]}"
+        (cd "$tree/crates/$crate" && rt lib "${cpu[@]}") > "$room/lib.log" 2>&1 || {
+            grep -E 'error|^[a-z]+ \S+::' "$room/lib.log" | grep -v ': proved' | head -n 20 >&2
+            cp "$room/lib.log" "${TMPDIR:-/tmp}/bench-lib.log"
+            fail "$crate of $tree is not proved or not built for $set: ${TMPDIR:-/tmp}/bench-lib.log"
+        }
+        [ -f "${libraries[-1]}" ] || fail "rt lib made no library of $crate in $tree"
+    done
+    ld -r --whole-archive "${libraries[@]}" -o "$file"
 }
 
 # link_layouts SET PEERS OBJECT..: links $room/SET/driver_1 to driver_5, the same objects in five layouts: a short

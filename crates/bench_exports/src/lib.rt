@@ -1,11 +1,9 @@
-//! What the benchmark links from C: one-shots of every hash, streams that are fed the input in pieces, and both
-//! by each kernel.
+//! What the benchmark links from C: one-shots of every hash, and streams that are fed the input in pieces.
 //!
 //! The input crosses as the address of a room of 64 MiB and a number of bytes in it: a slice from C is tested
 //! for the null address at each call, which no caller in Rattle pays. 128 bits cross as two halves.
 #![tactic(auto)]
 
-mod kernels;
 mod plain;
 mod xxhash3;
 

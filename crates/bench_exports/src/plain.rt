@@ -31,44 +31,12 @@ pub extern "C" fn twox_xxh32_stream(input: &Input, len: usize, piece: usize) -> 
     hasher.finish_32()
 }
 
-// A piece that is taken by a call, as by a caller in another crate.
-#[inline(never)]
-fn write_32(hasher: &mut XxHash32, part: &[u8]) {
-    hasher.write(part);
-}
-
-/// The same, with a call for each piece.
-#[unsafe(no_mangle)]
-pub extern "C" fn twox_xxh32_stream_called(input: &Input, len: usize, piece: usize) -> u32 {
-    let mut hasher = XxHash32::with_seed(0);
-    for part in input[..len.min(ROOM)].chunks(piece.max(1)) {
-        write_32(&mut hasher, part);
-    }
-    hasher.finish_32()
-}
-
 /// The hash under the seed 0 of the input in pieces of that many bytes.
 #[unsafe(no_mangle)]
 pub extern "C" fn twox_xxh64_stream(input: &Input, len: usize, piece: usize) -> u64 {
     let mut hasher = XxHash64::with_seed(0);
     for part in input[..len.min(ROOM)].chunks(piece.max(1)) {
         hasher.write(part);
-    }
-    hasher.finish()
-}
-
-// A piece that is taken by a call.
-#[inline(never)]
-fn write_64(hasher: &mut XxHash64, part: &[u8]) {
-    hasher.write(part);
-}
-
-/// The same, with a call for each piece.
-#[unsafe(no_mangle)]
-pub extern "C" fn twox_xxh64_stream_called(input: &Input, len: usize, piece: usize) -> u64 {
-    let mut hasher = XxHash64::with_seed(0);
-    for part in input[..len.min(ROOM)].chunks(piece.max(1)) {
-        write_64(&mut hasher, part);
     }
     hasher.finish()
 }

@@ -77,48 +77,12 @@ pub extern "C" fn twox_xxh3_64_stream(input: &Input, len: usize, piece: usize) -
     hasher.finish()
 }
 
-// A piece that is taken by a call, as by a caller in another crate.
-#[inline(never)]
-fn write_64(hasher: &mut xxhash3_64::RawHasher<DefaultSecret>, part: &[u8]) {
-    hasher.write(part);
-}
-
-/// The same, with a call for each piece.
-#[unsafe(no_mangle)]
-pub extern "C" fn twox_xxh3_64_stream_called(input: &Input, len: usize, piece: usize) -> u64 {
-    let mut hasher = xxhash3_64::RawHasher::new(SecretBuffer::default());
-    for part in input[..len.min(ROOM)].chunks(piece.max(1)) {
-        write_64(&mut hasher, part);
-    }
-    hasher.finish()
-}
-
 /// The hash under the seed 0 of the input in pieces of that many bytes.
 #[unsafe(no_mangle)]
 pub extern "C" fn twox_xxh3_128_stream(input: &Input, len: usize, piece: usize) -> WideValue {
     let mut hasher = xxhash3_128::RawHasher::new(SecretBuffer::default());
     for part in input[..len.min(ROOM)].chunks(piece.max(1)) {
         hasher.write(part);
-    }
-    split(hasher.finish_128())
-}
-
-// A piece that is taken by a call.
-#[inline(never)]
-fn write_128(hasher: &mut xxhash3_128::RawHasher<DefaultSecret>, part: &[u8]) {
-    hasher.write(part);
-}
-
-/// The same, with a call for each piece.
-#[unsafe(no_mangle)]
-pub extern "C" fn twox_xxh3_128_stream_called(
-    input: &Input,
-    len: usize,
-    piece: usize,
-) -> WideValue {
-    let mut hasher = xxhash3_128::RawHasher::new(SecretBuffer::default());
-    for part in input[..len.min(ROOM)].chunks(piece.max(1)) {
-        write_128(&mut hasher, part);
     }
     split(hasher.finish_128())
 }

@@ -1,12 +1,14 @@
-//! XXH3 of 64 bits by each kernel.
+//! What the benchmark links from C: XXH3 of 64 bits by each kernel.
+//!
+//! It stands in a crate of its own, so that the code of `bench_exports` has no other callers than there. The input
+//! crosses as it does there.
+#![tactic(auto)]
 
 ghost use Rattle.std.specs.Prelude.{◌≡◌, ◌^◌, ◌<◌, ◌≤◌, length, min, take};
-ghost use Rattle.twox_core.specs.Long.{low_above_240};
 ghost use Rattle.twox_hash.specs.Secret.{default_secret};
 ghost use Rattle.twox_core.specs.SecretBytes.{secret_bytes};
 ghost use Rattle.twox_hash.specs.Value.{xxh3_64};
 
-use crate::{Input, ROOM};
 use twox_hash::XxHash3_64;
 use twox_hash::xxhash3::large::{lanes2, lanes4, scalar, split2};
 use twox_hash::xxhash3::{
@@ -14,9 +16,14 @@ use twox_hash::xxhash3::{
 };
 use twox_hash::xxhash3_64::Finalize64;
 
+/// The bytes of the room that holds the input; of a longer one the front is hashed.
+pub const ROOM: usize = 67_108_864;
+
+/// The room that holds the input.
+pub type Input = [u8; ROOM];
+
 // The hash under the seed 0. Up to 240 bytes no kernel has a part in it.
 #[inline(always)]
-#[tactic(auto, unfolding(twox_core::specs::Value::xxh3_64, twox_core::specs::Value::range_of, twox_core::specs::Value::value64_in))]
 fn oneshot<V: Vector>(kernel: V, input: &[u8]) -> u64
     ensures { result ≡ xxh3_64 0 default_secret input.now }
 {
@@ -29,10 +36,10 @@ fn oneshot<V: Vector>(kernel: V, input: &[u8]) -> u64
 
 // A call of its own, as in the one-shots of the library.
 #[inline(never)]
-#[tactic(auto, using(twox_core::proofs::EndingFacts::block_low))]
+#[tactic(auto, unfolding(twox_core::specs::Value::xxh3_64, twox_core::specs::Value::range_of, twox_core::specs::Value::value64_in), using(twox_core::proofs::EndingFacts::block_low))]
 fn long<V: Vector>(kernel: V, secret: Secret<'_>, input: &[u8]) -> u64
     requires { 240 < length input.now }
-    ensures { let s = secret_bytes secret.entry in result ≡ low_above_240 s input.now }
+    ensures { result ≡ xxh3_64 0 (secret_bytes secret.entry) input.now }
 {
     Algorithm(kernel).oneshot(secret, input, Finalize64)
 }

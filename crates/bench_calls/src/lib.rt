@@ -1,0 +1,90 @@
+//! What the benchmark links from C: streams that are fed the input in pieces, with a call for each piece.
+//!
+//! They stand in a crate of their own, since a call that has one caller is inlined, and in the streams of
+//! `bench_exports` it is. The input crosses as it does there.
+#![tactic(auto)]
+
+use twox_hash::words::Halves;
+use twox_hash::xxhash3::{DefaultSecret, SecretBuffer};
+use twox_hash::{XxHash32, XxHash64, xxhash3_64, xxhash3_128};
+
+/// The bytes of the room that holds the input; of a longer one the front is hashed.
+pub const ROOM: usize = 67_108_864;
+
+/// The room that holds the input.
+pub type Input = [u8; ROOM];
+
+/// A value of 128 bits, as C has it.
+#[repr(C)]
+pub struct WideValue {
+    pub low: u64,
+    pub high: u64,
+}
+
+#[inline(never)]
+fn write_32(hasher: &mut XxHash32, piece: &[u8]) {
+    hasher.write(piece);
+}
+
+#[inline(never)]
+fn write_64(hasher: &mut XxHash64, piece: &[u8]) {
+    hasher.write(piece);
+}
+
+#[inline(never)]
+fn write_3_64(hasher: &mut xxhash3_64::RawHasher<DefaultSecret>, piece: &[u8]) {
+    hasher.write(piece);
+}
+
+#[inline(never)]
+fn write_3_128(hasher: &mut xxhash3_128::RawHasher<DefaultSecret>, piece: &[u8]) {
+    hasher.write(piece);
+}
+
+/// The hash under the seed 0 of the input in pieces of that many bytes.
+#[unsafe(no_mangle)]
+pub extern "C" fn twox_xxh32_stream_called(input: &Input, len: usize, piece: usize) -> u32 {
+    let mut hasher = XxHash32::with_seed(0);
+    for part in input[..len.min(ROOM)].chunks(piece.max(1)) {
+        write_32(&mut hasher, part);
+    }
+    hasher.finish_32()
+}
+
+/// The hash under the seed 0 of the input in pieces of that many bytes.
+#[unsafe(no_mangle)]
+pub extern "C" fn twox_xxh64_stream_called(input: &Input, len: usize, piece: usize) -> u64 {
+    let mut hasher = XxHash64::with_seed(0);
+    for part in input[..len.min(ROOM)].chunks(piece.max(1)) {
+        write_64(&mut hasher, part);
+    }
+    hasher.finish()
+}
+
+/// The hash under the seed 0 of the input in pieces of that many bytes.
+#[unsafe(no_mangle)]
+pub extern "C" fn twox_xxh3_64_stream_called(input: &Input, len: usize, piece: usize) -> u64 {
+    let mut hasher = xxhash3_64::RawHasher::new(SecretBuffer::default());
+    for part in input[..len.min(ROOM)].chunks(piece.max(1)) {
+        write_3_64(&mut hasher, part);
+    }
+    hasher.finish()
+}
+
+/// The hash under the seed 0 of the input in pieces of that many bytes.
+#[unsafe(no_mangle)]
+pub extern "C" fn twox_xxh3_128_stream_called(
+    input: &Input,
+    len: usize,
+    piece: usize,
+) -> WideValue {
+    let mut hasher = xxhash3_128::RawHasher::new(SecretBuffer::default());
+    for part in input[..len.min(ROOM)].chunks(piece.max(1)) {
+        write_3_128(&mut hasher, part);
+    }
+    let value = hasher.finish_128();
+    WideValue {
+        low: value.lower_half(),
+        high: value.upper_half(),
+    }
+}
