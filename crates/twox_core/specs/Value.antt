@@ -91,3 +91,10 @@ stream_secret None s m = s
 abbrev pub short_secret : Option ℕ → List ℕ → List ℕ
 short_secret (Some _) s = default_secret
 short_secret None s = s
+
+-- the values of a stream that was given m
+abbrev pub stream_64 : Option ℕ → List ℕ → List ℕ → ℕ
+stream_64 seed s m = xxh3_64 (stream_seed seed) (stream_secret seed s m) m
+
+abbrev pub stream_128 : Option ℕ → List ℕ → List ℕ → ℕ
+stream_128 seed s m = xxh3_128 (stream_seed seed) (stream_secret seed s m) m

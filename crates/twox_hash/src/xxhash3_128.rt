@@ -122,7 +122,7 @@ impl Hasher<Global> {
 impl<A: Allocator> Hasher<A> {
     ghost use Rattle.std.specs.Prelude.{◌≡◌, ℕ, Option, List};
     ghost use Rattle.std.specs.Box.{boxed_slice_items};
-    ghost use Rattle.twox_core.specs.Value.{stream_secret, stream_seed, xxh3_128};
+    ghost use Rattle.twox_core.specs.Value.{stream_128};
     ghost use Rattle.twox_core.specs.StandsFor.{StandsFor};
     ghost use Rattle.twox_hash.specs.Streams.{value_128};
 
@@ -133,7 +133,7 @@ impl<A: Allocator> Hasher<A> {
     #[tactic(auto, unfolding(crate::specs::Streams::value_128))]
     pub fn finish_128(&self) -> u128
         ensures message { (seed : Option ℕ) (s m : List ℕ) → StandsFor boxed_slice_items self.now seed s m
-            → result ≡ xxh3_128 (stream_seed seed) (stream_secret seed s m) m }
+            → result ≡ stream_128 seed s m }
         ensures exact { result ≡ value_128 boxed_slice_items self.now }
     {
         self.inner().finish(Finalize128)
@@ -142,7 +142,7 @@ impl<A: Allocator> Hasher<A> {
 
 impl<S: FixedBuffer> RawHasher<S> {
     ghost use Rattle.std.specs.Prelude.{◌≡◌, ℕ, Option, List};
-    ghost use Rattle.twox_core.specs.Value.{stream_secret, stream_seed, xxh3_128};
+    ghost use Rattle.twox_core.specs.Value.{stream_128};
     ghost use Rattle.twox_core.specs.StandsFor.{StandsFor};
     ghost use Rattle.twox_hash.specs.Streams.{value_128};
 
@@ -153,7 +153,7 @@ impl<S: FixedBuffer> RawHasher<S> {
     #[tactic(auto, unfolding(crate::specs::Streams::value_128))]
     pub fn finish_128(&self) -> u128
         ensures message { (seed : Option ℕ) (s m : List ℕ) → StandsFor S.bytes self.now seed s m
-            → result ≡ xxh3_128 (stream_seed seed) (stream_secret seed s m) m }
+            → result ≡ stream_128 seed s m }
         ensures exact { result ≡ value_128 S.bytes self.now }
     {
         self.core().finish(Finalize128)

@@ -117,7 +117,7 @@ impl Hasher<Global> {
 impl<A: Allocator> Hasher<A> {
     ghost use Rattle.std.specs.Prelude.{◌≡◌, ℕ, Option, List};
     ghost use Rattle.std.specs.Box.{boxed_slice_items};
-    ghost use Rattle.twox_core.specs.Value.{stream_secret, stream_seed, xxh3_64};
+    ghost use Rattle.twox_core.specs.Value.{stream_64};
     ghost use Rattle.twox_core.specs.StandsFor.{StandsFor};
     ghost use Rattle.twox_hash.specs.Streams.{value_64};
 
@@ -128,7 +128,7 @@ impl<A: Allocator> Hasher<A> {
     #[tactic(auto, unfolding(crate::specs::Streams::value_64))]
     pub fn finish(&self) -> u64
         ensures message { (seed : Option ℕ) (s m : List ℕ) → StandsFor boxed_slice_items self.now seed s m
-            → result ≡ xxh3_64 (stream_seed seed) (stream_secret seed s m) m }
+            → result ≡ stream_64 seed s m }
         ensures exact { result ≡ value_64 boxed_slice_items self.now }
     {
         self.inner().finish(Finalize64)
@@ -137,7 +137,7 @@ impl<A: Allocator> Hasher<A> {
 
 impl<S: FixedBuffer> RawHasher<S> {
     ghost use Rattle.std.specs.Prelude.{◌≡◌, ℕ, Option, List};
-    ghost use Rattle.twox_core.specs.Value.{stream_secret, stream_seed, xxh3_64};
+    ghost use Rattle.twox_core.specs.Value.{stream_64};
     ghost use Rattle.twox_core.specs.StandsFor.{StandsFor};
     ghost use Rattle.twox_hash.specs.Streams.{value_64};
 
@@ -148,7 +148,7 @@ impl<S: FixedBuffer> RawHasher<S> {
     #[tactic(auto, unfolding(crate::specs::Streams::value_64))]
     pub fn finish(&self) -> u64
         ensures message { (seed : Option ℕ) (s m : List ℕ) → StandsFor S.bytes self.now seed s m
-            → result ≡ xxh3_64 (stream_seed seed) (stream_secret seed s m) m }
+            → result ≡ stream_64 seed s m }
         ensures exact { result ≡ value_64 S.bytes self.now }
     {
         self.core().finish(Finalize64)
@@ -156,7 +156,10 @@ impl<S: FixedBuffer> RawHasher<S> {
 }
 
 impl<A: Allocator> hash::Hasher for Hasher<A> {
+    ghost use Rattle.std.specs.Prelude.{◌≡◌, ℕ, Option, List};
     ghost use Rattle.std.specs.Box.{boxed_slice_items};
+    ghost use Rattle.twox_core.specs.Value.{stream_64};
+    ghost use Rattle.twox_core.specs.StandsFor.{StandsFor, TakesPiece};
     ghost use Rattle.twox_core.specs.AfterWrite.{core_after_write};
     ghost use Rattle.twox_hash.specs.Streams.{value_64};
 
@@ -164,16 +167,26 @@ impl<A: Allocator> hash::Hasher for Hasher<A> {
 
     ghost finish = { λ h. value_64 boxed_slice_items h };
 
-    fn finish(&self) -> u64 {
+    fn finish(&self) -> u64
+        ensures message { (seed : Option ℕ) (s m : List ℕ) → StandsFor boxed_slice_items self.now seed s m
+            → result ≡ stream_64 seed s m }
+        ensures exact { result ≡ value_64 boxed_slice_items self.now }
+    {
         Hasher::finish(self)
     }
 
-    fn write(&mut self, bytes: &[u8]) {
+    fn write(&mut self, bytes: &[u8])
+        ensures message { TakesPiece boxed_slice_items self.old self.new bytes.now }
+        ensures exact { self.new ≡ core_after_write boxed_slice_items self.old bytes.now }
+    {
         BoxedStream::write(self, bytes);
     }
 }
 
 impl<S: FixedBuffer> hash::Hasher for RawHasher<S> {
+    ghost use Rattle.std.specs.Prelude.{◌≡◌, ℕ, Option, List};
+    ghost use Rattle.twox_core.specs.Value.{stream_64};
+    ghost use Rattle.twox_core.specs.StandsFor.{StandsFor, TakesPiece};
     ghost use Rattle.twox_core.specs.AfterWrite.{core_after_write};
     ghost use Rattle.twox_hash.specs.Streams.{value_64};
 
@@ -181,11 +194,18 @@ impl<S: FixedBuffer> hash::Hasher for RawHasher<S> {
 
     ghost finish = { λ h. value_64 S.bytes h };
 
-    fn finish(&self) -> u64 {
+    fn finish(&self) -> u64
+        ensures message { (seed : Option ℕ) (s m : List ℕ) → StandsFor S.bytes self.now seed s m
+            → result ≡ stream_64 seed s m }
+        ensures exact { result ≡ value_64 S.bytes self.now }
+    {
         RawHasher::finish(self)
     }
 
-    fn write(&mut self, bytes: &[u8]) {
+    fn write(&mut self, bytes: &[u8])
+        ensures message { TakesPiece S.bytes self.old self.new bytes.now }
+        ensures exact { self.new ≡ core_after_write S.bytes self.old bytes.now }
+    {
         RawStream::write(self, bytes);
     }
 }
