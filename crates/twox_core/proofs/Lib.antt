@@ -1,6 +1,7 @@
 pub mod DerivedFacts
 pub mod EndingFacts
 pub mod KernelFacts
+pub mod LongValues
 pub mod AccumulatorFacts
 pub mod MixFacts
 pub mod OneshotLaws

@@ -65,7 +65,7 @@ four_64 : (seed : ℕ) (s m : List ℕ) → 4 ≤ length m → length m < 9 → 
 unfolding xxh3_64 value64_in
 four_64 seed s m low high = rw (range_four (length m) low high) refl
 
-long_64 : (seed : ℕ) (s m : List ℕ) → 240 < length m → xxh3_64 seed s m ≡ low_above_240 s m
+pub long_64 : (seed : ℕ) (s m : List ℕ) → 240 < length m → xxh3_64 seed s m ≡ low_above_240 s m
 unfolding xxh3_64 value64_in
 long_64 seed s m low = rw (range_above_240 (length m) low) refl
 
@@ -138,7 +138,7 @@ nine_128 : (seed : ℕ) (s m : List ℕ) → 9 ≤ length m → length m < 17
 unfolding xxh3_128 low_in high_in
 nine_128 seed s m low high = rw (range_nine (length m) low high) refl
 
-long_128 : (seed : ℕ) (s m : List ℕ) → 240 < length m → xxh3_128 seed s m ≡ high_above_240 s m * 2 ^ 64 + low_above_240 s m
+pub long_128 : (seed : ℕ) (s m : List ℕ) → 240 < length m → xxh3_128 seed s m ≡ high_above_240 s m * 2 ^ 64 + low_above_240 s m
 unfolding xxh3_128 low_in high_in
 long_128 seed s m low = rw (range_above_240 (length m) low) refl
 

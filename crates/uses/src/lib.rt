@@ -2,7 +2,6 @@
 #![tactic(auto)]
 
 mod blocks;
-mod pieces;
 mod records;
 mod standard;
 mod stored;
