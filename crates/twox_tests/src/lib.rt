@@ -8,6 +8,8 @@ mod forged;
 #[cfg(test)]
 mod kernels;
 #[cfg(test)]
+mod keyed_streams;
+#[cfg(test)]
 mod laws;
 #[cfg(test)]
 mod long;
@@ -16,6 +18,10 @@ mod plain;
 #[cfg(test)]
 mod saved;
 #[cfg(test)]
+mod secret_lengths;
+#[cfg(test)]
 mod short;
+#[cfg(test)]
+mod stream_rows;
 #[cfg(test)]
 mod streams;

@@ -103,50 +103,6 @@ fn secrets(rt: HostRuntime) -> Result<(), Fail> {
     Ok(())
 }
 
-// The kernel on lanes that are 0, with the eight-byte word `at` of the stripe or the secret set.
-fn with_word(at: usize, word: u64) -> [u8; 64]
-    requires { at ≤ 7 }
-{
-    let mut bytes = [0; 64];
-    bytes[8 * at..8 * at + 8].copy_from_slice(&word.to_le_bytes());
-    bytes
-}
-
-#[test]
-fn kernel_accumulates(rt: HostRuntime) {
-    let v = Kernel {};
-    let zero = [0; 64];
-
-    // A word goes to its neighbour's lane, and the product of its halves to its own.
-    let mut acc = [0; 8];
-    v.accumulate(&mut acc, &with_word(0, 0x0000_0002_0000_0003), &zero);
-    assert_eq!(rt; acc, [6, 0x0000_0002_0000_0003, 0, 0, 0, 0, 0, 0]);
-
-    let mut acc = [0; 8];
-    let mut stripe = [0; 64];
-    for i in 0..8 {
-        stripe[8 * i] = (i + 1) as u8;
-    }
-    v.accumulate(&mut acc, &stripe, &zero);
-    assert_eq!(rt; acc, [2, 1, 4, 3, 6, 5, 8, 7]);
-
-    let mut acc = [0; 8];
-    v.accumulate(&mut acc, &zero, &with_word(7, 0x0000_0003_0000_0005));
-    assert_eq!(rt; acc, [0, 0, 0, 0, 0, 0, 0, 15]);
-}
-
-#[test]
-fn kernel_scrambles(rt: HostRuntime) {
-    let v = Kernel {};
-    let mut acc = [1 << 32, 0, 0, 0, 0, 0, 0, 0];
-    v.round_scramble(&mut acc, &[0; 64]);
-    assert_eq!(rt; acc[0], 0x9e37_79b1_0000_0000);
-
-    let mut acc = [1 << 63; 8];
-    v.round_scramble(&mut acc, &[0; 64]);
-    assert_eq!(rt; acc, [0x8000_9e37_79b1_0000; 8]);
-}
-
 // A kernel that counts its calls.
 #[derive(Clone, Copy)]
 pub(crate) struct Counting<'a> {

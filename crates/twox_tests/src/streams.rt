@@ -170,13 +170,13 @@ fn byte_by_byte(rt: HostRuntime) -> Result<(), Fail> {
     Ok(())
 }
 
-// Three stripes of 256 bytes come before the last one, which stays in a full buffer.
+// The last stripe stays in a full buffer, so that the last call takes it, and once.
 #[test]
 fn full_buffer(rt: HostRuntime) -> Result<(), Fail> {
     let bytes = gen_10240();
     let input = first(&bytes, 256);
     let (value, wide) = (XxHash3_64::oneshot(input), XxHash3_128::oneshot(input));
-    for size in [1, 240, 256] {
+    for size in [1, 16, 240, 256] {
         assert_eq!(rt;
             of_pieces_64(rt.alloc(), input, size)?,
             (value, value),
@@ -398,6 +398,17 @@ fn kernel_is_called(rt: HostRuntime) -> Result<(), Fail> {
     assert_eq!(rt; accumulates.get(), core.stripes_done());
     assert_eq!(rt; core.finish_with(v, Finalize64), 0xbcd6_3266_df6e_2244);
     assert_eq!(rt; (accumulates.get(), scrambles.get()), (160, 9));
+
+    let (accumulates, scrambles) = (Cell::new(0), Cell::new(0));
+    let v = Counting {
+        accumulates: &accumulates,
+        scrambles: &scrambles,
+    };
+    assert_eq!(rt;
+        core.finish_with(v, Finalize128),
+        0x4f63_75cc_a7ec_e1e1_bcd6_3266_df6e_2244
+    );
+    assert_eq!(rt; core.stripes_done().saturating_add(accumulates.get()), 160);
     assert_eq!(rt;
         core.finish(Finalize128),
         0x4f63_75cc_a7ec_e1e1_bcd6_3266_df6e_2244
@@ -405,7 +416,7 @@ fn kernel_is_called(rt: HostRuntime) -> Result<(), Fail> {
     Ok(())
 }
 
-// At most four stripes, the last one among them, are left for the end.
+// Whole stripes of a long piece are taken, and the last one, whole or not, is left for the last call.
 #[test]
 fn counts(rt: HostRuntime) -> Result<(), Fail> {
     let bytes = gen_10240();
@@ -414,20 +425,20 @@ fn counts(rt: HostRuntime) -> Result<(), Fail> {
         (core.total_len(), core.stripes_done(), core.buffered()),
         (0, 0, 0)
     );
-    core.write(first(&bytes, 256));
+    core.write(first(&bytes, 512));
     assert_eq!(rt;
         (core.total_len(), core.stripes_done(), core.buffered()),
-        (256, 0, BUFFERED_BYTES)
+        (512, 0, BUFFERED_BYTES)
     );
     core.write(&[0]);
     assert_eq!(rt;
         (core.total_len(), core.stripes_done(), core.buffered()),
-        (257, 4, 1)
+        (513, 8, 1)
     );
     core.write(&[]);
     assert_eq!(rt;
         (core.total_len(), core.stripes_done(), core.buffered()),
-        (257, 4, 1)
+        (513, 8, 1)
     );
     let copy = core.clone()?;
     assert_eq!(rt; copy.into_secret(), DEFAULT_SECRET_RAW);
