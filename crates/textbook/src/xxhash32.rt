@@ -154,11 +154,12 @@ fn convergence_after(core: &Core, m: &[u8]) -> u32
     convergence(a, b, c, d)
 }
 
-/// XXH32 of a message of `len` bytes, of which the low 32 bits enter, that is known from its accumulators on: `core` has taken
-/// all but the last bytes, which are `rest`. Where `len` is below 16, `rest` is the whole message.
+/// XXH32 of a message of `len` bytes that is known from its accumulators on: `core` has taken all but the last
+/// bytes, which are `rest`. Where `len` is below 16, `rest` is the whole message. Of `len` the low 32 bits enter.
 pub fn xxh32_from(seed: u32, len: u64, core: &Core, rest: &[u8]) -> u32
     ensures { let k = length rest.now / 16
-        in result ≡ value_of seed len (core_after_stripes core.now rest.now k) (drop (k * 16) rest.now) }
+        in result ≡
+        value_of seed len (core_after_stripes core.now rest.now k) (drop (k * 16) rest.now) }
 {
     let n = rest.len();
     let value = if len < 16 {

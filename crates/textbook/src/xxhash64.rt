@@ -201,7 +201,8 @@ fn convergence_after(core: &Core, m: &[u8]) -> u64
 /// all but the last bytes, which are `rest`. Where `len` is below 32, `rest` is the whole message.
 pub fn xxh64_from(seed: u64, len: u64, core: &Core, rest: &[u8]) -> u64
     ensures { let k = length rest.now / 32
-        in result ≡ value_of seed len (core_after_stripes core.now rest.now k) (drop (k * 32) rest.now) }
+        in result ≡
+        value_of seed len (core_after_stripes core.now rest.now k) (drop (k * 32) rest.now) }
 {
     let n = rest.len();
     let value = if len < 32 {

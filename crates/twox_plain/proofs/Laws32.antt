@@ -9,6 +9,7 @@ use Rattle.twox_plain.specs.ChangedUnit.{DiffersWithin, IsUnit32}
 use Rattle.twox_plain.specs.Xxh32.{p1, p2, p3, p4, p5, initial_accumulators, round, accumulator, convergence, start, take_word, take_byte, after_words, after_tail, avalanche, xxh32}
 use Rattle.twox_plain.proofs.Rotations.{left-lt}
 use Rattle.twox_plain.proofs.OneToOne.{IsOneToOne, multiple_one_to_one, sum_one_to_one_32, left_one_to_one, turned_multiple_told, avalanche_told}
+use Rattle.twox_plain.proofs.ByteLaws.{bytes_told, byte_noticed}
 use Rattle.twox_plain.proofs.UnitFacts.{after_units_same}
 use Rattle.twox_plain.proofs.UnitLaws.{IsTelling, after_units-lt, start_told, unit_told}
 use Rattle.twox_plain.proofs.WordLaws.{word_at-lt_32, told_by_word_32, differ, word_outside}
@@ -102,8 +103,7 @@ words_told : (m n : List ℕ) (i x y t : ℕ) → IsBytes m → x < 2 ^ 32 → y
     → after_tail m i x t ≡ after_tail n i y t → after_words m i x t ≡ after_words n i y t
 unfolding after_tail
 words_told m n i x y t p bx by same e =
-    start_told _ _ take_byte take_byte_tells (λ u. slice_index m (i + t / 4 * 4 + u)) _ _ (t % 4) (λ u low. p (i + t / 4 * 4 + u)) (after_words-lt m i x t bx) (after_words-lt n i y t by)
-    (e ∙ after_units_same take_byte _ _ (after_words n i y t) (t % 4) same)
+    bytes_told (2 ^ 32) take_byte take_byte_tells m n (i + t / 4 * 4) _ _ (t % 4) p (after_words-lt m i x t bx) (after_words-lt n i y t by) same e
 
 -- the value before the words, where they are the same
 begin_told : (m n : List ℕ) (i x y t : ℕ) → IsBytes m → x < 2 ^ 32 → y < 2 ^ 32 → ((u : ℕ) → u < t / 4 → word_at w32 n (i + u * 4) ≡ word_at w32 m (i + u * 4))
@@ -113,7 +113,7 @@ begin_told m n i x y t p bx by same e =
     start_told _ _ take_word take_word_tells (λ u. word_at w32 m (i + u * 4)) x y (t / 4) (λ u low. word_at-lt_32 m (i + u * 4) p) bx by
     (e ∙ after_units_same take_word _ _ y (t / 4) same)
 
--- a accumulator among four, where the other three are the same
+-- an accumulator among four, where the other three are the same
 convergence_told : (f g : ℕ → ℕ) (j : ℕ) → j < 4 → ((i : ℕ) → f i < 2 ^ 32) → ((i : ℕ) → g i < 2 ^ 32) → ((i : ℕ) → i < 4 → i ≢ j → f i ≡ g i)
     → convergence (f 0) (f 1) (f 2) (f 3) ≡ convergence (g 0) (g 1) (g 2) (g 3) → f j ≡ g j
 convergence_told f g zero low bf bg same e =
@@ -156,16 +156,10 @@ unfolding after_tail
 byte_law seed m n from p q late within apart e =
     let i = length m / 16 * 16 in
     let t = length m % 16 in
-    let u = from - (i + t / 4 * 4) in
     let begun : start seed m ≡ start seed n = start_same seed m n apart.lengths (λ k whole h. word_outside w32 m n from 1 k apart (omega arith) (inl (omega arith))) in
     let words : after_words m i (start seed m) t ≡ after_words n i (start seed n) t = after_words_same m n i (start seed m) t (λ k h. word_outside w32 m n from 1 (i + k * 4) apart (omega arith) (inl (omega arith))) ∙ ap (λ x. after_words n i x t) begun in
-    let same : (k : ℕ) → k < t % 4 → k ≢ u → slice_index m (i + t / 4 * 4 + k) ≡ slice_index n (i + t / 4 * 4 + k) = λ k h away.
-    sym (apart.outside (i + t / 4 * 4 + k) (elim (cases_lt k u) [ inl before ↦ inl (omega arith) | inr after ↦ inr (omega (arith, away)) ])) in
-    let told = unit_told _ _ take_byte take_byte_tells (λ k. slice_index m (i + t / 4 * 4 + k)) (λ k. slice_index n (i + t / 4 * 4 + k)) u (after_words m i (start seed m) t) (t % 4) same
-    (λ k h. p (i + t / 4 * 4 + k)) (λ k h. q (i + t / 4 * 4 + k)) (omega arith) (after_words-lt m i _ t (start-lt seed m))
-    (tail_told m n seed seed apart.lengths e ∙ ap (λ x. after_units take_byte (λ k. slice_index n (i + t / 4 * 4 + k)) x (t % 4)) (sym words)) in
-    let place : i + t / 4 * 4 + u ≡ from = omega arith in
-    differ m n from 1 apart (λ k h. let at : i + t / 4 * 4 + u ≡ from + k = omega arith in subst (λ x. slice_index m x ≡ slice_index n x) at told)
+    byte_noticed (2 ^ 32) take_byte take_byte_tells m n (i + t / 4 * 4) _ _ (t % 4) from p q (after_words-lt m i _ t (start-lt seed m)) words (omega arith) (omega arith) apart
+    (tail_told m n seed seed apart.lengths e)
 
 -- the word, once its two readings are known to be equal
 word_differs : (m n : List ℕ) (from at : ℕ) → IsBytes m → IsBytes n → from + 4 ≤ length m → DiffersWithin from 4 m n → at ≡ from → word_at w32 m at ≡ word_at w32 n at → ⊥

@@ -9,6 +9,7 @@ use Rattle.twox_plain.specs.Units.{after_units}
 use Rattle.twox_plain.specs.ChangedUnit.{DiffersWithin, IsTailUnit64}
 use Rattle.twox_plain.specs.Xxh64.{p1, p2, p3, p4, p5, initial_accumulators, round, accumulator, start, take_eight, take_four, take_byte, after_eights, after_words, after_tail, avalanche, xxh64}
 use Rattle.twox_plain.proofs.OneToOne.{IsOneToOne, xor_cancel_left, xor_cancel_right, multiple_one_to_one, sum_one_to_one_64, turned_multiple_told, avalanche_told}
+use Rattle.twox_plain.proofs.ByteLaws.{bytes_told, byte_noticed}
 use Rattle.twox_plain.proofs.UnitFacts.{after_units_same}
 use Rattle.twox_plain.proofs.UnitLaws.{IsTelling, after_units-lt, start_told, unit_told}
 use Rattle.twox_plain.proofs.WordLaws.{word_at-lt_32, word_at-lt_64, told_by_word_32, told_by_word_64, differ, word_outside}
@@ -110,8 +111,7 @@ words_told : (m n : List ℕ) (i x y t : ℕ) → IsBytes m → x < 2 ^ 64 → y
     → after_tail m i x t ≡ after_tail n i y t → after_words m i x t ≡ after_words n i y t
 unfolding after_tail
 words_told m n i x y t p bx by same e =
-    start_told _ _ take_byte take_byte_tells (λ u. slice_index m (i + t / 4 * 4 + u)) _ _ (t % 4) (λ u low. p (i + t / 4 * 4 + u)) (after_words-lt m i x t bx) (after_words-lt n i y t by)
-    (e ∙ after_units_same take_byte _ _ (after_words n i y t) (t % 4) same)
+    bytes_told (2 ^ 64) take_byte take_byte_tells m n (i + t / 4 * 4) _ _ (t % 4) p (after_words-lt m i x t bx) (after_words-lt n i y t by) same e
 
 -- the value before the four-byte word, where it is the same
 eights_told : (m n : List ℕ) (i x y t : ℕ) → IsBytes m → x < 2 ^ 64 → y < 2 ^ 64 → (4 ≤ t % 8 → word_at w32 n (i + t / 8 * 8) ≡ word_at w32 m (i + t / 8 * 8))
@@ -137,7 +137,6 @@ unfolding after_tail
 byte_law seed m n from p q late within apart e =
     let i = length m / 32 * 32 in
     let t = length m % 32 in
-    let u = from - (i + t / 4 * 4) in
     let begun : start seed m ≡ start seed n = start_same seed m n from 1 apart (omega arith) in
     let eights : after_eights m i (start seed m) t ≡ after_eights n i (start seed n) t =
     eights_same m n i (start seed m) t (λ k h. word_outside w64 m n from 1 (i + k * 8) apart (omega arith) (inl (omega arith))) ∙ ap (λ x. after_eights n i x t) begun in
@@ -149,12 +148,8 @@ byte_law seed m n from p q late within apart e =
           ∙ ap (take_four (after_eights n i (start seed n) t)) (word_outside w32 m n from 1 (i + t / 8 * 8) apart (omega arith) (inl (omega arith)))
           ∙ sym (after_words_long n i (start seed n) t long)
     ] in
-    let same : (k : ℕ) → k < t % 4 → k ≢ u → slice_index m (i + t / 4 * 4 + k) ≡ slice_index n (i + t / 4 * 4 + k) = λ k h away.
-    sym (apart.outside (i + t / 4 * 4 + k) (elim (cases_lt k u) [ inl before ↦ inl (omega arith) | inr after ↦ inr (omega (arith, away)) ])) in
-    let told = unit_told _ _ take_byte take_byte_tells (λ k. slice_index m (i + t / 4 * 4 + k)) (λ k. slice_index n (i + t / 4 * 4 + k)) u (after_words m i (start seed m) t) (t % 4) same
-    (λ k h. p (i + t / 4 * 4 + k)) (λ k h. q (i + t / 4 * 4 + k)) (omega arith) (after_words-lt m i _ t (start-lt seed m))
-    (tail_told m n seed seed apart.lengths e ∙ ap (λ x. after_units take_byte (λ k. slice_index n (i + t / 4 * 4 + k)) x (t % 4)) (sym words)) in
-    differ m n from 1 apart (λ k h. let at : i + t / 4 * 4 + u ≡ from + k = omega arith in subst (λ x. slice_index m x ≡ slice_index n x) at told)
+    byte_noticed (2 ^ 64) take_byte take_byte_tells m n (i + t / 4 * 4) _ _ (t % 4) from p q (after_words-lt m i _ t (start-lt seed m)) words (omega arith) (omega arith) apart
+    (tail_told m n seed seed apart.lengths e)
 
 -- the four-byte word
 four_law : (seed : ℕ) (m n : List ℕ) (from : ℕ) → IsBytes m → IsBytes n → from ≡ length m / 8 * 8 → from + 4 ≤ length m → DiffersWithin from 4 m n → xxh64 seed m ≢ xxh64 seed n

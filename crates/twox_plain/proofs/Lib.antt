@@ -1,5 +1,6 @@
 pub mod BlockStateFacts
 pub mod ByteItems
+pub mod ByteLaws
 pub mod ByteTexts
 pub mod ChunksFront
 pub mod Core32Facts

@@ -99,7 +99,7 @@ module _ (w : Width) (writable : IsWritable w) (f : ℕ → ℕ) where
         word_at-append w (words_of w f n) (to_le_bytes w (f n)) (j * byte_len w) (omega (arith, length-words_of n)) ∙ word_at-words_of n j earlier fits
   ]
 
--- ---- the word that takes a accumulator from one value to another
+-- ---- the word that takes an accumulator from one value to another
 
 -- from each value of the accumulator, a word leads to each
 pub record IsReaching (w : Width) (step : ℕ → ℕ → ℕ) : Type 0 where

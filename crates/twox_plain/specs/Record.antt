@@ -1,4 +1,4 @@
--- What the records of both plain hashes say alike, for a stripe of so many bytes and any type C of accumulators.
+-- What the records of both plain hashes say alike, for any stripe of bytes and any type C of accumulators.
 -- `core_of seed m k` is the accumulators of the seed after the first k stripes of m, and `core_after c d k` is
 -- what c becomes by the first k stripes of d.
 use Rattle.std.specs.Prelude.{◌≡◌, ◌<◌, ◌+◌, ◌-◌, ◌%◌, ◌^◌, ℕ, List, [], length, min, replicate}

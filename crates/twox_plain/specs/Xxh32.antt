@@ -25,7 +25,7 @@ abbrev pub initial_accumulators : ℕ → List ℕ
 initial_accumulators seed =
     wrap_add w32 (wrap_add w32 seed p1) p2 ∷ wrap_add w32 seed p2 ∷ seed ∷ wrap_sub w32 seed p1 ∷ []
 
--- step 2: what a accumulator becomes by a word
+-- step 2: what an accumulator becomes by a word
 abbrev pub round : ℕ → ℕ → ℕ
 round a word = wrap_mul w32 (rotate_left w32 (wrap_add w32 a (wrap_mul w32 word p2)) 13) p1
 

@@ -25,7 +25,7 @@ abbrev pub initial_accumulators : ℕ → List ℕ
 initial_accumulators seed =
     wrap_add w64 (wrap_add w64 seed p1) p2 ∷ wrap_add w64 seed p2 ∷ seed ∷ wrap_sub w64 seed p1 ∷ []
 
--- step 2: what a accumulator becomes by a word
+-- step 2: what an accumulator becomes by a word
 abbrev pub round : ℕ → ℕ → ℕ
 round a word = wrap_mul w64 (rotate_left w64 (wrap_add w64 a (wrap_mul w64 word p2)) 31) p1
 
@@ -35,7 +35,7 @@ accumulator seed m j k =
     let initial = slice_index (initial_accumulators seed) j in
     after_units round (λ i. word_at w64 m (i * 32 + j * 8)) initial k
 
--- step 3: a value takes in a accumulator
+-- step 3: a value takes in an accumulator
 abbrev pub merge : ℕ → ℕ → ℕ
 merge x a = wrap_add w64 (wrap_mul w64 (bit_xor x (round 0 a)) p1) p4
 

@@ -184,7 +184,8 @@ pub trait U8SliceExt {
     /// The word of the last four bytes.
     fn last_u32(self) -> Option<u32>
         ensures long_enough { IsSome result ↔ (4 ≤ length (bytes self)) }
-        ensures word { IfSome result (λ x. x ≡ word_at w32 (bytes self) (length (bytes self) - 4)) };
+        ensures word { IfSome result (λ x.
+            x ≡ word_at w32 (bytes self) (length (bytes self) - 4)) };
 
     /// The word of the first eight bytes.
     fn first_u64(self) -> Option<u64>
@@ -194,7 +195,8 @@ pub trait U8SliceExt {
     /// The word of the last eight bytes.
     fn last_u64(self) -> Option<u64>
         ensures long_enough { IsSome result ↔ (8 ≤ length (bytes self)) }
-        ensures word { IfSome result (λ x. x ≡ word_at w64 (bytes self) (length (bytes self) - 8)) };
+        ensures word { IfSome result (λ x.
+            x ≡ word_at w64 (bytes self) (length (bytes self) - 8)) };
 }
 
 impl U8SliceExt for &[u8] {
@@ -255,8 +257,8 @@ fn chunks_and_rest_mut<T, const N: usize>(
 ) -> (&mut [[T; N]], &mut [T])
     requires whole { count * N ≡ mid }
     requires in_bounds { mid ≤ length items.old }
-    ensures* writes_back { sem 𝓛 (LendsBoth (Array T.row 0) (Array (Array T.row N) 0) (Array T.row 0)
-        items.entry result (λ chunks rest. flat_map (λ x. x) chunks ++ rest)) }
+    ensures* writes_back { sem 𝓛 (LendsBoth
+        (Array T.row 0) (Array (Array T.row N) 0) (Array T.row 0) items.entry result (λ chunks rest. flat_map (λ x. x) chunks ++ rest)) }
     ensures value { (result.0.now ≡ first_chunks N count (take mid items.old))
         × (length result.0.now ≡ count) × (result.1.now ≡ drop mid items.old) }
 {
@@ -277,8 +279,8 @@ fn chunks_and_rest_mut<T, const N: usize>(
 #[inline(always)]
 pub fn bp_as_chunks_mut<T, const N: usize>(items: &mut [T]) -> (&mut [[T; N]], &mut [T])
     requires { 0 < N }
-    ensures* writes_back { sem 𝓛 (LendsBoth (Array T.row 0) (Array (Array T.row N) 0) (Array T.row 0)
-        items.entry result (λ chunks rest. flat_map (λ x. x) chunks ++ rest)) }
+    ensures* writes_back { sem 𝓛 (LendsBoth
+        (Array T.row 0) (Array (Array T.row N) 0) (Array T.row 0) items.entry result (λ chunks rest. flat_map (λ x. x) chunks ++ rest)) }
     ensures chunks { result.0.now ≡ first_chunks N (length items.old / N) items.old }
     ensures count { length result.0.now ≡ length items.old / N }
     ensures rest { result.1.now ≡ drop (length items.old / N * N) items.old }

@@ -33,8 +33,8 @@ pub fn block_index<const N: usize>(
 /// four-byte word, counted from the block's byte 0, or one of the bytes after the last word.
 pub fn first_changed<const N: usize>(index: &[u32], seed: u32, blocks: &[[u8; N]]) -> Option<usize>
     requires { length blocks.now ≤ length index.now }
-    ensures found { IfSome result (λ i.
-        ((block : List ℕ) → slice_get blocks.now i ≡ Some block → ¬ (slice_get index.now i ≡ Some (xxh32 seed block)))) }
+    ensures found { IfSome result (λ i. (block : List ℕ)
+        → slice_get blocks.now i ≡ Some block → ¬ (slice_get index.now i ≡ Some (xxh32 seed block))) }
     ensures unchanged { IfNone result ((i : ℕ) (block : List ℕ)
         → slice_get blocks.now i ≡ Some block → slice_get index.now i ≡ Some (xxh32 seed block)) }
     ensures notices { (i from size : ℕ) (indexed block : List ℕ)

@@ -97,7 +97,8 @@ impl SavedState {
     /// There is no memory for the text.
     pub fn to_json(&self, alloc: Global) -> Result<String, AllocError>
         ensures text { IfOk result (λ text. string_bytes text ≡ saved_text self.now) }
-        ensures reads_back { IfOk result (λ text. record_of_text (string_bytes text) ≡ Some self.now) }
+        ensures reads_back { IfOk result (λ text.
+            record_of_text (string_bytes text) ≡ Some self.now) }
     {
         let buffer = byte_array_value(alloc, &self.buffer)?;
         let core = core_value(alloc, self.core)?;
