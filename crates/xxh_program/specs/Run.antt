@@ -34,7 +34,6 @@ Performs gives fails takes refuses (Ok (Save32 seed)) r_old r_new w_old w_new an
 Performs gives fails takes refuses (Ok (Save64 seed)) r_old r_new w_old w_new answer = Saves64 gives fails takes refuses seed r_old r_new w_old w_new answer
 Performs gives fails takes refuses (Ok (Resume32 json)) r_old r_new w_old w_new answer = Resumes32 gives fails takes refuses json.now r_old r_new w_old w_new answer
 Performs gives fails takes refuses (Ok (Resume64 json)) r_old r_new w_old w_new answer = Resumes64 gives fails takes refuses json.now r_old r_new w_old w_new answer
-
 Performs gives fails takes refuses (Ok (Blocks size)) r_old r_new w_old w_new answer =
     (digested : Result (Unit {0}) DigestError) × (answer ≡ digest_answer digested)
     × DigestsInput gives fails takes refuses size r_old r_new w_old w_new digested

@@ -141,9 +141,9 @@ pub(crate) fn digest_blocks_by<R: Source, W: Sink, const READ: usize, const LINE
     requires small { LINES ≤ 65536 }
     ensures digests { (pieces : List (List ℕ)) × NoneEmpty pieces
         × DigestsBlocks R.gives R.fails W.takes W.refuses block max_reads pieces
-            r.old r.new w.old w.new result
+        r.old r.new w.old w.new result
         × ((result ≡ Err DigestError.TooLong)
-            ↔ ((length pieces ≡ max_reads) × (W.has_failed w.new ≡ false))) }
+        ↔ ((length pieces ≡ max_reads) × (W.has_failed w.new ≡ false))) }
     ensures read_failed { (result ≡ Err DigestError.ReadFailed) ↔ (R.has_failed r.new ≡ true) }
     ensures write_failed { (result ≡ Err DigestError.WriteFailed) ↔ (W.has_failed w.new ≡ true) }
 {
@@ -199,9 +199,9 @@ pub fn digest_blocks<R: Source, W: Sink>(
     // What was read and what was written, `pieces` being the pieces read that are not empty.
     ensures digests { (pieces : List (List ℕ)) × NoneEmpty pieces
         × DigestsBlocks R.gives R.fails W.takes W.refuses block max_reads pieces
-            r.old r.new w.old w.new result
+        r.old r.new w.old w.new result
         × ((result ≡ Err DigestError.TooLong)
-            ↔ ((length pieces ≡ max_reads) × (W.has_failed w.new ≡ false))) }
+        ↔ ((length pieces ≡ max_reads) × (W.has_failed w.new ≡ false))) }
 
     // When each end fails.
     ensures read_failed { (result ≡ Err DigestError.ReadFailed) ↔ (R.has_failed r.new ≡ true) }

@@ -16,6 +16,7 @@ use std::alloc::Global;
 
 // How many bytes each read is offered for lines of blocks, and how many bytes of lines are written at once.
 const BLOCKS_READ: usize = 131072;
+
 const BLOCKS_WRITE: usize = 6400;
 
 /// Does what the words after the program's name ask for, and answers the exit status.
@@ -90,11 +91,7 @@ fn carry_out<R: Source, W: Sink>(
 }
 
 // Large reads and writes, so that the system calls of small blocks cost little.
-fn print_blocks<R: Source, W: Sink>(
-    size: u64,
-    r: &mut R,
-    out: &mut W,
-) -> Result<(), DigestError>
+fn print_blocks<R: Source, W: Sink>(size: u64, r: &mut R, out: &mut W) -> Result<(), DigestError>
     requires reader { R.has_failed r.old ≡ false }
     requires writer { W.has_failed out.old ≡ false }
     requires some { 1 ≤ size }
