@@ -15,7 +15,8 @@ use Rattle.xxh_program.specs.Command.{command_of}
 
 -- an argument that is not UTF-8 makes no command; all else that keeps the arguments away is memory
 abbrev pub IsArgumentFault : ErrorKind → Fault → Type 0
-IsArgumentFault kind fault = (kind ≡ InvalidData → fault ≡ Usage) × (kind ≢ InvalidData → fault ≡ OutOfMemory)
+IsArgumentFault kind fault =
+    (kind ≡ InvalidData → fault ≡ Usage) × (kind ≢ InvalidData → fault ≡ OutOfMemory)
 
 -- the words are the arguments after the first
 abbrev pub AreWords : List (List ℕ) → List (Bor (List ℕ)) → Type 0

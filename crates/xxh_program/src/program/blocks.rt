@@ -69,7 +69,8 @@ impl CurrentBlock {
         requires { self.old.count + length front.now ≡ self.old.size }
         ensures size { self.new.size ≡ self.old.size }
         ensures follows { (m : List ℕ) → HasTaken self.old m
-            → HasTaken self.new (m ++ front.now) × (added_lines self.old.size m front.now ≡ result) }
+            → HasTaken self.new (m ++ front.now)
+            × (added_lines self.old.size m front.now ≡ result) }
     {
         self.hasher.write(front);
         let line = offset_line(self.offset, self.hasher.finish_128());

@@ -53,7 +53,8 @@ pub fn run<R: Source, W: Sink, E: Sink>(
     requires writer { W.has_failed out.old ≡ false }
     requires faults { E.has_failed err.old ≡ false }
     ensures { (answer : Result (Unit {0}) Fault)
-        × Performs R.gives R.fails W.takes W.refuses (command_of words.now) r.old r.new out.old out.new answer
+        × Performs R.gives R.fails W.takes W.refuses (command_of words.now)
+        r.old r.new out.old out.new answer
         × Tells E.takes E.refuses E.has_failed answer err.old err.new
         × (result ≡ status_after answer) }
 {
@@ -84,7 +85,8 @@ fn carry_out<R: Source, W: Sink>(
 ) -> Result<(), Fault>
     requires reader { R.has_failed r.old ≡ false }
     requires writer { W.has_failed out.old ≡ false }
-    ensures { Performs R.gives R.fails W.takes W.refuses (command_of words.now) r.old r.new out.old out.new result }
+    ensures { Performs R.gives R.fails W.takes W.refuses (command_of words.now)
+        r.old r.new out.old out.new result }
 {
     let command = parse(words)?;
     perform(alloc, command, r, out)
@@ -95,7 +97,8 @@ fn print_blocks<R: Source, W: Sink>(size: u64, r: &mut R, out: &mut W) -> Result
     requires reader { R.has_failed r.old ≡ false }
     requires writer { W.has_failed out.old ≡ false }
     requires some { 1 ≤ size }
-    ensures { DigestsInput R.gives R.fails W.takes W.refuses size r.old r.new out.old out.new result }
+    ensures { DigestsInput R.gives R.fails W.takes W.refuses size
+        r.old r.new out.old out.new result }
 {
     digest_blocks_by::<R, W, BLOCKS_READ, BLOCKS_WRITE>(r, out, size, MAX_READS)
 }
@@ -109,7 +112,8 @@ fn perform<R: Source, W: Sink>(
     requires reader { R.has_failed r.old ≡ false }
     requires writer { W.has_failed out.old ≡ false }
     requires number { NumberFits command }
-    ensures { Performs R.gives R.fails W.takes W.refuses (Ok command.entry) r.old r.new out.old out.new result }
+    ensures { Performs R.gives R.fails W.takes W.refuses (Ok command.entry)
+        r.old r.new out.old out.new result }
 {
     match command {
         Command::Hash { kind, seed } => Ok(digest(kind, seed, MAX_READS, r, out)?),

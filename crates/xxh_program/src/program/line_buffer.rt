@@ -50,8 +50,10 @@ impl<const N: usize> LineBuffer<N> {
     pub(crate) fn push<W: Sink>(&mut self, line: &[u8; LINE], w: &mut W) -> Result<(), DigestError>
         requires { W.has_failed w.old ≡ false }
         ensures gathers { IfOk result
-            (λ _. Gathers W.takes (waiting_bytes self.old ++ line.now) w.old w.new (waiting_bytes self.new)) }
-        ensures refused { OnErr result (Refused W.takes W.refuses (waiting_bytes self.old) w.old w.new) }
+            (λ _. Gathers W.takes (waiting_bytes self.old ++ line.now) w.old w.new
+            (waiting_bytes self.new)) }
+        ensures refused { OnErr result
+            (Refused W.takes W.refuses (waiting_bytes self.old) w.old w.new) }
         ensures write_failed { (result ≡ Err DigestError.WriteFailed) ↔ (W.has_failed w.new ≡ true) }
         ensures only { IfErr result (λ e. e ≡ DigestError.WriteFailed) }
     {
