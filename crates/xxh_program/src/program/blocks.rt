@@ -91,7 +91,8 @@ impl CurrentBlock {
             (λ _. (m : List ℕ) → HasTaken self.old m → HasTaken self.new (m ++ piece.now)) }
         ensures writes { (m : List ℕ) → HasTaken self.old m
             → Writes W.takes W.refuses (added_lines self.old.size m piece.now) w.old w.new result }
-        ensures write_failed { (result ≡ Err DigestError.WriteFailed) ↔ (W.has_failed w.new ≡ true) }
+        ensures write_failed { (result ≡ Err DigestError.WriteFailed)
+            ↔ (W.has_failed w.new ≡ true) }
         ensures only { IfErr result (λ e. e ≡ DigestError.WriteFailed) }
     {
         let mut lines = LineBuffer::<N>::new();
@@ -114,7 +115,8 @@ impl CurrentBlock {
         requires { W.has_failed w.old ≡ false }
         ensures writes { (m : List ℕ) → HasTaken self.now m
             → Writes W.takes W.refuses (last_lines self.now.size m) w.old w.new result }
-        ensures write_failed { (result ≡ Err DigestError.WriteFailed) ↔ (W.has_failed w.new ≡ true) }
+        ensures write_failed { (result ≡ Err DigestError.WriteFailed)
+            ↔ (W.has_failed w.new ≡ true) }
         ensures only { IfErr result (λ e. e ≡ DigestError.WriteFailed) }
     {
         if self.count == 0 {

@@ -54,7 +54,8 @@ impl<const N: usize> LineBuffer<N> {
             (waiting_bytes self.new)) }
         ensures refused { OnErr result
             (Refused W.takes W.refuses (waiting_bytes self.old) w.old w.new) }
-        ensures write_failed { (result ≡ Err DigestError.WriteFailed) ↔ (W.has_failed w.new ≡ true) }
+        ensures write_failed { (result ≡ Err DigestError.WriteFailed)
+            ↔ (W.has_failed w.new ≡ true) }
         ensures only { IfErr result (λ e. e ≡ DigestError.WriteFailed) }
     {
         if N - self.len < LINE {
@@ -79,7 +80,8 @@ impl<const N: usize> LineBuffer<N> {
         requires { W.has_failed w.old ≡ false }
         ensures writes { Writes W.takes W.refuses (waiting_bytes self.old) w.old w.new result }
         ensures empty { IfOk result (λ _. self.new.len ≡ 0) }
-        ensures write_failed { (result ≡ Err DigestError.WriteFailed) ↔ (W.has_failed w.new ≡ true) }
+        ensures write_failed { (result ≡ Err DigestError.WriteFailed)
+            ↔ (W.has_failed w.new ≡ true) }
         ensures only { IfErr result (λ e. e ≡ DigestError.WriteFailed) }
     {
         write_all(&self.bytes[..self.len], w)?;
