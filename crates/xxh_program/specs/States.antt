@@ -30,7 +30,7 @@ digest_answer (Err e) = Err (Digest e)
 
 -- ---- save
 
--- The text was written; or a beginning of it, before a write failed; or nothing, for want of memory.
+-- The text was written; or a beginning of it, before a write failed; or nothing, where there is no memory for it.
 abbrev pub Prints : {W : Type 0} → Step W → Failing W → List ℕ → W → W → Result (Unit {0}) Fault
     → Type 0
 Prints takes refuses text old new (Ok x) = Writes {T = Unit {0}} takes refuses text old new (Ok x)
