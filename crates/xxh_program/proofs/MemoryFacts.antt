@@ -1,5 +1,5 @@
 -- Pieces that are read from a slice and written to a sink that follows a script.
-use Rattle.std.proofs.Common.{◌≡◌, ◌≢◌, ℕ, ◌⊎◌, inl, inr, ◌+◌, ◌<◌, ◌≤◌, List, [], ◌∷◌, ◌++◌, length, refl, sym, ap, ◌∙◌, subst, append-nil, append_assoc, length-append, arith, Ok, Err}
+use Rattle.std.proofs.Common.{◌≡◌, ℕ, inl, inr, ◌+◌, ◌<◌, ◌≤◌, List, [], ◌∷◌, ◌++◌, length, refl, sym, ap, ◌∙◌, append-nil, append_assoc, length-append, arith, Ok, Err}
 use Rattle.std.specs.List.{concat}
 use Rattle.std.specs.declared.result.Result.{Result}
 use Rattle.xxh_program.specs.declared.program.error.DigestError.{DigestError}
@@ -48,8 +48,8 @@ never-refused {N} line old new never room refused =
     let size : length line ≡ length (concat taken) + length refused.4.0 = ap length refused.4.1 ∙ length-append (concat taken) refused.4.0 in
     let there : length (sink_bytes met) ≡ length (sink_bytes old) + length (concat taken) = ap length so_far.0 ∙ length-append (sink_bytes old) (concat taken) in
     elim refused.3.1 [
-      inl fails ↦ let none : counted (sink_writes met) ≡ 0 = fails ∙ so_far.1 ∙ never in absurd (omega (arith, none))
-    | inr full ↦ absurd (omega (arith, size, there, full, room, refused.4.2))
+      | inl fails ↦ let none : counted (sink_writes met) ≡ 0 = fails ∙ so_far.1 ∙ never in absurd (omega (arith, none))
+      | inr full ↦ absurd (omega (arith, size, there, full, room, refused.4.2))
     ]
 
 -- ---- the answer

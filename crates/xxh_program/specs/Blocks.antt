@@ -17,12 +17,14 @@ offset_line offset value = hex_digits 16 offset ++ (32 ∷ hex_line 32 value)
 -- the line of the block c: where it begins, or 2^64 - 1 where that is smaller, and XXH3 of 128 bits of its
 -- bytes under the seed 0 and the default secret
 abbrev pub block_line : ℕ → List ℕ → ℕ → List ℕ
-block_line block m c = offset_line (min (c * block) (2 ^ 64 - 1)) (xxh3_128 0 default_secret (block_bytes block m c))
+block_line block m c =
+    offset_line (min (c * block) (2 ^ 64 - 1)) (xxh3_128 0 default_secret (block_bytes block m c))
 
 -- the lines of this many blocks, from the block `first` on
 abbrev pub lines_from : ℕ → List ℕ → ℕ → ℕ → List ℕ
 lines_from block m first zero = []
-lines_from block m first (suc count) = lines_from block m first count ++ block_line block m (first + count)
+lines_from block m first (suc count) =
+    lines_from block m first count ++ block_line block m (first + count)
 
 -- the lines of all blocks c with c * block < length m: that many are length m / block, rounded up
 abbrev pub block_lines : ℕ → List ℕ → List ℕ
@@ -34,7 +36,8 @@ whole_block_lines block m = lines_from block m 0 (length m / block)
 
 -- the lines of the blocks that become whole where d comes after m
 abbrev pub added_lines : ℕ → List ℕ → List ℕ → List ℕ
-added_lines block m d = lines_from block (m ++ d) (length m / block) (length (m ++ d) / block - length m / block)
+added_lines block m d =
+    lines_from block (m ++ d) (length m / block) (length (m ++ d) / block - length m / block)
 
 -- the line of the short last block, where there is one
 abbrev pub last_lines : ℕ → List ℕ → List ℕ

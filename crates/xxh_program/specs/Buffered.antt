@@ -13,5 +13,6 @@ abbrev pub buffered_bytes : {R : Type 0} {N : ℕ} → Buffered R N → List ℕ
 buffered_bytes b = slice_range b.buf b.start b.end
 
 -- the bytes that are left: those that wait, and then the reader's, where those are known
-abbrev pub buffered_remaining : {R : Type 0} {N : ℕ} → (R → Option (List ℕ)) → Buffered R N → Option (List ℕ)
+abbrev pub buffered_remaining : {R : Type 0} {N : ℕ} → (R → Option (List ℕ)) → Buffered R N
+    → Option (List ℕ)
 buffered_remaining remaining b = prepend_known (buffered_bytes b) (remaining b.inner)

@@ -2,7 +2,8 @@
 use Rattle.std.specs.Prelude.{ℕ, List, ◌++◌}
 
 -- new follows each list that old follows, with these bytes after it, and keeps its seed
-abbrev pub IsFed : {H : Type 0} → (H → ℕ → List ℕ → Type 0) → (H → ℕ → Type 0) → H → List ℕ → H → Type 0
+abbrev pub IsFed : {H : Type 0} → (H → ℕ → List ℕ → Type 0) → (H → ℕ → Type 0) → H → List ℕ → H
+    → Type 0
 IsFed follows has_seed old bytes new =
     ((seed : ℕ) → has_seed old seed → has_seed new seed)
     × ((seed : ℕ) (m : List ℕ) → follows old seed m → follows new seed (m ++ bytes))

@@ -2,11 +2,13 @@
 use Rattle.std.specs.Prelude.{◌≡◌, ℕ, List, ◌++◌, take}
 use Rattle.xxh_program.specs.declared.program.line_buffer.LineBuffer.{LineBuffer}
 use Rattle.xxh_program.specs.Digest.{Took}
+use Rattle.xxh_program.specs.Pieces.{Step}
 
 -- the bytes that wait
 abbrev pub waiting_bytes : {N : ℕ} → LineBuffer N → List ℕ
 waiting_bytes b = take b.len b.bytes
 
 -- a front of these bytes was written, and the others wait
-abbrev pub Gathers : {S : Type 0} → (S → List ℕ → S → Type 0) → List ℕ → S → S → List ℕ → Type 0
-Gathers takes bytes old new waiting = (front : List ℕ) × Took takes front old new × (front ++ waiting ≡ bytes)
+abbrev pub Gathers : {S : Type 0} → Step S → List ℕ → S → S → List ℕ → Type 0
+Gathers takes bytes old new waiting =
+    (front : List ℕ) × Took takes front old new × (front ++ waiting ≡ bytes)

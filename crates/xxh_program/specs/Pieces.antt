@@ -3,10 +3,19 @@
 use Rattle.std.specs.Prelude.{◌≡◌, ℕ, ◌<◌, List, [], ◌∷◌, ◌++◌, length}
 use Rattle.std.specs.List.{AllByRecursion}
 
+-- one read or write of a piece: which states it leads from and to
+abbrev pub Step : Type 0 → Type 1
+Step S = S → List ℕ → S → Type 0
+
+-- one that fails
+abbrev pub Failing : Type 0 → Type 1
+Failing S = S → S → Type 0
+
 -- the pieces, one step each, lead from old to new
-abbrev pub Pieces : {S : Type 0} → (S → List ℕ → S → Type 0) → S → List (List ℕ) → S → Type 0
+abbrev pub Pieces : {S : Type 0} → Step S → S → List (List ℕ) → S → Type 0
 Pieces step old [] new = new ≡ old
-Pieces {S} step old (piece ∷ pieces) new = (mid : S) × step old piece mid × Pieces step mid pieces new
+Pieces {S} step old (piece ∷ pieces) new =
+    (mid : S) × step old piece mid × Pieces step mid pieces new
 
 -- no piece is empty
 abbrev pub NoneEmpty : List (List ℕ) → Type 0

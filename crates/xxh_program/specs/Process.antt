@@ -1,8 +1,6 @@
 -- What the program does with the arguments of its process.
-use Rattle.std.specs.Prelude.{◌≡◌, ◌≢◌, ℕ, List, drop, map, IfErr, string_bytes}
+use Rattle.std.specs.Prelude.{◌≡◌, ◌≢◌, ℕ, List, drop, map, IfErr}
 use Rattle.std.specs.Borrow.{Bor}
-use Rattle.std.specs.IoError.{error_kind}
-use Rattle.std.specs.declared.io.Error.{Error}
 use Rattle.std.specs.declared.io.ErrorKind.{ErrorKind}
 use Rattle.std.specs.declared.io.ErrorKind.TheVariants.{InvalidData}
 use Rattle.std.specs.declared.result.Result.{Result}
@@ -15,7 +13,8 @@ use Rattle.xxh_program.specs.Command.{command_of}
 
 -- an argument that is not UTF-8 makes no command; all else that keeps the arguments away is memory
 abbrev pub IsArgumentFault : ErrorKind → Fault → Type 0
-IsArgumentFault kind fault = (kind ≡ InvalidData → fault ≡ Usage) × (kind ≢ InvalidData → fault ≡ OutOfMemory)
+IsArgumentFault kind fault =
+    (kind ≡ InvalidData → fault ≡ Usage) × (kind ≢ InvalidData → fault ≡ OutOfMemory)
 
 -- the words are the arguments after the first
 abbrev pub AreWords : List (List ℕ) → List (Bor (List ℕ)) → Type 0

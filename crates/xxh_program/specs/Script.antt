@@ -26,7 +26,8 @@ script_reads s = s.reads
 
 -- how many bytes the next read gives where so many are offered
 abbrev pub next_size : ScriptSource → ℕ → ℕ
-next_size s offered = min (slice_index (script_sizes s) (script_reads s)) (min (length (script_rest s)) offered)
+next_size s offered =
+    min (slice_index (script_sizes s) (script_reads s)) (min (length (script_rest s)) offered)
 
 -- a read that was counted, by the same script
 abbrev pub IsNextRead : ScriptSource → ScriptSource → Type 0
@@ -58,7 +59,8 @@ slice_rest s = s.rest.now
 
 -- a read gives the next bytes, and none only at their end
 abbrev pub SliceGives : SliceSource → List ℕ → SliceSource → Type 0
-SliceGives old piece new = (slice_rest old ≡ piece ++ slice_rest new) × (length piece ≡ 0 → slice_rest new ≡ [])
+SliceGives old piece new =
+    (slice_rest old ≡ piece ++ slice_rest new) × (length piece ≡ 0 → slice_rest new ≡ [])
 
 -- ---- a sink that follows a script
 
@@ -87,7 +89,8 @@ IsNextWrite old new =
 abbrev pub ScriptTakes : {N : ℕ} → ScriptSink N → List ℕ → ScriptSink N → Type 0
 ScriptTakes {N} old piece new =
     (sink_bytes new ≡ sink_bytes old ++ piece)
-    × ((brought : ℕ) × (length piece ≡ min (sink_take old) (min brought (N - length (sink_bytes old)))))
+    × ((brought : ℕ)
+    × (length piece ≡ min (sink_take old) (min brought (N - length (sink_bytes old)))))
     × (counted (sink_writes old) ≢ sink_fail_at old)
     × IsNextWrite old new
 

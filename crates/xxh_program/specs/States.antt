@@ -15,7 +15,7 @@ use Rattle.xxh_program.specs.declared.program.error.DigestError.{DigestError}
 use Rattle.xxh_program.specs.declared.program.error.DigestError.TheVariants.{ReadFailed, WriteFailed, TooLong}
 use Rattle.xxh_program.specs.declared.program.fault.Fault.{Fault}
 use Rattle.xxh_program.specs.declared.program.fault.Fault.TheVariants.{BadState, OutOfMemory, Digest}
-use Rattle.xxh_program.specs.Pieces.{NoneEmpty}
+use Rattle.xxh_program.specs.Pieces.{NoneEmpty, Step, Failing}
 use Rattle.xxh_program.specs.Digest.{ReadsOn, Writes}
 use Rattle.xxh_program.specs.Hex.{hex_line}
 
@@ -30,67 +30,89 @@ digest_answer (Err e) = Err (Digest e)
 
 -- ---- save
 
--- The text was written; or a beginning of it, before a write failed; or nothing, for want of memory.
-abbrev pub Prints : {W : Type 0} → (W → List ℕ → W → Type 0) → (W → W → Type 0) → List ℕ → W → W → Result (Unit {0}) Fault → Type 0
+-- The text was written; or a beginning of it, before a write failed; or nothing, where there is no memory for it.
+abbrev pub Prints : {W : Type 0} → Step W → Failing W → List ℕ → W → W → Result (Unit {0}) Fault
+    → Type 0
 Prints takes refuses text old new (Ok x) = Writes {T = Unit {0}} takes refuses text old new (Ok x)
-Prints takes refuses text old new (Err (Digest WriteFailed)) = Writes {T = Unit {0}} takes refuses text old new (Err WriteFailed)
+Prints takes refuses text old new (Err (Digest WriteFailed)) =
+    Writes {T = Unit {0}} takes refuses text old new (Err WriteFailed)
 Prints takes refuses text old new (Err OutOfMemory) = new ≡ old
 Prints takes refuses text old new (Err _) = ⊥
 
 -- After the bytes m were read, the saved text of a record of this seed that stands for them was printed; and
 -- nothing, where they were not read to their end.
-abbrev pub PrintsState : {S W : Type 0} → (S → List ℕ → Type 0) → (S → ℕ) → (S → List ℕ) → (W → List ℕ → W → Type 0) → (W → W → Type 0) → ℕ → List ℕ → W → W → Result S DigestError → Result (Unit {0}) Fault → Type 0
+abbrev pub PrintsState : {S W : Type 0} → (S → List ℕ → Type 0) → (S → ℕ) → (S → List ℕ) → Step W
+    → Failing W → ℕ → List ℕ → W → W → Result S DigestError → Result (Unit {0}) Fault → Type 0
 PrintsState stands_for seed_of text_of takes refuses seed m old new (Ok state) answer =
-    (seed_of state ≡ seed) × stands_for state m × Prints takes refuses (text_of state ++ 10 ∷ []) old new answer
-PrintsState stands_for seed_of text_of takes refuses seed m old new (Err e) answer = (answer ≡ Err (Digest e)) × (new ≡ old)
+    (seed_of state ≡ seed) × stands_for state m
+    × Prints takes refuses (text_of state ++ 10 ∷ []) old new answer
+PrintsState stands_for seed_of text_of takes refuses seed m old new (Err e) answer =
+    (answer ≡ Err (Digest e)) × (new ≡ old)
 
-abbrev pub Saves : {S R W : Type 0} → (S → List ℕ → Type 0) → (S → ℕ) → (S → List ℕ) → (R → List ℕ → R → Type 0) → (R → R → Type 0) → (W → List ℕ → W → Type 0) → (W → W → Type 0) → ℕ → R → R → W → W → Result (Unit {0}) Fault → Type 0
+abbrev pub Saves : {S R W : Type 0} → (S → List ℕ → Type 0) → (S → ℕ) → (S → List ℕ) → Step R
+    → Failing R → Step W → Failing W → ℕ → R → R → W → W → Result (Unit {0}) Fault → Type 0
 Saves {S} stands_for seed_of text_of gives fails takes refuses seed r_old r_new w_old w_new answer =
     (read : Result S DigestError) × ((pieces : List (List ℕ)) × NoneEmpty pieces
     × ReadsOn gives fails most_reads pieces r_old r_new read
-    × PrintsState stands_for seed_of text_of takes refuses seed (concat pieces) w_old w_new read answer)
+    × PrintsState stands_for seed_of text_of takes refuses seed (concat pieces)
+    w_old w_new read answer)
 
-abbrev pub Saves32 : {R W : Type 0} → (R → List ℕ → R → Type 0) → (R → R → Type 0) → (W → List ℕ → W → Type 0) → (W → W → Type 0) → ℕ → R → R → W → W → Result (Unit {0}) Fault → Type 0
+abbrev pub Saves32 : {R W : Type 0} → Step R → Failing R → Step W → Failing W → ℕ → R → R → W → W
+    → Result (Unit {0}) Fault → Type 0
 Saves32 gives fails takes refuses seed r_old r_new w_old w_new answer =
-    Saves Record32.StandsFor (λ s. s.seed) Saved32.saved_text gives fails takes refuses seed r_old r_new w_old w_new answer
+    Saves Record32.StandsFor (λ s. s.seed) Saved32.saved_text gives fails takes refuses seed
+    r_old r_new w_old w_new answer
 
-abbrev pub Saves64 : {R W : Type 0} → (R → List ℕ → R → Type 0) → (R → R → Type 0) → (W → List ℕ → W → Type 0) → (W → W → Type 0) → ℕ → R → R → W → W → Result (Unit {0}) Fault → Type 0
+abbrev pub Saves64 : {R W : Type 0} → Step R → Failing R → Step W → Failing W → ℕ → R → R → W → W
+    → Result (Unit {0}) Fault → Type 0
 Saves64 gives fails takes refuses seed r_old r_new w_old w_new answer =
-    Saves Record64.StandsFor (λ s. s.seed) Saved64.saved_text gives fails takes refuses seed r_old r_new w_old w_new answer
+    Saves Record64.StandsFor (λ s. s.seed) Saved64.saved_text gives fails takes refuses seed
+    r_old r_new w_old w_new answer
 
 -- ---- resume
 
 -- The text is read as a record of which a hasher is made; or as none; or memory ran out.
-abbrev pub Restores : {S : Type 0} → (List ℕ → Option S) → (S → Type 0) → List ℕ → Result S Fault → Type 0
+abbrev pub Restores : {S : Type 0} → (List ℕ → Option S) → (S → Type 0) → List ℕ → Result S Fault
+    → Type 0
 Restores record_of Fits text (Ok state) = (record_of text ≡ Some state) × Fits state
-Restores {S} record_of Fits text (Err BadState) = (state : S) → record_of text ≡ Some state → Fits state → ⊥
+Restores {S} record_of Fits text (Err BadState) =
+    (state : S) → record_of text ≡ Some state → Fits state → ⊥
 Restores record_of Fits text (Err OutOfMemory) = Unit {0}
 Restores record_of Fits text (Err _) = ⊥
 
 abbrev pub Restores32 : List ℕ → Result State32 Fault → Type 0
-Restores32 text restored = Restores Saved32.record_of_text (λ s. Record32.UsageFits s × Record32.CoreFits s) text restored
+Restores32 text restored =
+    Restores Saved32.record_of_text (λ s. Record32.UsageFits s × Record32.CoreFits s) text restored
 
 abbrev pub Restores64 : List ℕ → Result State64 Fault → Type 0
-Restores64 text restored = Restores Saved64.record_of_text (λ s. Record64.UsageFits s × Record64.CoreFits s) text restored
+Restores64 text restored =
+    Restores Saved64.record_of_text (λ s. Record64.UsageFits s × Record64.CoreFits s) text restored
 
 -- A digest went on from the record, for every list that it stands for; where there is none, nothing was
 -- read and nothing was written.
-abbrev pub GoesOn : {S R W : Type 0} → (S → List ℕ → Type 0) → (S → List ℕ → List ℕ) → (R → List ℕ → R → Type 0) → (R → R → Type 0) → (W → List ℕ → W → Type 0) → (W → W → Type 0) → Result S Fault → R → R → W → W → Result (Unit {0}) Fault → Type 0
+abbrev pub GoesOn : {S R W : Type 0} → (S → List ℕ → Type 0) → (S → List ℕ → List ℕ) → Step R
+    → Failing R → Step W → Failing W → Result S Fault → R → R → W → W → Result (Unit {0}) Fault
+    → Type 0
 GoesOn stands_for line_of gives fails takes refuses (Ok state) r_old r_new w_old w_new answer =
     (digested : Result (Unit {0}) DigestError) × (answer ≡ digest_answer digested)
     × ((digested ≡ Err ReadFailed) ⊎ (digested ≡ Err TooLong) → w_new ≡ w_old)
     × ((pieces : List (List ℕ)) × NoneEmpty pieces
     × ReadsOn gives fails most_reads pieces r_old r_new digested
-    × ((m : List ℕ) → stands_for state m → Writes takes refuses (line_of state (m ++ concat pieces)) w_old w_new digested))
+    × ((m : List ℕ) → stands_for state m
+    → Writes takes refuses (line_of state (m ++ concat pieces)) w_old w_new digested))
 GoesOn stands_for line_of gives fails takes refuses (Err fault) r_old r_new w_old w_new answer =
     (answer ≡ Err fault) × (r_new ≡ r_old) × (w_new ≡ w_old)
 
-abbrev pub Resumes32 : {R W : Type 0} → (R → List ℕ → R → Type 0) → (R → R → Type 0) → (W → List ℕ → W → Type 0) → (W → W → Type 0) → List ℕ → R → R → W → W → Result (Unit {0}) Fault → Type 0
+abbrev pub Resumes32 : {R W : Type 0} → Step R → Failing R → Step W → Failing W → List ℕ → R → R
+    → W → W → Result (Unit {0}) Fault → Type 0
 Resumes32 gives fails takes refuses text r_old r_new w_old w_new answer =
     (restored : Result State32 Fault) × Restores32 text restored
-    × GoesOn Record32.StandsFor (λ s m. hex_line 8 (xxh32 s.seed m)) gives fails takes refuses restored r_old r_new w_old w_new answer
+    × GoesOn Record32.StandsFor (λ s m. hex_line 8 (xxh32 s.seed m)) gives fails takes refuses
+    restored r_old r_new w_old w_new answer
 
-abbrev pub Resumes64 : {R W : Type 0} → (R → List ℕ → R → Type 0) → (R → R → Type 0) → (W → List ℕ → W → Type 0) → (W → W → Type 0) → List ℕ → R → R → W → W → Result (Unit {0}) Fault → Type 0
+abbrev pub Resumes64 : {R W : Type 0} → Step R → Failing R → Step W → Failing W → List ℕ → R → R
+    → W → W → Result (Unit {0}) Fault → Type 0
 Resumes64 gives fails takes refuses text r_old r_new w_old w_new answer =
     (restored : Result State64 Fault) × Restores64 text restored
-    × GoesOn Record64.StandsFor (λ s m. hex_line 16 (xxh64 s.seed m)) gives fails takes refuses restored r_old r_new w_old w_new answer
+    × GoesOn Record64.StandsFor (λ s m. hex_line 16 (xxh64 s.seed m)) gives fails takes refuses
+    restored r_old r_new w_old w_new answer

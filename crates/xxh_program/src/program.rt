@@ -13,6 +13,8 @@ mod from_read;
 mod from_write;
 mod hasher_3;
 mod hasher_32;
+mod hasher_3_128;
+mod hasher_3_64;
 mod hasher_64;
 mod hex;
 mod kind;

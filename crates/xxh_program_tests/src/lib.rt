@@ -21,8 +21,6 @@ mod over_memory;
 #[cfg(test)]
 mod process;
 #[cfg(test)]
-mod resumes;
-#[cfg(test)]
 mod script;
 #[cfg(test)]
 mod states;

@@ -5,7 +5,7 @@ use crate::over_memory::{resume, run_line};
 use std::alloc::Global;
 use std::str;
 use std::test::Fail;
-use xxh_program::program::run;
+use xxh_program::program::{ScriptSink, ScriptSource, run};
 
 const HELLO: &[u8] = b"Hello, world!\0";
 
@@ -78,9 +78,9 @@ fn texts_that_are_states(rt: HostRuntime) -> Result<(), Fail> {
     Ok(())
 }
 
-// A kind and a text: a usage that does not fit, lanes that do not, both; too few bytes, a number that is too
-// great for a byte, negative, a fraction, too great for a lane; no core; the end cut off; the other kind's
-// text, both ways; a usage and lanes that do not fit XXH64; and other JSON and none.
+// A kind and a text: a usage that does not fit, accumulators that do not, both; too few bytes, a number that is
+// too great for a byte, negative, a fraction, too great for an accumulator; no core; the end cut off; the other
+// kind's text, both ways; what does not fit XXH64, likewise; and other JSON and none.
 const NO_STATES: &str = "\
 32={\"buffer\":[72,101,108,108,111,44,32,119,111,114,108,100,33,0,0,0],\"buffer_usage\":17,\"core\":{\"v1\":606290984,\"v2\":2246822519,\"v3\":0,\"v4\":1640531535},\"seed\":0,\"total_len\":14}
 32={\"buffer\":[72,101,108,108,111,44,32,119,111,114,108,100,33,0,0,0],\"buffer_usage\":14,\"core\":{\"v1\":606290985,\"v2\":2246822519,\"v3\":0,\"v4\":1640531535},\"seed\":0,\"total_len\":14}
@@ -96,24 +96,43 @@ const NO_STATES: &str = "\
 64={\"buffer\":[72,101,108,108,111,44,32,119,111,114,108,100,33,0,0,0],\"buffer_usage\":14,\"core\":{\"v1\":606290984,\"v2\":2246822519,\"v3\":0,\"v4\":1640531535},\"seed\":0,\"total_len\":14}
 64={\"buffer\":[72,101,108,108,111,44,32,119,111,114,108,100,33,0,0,0,0,0,0,0,0,0,0,0,0,0,0,0,0,0,0,0],\"buffer_usage\":33,\"core\":{\"v1\":6983438078262162902,\"v2\":14029467366897019727,\"v3\":0,\"v4\":7046029288634856825},\"seed\":0,\"total_len\":14}
 64={\"buffer\":[72,101,108,108,111,44,32,119,111,114,108,100,33,0,0,0,0,0,0,0,0,0,0,0,0,0,0,0,0,0,0,0],\"buffer_usage\":14,\"core\":{\"v1\":6983438078262162903,\"v2\":14029467366897019727,\"v3\":0,\"v4\":7046029288634856825},\"seed\":0,\"total_len\":14}
+32={\"buffer\":[72,101,108,108,111,44,32,119,111,114,108,100,33,0,0,256],\"buffer_usage\":14,\"core\":{\"v1\":606290984,\"v2\":2246822519,\"v3\":0,\"v4\":1640531535},\"seed\":0,\"total_len\":14}
+64={\"buffer\":[256,101,108,108,111,44,32,119,111,114,108,100,33,0,0,0,0,0,0,0,0,0,0,0,0,0,0,0,0,0,0,0],\"buffer_usage\":14,\"core\":{\"v1\":6983438078262162902,\"v2\":14029467366897019727,\"v3\":0,\"v4\":7046029288634856825},\"seed\":0,\"total_len\":14}
+64={\"buffer\":[72,101,108,108,111,44,32,119,111,114,108,100,33,0,0,0,0,0,0,0,0,0,0,0,0,0,0,0,0,0,0,256],\"buffer_usage\":14,\"core\":{\"v1\":6983438078262162902,\"v2\":14029467366897019727,\"v3\":0,\"v4\":7046029288634856825},\"seed\":0,\"total_len\":14}
+64={\"buffer\":[72,101,108,108,111,44,32,119,111,114,108,100,33,0,0,0,0,0,0,0,0,0,0,0,0,0,0,0,0,0,0,0],\"buffer_usage\":14,\"seed\":0,\"total_len\":14}
+64={\"buffer\":[72,101,108,108,111,44,32,119,111,114,108,100,33,0,0,0,0,0,0,0,0,0,0,0,0,0,0,0,0,0,0,0],\"buffer_usage\":-14,\"core\":{\"v1\":6983438078262162902,\"v2\":14029467366897019727,\"v3\":0,\"v4\":7046029288634856825},\"seed\":0,\"total_len\":14}
 64={}
 64=[]
 64=
 64=eab55659a496d78b";
 
+// The text is refused as no state, nothing is printed, and the input, whose reads are counted, stays unread.
+fn is_refused(alloc: Global, kind: &str, text: &str) -> bool {
+    let mut r = ScriptSource::new(b"some bytes", &[10], 0);
+    let mut out = ScriptSink::<40>::new(40, 0);
+    let mut err = ScriptSink::<40>::new(40, 0);
+    let status = run(alloc, &["resume", kind, text], &mut r, &mut out, &mut err);
+    let told = err.bytes() == b"xxh: bad state\n".as_slice();
+    status == 2 && r.reads() == 0 && out.bytes().is_empty() && told
+}
+
 #[test]
 fn texts_that_are_no_states(rt: HostRuntime) -> Result<(), Fail> {
     for row in NO_STATES.lines() {
         let (kind, text) = row.split_once('=').ok_or("a row has two parts")?;
-        let resumed = resume(rt.alloc(), kind, text, b"some bytes")?;
-        assert_eq!(rt; resumed.status, 2, "{row}");
-        assert_eq!(rt; resumed.out.len(), 0, "{row}");
-        assert_eq!(rt;
-            resumed.err.as_slice(),
-            b"xxh: bad state\n".as_slice(),
-            "{row}"
-        );
-        assert_eq!(rt; resumed.unread, 10, "{row}");
+        assert!(rt; is_refused(rt.alloc(), kind, text), "{row}");
+    }
+    Ok(())
+}
+
+#[test]
+fn every_proper_beginning_of_a_text(rt: HostRuntime) -> Result<(), Fail> {
+    for (kind, text) in [("32", HELLO_32), ("64", HELLO_64)] {
+        for len in 0..text.len() {
+            let front = text.get(..len).ok_or("the text is ASCII")?;
+            assert!(rt; is_refused(rt.alloc(), kind, front), "{len}");
+        }
+        assert!(rt; !is_refused(rt.alloc(), kind, text));
     }
     Ok(())
 }
@@ -146,7 +165,7 @@ fn ends_that_fail(rt: HostRuntime) {
     }
 }
 
-// States past the first stripes, of bytes and lanes with as many digits as there can be.
+// States past the first stripes, of bytes and accumulators with as many digits as there can be.
 #[test]
 fn a_digest_of_long_parts_over_two_runs(rt: HostRuntime) -> Result<(), Fail> {
     let input = [255; 100];

@@ -69,7 +69,8 @@ impl CurrentBlock {
         requires { self.old.count + length front.now ≡ self.old.size }
         ensures size { self.new.size ≡ self.old.size }
         ensures follows { (m : List ℕ) → HasTaken self.old m
-            → HasTaken self.new (m ++ front.now) × (added_lines self.old.size m front.now ≡ result) }
+            → HasTaken self.new (m ++ front.now)
+            × (added_lines self.old.size m front.now ≡ result) }
     {
         self.hasher.write(front);
         let line = offset_line(self.offset, self.hasher.finish_128());
@@ -90,7 +91,8 @@ impl CurrentBlock {
             (λ _. (m : List ℕ) → HasTaken self.old m → HasTaken self.new (m ++ piece.now)) }
         ensures writes { (m : List ℕ) → HasTaken self.old m
             → Writes W.takes W.refuses (added_lines self.old.size m piece.now) w.old w.new result }
-        ensures write_failed { (result ≡ Err DigestError.WriteFailed) ↔ (W.has_failed w.new ≡ true) }
+        ensures write_failed { (result ≡ Err DigestError.WriteFailed)
+            ↔ (W.has_failed w.new ≡ true) }
         ensures only { IfErr result (λ e. e ≡ DigestError.WriteFailed) }
     {
         let mut lines = LineBuffer::<N>::new();
@@ -113,7 +115,8 @@ impl CurrentBlock {
         requires { W.has_failed w.old ≡ false }
         ensures writes { (m : List ℕ) → HasTaken self.now m
             → Writes W.takes W.refuses (last_lines self.now.size m) w.old w.new result }
-        ensures write_failed { (result ≡ Err DigestError.WriteFailed) ↔ (W.has_failed w.new ≡ true) }
+        ensures write_failed { (result ≡ Err DigestError.WriteFailed)
+            ↔ (W.has_failed w.new ≡ true) }
         ensures only { IfErr result (λ e. e ≡ DigestError.WriteFailed) }
     {
         if self.count == 0 {
@@ -141,9 +144,9 @@ pub(crate) fn digest_blocks_by<R: Source, W: Sink, const READ: usize, const LINE
     requires small { LINES ≤ 65536 }
     ensures digests { (pieces : List (List ℕ)) × NoneEmpty pieces
         × DigestsBlocks R.gives R.fails W.takes W.refuses block max_reads pieces
-            r.old r.new w.old w.new result
+        r.old r.new w.old w.new result
         × ((result ≡ Err DigestError.TooLong)
-            ↔ ((length pieces ≡ max_reads) × (W.has_failed w.new ≡ false))) }
+        ↔ ((length pieces ≡ max_reads) × (W.has_failed w.new ≡ false))) }
     ensures read_failed { (result ≡ Err DigestError.ReadFailed) ↔ (R.has_failed r.new ≡ true) }
     ensures write_failed { (result ≡ Err DigestError.WriteFailed) ↔ (W.has_failed w.new ≡ true) }
 {
@@ -199,9 +202,9 @@ pub fn digest_blocks<R: Source, W: Sink>(
     // What was read and what was written, `pieces` being the pieces read that are not empty.
     ensures digests { (pieces : List (List ℕ)) × NoneEmpty pieces
         × DigestsBlocks R.gives R.fails W.takes W.refuses block max_reads pieces
-            r.old r.new w.old w.new result
+        r.old r.new w.old w.new result
         × ((result ≡ Err DigestError.TooLong)
-            ↔ ((length pieces ≡ max_reads) × (W.has_failed w.new ≡ false))) }
+        ↔ ((length pieces ≡ max_reads) × (W.has_failed w.new ≡ false))) }
 
     // When each end fails.
     ensures read_failed { (result ≡ Err DigestError.ReadFailed) ↔ (R.has_failed r.new ≡ true) }

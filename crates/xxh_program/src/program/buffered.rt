@@ -43,9 +43,11 @@ impl<R: Read, const N: usize> Buffered<R, N> {
 
     // Reads once into the whole buffer, unless bytes wait there.
     fn fill(&mut self) -> io::Result<()>
-        ensures bytes { Keeps (buffered_remaining R.remaining self.old) (buffered_remaining R.remaining self.new) }
+        ensures bytes { Keeps (buffered_remaining R.remaining self.old)
+            (buffered_remaining R.remaining self.new) }
         ensures err { OnErr result (buffered_bytes self.old ≡ []) }
-        ensures end { OnOk result (self.new.end ≤ self.new.start → IsAtEnd (R.remaining self.new.inner)) }
+        ensures end { OnOk result
+            (self.new.end ≤ self.new.start → IsAtEnd (R.remaining self.new.inner)) }
     {
         if self.start < self.end {
             return Ok(());
@@ -66,7 +68,8 @@ impl<R: Read, const N: usize> Read for Buffered<R, N> {
 
     fn read(&mut self, buf: &mut [u8]) -> io::Result<usize>
         ensures bound { ReadsAtMost result buf.new }
-        ensures bytes { ReadConsumes (buffered_remaining R.remaining self.old) (buffered_remaining R.remaining self.new) result buf.new }
+        ensures bytes { ReadConsumes (buffered_remaining R.remaining self.old)
+            (buffered_remaining R.remaining self.new) result buf.new }
         ensures err { OnErr result (buffered_bytes self.old ≡ []) }
     {
         // A long read needs no copy.

@@ -16,6 +16,7 @@ use std::alloc::Global;
 
 // How many bytes each read is offered for lines of blocks, and how many bytes of lines are written at once.
 const BLOCKS_READ: usize = 131072;
+
 const BLOCKS_WRITE: usize = 6400;
 
 /// Does what the words after the program's name ask for, and answers the exit status.
@@ -52,7 +53,8 @@ pub fn run<R: Source, W: Sink, E: Sink>(
     requires writer { W.has_failed out.old ≡ false }
     requires faults { E.has_failed err.old ≡ false }
     ensures { (answer : Result (Unit {0}) Fault)
-        × Performs R.gives R.fails W.takes W.refuses (command_of words.now) r.old r.new out.old out.new answer
+        × Performs R.gives R.fails W.takes W.refuses (command_of words.now)
+        r.old r.new out.old out.new answer
         × Tells E.takes E.refuses E.has_failed answer err.old err.new
         × (result ≡ status_after answer) }
 {
@@ -83,22 +85,20 @@ fn carry_out<R: Source, W: Sink>(
 ) -> Result<(), Fault>
     requires reader { R.has_failed r.old ≡ false }
     requires writer { W.has_failed out.old ≡ false }
-    ensures { Performs R.gives R.fails W.takes W.refuses (command_of words.now) r.old r.new out.old out.new result }
+    ensures { Performs R.gives R.fails W.takes W.refuses (command_of words.now)
+        r.old r.new out.old out.new result }
 {
     let command = parse(words)?;
     perform(alloc, command, r, out)
 }
 
 // Large reads and writes, so that the system calls of small blocks cost little.
-fn print_blocks<R: Source, W: Sink>(
-    size: u64,
-    r: &mut R,
-    out: &mut W,
-) -> Result<(), DigestError>
+fn print_blocks<R: Source, W: Sink>(size: u64, r: &mut R, out: &mut W) -> Result<(), DigestError>
     requires reader { R.has_failed r.old ≡ false }
     requires writer { W.has_failed out.old ≡ false }
     requires some { 1 ≤ size }
-    ensures { DigestsInput R.gives R.fails W.takes W.refuses size r.old r.new out.old out.new result }
+    ensures { DigestsInput R.gives R.fails W.takes W.refuses size
+        r.old r.new out.old out.new result }
 {
     digest_blocks_by::<R, W, BLOCKS_READ, BLOCKS_WRITE>(r, out, size, MAX_READS)
 }
@@ -112,7 +112,8 @@ fn perform<R: Source, W: Sink>(
     requires reader { R.has_failed r.old ≡ false }
     requires writer { W.has_failed out.old ≡ false }
     requires number { NumberFits command }
-    ensures { Performs R.gives R.fails W.takes W.refuses (Ok command.entry) r.old r.new out.old out.new result }
+    ensures { Performs R.gives R.fails W.takes W.refuses (Ok command.entry)
+        r.old r.new out.old out.new result }
 {
     match command {
         Command::Hash { kind, seed } => Ok(digest(kind, seed, MAX_READS, r, out)?),

@@ -11,7 +11,8 @@ ghost use Rattle.xxh_program.specs.Kind.{digits_of, value_of};
 use crate::program::ends::{Failed, Sink, Source};
 use crate::program::error::DigestError;
 use crate::program::feed::Feed;
-use crate::program::hasher_3::{with_seed_64, with_seed_128};
+use crate::program::hasher_3_64::with_seed_64;
+use crate::program::hasher_3_128::with_seed_128;
 use crate::program::hex::write_digits;
 use crate::program::kind::Kind;
 use twox_hash::{XxHash32, XxHash64};
@@ -94,7 +95,7 @@ pub(crate) fn digest_on<H: Feed, R: Source, W: Sink>(
         × ((result ≡ Err DigestError.TooLong) ↔ (length pieces ≡ max_reads))
         × ((seed : ℕ) (m : List ℕ) → H.follows hasher seed m
         → Writes W.takes W.refuses (hex_line digits (H.value_at seed (m ++ concat pieces)))
-            w.old w.new result) }
+        w.old w.new result) }
     ensures read_failed { (result ≡ Err DigestError.ReadFailed) ↔ (R.has_failed r.new ≡ true) }
     ensures write_failed { (result ≡ Err DigestError.WriteFailed) ↔ (W.has_failed w.new ≡ true) }
     ensures unwritten { (result ≡ Err DigestError.ReadFailed) ⊎ (result ≡ Err DigestError.TooLong)
@@ -121,7 +122,7 @@ fn digest_by<H: Feed, R: Source, W: Sink>(
         × ReadsOn R.gives R.fails max_reads pieces r.old r.new result
         × ((result ≡ Err DigestError.TooLong) ↔ (length pieces ≡ max_reads))
         × Writes W.takes W.refuses (hex_line (digits_of kind) (value_of kind seed (concat pieces)))
-            w.old w.new result }
+        w.old w.new result }
     ensures read_failed { (result ≡ Err DigestError.ReadFailed) ↔ (R.has_failed r.new ≡ true) }
     ensures write_failed { (result ≡ Err DigestError.WriteFailed) ↔ (W.has_failed w.new ≡ true) }
 {
@@ -163,7 +164,7 @@ pub fn digest<R: Source, W: Sink>(
         × ReadsOn R.gives R.fails max_reads pieces r.old r.new result
         × ((result ≡ Err DigestError.TooLong) ↔ (length pieces ≡ max_reads))
         × Writes W.takes W.refuses (hex_line (digits_of kind) (value_of kind seed (concat pieces)))
-            w.old w.new result }
+        w.old w.new result }
 
     // When each end fails.
     ensures read_failed { (result ≡ Err DigestError.ReadFailed) ↔ (R.has_failed r.new ≡ true) }

@@ -41,7 +41,8 @@ impl<R: Read> FromRead<R> {
 impl<R: Read> Source for FromRead<R> {
     ghost has_failed = { has_read_failed };
 
-    ghost gives = { λ s piece t. ReadsPiece (R.remaining (reader_of s)) piece (R.remaining (reader_of t)) };
+    ghost gives = { λ s piece t.
+        ReadsPiece (R.remaining (reader_of s)) piece (R.remaining (reader_of t)) };
 
     ghost fails = { λ s t. Keeps (R.remaining (reader_of s)) (R.remaining (reader_of t)) };
 
@@ -63,6 +64,7 @@ impl<R: Read> Source for FromRead<R> {
 /// A law, with nothing to run: where a reader tells the bytes that it has left, the pieces that are read,
 /// joined, and then those that are left afterwards are those that were left before.
 pub fn reader_pieces<R: Read>()
-    ensures { (old new : FromRead R) (pieces : List (List ℕ)) → Pieces ⟦<FromRead<R> as Source>⟧.gives old pieces new
+    ensures { (old new : FromRead R) (pieces : List (List ℕ))
+        → Pieces ⟦<FromRead<R> as Source>⟧.gives old pieces new
         → Consumes (R.remaining (reader_of old)) (R.remaining (reader_of new)) (concat pieces) }
 {}

@@ -52,7 +52,8 @@ impl<W: Write> FromWrite<W> {
 impl<W: Write> Sink for FromWrite<W> {
     ghost has_failed = { has_write_failed };
 
-    ghost takes = { λ s piece t. Appends (W.contents (writer_of s)) (W.contents (writer_of t)) piece };
+    ghost takes = { λ s piece t.
+        Appends (W.contents (writer_of s)) (W.contents (writer_of t)) piece };
 
     ghost refuses = { λ s t. Keeps (W.contents (writer_of s)) (W.contents (writer_of t)) };
 
@@ -74,6 +75,7 @@ impl<W: Write> Sink for FromWrite<W> {
 /// A law, with nothing to run: where a writer tells the bytes that it holds, those that it holds after it
 /// took some pieces are those that it held and then the pieces, joined.
 pub fn writer_pieces<W: Write>()
-    ensures { (old new : FromWrite W) (pieces : List (List ℕ)) → Pieces ⟦<FromWrite<W> as Sink>⟧.takes old pieces new
+    ensures { (old new : FromWrite W) (pieces : List (List ℕ))
+        → Pieces ⟦<FromWrite<W> as Sink>⟧.takes old pieces new
         → Appends (W.contents (writer_of old)) (W.contents (writer_of new)) (concat pieces) }
 {}

@@ -47,7 +47,7 @@ pub fn digest_from_64<R: Source, W: Sink>(
         × ((result ≡ Err DigestError.TooLong) ↔ (length pieces ≡ max_reads))
         × ((m : List ℕ) → StandsFor hasher m
         → Writes W.takes W.refuses (hex_line 16 (xxh64 hasher.seed (m ++ concat pieces)))
-            w.old w.new result) }
+        w.old w.new result) }
 
     // When each end fails, and when nothing is written, whatever the hasher stands for.
     ensures read_failed { (result ≡ Err DigestError.ReadFailed) ↔ (R.has_failed r.new ≡ true) }

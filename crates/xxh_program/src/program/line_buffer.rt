@@ -50,9 +50,12 @@ impl<const N: usize> LineBuffer<N> {
     pub(crate) fn push<W: Sink>(&mut self, line: &[u8; LINE], w: &mut W) -> Result<(), DigestError>
         requires { W.has_failed w.old ≡ false }
         ensures gathers { IfOk result
-            (λ _. Gathers W.takes (waiting_bytes self.old ++ line.now) w.old w.new (waiting_bytes self.new)) }
-        ensures refused { OnErr result (Refused W.takes W.refuses (waiting_bytes self.old) w.old w.new) }
-        ensures write_failed { (result ≡ Err DigestError.WriteFailed) ↔ (W.has_failed w.new ≡ true) }
+            (λ _. Gathers W.takes (waiting_bytes self.old ++ line.now) w.old w.new
+            (waiting_bytes self.new)) }
+        ensures refused { OnErr result
+            (Refused W.takes W.refuses (waiting_bytes self.old) w.old w.new) }
+        ensures write_failed { (result ≡ Err DigestError.WriteFailed)
+            ↔ (W.has_failed w.new ≡ true) }
         ensures only { IfErr result (λ e. e ≡ DigestError.WriteFailed) }
     {
         if N - self.len < LINE {
@@ -77,7 +80,8 @@ impl<const N: usize> LineBuffer<N> {
         requires { W.has_failed w.old ≡ false }
         ensures writes { Writes W.takes W.refuses (waiting_bytes self.old) w.old w.new result }
         ensures empty { IfOk result (λ _. self.new.len ≡ 0) }
-        ensures write_failed { (result ≡ Err DigestError.WriteFailed) ↔ (W.has_failed w.new ≡ true) }
+        ensures write_failed { (result ≡ Err DigestError.WriteFailed)
+            ↔ (W.has_failed w.new ≡ true) }
         ensures only { IfErr result (λ e. e ≡ DigestError.WriteFailed) }
     {
         write_all(&self.bytes[..self.len], w)?;

@@ -17,10 +17,9 @@ use crate::program::fault::Fault;
 use crate::program::from_read::FromRead;
 use crate::program::from_write::FromWrite;
 use std::alloc::{AllocError, Global};
-use std::env;
-use std::io;
 use std::io::{ErrorKind, Read, Write};
 use std::rt::Env;
+use std::{env, io};
 
 // The input is read by this many bytes: one system call for each read of the engine would halve the speed.
 const INPUT_BUFFER: usize = 65536;
@@ -85,11 +84,11 @@ fn run_arguments<R: Source, W: Write, E: Sink>(
     requires faults { E.has_failed err.old ≡ false }
     ensures { (asked : Result (List (Bor (List ℕ))) Fault) × Asks (map string_bytes args.now) asked
         × ((ran answer : Result (Unit {0}) Fault) × (written : FromWrite W)
-            × Performs R.gives R.fails ⟦<FromWrite<W> as Sink>⟧.takes ⟦<FromWrite<W> as Sink>⟧.refuses
-                (command_asked asked) r.old r.new out.old written ran
-            × EndsAs ran answer
-            × Tells E.takes E.refuses E.has_failed answer err.old err.new
-            × (result ≡ status_after answer)) }
+        × Performs R.gives R.fails ⟦<FromWrite<W> as Sink>⟧.takes ⟦<FromWrite<W> as Sink>⟧.refuses
+        (command_asked asked) r.old r.new out.old written ran
+        × EndsAs ran answer
+        × Tells E.takes E.refuses E.has_failed answer err.old err.new
+        × (result ≡ status_after answer)) }
 {
     match words_after_name(alloc, args) {
         Ok(words) => match run(alloc, &words, r, out, err) {

@@ -76,9 +76,11 @@ impl<const N: usize> Sink for ScriptSink<N> {
 
         // Beyond what each sink says.
         ensures size { IfOk result
-            (λ n. n ≡ min (sink_take self.old) (min (length bytes.now) (N - length (sink_bytes self.old)))) }
+            (λ n. n ≡ min (sink_take self.old)
+            (min (length bytes.now) (N - length (sink_bytes self.old)))) }
         ensures fails_at { is_err result ≡ true
-            ↔ (counted (sink_writes self.old) ≡ sink_fail_at self.old) ⊎ (length (sink_bytes self.old) ≡ N) }
+            ↔ (counted (sink_writes self.old) ≡ sink_fail_at self.old)
+            ⊎ (length (sink_bytes self.old) ≡ N) }
     {
         self.writes = self.writes.saturating_add(1);
         let room = N - self.len;

@@ -94,7 +94,8 @@ impl Source for ScriptSource<'_> {
 
         // Beyond what each source says.
         ensures size { IfOk result (λ n. n ≡ next_size self.old (length buf.old)) }
-        ensures fails_at { is_err result ≡ (counted (script_reads self.old) == script_fail_at self.old) }
+        ensures fails_at { is_err result
+            ≡ (counted (script_reads self.old) == script_fail_at self.old) }
     {
         let size = self.next_size(buf.len());
         self.reads = self.reads.saturating_add(1);

@@ -65,7 +65,8 @@ pub(crate) fn resume_32<R: Source, W: Sink>(
 ) -> Result<(), Fault>
     requires reader { R.has_failed r.old ≡ false }
     requires writer { W.has_failed out.old ≡ false }
-    ensures { Resumes32 R.gives R.fails W.takes W.refuses json.now r.old r.new out.old out.new result }
+    ensures { Resumes32 R.gives R.fails W.takes W.refuses json.now
+        r.old r.new out.old out.new result }
 {
     let hasher = restored_32(alloc, json)?;
     Ok(digest_from_32(hasher, MAX_READS, r, out)?)
@@ -80,7 +81,8 @@ pub(crate) fn resume_64<R: Source, W: Sink>(
 ) -> Result<(), Fault>
     requires reader { R.has_failed r.old ≡ false }
     requires writer { W.has_failed out.old ≡ false }
-    ensures { Resumes64 R.gives R.fails W.takes W.refuses json.now r.old r.new out.old out.new result }
+    ensures { Resumes64 R.gives R.fails W.takes W.refuses json.now
+        r.old r.new out.old out.new result }
 {
     let hasher = restored_64(alloc, json)?;
     Ok(digest_from_64(hasher, MAX_READS, r, out)?)

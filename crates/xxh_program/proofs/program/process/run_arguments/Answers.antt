@@ -1,4 +1,4 @@
-use Rattle.std.proofs.Common.{◌≡◌, Ok, Err, map, string_bytes, refl, sym, ap, ◌∙◌, subst}
+use Rattle.std.proofs.Common.{◌≡◌, Ok, Err, map, string_bytes, refl, sym, ◌∙◌, subst}
 use Rattle.std.specs.declared.result.Result.{Result}
 use Rattle.xxh_program.specs.declared.program.fault.Fault.{Fault}
 use Rattle.xxh_program.specs.declared.program.fault.Fault.TheVariants.{OutOfMemory}

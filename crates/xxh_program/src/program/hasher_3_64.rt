@@ -1,0 +1,33 @@
+//! XXH3 of 64 bits in the digest engine.
+
+ghost use Rattle.std.specs.Prelude.{[]};
+ghost use Rattle.xxh_program.specs.Kind.{seeded_64};
+ghost use Rattle.xxh_program.specs.Streams.{AnySeed, FollowsDerived};
+
+use crate::program::feed::Feed;
+use crate::program::hasher_3::derived_secret_of;
+use twox_hash::xxhash3::DefaultSecret;
+use twox_hash::xxhash3_64::RawHasher;
+
+impl Feed for RawHasher<DefaultSecret> {
+    ghost follows = { FollowsDerived };
+
+    ghost has_seed = { AnySeed };
+
+    ghost value_at = { seeded_64 };
+
+    fn feed(&mut self, piece: &[u8]) {
+        self.write(piece);
+    }
+
+    fn value(&self) -> u128 {
+        u128::from(self.finish())
+    }
+}
+
+// The stream of no bytes.
+pub(crate) fn with_seed_64(seed: u64) -> RawHasher<DefaultSecret>
+    ensures { FollowsDerived result seed [] }
+{
+    RawHasher::new(derived_secret_of(seed))
+}
