@@ -1,6 +1,7 @@
 # What bench/run and bench/compare build: sourced by both, in the folder bench. $room is a folder of the run's own.
 top=$(cd .. && pwd)
 room=$(mktemp -d)
+trap 'rm -rf "$room"' EXIT
 sets=(x86-64-v2 x86-64-v3)
 libraries=
 

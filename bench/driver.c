@@ -21,7 +21,6 @@
 #define MOST_PEERS 8
 #define TURNS 11
 #define SLICE 1200000.0 /* nanoseconds that a peer is timed for, a turn */
-#define LONGEST ((size_t)64 << 20)
 #define MIB ((size_t)1 << 20)
 #define SECRET 192
 
@@ -188,7 +187,7 @@ static void rows(enum form form, int which, const size_t *sizes)
 int main(int argc, char **argv)
 {
     static const size_t lengths[] = { 4, 8, 16, 32, 64, 128, 240, 256, 512, 1 << 10, 4 << 10, 16 << 10, 64 << 10,
-        256 << 10, MIB, 2 * MIB, 4 * MIB, 16 * MIB, LONGEST, 0 };
+        256 << 10, MIB, 2 * MIB, 4 * MIB, 16 * MIB, ROOM, 0 };
     static const size_t few_lengths[] = { 4, 16, 32, 64, 128, 240, 256, 1 << 10, 16 << 10, 256 << 10, 4 * MIB, 0 };
     static const size_t pieces[] = { 1, 8, 16, 24, 32, 40, 64, 100, 256, 1000, 4096, 65536, 0 };
     static const size_t few_pieces[] = { 1, 8, 24, 64, 100, 1000, 65536, 0 };
@@ -200,9 +199,9 @@ int main(int argc, char **argv)
         if (!strcmp(argv[i], "--quick")) quick = 1;
         else if (!strcmp(argv[i], "--only") && i + 1 < argc) given[words++] = argv[++i];
         else return fprintf(stderr, "usage: driver [--quick] [--only WORD]..\n"), 2;
-    if (!(input = malloc(LONGEST))) return 1;
+    if (!(input = malloc(ROOM))) return 1;
     uint64_t x = 1;
-    for (size_t i = 0; i < LONGEST; i++) {
+    for (size_t i = 0; i < ROOM; i++) {
         x = x * 6364136223846793005u + 1442695040888963407u;
         input[i] = (unsigned char)(x >> 56);
         if (i < SECRET) secret[i] = (unsigned char)(x >> 48);

@@ -182,7 +182,9 @@ text = [
     "code is compiled into that function, and the seed 0 and the default secret into its code; Debian's shared library is "
     "one call further away, through the procedure linkage table, and is built for plain x86-64. The Rust compiler, clang "
     "and ours have versions of LLVM of their own. Ours takes the input as the address of a room of 64 MiB and a length, "
-    "which it compares with the room: a slice from C would be tested for the null address, which no caller in Rattle pays.",
+    "which it compares with the room, since a slice from C would be tested for the null address; no caller in Rattle pays "
+    "for either. So that the comparison counts for nobody, the peers' one-shots make it too: of 16 to 32 bytes it is a "
+    "tenth of a call.",
     "",
     "![throughput over the length](speed.svg)",
     "",

@@ -2,8 +2,11 @@
 use std::slice::from_raw_parts;
 use xxhash_rust::{xxh3, xxh32, xxh64};
 
+/// The bytes of the room that holds the input, which every peer compares a length with.
+const ROOM: usize = 64 << 20;
+
 unsafe fn bytes<'a>(input: *const u8, length: usize) -> &'a [u8] {
-    from_raw_parts(input, length)
+    from_raw_parts(input, length.min(ROOM))
 }
 
 /// A value of 128 bits, as C has it.

@@ -33,7 +33,8 @@ pub extern "C" fn twox_xxh3_64(input: &Input, len: usize) -> u64
 
 #[unsafe(no_mangle)]
 pub extern "C" fn twox_xxh3_64_with_seed(seed: u64, input: &Input, len: usize) -> u64
-    ensures { result ≡ xxh3_64 seed (effective_secret (derived_secret seed) (take (min len (2 ^ 26)) input.now)) (take (min len (2 ^ 26)) input.now) }
+    ensures { let m = take (min len (2 ^ 26)) input.now in
+        result ≡ xxh3_64 seed (effective_secret (derived_secret seed) m) m }
 {
     XxHash3_64::oneshot_with_seed(seed, &input[..len.min(ROOM)])
 }
@@ -46,7 +47,8 @@ pub extern "C" fn twox_xxh3_64_with_secret(
     input: &Input,
     len: usize,
 ) -> u64
-    ensures { 136 ≤ secret_len → result ≡ xxh3_64 0 (take (min secret_len 192) secret.now) (take (min len (2 ^ 26)) input.now) }
+    ensures { 136 ≤ secret_len
+        → result ≡ xxh3_64 0 (take (min secret_len 192) secret.now) (take (min len (2 ^ 26)) input.now) }
 {
     match XxHash3_64::oneshot_with_secret(
         &secret[..secret_len.min(DEFAULT_SECRET_LENGTH)],

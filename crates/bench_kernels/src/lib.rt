@@ -54,6 +54,7 @@ fn stream<V: Vector>(kernel: V, input: &[u8], piece: usize) -> u64 {
     core.finish_with(kernel, Finalize64)
 }
 
+/// The hash under the seed 0 by the plain kernel.
 #[unsafe(no_mangle)]
 pub extern "C" fn twox_xxh3_64_scalar(input: &Input, len: usize) -> u64
     ensures { result ≡ xxh3_64 0 default_secret (take (min len (2 ^ 26)) input.now) }
@@ -61,6 +62,7 @@ pub extern "C" fn twox_xxh3_64_scalar(input: &Input, len: usize) -> u64
     oneshot(scalar::Impl {}, &input[..len.min(ROOM)])
 }
 
+/// The hash under the seed 0 by the kernel of two words.
 #[unsafe(no_mangle)]
 pub extern "C" fn twox_xxh3_64_lanes2(input: &Input, len: usize) -> u64
     ensures { result ≡ xxh3_64 0 default_secret (take (min len (2 ^ 26)) input.now) }
@@ -68,6 +70,7 @@ pub extern "C" fn twox_xxh3_64_lanes2(input: &Input, len: usize) -> u64
     oneshot(lanes2::Impl {}, &input[..len.min(ROOM)])
 }
 
+/// The hash under the seed 0 by the kernel of four words.
 #[unsafe(no_mangle)]
 pub extern "C" fn twox_xxh3_64_lanes4(input: &Input, len: usize) -> u64
     ensures { result ≡ xxh3_64 0 default_secret (take (min len (2 ^ 26)) input.now) }
@@ -75,6 +78,7 @@ pub extern "C" fn twox_xxh3_64_lanes4(input: &Input, len: usize) -> u64
     oneshot(lanes4::Impl {}, &input[..len.min(ROOM)])
 }
 
+/// The hash under the seed 0 by the kernel of split products.
 #[unsafe(no_mangle)]
 pub extern "C" fn twox_xxh3_64_split2(input: &Input, len: usize) -> u64
     ensures { result ≡ xxh3_64 0 default_secret (take (min len (2 ^ 26)) input.now) }
@@ -82,21 +86,25 @@ pub extern "C" fn twox_xxh3_64_split2(input: &Input, len: usize) -> u64
     oneshot(split2::Impl {}, &input[..len.min(ROOM)])
 }
 
+/// The hash under the seed 0, in pieces of that many bytes, by the plain kernel.
 #[unsafe(no_mangle)]
 pub extern "C" fn twox_xxh3_64_stream_scalar(input: &Input, len: usize, piece: usize) -> u64 {
     stream(scalar::Impl {}, &input[..len.min(ROOM)], piece)
 }
 
+/// The hash under the seed 0, in pieces of that many bytes, by the kernel of two words.
 #[unsafe(no_mangle)]
 pub extern "C" fn twox_xxh3_64_stream_lanes2(input: &Input, len: usize, piece: usize) -> u64 {
     stream(lanes2::Impl {}, &input[..len.min(ROOM)], piece)
 }
 
+/// The hash under the seed 0, in pieces of that many bytes, by the kernel of four words.
 #[unsafe(no_mangle)]
 pub extern "C" fn twox_xxh3_64_stream_lanes4(input: &Input, len: usize, piece: usize) -> u64 {
     stream(lanes4::Impl {}, &input[..len.min(ROOM)], piece)
 }
 
+/// The hash under the seed 0, in pieces of that many bytes, by the kernel of split products.
 #[unsafe(no_mangle)]
 pub extern "C" fn twox_xxh3_64_stream_split2(input: &Input, len: usize, piece: usize) -> u64 {
     stream(split2::Impl {}, &input[..len.min(ROOM)], piece)

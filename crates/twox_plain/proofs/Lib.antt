@@ -30,4 +30,3 @@ pub mod Vectors32
 pub mod Vectors64
 pub mod WordFacts
 pub mod WordLaws
-
