@@ -29,4 +29,3 @@ pub mod Vectors32
 pub mod Vectors64
 pub mod WordFacts
 pub mod WordLaws
-
