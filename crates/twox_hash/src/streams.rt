@@ -53,7 +53,8 @@ impl<F: Finalize, S: FixedBuffer> RawStream<F, S> {
     /// The secret, as it was handed in.
     pub fn into_secret(self) -> S
         ensures exact { result ≡ self.key.secret }
-        ensures message { (seed : Option ℕ) (s m : List ℕ) → StandsFor S.bytes self seed s m → S.bytes result ≡ s }
+        ensures message { (seed : Option ℕ) (s m : List ℕ) → StandsFor S.bytes self seed s m
+            → S.bytes result ≡ s }
     {
         let RawStream { core, finalizer: _ } = self;
         core.into_secret()
@@ -196,7 +197,8 @@ impl<F: Finalize, A: Allocator> BoxedStream<F, A> {
     /// The secret, as it was handed in or made.
     pub fn into_secret(self) -> BoxedSlice<u8, A>
         ensures exact { result ≡ self.key.secret }
-        ensures message { (seed : Option ℕ) (s m : List ℕ) → StandsFor boxed_slice_items self seed s m
+        ensures message { (seed : Option ℕ) (s m : List ℕ)
+            → StandsFor boxed_slice_items self seed s m
             → boxed_slice_items result ≡ s }
     {
         let BoxedStream {
