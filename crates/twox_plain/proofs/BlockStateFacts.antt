@@ -5,6 +5,7 @@ use Rattle.std.proofs.lemmas.Bool.Decides.{nat_tests}
 use Rattle.std.proofs.lemmas.List.{append-nil, drop-append-le, drop-drop, drop_all, drop_at, take_at, length-take-le}
 use Rattle.std.proofs.lemmas.Nat.{div-mul-add, mod-mul-add, div-add-mod', mod_below}
 use Rattle.std.proofs.lemmas.Slice.{take-put_mid}
+use Rattle.std.proofs.Math.Nat.{div-eq_of_lt}
 use Rattle.std.proofs.Math.Seq.{take-append-add, drop-append-add}
 use Rattle.twox_plain.specs.Word.{counted}
 use Rattle.twox_plain.specs.BlockState.{BlockState, Follows, AgreeInUse, buffer_with, after_blocks, after_piece}
@@ -42,6 +43,19 @@ module _ {X : Type 0} (block : ℕ) (from : X → List ℕ → ℕ → X) where
   after_piece_empty h d unused =
       let test : nat_lt 0 h.usage ≡ false = grind (arith, nat_tests) in
       rw test refl
+
+  -- it leaves less than a block, whether the buffer was empty or not
+  pub after_piece_kept : (h : BlockState X) (d : List ℕ) → from h.accumulators d 0 ≡ h.accumulators → length d < block - h.usage
+      → after_piece block from h d ≡ record { accumulators = h.accumulators; buffer = buffer_with h d; usage = h.usage + length d }
+  after_piece_kept h d none short = elim (cases_lt 0 h.usage) [
+    | inl used ↦ after_piece_short h d used short
+    | inr unused ↦
+        let zero_used : h.usage ≡ 0 = omega (arith, unused) in
+        let whole : length d / block ≡ 0 = div-eq_of_lt (omega (arith, short)) in
+        let no_blocks : 0 * block ≡ 0 = omega arith in
+        let all_used : 0 + length d ≡ length d = omega arith in
+        rw (after_piece_empty h d unused, whole, zero_used, no_blocks, all_used, none) refl
+  ]
 
 -- ---- what follows m, follows m ++ d after the piece d
 

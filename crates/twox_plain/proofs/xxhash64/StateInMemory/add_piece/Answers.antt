@@ -1,42 +1,21 @@
 use Rattle.std.proofs.Common.{◌≡◌, ◌+◌, ◌-◌, ◌++◌, length, take, refl, sym, subst, arith}
-use Rattle.std.proofs.lemmas.List.{take_rest, length-take-le}
 use Rattle.twox_plain.specs.Core64.{core_after_stripes}
 use Rattle.twox_plain.specs.Record64.{StandsFor, parts, after_write}
 use Rattle.twox_plain.specs.StateInMemory64.{record_of}
 use Rattle.twox_plain.specs.declared.xxhash64.SavedState.{SavedState}
-use Rattle.twox_plain.proofs.BlockStateFacts.{after_piece_short, after_piece_full, after_piece_empty}
+use Rattle.twox_plain.proofs.BlockStateFacts.{after_piece_kept}
 use Rattle.twox_plain.proofs.Message64.{after_write_stands}
+use Rattle.twox_plain.specs.Units.{after_units}
 use Rattle.twox_plain.proofs.xxhash64.StateInMemory.add_piece.Goals as goal
-use Rattle.twox_plain.proofs.xxhash64.StateInMemory.add_piece.Goals.{then-used-gt0+else-input-room, else-used-gt0}
 
-pub returns-then-input-room-clause-exact : goal.returns-then-input-room-clause-exact
-unfolding after_write
-returns-then-input-room-clause-exact c =
+pub returns-then-input-used-clause-exact : goal.returns-then-input-used-clause-exact
+unfolding after_write core_after_stripes after_units
+returns-then-input-used-clause-exact c =
     let old = record_of c.args.self.now in
     let d = c.args.input.now in
     let width : old.buffer_usage + length d - old.buffer_usage ≡ length d = omega arith in
-    rw (after_piece_short 32 core_after_stripes (parts old).state d c.if-used-gt0.true c.if-input-room.true, c.saturating_add-self.ensures, c.into_u64.ensures, width, c.copy_from_slice.ensures.after) refl
+    rw (after_piece_kept 32 core_after_stripes (parts old).state d refl (omega arith), c.saturating_add-self.ensures, c.into_u64.ensures, width, c.copy_from_slice.ensures.after) refl
 
-pub returns-clause-exact : goal.returns-clause-exact
-unfolding after_write
-returns-clause-exact c =
-    let old = record_of c.args.self.now in
-    let d = c.args.input.now in
-    let all = take_rest d c.if-used-gt0.taken in
-    let taken = rw (all, c.core-core-2.ensures) at c.write_many-rest.ensures.accumulators in
-    let cut = rw all at c.write_many-rest.ensures.rest in
-    elim c.if-used-gt0.branch [
-      | then-used-gt0+else-input-room w ↦
-          let room : length (take (32 - old.buffer_usage) d) ≡ 32 - old.buffer_usage = length-take-le (32 - old.buffer_usage) d (omega arith) in
-          rw (after_piece_full 32 core_after_stripes (parts old).state d w.if-used-gt0.true (omega arith), c.put_front.ensures, c.set_core-2.ensures, rw w.taken-is at taken, rw w.taken-is at cut, w.self-is, w.set_core.ensures, w.write.ensures, w.core-core.ensures, w.copy_from_slice-then-used-gt0.ensures.after, room, c.saturating_add-self.ensures, c.into_u64.ensures) refl
-      | else-used-gt0 w ↦
-          rw (after_piece_empty 32 core_after_stripes (parts old).state d (omega arith), c.put_front.ensures, c.set_core-2.ensures, rw w.taken-is at taken, rw w.taken-is at cut, w.self-is, c.saturating_add-self.ensures, c.into_u64.ensures) refl
-    ]
-
-pub returns-then-input-room-clause-message : goal.returns-then-input-room-clause-message
-returns-then-input-room-clause-message c = λ m stands.
-    subst (λ (s : SavedState). StandsFor s (m ++ c.args.input.now)) (sym (returns-then-input-room-clause-exact c)) (after_write_stands (record_of c.args.self.now) m c.args.input.now (omega arith) stands)
-
-pub returns-clause-message : goal.returns-clause-message
-returns-clause-message c = λ m stands.
-    subst (λ (s : SavedState). StandsFor s (m ++ c.args.input.now)) (sym (returns-clause-exact c)) (after_write_stands (record_of c.args.self.now) m c.args.input.now (omega arith) stands)
+pub returns-then-input-used-clause-message : goal.returns-then-input-used-clause-message
+returns-then-input-used-clause-message c = λ m stands.
+    subst (λ (s : SavedState). StandsFor s (m ++ c.args.input.now)) (sym (returns-then-input-used-clause-exact c)) (after_write_stands (record_of c.args.self.now) m c.args.input.now (omega arith) stands)

@@ -1,0 +1,30 @@
+use Rattle.std.proofs.Common.{◌≡◌, ◌+◌, ◌-◌, ◌++◌, length, take, refl, sym, subst, arith}
+use Rattle.std.proofs.lemmas.List.{take_rest, length-take-le}
+use Rattle.twox_plain.specs.Core32.{core_after_stripes}
+use Rattle.twox_plain.specs.Record32.{StandsFor, parts, after_write}
+use Rattle.twox_plain.specs.StateInMemory32.{record_of}
+use Rattle.twox_plain.specs.declared.xxhash32.SavedState.{SavedState}
+use Rattle.twox_plain.proofs.BlockStateFacts.{after_piece_full, after_piece_empty}
+use Rattle.twox_plain.proofs.Message32.{after_write_stands}
+use Rattle.twox_plain.proofs.xxhash32.StateInMemory.add_stripes.Goals as goal
+use Rattle.twox_plain.proofs.xxhash32.StateInMemory.add_stripes.Goals.{then-before-gt0, else-before-gt0}
+
+pub returns-clause-exact : goal.returns-clause-exact
+unfolding after_write
+returns-clause-exact c =
+    let old = record_of c.args.self.now in
+    let d = c.args.input.now in
+    let all = take_rest d c.if-before-gt0.taken in
+    let taken = rw (all, c.core-core-2.ensures) at c.write_many-rest.ensures.accumulators in
+    let cut = rw all at c.write_many-rest.ensures.rest in
+    elim c.if-before-gt0.branch [
+      | then-before-gt0 w ↦
+          let room : length (take (16 - old.buffer_usage) d) ≡ 16 - old.buffer_usage = length-take-le (16 - old.buffer_usage) d (omega arith) in
+          rw (after_piece_full 16 core_after_stripes (parts old).state d w.if-before-gt0.true (omega arith), c.put_front.ensures, c.set_core-2.ensures, rw w.taken-is at taken, rw w.taken-is at cut, w.self-is, w.set_core.ensures, w.write.ensures, w.core-core.ensures, w.copy_from_slice.ensures.after, room, c.saturating_add-self.ensures, c.into_u64.ensures) refl
+      | else-before-gt0 w ↦
+          rw (after_piece_empty 16 core_after_stripes (parts old).state d (omega arith), c.put_front.ensures, c.set_core-2.ensures, rw w.taken-is at taken, rw w.taken-is at cut, w.self-is, c.saturating_add-self.ensures, c.into_u64.ensures) refl
+    ]
+
+pub returns-clause-message : goal.returns-clause-message
+returns-clause-message c = λ m stands.
+    subst (λ (s : SavedState). StandsFor s (m ++ c.args.input.now)) (sym (returns-clause-exact c)) (after_write_stands (record_of c.args.self.now) m c.args.input.now (omega arith) stands)
