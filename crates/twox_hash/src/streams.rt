@@ -74,6 +74,8 @@ impl<F: Finalize, S: ClonedBuffer> Clone for RawStream<F, S> {
 
     ghost is_clone = { λ a b. IsCopy S.FixedBuffer.bytes a b };
 
+    ghost is_infallible = { λ h. S.Clone.is_infallible h.key.secret };
+
     fn clone(&self) -> Result<RawStream<F, S>, AllocError> {
         let core = self.core.clone()?;
         Ok(RawStream {

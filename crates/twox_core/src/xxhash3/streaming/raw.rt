@@ -166,6 +166,8 @@ impl<S: ClonedBuffer> Clone for RawHasherCore<S> {
 
     ghost is_clone = { λ a b. IsCopy S.FixedBuffer.bytes a b };
 
+    ghost is_infallible = { λ h. S.Clone.is_infallible h.key.secret };
+
     fn clone(&self) -> Result<RawHasherCore<S>, AllocError> {
         let secret_buffer = self.secret_buffer.clone()?;
         Ok(RawHasherCore {

@@ -223,6 +223,8 @@ impl<S: ClonedBuffer> Clone for SecretBuffer<S> {
 
     ghost is_clone = { λ a b. (b.seed ≡ a.seed) × (S.FixedBuffer.bytes b.secret ≡ S.FixedBuffer.bytes a.secret) };
 
+    ghost is_infallible = { λ b. S.Clone.is_infallible b.secret };
+
     fn clone(&self) -> Result<SecretBuffer<S>, AllocError> {
         let secret = self.secret.clone()?;
         Ok(SecretBuffer {
