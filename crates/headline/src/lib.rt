@@ -54,7 +54,8 @@ pub trait Stream {
 
     /// The value of the pieces so far.
     fn answer(&self) -> Self::Value
-        ensures { (seed : Option ℕ) (s m : List ℕ) → follows self.now seed s m → result ≡ value seed s m };
+        ensures { (seed : Option ℕ) (s m : List ℕ) → follows self.now seed s m
+            → result ≡ value seed s m };
 }
 
 impl Stream for XxHash32 {

@@ -53,7 +53,8 @@ impl<F: Finalize, S: FixedBuffer> RawStream<F, S> {
     /// The secret, as it was handed in.
     pub fn into_secret(self) -> S
         ensures exact { result ≡ self.key.secret }
-        ensures message { (seed : Option ℕ) (s m : List ℕ) → StandsFor S.bytes self seed s m → S.bytes result ≡ s }
+        ensures message { (seed : Option ℕ) (s m : List ℕ) → StandsFor S.bytes self seed s m
+            → S.bytes result ≡ s }
     {
         let RawStream { core, finalizer: _ } = self;
         core.into_secret()
@@ -72,6 +73,8 @@ impl<F: Finalize, S: ClonedBuffer> Clone for RawStream<F, S> {
     ghost use Rattle.twox_core.specs.StandsFor.{IsCopy};
 
     ghost is_clone = { λ a b. IsCopy S.FixedBuffer.bytes a b };
+
+    ghost is_infallible = { λ h. S.Clone.is_infallible h.key.secret };
 
     fn clone(&self) -> Result<RawStream<F, S>, AllocError> {
         let core = self.core.clone()?;
@@ -196,7 +199,8 @@ impl<F: Finalize, A: Allocator> BoxedStream<F, A> {
     /// The secret, as it was handed in or made.
     pub fn into_secret(self) -> BoxedSlice<u8, A>
         ensures exact { result ≡ self.key.secret }
-        ensures message { (seed : Option ℕ) (s m : List ℕ) → StandsFor boxed_slice_items self seed s m
+        ensures message { (seed : Option ℕ) (s m : List ℕ)
+            → StandsFor boxed_slice_items self seed s m
             → boxed_slice_items result ≡ s }
     {
         let BoxedStream {

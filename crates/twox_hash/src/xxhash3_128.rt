@@ -132,7 +132,8 @@ impl<A: Allocator> Hasher<A> {
     #[inline]
     #[tactic(auto, unfolding(crate::specs::Streams::value_128))]
     pub fn finish_128(&self) -> u128
-        ensures message { (seed : Option ℕ) (s m : List ℕ) → StandsFor boxed_slice_items self.now seed s m
+        ensures message { (seed : Option ℕ) (s m : List ℕ)
+            → StandsFor boxed_slice_items self.now seed s m
             → result ≡ stream_128 seed s m }
         ensures exact { result ≡ value_128 boxed_slice_items self.now }
     {
@@ -239,7 +240,8 @@ fn impl_oneshot_keyed(secret: Secret<'_>, input: &[u8]) -> u128
 #[tactic(auto, using(twox_core::proofs::EndingFacts::block_both))]
 fn impl_oneshot_long(secret: Secret<'_>, input: &[u8]) -> u128
     requires { 240 < length input.now }
-    ensures { let s = secret_bytes secret.entry in result ≡ high_above_240 s input.now * 2 ^ 64 + low_above_240 s input.now }
+    ensures { let s = secret_bytes secret.entry in
+        result ≡ high_above_240 s input.now * 2 ^ 64 + low_above_240 s input.now }
 {
     Algorithm(Kernel {}).oneshot(secret, input, Finalize128)
 }
@@ -249,7 +251,8 @@ fn impl_oneshot_long(secret: Secret<'_>, input: &[u8]) -> u128
 #[tactic(auto, using(twox_core::proofs::Vectors::derived_secret_none))]
 fn impl_oneshot_long_seeded(seed: u64, input: &[u8]) -> u128
     requires { 240 < length input.now }
-    ensures { let s = derived_secret seed in result ≡ high_above_240 s input.now * 2 ^ 64 + low_above_240 s input.now }
+    ensures { let s = derived_secret seed in
+        result ≡ high_above_240 s input.now * 2 ^ 64 + low_above_240 s input.now }
 {
     if seed == DEFAULT_SEED {
         impl_oneshot_long(default_secret(), input)
@@ -262,7 +265,8 @@ fn impl_oneshot_long_seeded(seed: u64, input: &[u8]) -> u128
 #[inline(never)]
 fn impl_oneshot_long_derived(seed: u64, input: &[u8]) -> u128
     requires { 240 < length input.now }
-    ensures { let s = derived_secret seed in result ≡ high_above_240 s input.now * 2 ^ 64 + low_above_240 s input.now }
+    ensures { let s = derived_secret seed in
+        result ≡ high_above_240 s input.now * 2 ^ 64 + low_above_240 s input.now }
 {
     let secret = derived_secret(seed);
     impl_oneshot_long(Secret::new(&secret).unwrap(), input)

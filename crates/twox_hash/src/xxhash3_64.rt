@@ -127,7 +127,8 @@ impl<A: Allocator> Hasher<A> {
     #[inline]
     #[tactic(auto, unfolding(crate::specs::Streams::value_64))]
     pub fn finish(&self) -> u64
-        ensures message { (seed : Option ℕ) (s m : List ℕ) → StandsFor boxed_slice_items self.now seed s m
+        ensures message { (seed : Option ℕ) (s m : List ℕ)
+            → StandsFor boxed_slice_items self.now seed s m
             → result ≡ stream_64 seed s m }
         ensures exact { result ≡ value_64 boxed_slice_items self.now }
     {
@@ -168,7 +169,8 @@ impl<A: Allocator> hash::Hasher for Hasher<A> {
     ghost finish = { λ h. value_64 boxed_slice_items h };
 
     fn finish(&self) -> u64
-        ensures message { (seed : Option ℕ) (s m : List ℕ) → StandsFor boxed_slice_items self.now seed s m
+        ensures message { (seed : Option ℕ) (s m : List ℕ)
+            → StandsFor boxed_slice_items self.now seed s m
             → result ≡ stream_64 seed s m }
         ensures exact { result ≡ value_64 boxed_slice_items self.now }
     {
@@ -435,7 +437,8 @@ fn impl_17_to_128_bytes(secret: Secret<'_>, seed: u64, input: &[u8]) -> u64
 fn sum_17_to_128(secret: Secret<'_>, seed: u64, input: &[u8]) -> u64
     requires some { 17 ≤ length input.now }
     requires few { length input.now ≤ 128 }
-    ensures { result ≡ (length input.now * prime64_1 + sum_below (both_ends seed (secret_bytes secret.entry) input.now) ((length input.now - 1) / 32 + 1)) % 2 ^ 64 }
+    ensures { result ≡ (length input.now * prime64_1
+        + sum_below (both_ends seed (secret_bytes secret.entry) input.now) ((length input.now - 1) / 32 + 1)) % 2 ^ 64 }
 {
     let sum = input.len().into_u64().wrapping_mul(PRIME64_1);
     let sum = add_both_ends(sum, secret, seed, input, 0);

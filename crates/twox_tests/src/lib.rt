@@ -6,6 +6,8 @@ mod fast_and_slow;
 #[cfg(test)]
 mod forged;
 #[cfg(test)]
+mod great_streams;
+#[cfg(test)]
 mod kernels;
 #[cfg(test)]
 mod keyed_streams;

@@ -42,7 +42,8 @@ pub fn mix_step(bytes: &[u8; 16], secret: &[u8; 16], seed: u64) -> u64
 #[inline(always)]
 #[tactic(auto, unfolding(crate::specs::Steps::mix))]
 pub fn mix_words(first: u64, second: u64, secret: &[u8; 16], seed: u64) -> u64
-    ensures { (m : List ℕ) (i : ℕ) → first ≡ word64 m i → second ≡ word64 m (i + 8) → result ≡ mix m i secret.now 0 seed }
+    ensures { (m : List ℕ) (i : ℕ) → first ≡ word64 m i → second ≡ word64 m (i + 8)
+        → result ≡ mix m i secret.now 0 seed }
 {
     let words = to_u64s(secret);
     let a = first ^ words[0].wrapping_add(seed);

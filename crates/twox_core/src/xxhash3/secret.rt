@@ -67,7 +67,8 @@ impl<'a> Secret<'a> {
     /// The bytes are fewer than 136.
     #[inline(always)]
     pub fn new(bytes: &'a [u8]) -> Result<Secret<'a>, Error>
-        ensures { MatchResult result (λ s. (136 ≤ length bytes.now) × (secret_bytes s ≡ bytes.now)) (λ _. length bytes.now < 136) }
+        ensures { MatchResult result (λ s. (136 ≤ length bytes.now) × (secret_bytes s
+            ≡ bytes.now)) (λ _. length bytes.now < 136) }
     {
         if bytes.len() < SECRET_MINIMUM_LENGTH {
             return Err(Error);
@@ -182,7 +183,8 @@ impl<'a> Secret64BitView<'a> {
     /// The eight-byte words at 56 and 64.
     #[inline(always)]
     pub fn words_for_0(self) -> [u64; 2]
-        ensures { let s = viewed_by_64 self.entry in result ≡ word_at w64 s 56 ∷ word_at w64 s 64 ∷ [] }
+        ensures { let s = viewed_by_64 self.entry in
+            result ≡ word_at w64 s 56 ∷ word_at w64 s 64 ∷ [] }
     {
         let bytes = self.secret.bytes;
         [u64_at(bytes, 56), u64_at(bytes, 64)]
@@ -191,7 +193,8 @@ impl<'a> Secret64BitView<'a> {
     /// The four-byte words at 0 and 4.
     #[inline(always)]
     pub fn words_for_1_to_3(self) -> [u32; 2]
-        ensures { let s = viewed_by_64 self.entry in result ≡ word_at w32 s 0 ∷ word_at w32 s 4 ∷ [] }
+        ensures { let s = viewed_by_64 self.entry in
+            result ≡ word_at w32 s 0 ∷ word_at w32 s 4 ∷ [] }
     {
         let bytes = self.secret.bytes;
         [u32_at(bytes, 0), u32_at(bytes, 4)]
@@ -200,7 +203,8 @@ impl<'a> Secret64BitView<'a> {
     /// The eight-byte words at 8 and 16.
     #[inline(always)]
     pub fn words_for_4_to_8(self) -> [u64; 2]
-        ensures { let s = viewed_by_64 self.entry in result ≡ word_at w64 s 8 ∷ word_at w64 s 16 ∷ [] }
+        ensures { let s = viewed_by_64 self.entry in
+            result ≡ word_at w64 s 8 ∷ word_at w64 s 16 ∷ [] }
     {
         let bytes = self.secret.bytes;
         [u64_at(bytes, 8), u64_at(bytes, 16)]
@@ -209,7 +213,9 @@ impl<'a> Secret64BitView<'a> {
     /// The eight-byte words at 24, 32, 40 and 48.
     #[inline(always)]
     pub fn words_for_9_to_16(self) -> [u64; 4]
-        ensures { let s = viewed_by_64 self.entry in result ≡ word_at w64 s 24 ∷ word_at w64 s 32 ∷ word_at w64 s 40 ∷ word_at w64 s 48 ∷ [] }
+        ensures { let s = viewed_by_64 self.entry in
+            result ≡ word_at w64 s 24 ∷ word_at w64 s 32 ∷ word_at w64 s 40 ∷ word_at w64 s 48
+            ∷ [] }
     {
         let bytes = self.secret.bytes;
         [
@@ -263,7 +269,9 @@ impl<'a> Secret128BitView<'a> {
     /// The eight-byte words at 64, 72, 80 and 88.
     #[inline(always)]
     pub fn words_for_0(self) -> [u64; 4]
-        ensures { let s = viewed_by_128 self.entry in result ≡ word_at w64 s 64 ∷ word_at w64 s 72 ∷ word_at w64 s 80 ∷ word_at w64 s 88 ∷ [] }
+        ensures { let s = viewed_by_128 self.entry in
+            result ≡ word_at w64 s 64 ∷ word_at w64 s 72 ∷ word_at w64 s 80 ∷ word_at w64 s 88
+            ∷ [] }
     {
         let bytes = self.secret.bytes;
         [
@@ -277,7 +285,8 @@ impl<'a> Secret128BitView<'a> {
     /// The four-byte words at 0, 4, 8 and 12.
     #[inline(always)]
     pub fn words_for_1_to_3(self) -> [u32; 4]
-        ensures { let s = viewed_by_128 self.entry in result ≡ word_at w32 s 0 ∷ word_at w32 s 4 ∷ word_at w32 s 8 ∷ word_at w32 s 12 ∷ [] }
+        ensures { let s = viewed_by_128 self.entry in
+            result ≡ word_at w32 s 0 ∷ word_at w32 s 4 ∷ word_at w32 s 8 ∷ word_at w32 s 12 ∷ [] }
     {
         let bytes = self.secret.bytes;
         [
@@ -291,7 +300,8 @@ impl<'a> Secret128BitView<'a> {
     /// The eight-byte words at 16 and 24.
     #[inline(always)]
     pub fn words_for_4_to_8(self) -> [u64; 2]
-        ensures { let s = viewed_by_128 self.entry in result ≡ word_at w64 s 16 ∷ word_at w64 s 24 ∷ [] }
+        ensures { let s = viewed_by_128 self.entry in
+            result ≡ word_at w64 s 16 ∷ word_at w64 s 24 ∷ [] }
     {
         let bytes = self.secret.bytes;
         [u64_at(bytes, 16), u64_at(bytes, 24)]
@@ -300,7 +310,9 @@ impl<'a> Secret128BitView<'a> {
     /// The eight-byte words at 32, 40, 48 and 56.
     #[inline(always)]
     pub fn words_for_9_to_16(self) -> [u64; 4]
-        ensures { let s = viewed_by_128 self.entry in result ≡ word_at w64 s 32 ∷ word_at w64 s 40 ∷ word_at w64 s 48 ∷ word_at w64 s 56 ∷ [] }
+        ensures { let s = viewed_by_128 self.entry in
+            result ≡ word_at w64 s 32 ∷ word_at w64 s 40 ∷ word_at w64 s 48 ∷ word_at w64 s 56
+            ∷ [] }
     {
         let bytes = self.secret.bytes;
         [

@@ -39,8 +39,10 @@ impl Vector for Impl {
 // The neighbours come first, so that the accumulators before are done with and their registers are free.
 #[inline]
 pub(super) fn accumulate_two(acc: [u64; 2], words: [u64; 2], keys: [u64; 2]) -> [u64; 2]
-    ensures a { slice_index result 0 ≡ sum_with_words (slice_index acc 0) (slice_index words 0) (slice_index words 1) (slice_index keys 0) }
-    ensures b { slice_index result 1 ≡ sum_with_words (slice_index acc 1) (slice_index words 1) (slice_index words 0) (slice_index keys 1) }
+    ensures a { slice_index result 0
+        ≡ sum_with_words (slice_index acc 0) (slice_index words 0) (slice_index words 1) (slice_index keys 0) }
+    ensures b { slice_index result 1
+        ≡ sum_with_words (slice_index acc 1) (slice_index words 1) (slice_index words 0) (slice_index keys 1) }
 {
     let [a0, a1] = acc;
     let [w0, w1] = words;

@@ -35,10 +35,14 @@ impl Vector for Impl {
 // The neighbours come first, so that the accumulators before are done with and their registers are free.
 #[inline]
 fn accumulate_four(acc: [u64; 4], words: [u64; 4], keys: [u64; 4]) -> [u64; 4]
-    ensures a { slice_index result 0 ≡ sum_with_words (slice_index acc 0) (slice_index words 0) (slice_index words 1) (slice_index keys 0) }
-    ensures b { slice_index result 1 ≡ sum_with_words (slice_index acc 1) (slice_index words 1) (slice_index words 0) (slice_index keys 1) }
-    ensures c { slice_index result 2 ≡ sum_with_words (slice_index acc 2) (slice_index words 2) (slice_index words 3) (slice_index keys 2) }
-    ensures d { slice_index result 3 ≡ sum_with_words (slice_index acc 3) (slice_index words 3) (slice_index words 2) (slice_index keys 3) }
+    ensures a { slice_index result 0
+        ≡ sum_with_words (slice_index acc 0) (slice_index words 0) (slice_index words 1) (slice_index keys 0) }
+    ensures b { slice_index result 1
+        ≡ sum_with_words (slice_index acc 1) (slice_index words 1) (slice_index words 0) (slice_index keys 1) }
+    ensures c { slice_index result 2
+        ≡ sum_with_words (slice_index acc 2) (slice_index words 2) (slice_index words 3) (slice_index keys 2) }
+    ensures d { slice_index result 3
+        ≡ sum_with_words (slice_index acc 3) (slice_index words 3) (slice_index words 2) (slice_index keys 3) }
 {
     let [a0, a1, a2, a3] = acc;
     let [w0, w1, w2, w3] = words;
@@ -69,7 +73,8 @@ fn scramble_four(acc: [u64; 4], keys: [u64; 4]) -> [u64; 4]
 #[inline]
 fn words(bytes: &[u8; 64], i: usize) -> [u64; 4]
     requires { i + 4 ≤ 8 }
-    ensures { result ≡ word64 bytes.now (8 * i) ∷ word64 bytes.now (8 * (i + 1)) ∷ word64 bytes.now (8 * (i + 2)) ∷ word64 bytes.now (8 * (i + 3)) ∷ [] }
+    ensures { result ≡ word64 bytes.now (8 * i) ∷ word64 bytes.now (8 * (i + 1))
+        ∷ word64 bytes.now (8 * (i + 2)) ∷ word64 bytes.now (8 * (i + 3)) ∷ [] }
 {
     [
         word(bytes, i),

@@ -49,7 +49,8 @@ fn scramble_two(acc: [u64; 2], keys: [u64; 2]) -> [u64; 2]
 /// Each lane times the factor, modulo 2^64, from two products of 32 bits by 32 bits.
 #[inline]
 pub fn mul_u32_u64(lanes: [u64; 2], factor: u32) -> [u64; 2]
-    ensures { result ≡ slice_index lanes 0 * factor % 2 ^ 64 ∷ slice_index lanes 1 * factor % 2 ^ 64 ∷ [] }
+    ensures { result ≡ slice_index lanes 0 * factor % 2 ^ 64
+        ∷ slice_index lanes 1 * factor % 2 ^ 64 ∷ [] }
 {
     let [first, second] = lanes;
     let lanes = u64x2::from_array([first, second]);

@@ -55,7 +55,8 @@ impl CoreState {
         ensures place { self.new.taken.stripes.current_stripe < stripes_of (secret_bytes secret.entry) }
         ensures in_range { self.new.buffer_usage ≤ 512 }
         ensures left { min self.new.total_bytes 1 ≤ self.new.buffer_usage }
-        ensures in_place { 512 < length input.now → (64 ≤ self.new.buffer_usage) × (self.new.buffer_usage ≤ 127) }
+        ensures in_place { 512 < length input.now
+            → (64 ≤ self.new.buffer_usage) × (self.new.buffer_usage ≤ 127) }
     {
         self.total_bytes = self.total_bytes.saturating_add(input.len().into_u64());
         if input.len() <= BUFFERED_BYTES - self.buffer_usage {
@@ -79,7 +80,8 @@ impl CoreState {
         ensures place { self.new.taken.stripes.current_stripe < stripes_of (secret_bytes secret.entry) }
         ensures in_range { self.new.buffer_usage ≤ 512 }
         ensures some { 1 ≤ self.new.buffer_usage }
-        ensures in_place { 512 < length input.now → (64 ≤ self.new.buffer_usage) × (self.new.buffer_usage ≤ 127) }
+        ensures in_place { 512 < length input.now
+            → (64 ≤ self.new.buffer_usage) × (self.new.buffer_usage ≤ 127) }
     {
         let (head, rest) = input.split_at((64 - self.buffer_usage % 64) % 64);
         self.add(head);
@@ -119,7 +121,8 @@ impl CoreState {
         ensures place { self.new.taken.stripes.current_stripe < stripes_of (secret_bytes secret.entry) }
         ensures in_range { self.new.buffer_usage ≤ 512 }
         ensures some { min (length rest.now) 1 ≤ self.new.buffer_usage }
-        ensures in_place { 64 ≤ length rest.now → (64 ≤ self.new.buffer_usage) × (self.new.buffer_usage ≤ 127) }
+        ensures in_place { 64 ≤ length rest.now
+            → (64 ≤ self.new.buffer_usage) × (self.new.buffer_usage ≤ 127) }
     {
         let count = rest.len().saturating_sub(64) / 64;
         let (whole, last) = rest.split_at(64 * count);

@@ -79,9 +79,11 @@ impl<S: FixedBuffer> RawHasherCore<S> {
     /// was made with its secret alone, that secret and the seed 0.
     #[inline]
     pub fn finish<F: Finalize + Drop>(&self, finalize: F) -> F::Output
-        ensures short { (seed : Option ℕ) (s m : List ℕ) → StandsFor S.bytes self.now seed s m → length m ≤ 240
+        ensures short { (seed : Option ℕ) (s m : List ℕ) → StandsFor S.bytes self.now seed s m
+            → length m ≤ 240
             → result ≡ F.small_of finalize (short_secret seed s) (stream_seed seed) m }
-        ensures long { (seed : Option ℕ) (s m : List ℕ) → StandsFor S.bytes self.now seed s m → 240 < length m
+        ensures long { (seed : Option ℕ) (s m : List ℕ) → StandsFor S.bytes self.now seed s m
+            → 240 < length m
             → result ≡ F.large_of finalize (stream_accumulators s m) (stream_block m) (last_stripe m) s (counted (length m)) }
         ensures exact { result ≡ core_finish (F.small_of finalize) (F.large_of finalize) S.bytes self.now }
     {
@@ -91,9 +93,11 @@ impl<S: FixedBuffer> RawHasherCore<S> {
     /// The same by a kernel. Each call may have another kernel.
     #[inline]
     pub fn finish_with<F: Finalize + Drop>(&self, v: impl Vector, finalize: F) -> F::Output
-        ensures short { (seed : Option ℕ) (s m : List ℕ) → StandsFor S.bytes self.now seed s m → length m ≤ 240
+        ensures short { (seed : Option ℕ) (s m : List ℕ) → StandsFor S.bytes self.now seed s m
+            → length m ≤ 240
             → result ≡ F.small_of finalize (short_secret seed s) (stream_seed seed) m }
-        ensures long { (seed : Option ℕ) (s m : List ℕ) → StandsFor S.bytes self.now seed s m → 240 < length m
+        ensures long { (seed : Option ℕ) (s m : List ℕ) → StandsFor S.bytes self.now seed s m
+            → 240 < length m
             → result ≡ F.large_of finalize (stream_accumulators s m) (stream_block m) (last_stripe m) s (counted (length m)) }
         ensures exact { result ≡ core_finish (F.small_of finalize) (F.large_of finalize) S.bytes self.now }
     {
@@ -106,7 +110,8 @@ impl<S: FixedBuffer> RawHasherCore<S> {
     #[tactic(auto, using(crate::proofs::StreamFacts::stands_count))]
     pub fn total_len(&self) -> u64
         ensures exact { result ≡ total_of self.now }
-        ensures message { (seed : Option ℕ) (s m : List ℕ) → StandsFor S.bytes self.now seed s m → result ≡ counted (length m) }
+        ensures message { (seed : Option ℕ) (s m : List ℕ) → StandsFor S.bytes self.now seed s m
+            → result ≡ counted (length m) }
     {
         self.state.total_bytes
     }
@@ -117,7 +122,8 @@ impl<S: FixedBuffer> RawHasherCore<S> {
     #[tactic(auto, using(crate::proofs::StreamFacts::stands_all))]
     pub fn stripes_done(&self) -> u64
         ensures exact { result ≡ done_of self.now }
-        ensures all { (seed : Option ℕ) (s m : List ℕ) → StandsFor S.bytes self.now seed s m → length m < 2 ^ 64
+        ensures all { (seed : Option ℕ) (s m : List ℕ) → StandsFor S.bytes self.now seed s m
+            → length m < 2 ^ 64
             → 64 * result + buffered_of self.now ≡ length m }
     {
         self.state.taken.count
@@ -129,9 +135,12 @@ impl<S: FixedBuffer> RawHasherCore<S> {
     pub fn buffered(&self) -> usize
         ensures exact { result ≡ buffered_of self.now }
         ensures within { result ≤ BUFFERED_BYTES }
-        ensures none { (seed : Option ℕ) (s : List ℕ) → StandsFor S.bytes self.now seed s [] → result ≡ 0 }
-        ensures some { (seed : Option ℕ) (s m : List ℕ) → StandsFor S.bytes self.now seed s m → 0 < length m → 0 < result }
-        ensures all { (seed : Option ℕ) (s m : List ℕ) → StandsFor S.bytes self.now seed s m → length m < 2 ^ 64
+        ensures none { (seed : Option ℕ) (s : List ℕ) → StandsFor S.bytes self.now seed s []
+            → result ≡ 0 }
+        ensures some { (seed : Option ℕ) (s m : List ℕ) → StandsFor S.bytes self.now seed s m
+            → 0 < length m → 0 < result }
+        ensures all { (seed : Option ℕ) (s m : List ℕ) → StandsFor S.bytes self.now seed s m
+            → length m < 2 ^ 64
             → 64 * done_of self.now + result ≡ length m }
     {
         self.state.buffer_usage
@@ -141,7 +150,8 @@ impl<S: FixedBuffer> RawHasherCore<S> {
     #[tactic(auto, using(crate::proofs::StreamFacts::stands_secret))]
     pub fn into_secret(self) -> S
         ensures exact { result ≡ self.key.secret }
-        ensures message { (seed : Option ℕ) (s m : List ℕ) → StandsFor S.bytes self seed s m → S.bytes result ≡ s }
+        ensures message { (seed : Option ℕ) (s m : List ℕ) → StandsFor S.bytes self seed s m
+            → S.bytes result ≡ s }
     {
         let RawHasherCore {
             secret_buffer,
@@ -155,6 +165,8 @@ impl<S: ClonedBuffer> Clone for RawHasherCore<S> {
     ghost use Rattle.twox_core.specs.StandsFor.{IsCopy};
 
     ghost is_clone = { λ a b. IsCopy S.FixedBuffer.bytes a b };
+
+    ghost is_infallible = { λ h. S.Clone.is_infallible h.key.secret };
 
     fn clone(&self) -> Result<RawHasherCore<S>, AllocError> {
         let secret_buffer = self.secret_buffer.clone()?;

@@ -43,7 +43,8 @@ impl<S: FixedBuffer> SecretBuffer<S> {
     ///
     /// The secret has fewer than 136 bytes; it is handed back.
     pub fn new(seed: u64, secret: S) -> Result<SecretBuffer<S>, SecretTooShortError<S>>
-        ensures { MatchResult result (λ b. (136 ≤ length (S.bytes secret)) × (b.seed ≡ Some seed) × (b.secret ≡ secret))
+        ensures { MatchResult result (λ b. (136 ≤ length (S.bytes secret)) × (b.seed
+            ≡ Some seed) × (b.secret ≡ secret))
             (λ e. (length (S.bytes secret) < 136) × (e ≡ secret)) }
     {
         SecretBuffer::checked(Some(seed), secret)
@@ -111,7 +112,8 @@ impl<S: FixedMutBuffer> SecretBuffer<S> {
     ///
     /// The buffer hasn't exactly 192 bytes; it is handed back as it was.
     pub fn with_seed(seed: u64, mut secret: S) -> Result<SecretBuffer<S>, SecretWithSeedError<S>>
-        ensures { MatchResult result (λ b. (length (S.FixedBuffer.bytes secret) ≡ 192) × (b.seed ≡ Some seed) × (S.FixedBuffer.bytes b.secret ≡ derived_secret seed))
+        ensures { MatchResult result (λ b. (length (S.FixedBuffer.bytes secret) ≡ 192) × (b.seed
+            ≡ Some seed) × (S.FixedBuffer.bytes b.secret ≡ derived_secret seed))
             (λ e. (length (S.FixedBuffer.bytes secret) ≢ 192) × (e ≡ secret)) }
     {
         if secret.as_ref().len() != DEFAULT_SECRET_LENGTH {
@@ -156,7 +158,8 @@ impl<A: Allocator> SecretBuffer<BoxedSlice<u8, A>> {
     /// There is no memory for the secret.
     #[tactic(auto, unfolding(crate::specs::Secret::default_secret))]
     pub fn allocate_default(alloc: A) -> Result<SecretBuffer<BoxedSlice<u8, A>>, AllocError>
-        ensures { IfOk result (λ b. (b.seed ≡ Some 0) × (boxed_slice_items b.secret ≡ default_secret)) }
+        ensures { IfOk result (λ b. (b.seed ≡ Some 0) × (boxed_slice_items b.secret
+            ≡ default_secret)) }
     {
         Ok(SecretBuffer {
             seed: Some(DEFAULT_SEED),
@@ -173,7 +176,8 @@ impl<A: Allocator> SecretBuffer<BoxedSlice<u8, A>> {
         alloc: A,
         seed: u64,
     ) -> Result<SecretBuffer<BoxedSlice<u8, A>>, AllocError>
-        ensures { IfOk result (λ b. (b.seed ≡ Some seed) × (boxed_slice_items b.secret ≡ derived_secret seed)) }
+        ensures { IfOk result (λ b. (b.seed ≡ Some seed) × (boxed_slice_items b.secret
+            ≡ derived_secret seed)) }
     {
         Ok(SecretBuffer {
             seed: Some(seed),
@@ -190,7 +194,8 @@ impl<A: Allocator> SecretBuffer<BoxedSlice<u8, A>> {
         seed: u64,
         secret: BoxedSlice<u8, A>,
     ) -> Result<SecretBuffer<BoxedSlice<u8, A>>, SecretTooShortError<BoxedSlice<u8, A>>>
-        ensures { MatchResult result (λ b. (136 ≤ length (boxed_slice_items secret)) × (b.seed ≡ Some seed) × (b.secret ≡ secret))
+        ensures { MatchResult result (λ b. (136 ≤ length (boxed_slice_items secret)) × (b.seed
+            ≡ Some seed) × (b.secret ≡ secret))
             (λ e. (length (boxed_slice_items secret) < 136) × (e ≡ secret)) }
     {
         SecretBuffer::new(seed, secret)
@@ -217,6 +222,8 @@ impl<S: ClonedBuffer> Clone for SecretBuffer<S> {
     ghost use Rattle.twox_core.specs.StreamKey.{StreamKey};
 
     ghost is_clone = { λ a b. (b.seed ≡ a.seed) × (S.FixedBuffer.bytes b.secret ≡ S.FixedBuffer.bytes a.secret) };
+
+    ghost is_infallible = { λ b. S.Clone.is_infallible b.secret };
 
     fn clone(&self) -> Result<SecretBuffer<S>, AllocError> {
         let secret = self.secret.clone()?;
