@@ -227,7 +227,8 @@ pub fn xxh3_64_of_pieces<S: FixedBuffer + Drop>(
     first: &[&[u8]],
     rest: &[&[u8]],
 ) -> (u64, u64)
-    ensures { AreValuesOf (stream_64 secret.seed (S.bytes secret.secret)) first.now rest.now result }
+    ensures { let s = S.bytes secret.secret in
+        AreValuesOf (stream_64 secret.seed s) first.now rest.now result }
 {
     answers(&mut xxhash3_64::RawHasher::new(secret), first, rest)
 }
@@ -350,7 +351,8 @@ pub fn xxh3_128_of_pieces<S: FixedBuffer + Drop>(
     first: &[&[u8]],
     rest: &[&[u8]],
 ) -> (u128, u128)
-    ensures { AreValuesOf (stream_128 secret.seed (S.bytes secret.secret)) first.now rest.now result }
+    ensures { let s = S.bytes secret.secret in
+        AreValuesOf (stream_128 secret.seed s) first.now rest.now result }
 {
     answers(&mut xxhash3_128::RawHasher::new(secret), first, rest)
 }

@@ -1,12 +1,11 @@
 -- A stream follows the list of its pieces, joined.
-use Rattle.std.proofs.Common.{◌≡◌, ℕ, Option, zero, suc, ◌+◌, ◌-◌, ◌*◌, ◌/◌, ◌%◌, ◌^◌, ◌<◌, ◌≤◌, min, nat_le, nat_lt, if◌then◌else◌, Bool, true, false, List, [], ◌++◌, length, take, drop, refl, sym, ap, ◌∙◌, arith, lit<, length-append, length-drop}
-use Rattle.std.proofs.Math.Seq.{take-append-add, drop-append-add}
+use Rattle.std.proofs.Common.{◌≡◌, ℕ, Option, zero, suc, ◌+◌, ◌-◌, ◌*◌, ◌/◌, ◌%◌, ◌^◌, ◌<◌, ◌≤◌, min, nat_le, nat_lt, if◌then◌else◌, Bool, true, false, List, [], ◌++◌, length, take, drop, refl, sym, ap, ◌∙◌, arith, length-append, length-drop}
+use Rattle.std.proofs.Math.Seq.{take-append-add}
 use Rattle.std.proofs.lemmas.Bool.Decides.{nat_tests}
-use Rattle.std.proofs.lemmas.List.{append-nil, append_assoc, drop-append-le, take-append-le, drop-drop, drop-take, drop_all, drop_at, take_at, take_all, length-take-le, take-append-drop}
+use Rattle.std.proofs.lemmas.List.{append-nil, append_assoc, drop-append-le, drop-drop, drop-take, drop_all, drop_at, take_at, length-take-le, take-append-drop}
 use Rattle.twox_plain.specs.Word.{counted}
 use Rattle.twox_core.specs.Value.{short_secret, stream_seed}
 use Rattle.twox_core.specs.Long.{stripes_of}
-use Rattle.twox_core.specs.Stripes.{after_stripes}
 use Rattle.twox_core.specs.Ending.{accumulators_after, stream_accumulators, stream_block, last_stripe}
 use Rattle.twox_core.specs.StreamKey.{StreamKey}
 use Rattle.twox_core.specs.CoreView.{CoreView, total_of, done_of, buffered_of}

@@ -1,5 +1,5 @@
 -- What the last call of a stream reads of it.
-use Rattle.std.specs.Prelude.{ℕ, Option, List, ◌++◌, ◌+◌, ◌-◌, ◌*◌, ◌/◌, nat_le, nat_lt, take, drop, if◌then◌else◌}
+use Rattle.std.specs.Prelude.{ℕ, Option, List, ◌++◌, ◌-◌, ◌*◌, ◌/◌, nat_le, nat_lt, take, drop, if◌then◌else◌}
 use Rattle.twox_core.specs.Value.{short_secret, stream_seed}
 use Rattle.twox_core.specs.Stripes.{after_stripes}
 use Rattle.twox_core.specs.CoreView.{CoreView}

@@ -147,7 +147,8 @@ impl<F: Finalize, A: Allocator> BoxedStream<F, A> {
     ///
     /// There is no memory for the secret.
     pub fn with_seed(alloc: A, seed: u64) -> Result<BoxedStream<F, A>, AllocError>
-        ensures { IfOk result (λ h. StandsFor boxed_slice_items h (Some seed) (derived_secret seed) []) }
+        ensures { let s = derived_secret seed in
+            IfOk result (λ h. StandsFor boxed_slice_items h (Some seed) s []) }
     {
         let inner = AllocRawHasher::allocate_with_seed(alloc, seed)?;
         Ok(BoxedStream::over(inner))

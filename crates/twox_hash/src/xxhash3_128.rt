@@ -71,7 +71,8 @@ impl Hasher<Global> {
         ensures value { let s = effective_secret (derived_secret seed) input.now in
             result ≡ xxh3_128 seed s input.now }
         ensures tells_others { TellsOthers128 seed default_secret input.now result }
-        ensures low_half { HasLowHalf64 seed (effective_secret (derived_secret seed) input.now) input.now result }
+        ensures low_half { let s = effective_secret (derived_secret seed) input.now in
+            HasLowHalf64 seed s input.now result }
     {
         impl_oneshot_seeded(seed, input)
     }
@@ -109,7 +110,8 @@ impl Hasher<Global> {
         ensures value { let s = effective_secret secret.now input.now in
             IfOk result (λ x. x ≡ xxh3_128 seed s input.now) }
         ensures tells_others { IfOk result (λ x. TellsOthers128 seed default_secret input.now x) }
-        ensures low_half { IfOk result (λ x. HasLowHalf64 seed (effective_secret secret.now input.now) input.now x) }
+        ensures low_half { let s = effective_secret secret.now input.now in
+            IfOk result (λ x. HasLowHalf64 seed s input.now x) }
     {
         if input.len() <= CUTOFF {
             return Ok(impl_oneshot(default_secret(), seed, input));
@@ -308,8 +310,10 @@ fn impl_oneshot(secret: Secret<'_>, seed: u64, input: &[u8]) -> u128
 #[tactic(auto, unfolding(twox_core::specs::Value::range_of, twox_core::specs::Value::low_in, twox_core::specs::Value::high_in))]
 fn impl_0_to_16_bytes(secret: Secret<'_>, seed: u64, input: &[u8]) -> X128
     requires { length input.now ≤ 16 }
-    ensures low { result.low ≡ low_in (range_of (length input.now)) seed (secret_bytes secret.entry) input.now }
-    ensures high { result.high ≡ high_in (range_of (length input.now)) seed (secret_bytes secret.entry) input.now }
+    ensures low { result.low
+        ≡ low_in (range_of (length input.now)) seed (secret_bytes secret.entry) input.now }
+    ensures high { result.high
+        ≡ high_in (range_of (length input.now)) seed (secret_bytes secret.entry) input.now }
 {
     if input.len() >= 9 {
         impl_9_to_16_bytes(secret, seed, input)
@@ -339,8 +343,10 @@ fn impl_0_bytes(secret: Secret<'_>, seed: u64) -> X128
 fn impl_1_to_3_bytes(secret: Secret<'_>, seed: u64, input: &[u8]) -> X128
     requires some { 1 ≤ length input.now }
     requires few { length input.now ≤ 3 }
-    ensures low { result.low ≡ low_1_to_3 seed (secret_bytes secret.entry) (combined_bytes input.now) }
-    ensures high { result.high ≡ high_1_to_3 seed (secret_bytes secret.entry) (combined_bytes input.now) }
+    ensures low { result.low
+        ≡ low_1_to_3 seed (secret_bytes secret.entry) (combined_bytes input.now) }
+    ensures high { result.high
+        ≡ high_1_to_3 seed (secret_bytes secret.entry) (combined_bytes input.now) }
 {
     let combined_bytes = impl_1_to_3_bytes_combined(input);
     let words = secret.for_128().words_for_1_to_3();
@@ -359,8 +365,10 @@ fn impl_1_to_3_bytes(secret: Secret<'_>, seed: u64, input: &[u8]) -> X128
 fn impl_4_to_8_bytes(secret: Secret<'_>, seed: u64, input: &[u8]) -> X128
     requires some { 4 ≤ length input.now }
     requires few { length input.now ≤ 8 }
-    ensures low { result.low ≡ low_4_to_8 (product_4_to_8 seed (secret_bytes secret.entry) input.now) }
-    ensures high { result.high ≡ high_4_to_8 (product_4_to_8 seed (secret_bytes secret.entry) input.now) }
+    ensures low { result.low
+        ≡ low_4_to_8 (product_4_to_8 seed (secret_bytes secret.entry) input.now) }
+    ensures high { result.high
+        ≡ high_4_to_8 (product_4_to_8 seed (secret_bytes secret.entry) input.now) }
 {
     let first = u32_at(input, 0);
     let last = u32_at(input, input.len() - 4);
@@ -386,8 +394,10 @@ fn impl_4_to_8_bytes(secret: Secret<'_>, seed: u64, input: &[u8]) -> X128
 fn impl_9_to_16_bytes(secret: Secret<'_>, seed: u64, input: &[u8]) -> X128
     requires some { 9 ≤ length input.now }
     requires few { length input.now ≤ 16 }
-    ensures low { result.low ≡ avalanche (low64 (product_9_to_16 seed (secret_bytes secret.entry) input.now)) }
-    ensures high { result.high ≡ avalanche (high64 (product_9_to_16 seed (secret_bytes secret.entry) input.now)) }
+    ensures low { result.low
+        ≡ avalanche (low64 (product_9_to_16 seed (secret_bytes secret.entry) input.now)) }
+    ensures high { result.high
+        ≡ avalanche (high64 (product_9_to_16 seed (secret_bytes secret.entry) input.now)) }
 {
     let first = u64_at(input, 0);
     let last = u64_at(input, input.len() - 8);
@@ -440,7 +450,8 @@ fn accumulator_step(
     other: &[u8; 16],
     seed: u64,
 ) -> u64
-    ensures { result ≡ bit_xor (add64 accumulator (mix own.now 0 words.now 0 seed)) (add64 (word64 other.now 0) (word64 other.now 8)) }
+    ensures { let sum = add64 (word64 other.now 0) (word64 other.now 8) in
+        result ≡ bit_xor (add64 accumulator (mix own.now 0 words.now 0 seed)) sum }
 {
     let other = to_u64s(other);
     accumulator.wrapping_add(mix_step(own, words, seed)) ^ other[0].wrapping_add(other[1])
@@ -479,8 +490,10 @@ fn mix_two_chunks(
 fn impl_17_to_128_bytes(secret: Secret<'_>, seed: u64, input: &[u8]) -> X128
     requires some { 17 ≤ length input.now }
     requires few { length input.now ≤ 128 }
-    ensures low { result.low ≡ low_in Range.Bytes17To128 seed (secret_bytes secret.entry) input.now }
-    ensures high { result.high ≡ high_in Range.Bytes17To128 seed (secret_bytes secret.entry) input.now }
+    ensures low { result.low
+        ≡ low_in Range.Bytes17To128 seed (secret_bytes secret.entry) input.now }
+    ensures high { result.high
+        ≡ high_in Range.Bytes17To128 seed (secret_bytes secret.entry) input.now }
 {
     let mut accumulators = initial_accumulators(input);
     for step in 0..4 {
@@ -493,8 +506,10 @@ fn impl_17_to_128_bytes(secret: Secret<'_>, seed: u64, input: &[u8]) -> X128
 fn impl_129_to_240_bytes(secret: Secret<'_>, seed: u64, input: &[u8]) -> X128
     requires some { 129 ≤ length input.now }
     requires few { length input.now ≤ 240 }
-    ensures low { result.low ≡ low_in Range.Bytes129To240 seed (secret_bytes secret.entry) input.now }
-    ensures high { result.high ≡ high_in Range.Bytes129To240 seed (secret_bytes secret.entry) input.now }
+    ensures low { result.low
+        ≡ low_in Range.Bytes129To240 seed (secret_bytes secret.entry) input.now }
+    ensures high { result.high
+        ≡ high_in Range.Bytes129To240 seed (secret_bytes secret.entry) input.now }
 {
     let pairs = pairs_of_u64_bytes(input);
     let Accumulators {

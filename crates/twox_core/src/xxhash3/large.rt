@@ -53,7 +53,8 @@ pub trait Finalize {
     ) -> Self::Output
         requires some { 0 < length last_block.now }
         requires places { (length last_block.now - 1) / 64 ≤ stripes_of (secret_bytes secret) }
-        ensures { result ≡ large_of self.now acc last_block.now last_stripe.now (secret_bytes secret.entry) len };
+        ensures { result
+            ≡ large_of self.now acc last_block.now last_stripe.now (secret_bytes secret.entry) len };
 }
 
 /// The hash of long inputs over a kernel.
@@ -105,7 +106,8 @@ impl<V: Vector> Algorithm<V> {
     ) -> u64
         requires some { 0 < length last_block.now }
         requires places { (length last_block.now - 1) / 64 ≤ stripes_of (secret_bytes secret) }
-        ensures { result ≡ finalize_64 acc last_block.now last_stripe.now (secret_bytes secret.entry) len }
+        ensures { result
+            ≡ finalize_64 acc last_block.now last_stripe.now (secret_bytes secret.entry) len }
     {
         let acc = self.last_round(acc, last_block, last_stripe, secret);
         let init = len.wrapping_mul(PRIME64_1);
@@ -125,7 +127,8 @@ impl<V: Vector> Algorithm<V> {
     ) -> u128
         requires some { 0 < length last_block.now }
         requires places { (length last_block.now - 1) / 64 ≤ stripes_of (secret_bytes secret) }
-        ensures { result ≡ finalize_128 acc last_block.now last_stripe.now (secret_bytes secret.entry) len }
+        ensures { result
+            ≡ finalize_128 acc last_block.now last_stripe.now (secret_bytes secret.entry) len }
     {
         let acc = self.last_round(acc, last_block, last_stripe, secret);
         let low = len.wrapping_mul(PRIME64_1);
@@ -146,7 +149,8 @@ impl<V: Vector> Algorithm<V> {
     ) -> [u64; 8]
         requires some { 0 < length last_block.now }
         requires places { (length last_block.now - 1) / 64 ≤ stripes_of (secret_bytes secret) }
-        ensures { result ≡ final_accumulators acc last_block.now last_stripe.now (secret_bytes secret.entry) }
+        ensures { result
+            ≡ final_accumulators acc last_block.now last_stripe.now (secret_bytes secret.entry) }
     {
         let mut acc = self.accumulate_block(acc, last_block, (last_block.len() - 1) / 64, secret);
         self.0.accumulate(

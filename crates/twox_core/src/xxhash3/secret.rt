@@ -121,7 +121,8 @@ impl<'a> Secret<'a> {
     /// The last 64 bytes.
     #[inline(always)]
     pub fn last_stripe(self) -> &'a [u8; 64]
-        ensures { result.now ≡ stripe_at (secret_bytes self.entry) (length (secret_bytes self.entry) - 64) }
+        ensures { result.now
+            ≡ stripe_at (secret_bytes self.entry) (length (secret_bytes self.entry) - 64) }
     {
         array_at(self.bytes, self.len() - 64)
     }
@@ -129,7 +130,8 @@ impl<'a> Secret<'a> {
     /// The 64 bytes that end seven bytes before the secret's end.
     #[inline(always)]
     pub fn last_stripe_secret_better_name(self) -> &'a [u8; 64]
-        ensures { result.now ≡ stripe_at (secret_bytes self.entry) (length (secret_bytes self.entry) - 71) }
+        ensures { result.now
+            ≡ stripe_at (secret_bytes self.entry) (length (secret_bytes self.entry) - 71) }
     {
         array_at(self.bytes, self.len() - 71)
     }

@@ -94,7 +94,8 @@ impl StripeAccumulator {
     #[inline(always)]
     pub(crate) fn process_stripes<V: Vector>(&mut self, v: V, bytes: &[u8], secret: Secret<'_>)
         requires { current_stripe_of self.old < stripes_of (secret_bytes secret) }
-        ensures exact { self.new ≡ after_stripes (secret_bytes secret.entry) self.old bytes.now (length bytes.now / 64) }
+        ensures exact { self.new
+            ≡ after_stripes (secret_bytes secret.entry) self.old bytes.now (length bytes.now / 64) }
         ensures place { current_stripe_of self.new < stripes_of (secret_bytes secret.entry) }
     {
         if bytes.len() < BYTES_TO_READ_AHEAD {
@@ -128,7 +129,8 @@ impl StripeAccumulator {
     #[inline(always)]
     pub(crate) fn process_near<V: Vector>(&mut self, v: V, bytes: &[u8], secret: Secret<'_>)
         requires { current_stripe_of self.old < stripes_of (secret_bytes secret) }
-        ensures exact { self.new ≡ after_stripes (secret_bytes secret.entry) self.old bytes.now (length bytes.now / 64) }
+        ensures exact { self.new
+            ≡ after_stripes (secret_bytes secret.entry) self.old bytes.now (length bytes.now / 64) }
         ensures place { current_stripe_of self.new < stripes_of (secret_bytes secret.entry) }
     {
         let n_stripes = secret.n_stripes();
@@ -150,7 +152,8 @@ fn take_stripes<V: Vector>(
     secret: Secret<'_>,
 ) -> StripeAccumulator
     requires { current_stripe_of from < stripes_of (secret_bytes secret) }
-    ensures exact { result ≡ after_stripes (secret_bytes secret.entry) from bytes.now (length bytes.now / 64) }
+    ensures exact { result
+        ≡ after_stripes (secret_bytes secret.entry) from bytes.now (length bytes.now / 64) }
     ensures place { current_stripe_of result < stripes_of (secret_bytes secret.entry) }
 {
     let mut taken = from;
@@ -169,7 +172,8 @@ fn take_stripes_reading_ahead<V: Vector>(
     secret: Secret<'_>,
 ) -> StripeAccumulator
     requires { current_stripe_of from < stripes_of (secret_bytes secret) }
-    ensures exact { result ≡ after_stripes (secret_bytes secret.entry) from bytes.now (length bytes.now / 64) }
+    ensures exact { result
+        ≡ after_stripes (secret_bytes secret.entry) from bytes.now (length bytes.now / 64) }
     ensures place { current_stripe_of result < stripes_of (secret_bytes secret.entry) }
 {
     let n_stripes = secret.n_stripes();

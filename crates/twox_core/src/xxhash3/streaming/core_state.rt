@@ -51,8 +51,10 @@ impl CoreState {
         requires place { self.old.taken.stripes.current_stripe < stripes_of (secret_bytes secret) }
         requires in_range { self.old.buffer_usage ≤ 512 }
         requires left { min self.old.total_bytes 1 ≤ self.old.buffer_usage }
-        ensures exact { self.new ≡ state_after_write (secret_bytes secret.entry) self.old input.now }
-        ensures place { self.new.taken.stripes.current_stripe < stripes_of (secret_bytes secret.entry) }
+        ensures exact { self.new
+            ≡ state_after_write (secret_bytes secret.entry) self.old input.now }
+        ensures place { self.new.taken.stripes.current_stripe
+            < stripes_of (secret_bytes secret.entry) }
         ensures in_range { self.new.buffer_usage ≤ 512 }
         ensures left { min self.new.total_bytes 1 ≤ self.new.buffer_usage }
         ensures in_place { 512 < length input.now
@@ -77,7 +79,8 @@ impl CoreState {
         requires in_range { self.old.buffer_usage ≤ 512 }
         requires more { 512 - self.old.buffer_usage < length input.now }
         ensures exact { self.new ≡ after_long_piece (secret_bytes secret.entry) self.old input.now }
-        ensures place { self.new.taken.stripes.current_stripe < stripes_of (secret_bytes secret.entry) }
+        ensures place { self.new.taken.stripes.current_stripe
+            < stripes_of (secret_bytes secret.entry) }
         ensures in_range { self.new.buffer_usage ≤ 512 }
         ensures some { 1 ≤ self.new.buffer_usage }
         ensures in_place { 512 < length input.now
@@ -106,7 +109,8 @@ impl CoreState {
         requires place { self.old.taken.stripes.current_stripe < stripes_of (secret_bytes secret) }
         requires in_range { self.old.buffer_usage ≤ 512 }
         ensures exact { self.new ≡ with_empty_buffer (secret_bytes secret.entry) self.old }
-        ensures place { self.new.taken.stripes.current_stripe < stripes_of (secret_bytes secret.entry) }
+        ensures place { self.new.taken.stripes.current_stripe
+            < stripes_of (secret_bytes secret.entry) }
     {
         self.taken
             .take::<V, false>(v, &self.buffer[..self.buffer_usage], secret);
@@ -118,7 +122,8 @@ impl CoreState {
     fn restart<V: Vector, const FAR: bool>(&mut self, v: V, rest: &[u8], secret: Secret<'_>)
         requires { self.old.taken.stripes.current_stripe < stripes_of (secret_bytes secret) }
         ensures exact { self.new ≡ after_rest (secret_bytes secret.entry) self.old rest.now }
-        ensures place { self.new.taken.stripes.current_stripe < stripes_of (secret_bytes secret.entry) }
+        ensures place { self.new.taken.stripes.current_stripe
+            < stripes_of (secret_bytes secret.entry) }
         ensures in_range { self.new.buffer_usage ≤ 512 }
         ensures some { min (length rest.now) 1 ≤ self.new.buffer_usage }
         ensures in_place { 64 ≤ length rest.now

@@ -85,7 +85,8 @@ impl<S: FixedBuffer> RawHasherCore<S> {
         ensures long { (seed : Option ℕ) (s m : List ℕ) → StandsFor S.bytes self.now seed s m
             → 240 < length m
             → result ≡ F.large_of finalize (stream_accumulators s m) (stream_block m) (last_stripe m) s (counted (length m)) }
-        ensures exact { result ≡ core_finish (F.small_of finalize) (F.large_of finalize) S.bytes self.now }
+        ensures exact { result
+            ≡ core_finish (F.small_of finalize) (F.large_of finalize) S.bytes self.now }
     {
         self.finish_with(Kernel {}, finalize)
     }
@@ -99,7 +100,8 @@ impl<S: FixedBuffer> RawHasherCore<S> {
         ensures long { (seed : Option ℕ) (s m : List ℕ) → StandsFor S.bytes self.now seed s m
             → 240 < length m
             → result ≡ F.large_of finalize (stream_accumulators s m) (stream_block m) (last_stripe m) s (counted (length m)) }
-        ensures exact { result ≡ core_finish (F.small_of finalize) (F.large_of finalize) S.bytes self.now }
+        ensures exact { result
+            ≡ core_finish (F.small_of finalize) (F.large_of finalize) S.bytes self.now }
     {
         let secret = self.secret_buffer.secret();
         self.state
@@ -203,7 +205,8 @@ impl<A: Allocator> AllocRawHasher<A> {
     ///
     /// There is no memory for the secret.
     pub fn allocate_with_seed(alloc: A, seed: u64) -> Result<AllocRawHasher<A>, AllocError>
-        ensures { IfOk result (λ h. StandsFor boxed_slice_items h (Some seed) (derived_secret seed) []) }
+        ensures { let s = derived_secret seed in
+            IfOk result (λ h. StandsFor boxed_slice_items h (Some seed) s []) }
     {
         Ok(RawHasherCore::new(SecretBuffer::allocate_with_seed(alloc, seed)?))
     }
