@@ -40,7 +40,13 @@ fn constructors_under_the_greatest_seed(rt: HostRuntime) -> Result<(), Fail> {
     input[200..].copy_from_slice(&[2; 200]);
     let value = XxHash3_64::oneshot_with_seed(seed, &input);
     assert_eq!(rt; (narrow.finish(), raw.finish()), (value, value));
-    assert_eq!(rt; wide.finish_128(), XxHash3_128::oneshot_with_seed(seed, &input));
-    assert_eq!(rt; (narrow.clone()?.finish(), raw.clone()?.finish()), (value, value));
+    assert_eq!(rt;
+        wide.finish_128(),
+        XxHash3_128::oneshot_with_seed(seed, &input)
+    );
+    assert_eq!(rt;
+        (narrow.clone()?.finish(), raw.clone()?.finish()),
+        (value, value)
+    );
     Ok(())
 }
