@@ -480,7 +480,7 @@ fn mix_at(input: &[u8], from_8: &[u8], i: usize, words: &[u8; 16], seed: u64) ->
     mix_words(u64_at(input, i), u64_at(from_8, i), words, seed)
 }
 
-// `from_8` is the input from byte 8 on. In a function apart LLVM can't tell that the two words of a chunk are
+// `from_8` is the input from byte 8 on. In its own function LLVM can't tell that the two words of a chunk are
 // neighbours; it would make vectors of them, and taking the words out again costs more than it saves.
 #[inline(never)]
 fn impl_129_to_240_bytes(secret: Secret<'_>, seed: u64, input: &[u8], from_8: &[u8]) -> u64

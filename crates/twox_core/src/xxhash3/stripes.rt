@@ -163,7 +163,9 @@ fn take_stripes<V: Vector>(
 
 // The same of bytes that may lie outside the first cache: while a stripe is taken, a word of the stripe
 // `STRIPES_AHEAD` further on is read, so that it is there in time. What is read decides nothing but which of
-// two ways to the same accumulators is gone, since the compiler reads nothing that isn't needed.
+// two ways to the same accumulators is gone, since the compiler reads nothing that isn't needed. The loop has to
+// stand alone in a function that isn't inlined, over accumulators by value: at x86-64-v2 its code then has no
+// `imul`, `pinsrq` or `palignr`. Where it has one, LLVM has paired the accumulators wrongly.
 #[inline(never)]
 fn take_stripes_reading_ahead<V: Vector>(
     from: StripeAccumulator,

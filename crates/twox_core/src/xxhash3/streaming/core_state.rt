@@ -18,6 +18,8 @@ const _: () = prove!(BUFFERED_BYTES > CUTOFF);
 
 const _: () = prove!(BUFFERED_BYTES % 64 == 0);
 
+const _: () = prove!(size_of::<CoreState>() == 672);
+
 // No call reads a byte of the buffer that is not in use.
 #[derive(Clone, Copy)]
 pub(crate) struct CoreState {

@@ -9,9 +9,10 @@ use std::alloc::{AllocError, Allocator};
 use std::boxed::BoxedSlice;
 use std::marker::Model;
 
-/// A stream of bytes, of which any end that is a `Finalize` can be asked at any moment.
+/// A stream of bytes, of which any finalizer (`Finalize`) can be asked at any moment.
 ///
-/// Its size is fixed by its type, beside the secret.
+/// Its size is fixed by its type: 672 bytes, of which the buffer is `BUFFERED_BYTES`, beside those of the secret
+/// buffer.
 #[derive(Drop)]
 pub struct RawHasherCore<S: FixedBuffer> {
     secret_buffer: SecretBuffer<S>,
