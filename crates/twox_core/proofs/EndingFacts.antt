@@ -25,7 +25,7 @@ short s a t k h =
     let test : (k + 1 == stripes_of s) ≡ false = grind (arith, nat_tests) in
     rw (test, add-one k) refl
 
-block_taken : (s a b : List ℕ) (k : ℕ) → k < stripes_of s
+pub block_taken : (s a b : List ℕ) (k : ℕ) → k < stripes_of s
     → after_stripes s (at_start a) b k ≡ record { accumulator = accumulate_block s a b k; current_stripe = k }
 unfolding after_stripes accumulate_block
 block_taken s a b zero h = refl

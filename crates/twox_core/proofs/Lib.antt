@@ -1,3 +1,4 @@
+pub mod BlockFacts
 pub mod DerivedFacts
 pub mod EndingFacts
 pub mod KernelFacts

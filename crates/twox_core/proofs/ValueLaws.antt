@@ -211,11 +211,6 @@ low_half seed s m range = elim range [
   | inr long ↦ ap (λ (x : ℕ). x % 2 ^ 64) (long_128 seed s m long) ∙ low_of _ _ (low_above_240-lt s m) ∙ sym (long_64 seed s m long)
 ]
 
-pub low_half_long : (seed value : ℕ) (own s m : List ℕ) → 240 < length m → own ≡ s → value ≡ high_above_240 own m * 2 ^ 64 + low_above_240 own m → value % 2 ^ 64 ≡ xxh3_64 seed s m
-low_half_long seed value own s m long same told =
-    let whole : value ≡ xxh3_128 seed s m = told ∙ ap (λ (o : List ℕ). high_above_240 o m * 2 ^ 64 + low_above_240 o m) same ∙ sym (long_128 seed s m long) in
-    ap (λ (x : ℕ). x % 2 ^ 64) whole ∙ low_half seed s m (inr long)
-
 -- ---- the secret that takes effect
 
 pub effective_short : (own m : List ℕ) → length m ≤ 240 → effective_secret own m ≡ default_secret

@@ -100,7 +100,7 @@ impl Hasher<Global> {
     ///
     /// The input has more than 240 bytes and the secret fewer than 136.
     #[inline]
-    #[tactic(auto, unfolding(twox_core::specs::Value::xxh3_128, twox_core::specs::Value::range_of, twox_core::specs::Value::low_in, twox_core::specs::Value::high_in, twox_core::specs::Value::effective_secret))]
+    #[tactic(auto, unfolding(twox_core::specs::Value::effective_secret))]
     pub fn oneshot_with_seed_and_secret(
         seed: u64,
         secret: &[u8],
@@ -196,7 +196,6 @@ impl Finalize for Finalize128 {
 // The shortest inputs come first: they then pay nothing for the room that longer ones take, and the calls that
 // look alike become different code.
 #[inline(always)]
-#[tactic(auto, unfolding(twox_core::specs::Value::xxh3_128, twox_core::specs::Value::range_of, twox_core::specs::Value::low_in, twox_core::specs::Value::high_in))]
 fn impl_oneshot_default(input: &[u8]) -> u128
     ensures { result ≡ xxh3_128 0 default_secret input.now }
 {
@@ -211,7 +210,7 @@ fn impl_oneshot_default(input: &[u8]) -> u128
 
 // The same order, with a seed.
 #[inline(always)]
-#[tactic(auto, unfolding(twox_core::specs::Value::xxh3_128, twox_core::specs::Value::range_of, twox_core::specs::Value::low_in, twox_core::specs::Value::high_in, twox_core::specs::Value::effective_secret))]
+#[tactic(auto, unfolding(twox_core::specs::Value::effective_secret))]
 fn impl_oneshot_seeded(seed: u64, input: &[u8]) -> u128
     ensures { result ≡ xxh3_128 seed (effective_secret (derived_secret seed) input.now) input.now }
 {
@@ -226,7 +225,6 @@ fn impl_oneshot_seeded(seed: u64, input: &[u8]) -> u128
 
 // With a secret of the caller's and the seed 0.
 #[inline(always)]
-#[tactic(auto, unfolding(twox_core::specs::Value::xxh3_128, twox_core::specs::Value::range_of, twox_core::specs::Value::low_in, twox_core::specs::Value::high_in))]
 fn impl_oneshot_keyed(secret: Secret<'_>, input: &[u8]) -> u128
     ensures { result ≡ xxh3_128 0 (secret_bytes secret.entry) input.now }
 {
@@ -237,13 +235,13 @@ fn impl_oneshot_keyed(secret: Secret<'_>, input: &[u8]) -> u128
     }
 }
 
-// A call of its own, so that short inputs pay nothing for the room that long ones take.
+// A call of its own, so that short inputs pay nothing for the room that long ones take. No seed enters, so the
+// value is that of any.
 #[inline(never)]
-#[tactic(auto, using(twox_core::proofs::EndingFacts::block_both))]
+#[tactic(auto, using(twox_core::proofs::ValueLaws::long_128, twox_core::proofs::EndingFacts::block_both))]
 fn impl_oneshot_long(secret: Secret<'_>, input: &[u8]) -> u128
     requires { 240 < length input.now }
-    ensures { let s = secret_bytes secret.entry in
-        result ≡ high_above_240 s input.now * 2 ^ 64 + low_above_240 s input.now }
+    ensures { (any : ℕ) → result ≡ xxh3_128 any (secret_bytes secret.entry) input.now }
 {
     Algorithm(Kernel {}).oneshot(secret, input, Finalize128)
 }
@@ -253,8 +251,7 @@ fn impl_oneshot_long(secret: Secret<'_>, input: &[u8]) -> u128
 #[tactic(auto, using(twox_core::proofs::Vectors::derived_secret_none))]
 fn impl_oneshot_long_seeded(seed: u64, input: &[u8]) -> u128
     requires { 240 < length input.now }
-    ensures { let s = derived_secret seed in
-        result ≡ high_above_240 s input.now * 2 ^ 64 + low_above_240 s input.now }
+    ensures { (any : ℕ) → result ≡ xxh3_128 any (derived_secret seed) input.now }
 {
     if seed == DEFAULT_SEED {
         impl_oneshot_long(default_secret(), input)
@@ -267,8 +264,7 @@ fn impl_oneshot_long_seeded(seed: u64, input: &[u8]) -> u128
 #[inline(never)]
 fn impl_oneshot_long_derived(seed: u64, input: &[u8]) -> u128
     requires { 240 < length input.now }
-    ensures { let s = derived_secret seed in
-        result ≡ high_above_240 s input.now * 2 ^ 64 + low_above_240 s input.now }
+    ensures { (any : ℕ) → result ≡ xxh3_128 any (derived_secret seed) input.now }
 {
     let secret = derived_secret(seed);
     impl_oneshot_long(Secret::new(&secret).unwrap(), input)

@@ -95,7 +95,7 @@ impl Hasher<Global> {
     ///
     /// The input has more than 240 bytes and the secret fewer than 136.
     #[inline]
-    #[tactic(auto, unfolding(twox_core::specs::Value::xxh3_64, twox_core::specs::Value::range_of, twox_core::specs::Value::value64_in, twox_core::specs::Value::effective_secret))]
+    #[tactic(auto, unfolding(twox_core::specs::Value::effective_secret))]
     pub fn oneshot_with_seed_and_secret(
         seed: u64,
         secret: &[u8],
@@ -245,7 +245,6 @@ impl Finalize for Finalize64 {
 // The shortest inputs come first: they then pay nothing for the room that longer ones take, and the calls that
 // look alike become different code.
 #[inline(always)]
-#[tactic(auto, unfolding(twox_core::specs::Value::xxh3_64, twox_core::specs::Value::range_of, twox_core::specs::Value::value64_in))]
 fn impl_oneshot_default(input: &[u8]) -> u64
     ensures { result ≡ xxh3_64 0 default_secret input.now }
 {
@@ -260,7 +259,7 @@ fn impl_oneshot_default(input: &[u8]) -> u64
 
 // The same order, with a seed.
 #[inline(always)]
-#[tactic(auto, unfolding(twox_core::specs::Value::xxh3_64, twox_core::specs::Value::range_of, twox_core::specs::Value::value64_in, twox_core::specs::Value::effective_secret))]
+#[tactic(auto, unfolding(twox_core::specs::Value::effective_secret))]
 fn impl_oneshot_seeded(seed: u64, input: &[u8]) -> u64
     ensures { result ≡ xxh3_64 seed (effective_secret (derived_secret seed) input.now) input.now }
 {
@@ -275,7 +274,6 @@ fn impl_oneshot_seeded(seed: u64, input: &[u8]) -> u64
 
 // With a secret of the caller's and the seed 0.
 #[inline(always)]
-#[tactic(auto, unfolding(twox_core::specs::Value::xxh3_64, twox_core::specs::Value::range_of, twox_core::specs::Value::value64_in))]
 fn impl_oneshot_keyed(secret: Secret<'_>, input: &[u8]) -> u64
     ensures { result ≡ xxh3_64 0 (secret_bytes secret.entry) input.now }
 {
@@ -286,12 +284,13 @@ fn impl_oneshot_keyed(secret: Secret<'_>, input: &[u8]) -> u64
     }
 }
 
-// A call of its own, so that short inputs pay nothing for the room that long ones take.
+// A call of its own, so that short inputs pay nothing for the room that long ones take. No seed enters, so the
+// value is that of any.
 #[inline(never)]
-#[tactic(auto, using(twox_core::proofs::EndingFacts::block_low))]
+#[tactic(auto, using(twox_core::proofs::ValueLaws::long_64, twox_core::proofs::EndingFacts::block_low))]
 fn impl_oneshot_long(secret: Secret<'_>, input: &[u8]) -> u64
     requires { 240 < length input.now }
-    ensures { let s = secret_bytes secret.entry in result ≡ low_above_240 s input.now }
+    ensures { (any : ℕ) → result ≡ xxh3_64 any (secret_bytes secret.entry) input.now }
 {
     Algorithm(Kernel {}).oneshot(secret, input, Finalize64)
 }
@@ -301,7 +300,7 @@ fn impl_oneshot_long(secret: Secret<'_>, input: &[u8]) -> u64
 #[tactic(auto, using(twox_core::proofs::Vectors::derived_secret_none))]
 fn impl_oneshot_long_seeded(seed: u64, input: &[u8]) -> u64
     requires { 240 < length input.now }
-    ensures { let s = derived_secret seed in result ≡ low_above_240 s input.now }
+    ensures { (any : ℕ) → result ≡ xxh3_64 any (derived_secret seed) input.now }
 {
     if seed == DEFAULT_SEED {
         impl_oneshot_long(default_secret(), input)
@@ -314,7 +313,7 @@ fn impl_oneshot_long_seeded(seed: u64, input: &[u8]) -> u64
 #[inline(never)]
 fn impl_oneshot_long_derived(seed: u64, input: &[u8]) -> u64
     requires { 240 < length input.now }
-    ensures { let s = derived_secret seed in result ≡ low_above_240 s input.now }
+    ensures { (any : ℕ) → result ≡ xxh3_64 any (derived_secret seed) input.now }
 {
     let secret = derived_secret(seed);
     impl_oneshot_long(Secret::new(&secret).unwrap(), input)

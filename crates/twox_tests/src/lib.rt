@@ -18,6 +18,8 @@ mod long;
 #[cfg(test)]
 mod plain;
 #[cfg(test)]
+mod refused_memory;
+#[cfg(test)]
 mod saved;
 #[cfg(test)]
 mod secret_lengths;

@@ -1,16 +1,22 @@
 //! The accumulators, and their place in the secret.
 
-ghost use Rattle.std.specs.Prelude.{◌≡◌, ◌/◌, ◌<◌, length};
+ghost use Rattle.std.specs.Prelude.{◌≡◌, ◌/◌, ◌<◌, ◌≤◌, length};
 ghost use Rattle.twox_core.specs.Long.{stripes_of};
 ghost use Rattle.twox_core.specs.SecretBytes.{secret_bytes};
 ghost use Rattle.twox_core.specs.Stripes.{current_stripe_of, after_stripes};
 
+mod blocks;
+
+use self::blocks::{BYTES_IN_BLOCK, STRIPES_IN_BLOCK, take_blocks};
 use super::primes::PRIME64_1;
 use super::{INITIAL_ACCUMULATORS, Secret, Vector};
 use twox_plain::words::{bp_as_chunks, u64_at};
 
-/// From how many bytes on a stripe further on is read ahead.
-pub(crate) const BYTES_TO_READ_AHEAD: usize = 49_152;
+/// From how many bytes on stripes are taken out of line, in the way that is fastest for their number.
+pub(crate) const MANY_BYTES: usize = 4096;
+
+/// From how many bytes on a stripe further on is read ahead, where whole blocks aren't taken.
+const BYTES_TO_READ_AHEAD: usize = 49_152;
 
 /// How many stripes further on is read.
 const STRIPES_AHEAD: usize = 16;
@@ -98,16 +104,16 @@ impl StripeAccumulator {
             ≡ after_stripes (secret_bytes secret.entry) self.old bytes.now (length bytes.now / 64) }
         ensures place { current_stripe_of self.new < stripes_of (secret_bytes secret.entry) }
     {
-        if bytes.len() < BYTES_TO_READ_AHEAD {
+        if bytes.len() < MANY_BYTES {
             self.process_near(v, bytes, secret);
         } else {
-            *self = take_stripes_reading_ahead(*self, v, bytes, secret);
+            *self = take_many_stripes(*self, v, bytes, secret);
         }
     }
 
     // The same, where the caller knows whether the bytes are many.
     #[inline(always)]
-    pub(crate) fn process<V: Vector, const FAR: bool>(
+    pub(crate) fn process<V: Vector, const MANY: bool>(
         &mut self,
         v: V,
         bytes: &[u8],
@@ -118,8 +124,8 @@ impl StripeAccumulator {
             self.new ≡ after_stripes s self.old bytes.now (length bytes.now / 64) }
         ensures place { current_stripe_of self.new < stripes_of (secret_bytes secret.entry) }
     {
-        if FAR {
-            *self = take_stripes_reading_ahead(*self, v, bytes, secret);
+        if MANY {
+            *self = take_many_stripes(*self, v, bytes, secret);
         } else {
             self.process_near(v, bytes, secret);
         }
@@ -159,6 +165,54 @@ fn take_stripes<V: Vector>(
     let mut taken = from;
     taken.process_near(v, bytes, secret);
     taken
+}
+
+// The same of many bytes.
+#[inline(never)]
+fn take_many_stripes<V: Vector>(
+    from: StripeAccumulator,
+    v: V,
+    bytes: &[u8],
+    secret: Secret<'_>,
+) -> StripeAccumulator
+    requires { current_stripe_of from < stripes_of (secret_bytes secret) }
+    ensures exact { result
+        ≡ after_stripes (secret_bytes secret.entry) from bytes.now (length bytes.now / 64) }
+    ensures place { current_stripe_of result < stripes_of (secret_bytes secret.entry) }
+{
+    if secret.n_stripes() == STRIPES_IN_BLOCK && bytes.len() >= BYTES_IN_BLOCK {
+        take_stripes_by_blocks(from, v, bytes, secret)
+    } else if bytes.len() < BYTES_TO_READ_AHEAD {
+        take_stripes(from, v, bytes, secret)
+    } else {
+        take_stripes_reading_ahead(from, v, bytes, secret)
+    }
+}
+
+// The same by whole blocks, under a secret of 192 bytes: first the stripes to the end of a block, and last those of a
+// block that isn't whole.
+fn take_stripes_by_blocks<V: Vector>(
+    from: StripeAccumulator,
+    v: V,
+    bytes: &[u8],
+    secret: Secret<'_>,
+) -> StripeAccumulator
+    requires all { stripes_of (secret_bytes secret) ≡ 16 }
+    requires place { current_stripe_of from < 16 }
+    requires some { 1024 ≤ length bytes.now }
+    ensures exact { result
+        ≡ after_stripes (secret_bytes secret.entry) from bytes.now (length bytes.now / 64) }
+    ensures place { current_stripe_of result < stripes_of (secret_bytes secret.entry) }
+{
+    let to_block = (STRIPES_IN_BLOCK - from.current_stripe()) % STRIPES_IN_BLOCK;
+    let (front, rest) = bytes.split_at(64 * to_block);
+    let at_block = take_stripes(from, v, front, secret);
+    let (whole, rest) = rest.split_at(rest.len() / BYTES_IN_BLOCK * BYTES_IN_BLOCK);
+    let (taken, seen) = take_blocks(at_block.accumulators(), v, whole, secret);
+    if seen == PRIME64_1 {
+        return take_stripes(from, v, bytes, secret);
+    }
+    take_stripes(StripeAccumulator::starting_with(taken), v, rest, secret)
 }
 
 // The same of bytes that may lie outside the first cache: while a stripe is taken, a word of the stripe

@@ -28,7 +28,8 @@ pub trait FixedMutBuffer: FixedBuffer {
     /// The bytes, to be written.
     fn as_mut(&mut self) -> &mut [u8]
         ensures value { result.now ≡ Self.bytes self.old }
-        ensures* writes_back { sem 𝓛 (Lends Self.row (Array u8 0) self.entry result (with_bytes self.old)) };
+        ensures* writes_back { sem 𝓛 (Lends
+            Self.row (Array u8 0) self.entry result (with_bytes self.old)) };
 
     // What was written is what is lent afterwards.
     ghost lends_back: { (x : Self) (w : List ℕ) → length w ≡ length (Self.bytes x) → Self.bytes (with_bytes x w) ≡ w };

@@ -6,7 +6,7 @@ ghost use Rattle.twox_core.specs.SecretBytes.{secret_bytes};
 
 use super::taken_stripes::TakenStripes;
 use crate::xxhash3::parts::array_at;
-use crate::xxhash3::stripes::BYTES_TO_READ_AHEAD;
+use crate::xxhash3::stripes::MANY_BYTES;
 use crate::xxhash3::{CUTOFF, DEFAULT_SEED, Finalize, Secret, Vector, default_secret};
 use twox_plain::words::IntoU64;
 
@@ -65,7 +65,7 @@ impl CoreState {
         self.total_bytes = self.total_bytes.saturating_add(input.len().into_u64());
         if input.len() <= BUFFERED_BYTES - self.buffer_usage {
             self.add(input);
-        } else if input.len() < BYTES_TO_READ_AHEAD {
+        } else if input.len() < MANY_BYTES {
             self.write_through::<V, false>(v, input, secret);
         } else {
             self.write_through::<V, true>(v, input, secret);
@@ -76,7 +76,7 @@ impl CoreState {
     // of its own, so that small pieces pay no frame, and one for many bytes, so that others pay for no loop
     // that reads ahead.
     #[inline(never)]
-    fn write_through<V: Vector, const FAR: bool>(&mut self, v: V, input: &[u8], secret: Secret<'_>)
+    fn write_through<V: Vector, const MANY: bool>(&mut self, v: V, input: &[u8], secret: Secret<'_>)
         requires place { self.old.taken.stripes.current_stripe < stripes_of (secret_bytes secret) }
         requires in_range { self.old.buffer_usage ≤ 512 }
         requires more { 512 - self.old.buffer_usage < length input.now }
@@ -91,7 +91,7 @@ impl CoreState {
         let (head, rest) = input.split_at((64 - self.buffer_usage % 64) % 64);
         self.add(head);
         self.empty(v, secret);
-        self.restart::<V, FAR>(v, rest, secret);
+        self.restart::<V, MANY>(v, rest, secret);
     }
 
     // Puts `input` after the buffered bytes.
@@ -121,7 +121,7 @@ impl CoreState {
 
     // Takes whole stripes of `rest` where they lie, and buffers what is left: of 64 bytes or more, at least 64.
     #[inline(always)]
-    fn restart<V: Vector, const FAR: bool>(&mut self, v: V, rest: &[u8], secret: Secret<'_>)
+    fn restart<V: Vector, const MANY: bool>(&mut self, v: V, rest: &[u8], secret: Secret<'_>)
         requires { self.old.taken.stripes.current_stripe < stripes_of (secret_bytes secret) }
         ensures exact { self.new ≡ after_rest (secret_bytes secret.entry) self.old rest.now }
         ensures place { self.new.taken.stripes.current_stripe
@@ -133,7 +133,7 @@ impl CoreState {
     {
         let count = rest.len().saturating_sub(64) / 64;
         let (whole, last) = rest.split_at(64 * count);
-        self.taken.take::<V, FAR>(v, whole, secret);
+        self.taken.take::<V, MANY>(v, whole, secret);
         self.buffer[..last.len()].copy_from_slice(last);
         self.buffer_usage = last.len();
     }

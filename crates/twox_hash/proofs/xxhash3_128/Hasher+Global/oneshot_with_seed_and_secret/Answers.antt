@@ -4,7 +4,7 @@ use Rattle.twox_core.specs.SecretBytes.{secret_bytes}
 use Rattle.twox_core.specs.Value.{effective_secret, xxh3_128}
 use Rattle.twox_core.proofs.OneshotLaws.{tells_others_128, has_low_half_64}
 use Rattle.twox_core.proofs.ShortLaws.{default_secret-bytes}
-use Rattle.twox_core.proofs.ValueLaws.{effective_short, effective_long, low_half_long}
+use Rattle.twox_core.proofs.ValueLaws.{effective_short, effective_long}
 use Rattle.twox_hash.proofs.xxhash3_128.Hasher+Global.oneshot_with_seed_and_secret.Goals as goal
 
 pub returns-then-input-le-CUTOFF-clause-tells_others : goal.returns-then-input-le-CUTOFF-clause-tells_others
@@ -26,5 +26,6 @@ returns-clause-low_half c =
     let m = c.args.input.now in
     let given = c.args.secret.now in
     let same : secret_bytes c.in_ok-own.own ≡ given = grind (arith, rules) in
-    λ _. low_half_long c.args.seed c.impl_oneshot_long.result _ (effective_secret given m) m (omega arith)
-    (same ∙ sym (effective_long given m (omega arith))) c.impl_oneshot_long.ensures
+    has_low_half_64 c.args.seed _ (effective_secret given m) m
+    (c.impl_oneshot_long.ensures c.args.seed
+    ∙ ap (λ s. xxh3_128 c.args.seed s m) (same ∙ sym (effective_long given m (omega arith))))

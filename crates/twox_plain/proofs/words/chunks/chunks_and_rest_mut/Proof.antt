@@ -47,10 +47,10 @@ use denote.Follow.{both_by}
 use Rattle.std.below.core.proofs.slice.Relends.{uncapped, length-first_chunks}
 use Rattle.std.specs.Simd.{first_chunks}
 use Rattle.twox_plain.proofs.ChunksFront.{runs_lent, lends_runs_front}
-use Rattle.twox_plain.specs.contracts.words.chunks_and_rest_mut.Key.{name as #self}
-use Rattle.twox_plain.specs.contracts.words.chunks_and_rest_mut as F
-use Rattle.twox_plain.proofs.words.chunks_and_rest_mut.Statement as stated
-use Rattle.twox_plain.proofs.words.chunks_and_rest_mut.Code as code
+use Rattle.twox_plain.specs.contracts.words.chunks.chunks_and_rest_mut.Key.{name as #self}
+use Rattle.twox_plain.specs.contracts.words.chunks.chunks_and_rest_mut as F
+use Rattle.twox_plain.proofs.words.chunks.chunks_and_rest_mut.Statement as stated
+use Rattle.twox_plain.proofs.words.chunks.chunks_and_rest_mut.Code as code
 
 module _ (X : RattleType) (n : ℕ) where
   abbrev args : Args

@@ -1,7 +1,7 @@
 use Rattle.std.proofs.Common.{◌*◌, ◌/◌, length, length-drop, refl, sym, ap, ◌∙◌}
 use Rattle.std.proofs.Math.Nat.{mod-eq-sub-div-mul}
 use Rattle.twox_plain.proofs.WordFacts.{first_chunks_take}
-use Rattle.twox_plain.proofs.words.bp_as_chunks_mut.Goals as goal
+use Rattle.twox_plain.proofs.words.chunks.bp_as_chunks_mut.Goals as goal
 
 -- the chunks of the items before the rest are the chunks of all items
 pub returns : goal.returns
