@@ -1,0 +1,2 @@
+pub mod State32
+pub mod State64
