@@ -1,9 +1,23 @@
-//! XXH32 and XXH64 under the names of the C library `libxxhash` 0.8.1, as a static library.
+//! XXH32, XXH64 and XXH3 under the names of the C library `libxxhash` 0.8.1, as a static library.
+//!
+//! Each export's documentation begins with its declaration in C. A pointer and a length are one parameter here, a
+//! slice. Nothing is asked of a caller that a call can test: a state that was never reset is refused.
+//!
+//! # States
+//!
+//! | C type | size | alignment |
+//! |---|---|---|
+//! | `XXH32_state_t` | 72 | 8 |
+//! | `XXH64_state_t` | 96 | 8 |
+//! | `XXH128_hash_t` | 16 | 8 |
 #![tactic(auto)]
 
 ghost use Rattle.std.specs.Prelude.{◌≡◌};
 
+mod hash128;
 mod xxh32;
+mod xxh3_128;
+mod xxh3_64;
 mod xxh64;
 
 /// What a call answers that did what it was asked: `XXH_OK` of the C library.
