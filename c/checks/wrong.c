@@ -3,15 +3,17 @@
 #include <stdlib.h>
 #include "xxhash.h"
 
+static uint64_t wrong(uint64_t hash)
+{
 #ifdef STOPS
-#define WRONG(value) (abort(), (value))
-#else
-#define WRONG(value) ((value) ^ 1)
+    abort();
 #endif
+    return hash ^ 1;
+}
 
 #define CHANGED(result, name, parameters, arguments) \
     result right_##name parameters;                  \
-    result name parameters { return WRONG(right_##name arguments); }
+    result name parameters { return (result)wrong(right_##name arguments); }
 
 CHANGED(XXH32_hash_t, XXH32, (const void *p, size_t n, XXH32_hash_t seed), (p, n, seed))
 CHANGED(XXH32_hash_t, XXH32_digest, (const XXH32_state_t *state), (state))
@@ -26,7 +28,7 @@ CHANGED(XXH64_hash_t, XXH3_64bits_digest, (const XXH3_state_t *state), (state))
     XXH128_hash_t name parameters                    \
     {                                                \
         XXH128_hash_t hash = right_##name arguments; \
-        hash.low64 = WRONG(hash.low64);              \
+        hash.low64 = wrong(hash.low64);              \
         return hash;                                 \
     }
 

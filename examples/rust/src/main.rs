@@ -55,7 +55,9 @@ impl Write for Hashers {
 }
 
 fn main() -> io::Result<()> {
-    let path = env::args_os().nth(1).ok_or_else(|| io::Error::other("usage: hash-file FILE"))?;
+    let path = env::args_os()
+        .nth(1)
+        .ok_or_else(|| io::Error::other("usage: hash-file FILE"))?;
     let mut file = File::open(path)?;
     let mut hashers = Hashers::new().ok_or(io::ErrorKind::OutOfMemory)?;
     io::copy(&mut file, &mut hashers)?;
