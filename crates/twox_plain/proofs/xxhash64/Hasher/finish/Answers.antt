@@ -5,4 +5,4 @@ use Rattle.twox_plain.proofs.xxhash64.Hasher.finish.Goals as goal
 
 pub returns-clause-message : goal.returns-clause-message
 returns-clause-message c = λ m stands.
-    (rw c.core.ensures at c.finish_with.ensures) ∙ ap finish_value c.self.view_is ∙ finish_value_of_message c.args.self.now m stands
+    c.finish.ensures.exact ∙ ap finish_value c.self.view_is ∙ finish_value_of_message c.args.self.now m stands

@@ -1,0 +1,6 @@
+-- The number that the two halves of a value of 128 bits make.
+use Rattle.std.specs.Prelude.{ℕ, ◌+◌, ◌*◌, ◌^◌}
+use Rattle.twox_c.specs.declared.hash128.Xxh128Hash.{Xxh128Hash}
+
+abbrev pub value_of : Xxh128Hash → ℕ
+value_of h = h.high64 * 2 ^ 64 + h.low64

@@ -1,0 +1,3 @@
+pub mod Hash128
+pub mod State32
+pub mod State64

@@ -1,0 +1,127 @@
+//! XXH32.
+
+ghost use Rattle.std.specs.Prelude.{◌≡◌, ◌↔◌, ℕ, List, [], ◌++◌, IsTrue};
+ghost use Rattle.std.specs.Int.{w32, to_be_bytes, from_be_bytes};
+ghost use Rattle.twox_plain.specs.Record32.{after_write, finish_value};
+ghost use Rattle.twox_plain.specs.Xxh32.{xxh32};
+ghost use Rattle.twox_c.specs.State32.{IsUsable, WasGiven, record_of_state};
+
+use crate::{XXH_ERROR, XXH_OK};
+use twox_plain::xxhash32::{Hasher, StateInMemory};
+
+/// What a reset leaves in a state: the letters `twoxXX32`, the first in the low byte.
+pub const MARK_32: u64 = 0x3233_5858_786f_7774;
+
+/// `XXH32_state_t`: 72 bytes, aligned to 8. Before the first reset it may hold anything.
+#[repr(C)]
+#[derive(Clone, Copy)]
+pub struct Xxh32State {
+    /// What the hasher holds.
+    pub hasher: StateInMemory,
+    /// `MARK_32` after a reset.
+    pub mark: u64,
+}
+
+const _: () = prove!(size_of::<Xxh32State>() == 72);
+
+impl Xxh32State {
+    // A state that was reset with the seed.
+    #[inline(always)]
+    fn with_seed(seed: u32) -> Xxh32State
+        ensures { WasGiven result seed [] }
+    {
+        Xxh32State {
+            hasher: StateInMemory::of_record(Hasher::with_seed(seed).to_state()),
+            mark: MARK_32,
+        }
+    }
+
+    // Whether calls go on from the state.
+    #[inline(always)]
+    fn is_usable(&self) -> bool
+        ensures { IsTrue result ↔ IsUsable self.now }
+    {
+        self.mark == MARK_32 && self.hasher.buffer_usage < 16
+    }
+}
+
+/// `XXH32_hash_t XXH32(const void* input, size_t length, XXH32_hash_t seed)`: the hash of `length` bytes.
+/// `input` may be null where `length` is 0.
+#[unsafe(no_mangle)]
+pub extern "C" fn XXH32(input: &[u8], seed: u32) -> u32
+    ensures { result ≡ xxh32 seed input.now }
+{
+    Hasher::oneshot(seed, input)
+}
+
+/// `XXH_errorcode XXH32_reset(XXH32_state_t* state, XXH32_hash_t seed)`: makes the state one of no bytes yet,
+/// whatever it held, and answers `XXH_OK`.
+#[unsafe(no_mangle)]
+pub extern "C" fn XXH32_reset(state: &mut Xxh32State, seed: u32) -> u32
+    ensures ok { result ≡ XXH_OK }
+    ensures empty { WasGiven state.new seed [] }
+{
+    *state = Xxh32State::with_seed(seed);
+    XXH_OK
+}
+
+/// `XXH_errorcode XXH32_update(XXH32_state_t* state, const void* input, size_t length)`: adds `length` bytes to
+/// those that the state was given. `input` may be null where `length` is 0.
+///
+/// Answers `XXH_OK`. A state that was never reset is refused: it stays as it is, and the answer is `XXH_ERROR`.
+#[unsafe(no_mangle)]
+pub extern "C" fn XXH32_update(state: &mut Xxh32State, input: &[u8]) -> u32
+    ensures message { (seed : ℕ) (m : List ℕ)
+        → WasGiven state.old seed m → WasGiven state.new seed (m ++ input.now) }
+    ensures exact { IsUsable state.old
+        → record_of_state state.new ≡ after_write (record_of_state state.old) input.now }
+    ensures usable { IsUsable state.old → IsUsable state.new }
+    ensures ok { IsUsable state.old → result ≡ XXH_OK }
+    ensures refused { (¬ IsUsable state.old) → (result ≡ XXH_ERROR) × (state.new ≡ state.old) }
+{
+    if !state.is_usable() {
+        return XXH_ERROR;
+    }
+    state.hasher.add_piece(input);
+    XXH_OK
+}
+
+/// `XXH32_hash_t XXH32_digest(const XXH32_state_t* state)`: the hash of the bytes that the state was given, which
+/// stays as it is. The answer is 0 for a state that was never reset.
+#[unsafe(no_mangle)]
+pub extern "C" fn XXH32_digest(state: &Xxh32State) -> u32
+    ensures message { (seed : ℕ) (m : List ℕ) → WasGiven state.now seed m → result ≡ xxh32 seed m }
+    ensures exact { IsUsable state.now → result ≡ finish_value (record_of_state state.now) }
+    ensures refused { (¬ IsUsable state.now) → result ≡ 0 }
+{
+    if !state.is_usable() {
+        return 0;
+    }
+    state.hasher.finish()
+}
+
+/// `void XXH32_copyState(XXH32_state_t* dst, const XXH32_state_t* src)`: makes `dst` the same as `src`.
+#[unsafe(no_mangle)]
+pub extern "C" fn XXH32_copyState(dst: &mut Xxh32State, src: &Xxh32State)
+    ensures { dst.new ≡ src.now }
+{
+    *dst = *src;
+}
+
+/// `void XXH32_canonicalFromHash(XXH32_canonical_t* dst, XXH32_hash_t hash)`: the four bytes of the hash, the
+/// highest first.
+#[unsafe(no_mangle)]
+pub extern "C" fn XXH32_canonicalFromHash(dst: &mut [u8; 4], hash: u32)
+    ensures { dst.new ≡ to_be_bytes w32 hash }
+{
+    *dst = hash.to_be_bytes();
+}
+
+/// `XXH32_hash_t XXH32_hashFromCanonical(const XXH32_canonical_t* src)`: the hash of these four bytes, of which
+/// the highest is first.
+#[unsafe(no_mangle)]
+pub extern "C" fn XXH32_hashFromCanonical(src: &[u8; 4]) -> u32
+    ensures { result ≡ from_be_bytes w32 src.now }
+{
+    u32::from_be_bytes(*src)
+}

@@ -1,0 +1,127 @@
+//! XXH64.
+
+ghost use Rattle.std.specs.Prelude.{◌≡◌, ◌↔◌, ℕ, List, [], ◌++◌, IsTrue};
+ghost use Rattle.std.specs.Int.{w64, to_be_bytes, from_be_bytes};
+ghost use Rattle.twox_plain.specs.Record64.{after_write, finish_value};
+ghost use Rattle.twox_plain.specs.Xxh64.{xxh64};
+ghost use Rattle.twox_c.specs.State64.{IsUsable, WasGiven, record_of_state};
+
+use crate::{XXH_ERROR, XXH_OK};
+use twox_plain::xxhash64::{Hasher, StateInMemory};
+
+/// What a reset leaves in a state: the letters `twoxXX64`, the first in the low byte.
+pub const MARK_64: u64 = 0x3436_5858_786f_7774;
+
+/// `XXH64_state_t`: 96 bytes, aligned to 8. Before the first reset it may hold anything.
+#[repr(C)]
+#[derive(Clone, Copy)]
+pub struct Xxh64State {
+    /// What the hasher holds.
+    pub hasher: StateInMemory,
+    /// `MARK_64` after a reset.
+    pub mark: u64,
+}
+
+const _: () = prove!(size_of::<Xxh64State>() == 96);
+
+impl Xxh64State {
+    // A state that was reset with the seed.
+    #[inline(always)]
+    fn with_seed(seed: u64) -> Xxh64State
+        ensures { WasGiven result seed [] }
+    {
+        Xxh64State {
+            hasher: StateInMemory::of_record(Hasher::with_seed(seed).to_state()),
+            mark: MARK_64,
+        }
+    }
+
+    // Whether calls go on from the state.
+    #[inline(always)]
+    fn is_usable(&self) -> bool
+        ensures { IsTrue result ↔ IsUsable self.now }
+    {
+        self.mark == MARK_64 && self.hasher.buffer_usage < 32
+    }
+}
+
+/// `XXH64_hash_t XXH64(const void* input, size_t length, XXH64_hash_t seed)`: the hash of `length` bytes.
+/// `input` may be null where `length` is 0.
+#[unsafe(no_mangle)]
+pub extern "C" fn XXH64(input: &[u8], seed: u64) -> u64
+    ensures { result ≡ xxh64 seed input.now }
+{
+    Hasher::oneshot(seed, input)
+}
+
+/// `XXH_errorcode XXH64_reset(XXH64_state_t* state, XXH64_hash_t seed)`: makes the state one of no bytes yet,
+/// whatever it held, and answers `XXH_OK`.
+#[unsafe(no_mangle)]
+pub extern "C" fn XXH64_reset(state: &mut Xxh64State, seed: u64) -> u32
+    ensures ok { result ≡ XXH_OK }
+    ensures empty { WasGiven state.new seed [] }
+{
+    *state = Xxh64State::with_seed(seed);
+    XXH_OK
+}
+
+/// `XXH_errorcode XXH64_update(XXH64_state_t* state, const void* input, size_t length)`: adds `length` bytes to
+/// those that the state was given. `input` may be null where `length` is 0.
+///
+/// Answers `XXH_OK`. A state that was never reset is refused: it stays as it is, and the answer is `XXH_ERROR`.
+#[unsafe(no_mangle)]
+pub extern "C" fn XXH64_update(state: &mut Xxh64State, input: &[u8]) -> u32
+    ensures message { (seed : ℕ) (m : List ℕ)
+        → WasGiven state.old seed m → WasGiven state.new seed (m ++ input.now) }
+    ensures exact { IsUsable state.old
+        → record_of_state state.new ≡ after_write (record_of_state state.old) input.now }
+    ensures usable { IsUsable state.old → IsUsable state.new }
+    ensures ok { IsUsable state.old → result ≡ XXH_OK }
+    ensures refused { (¬ IsUsable state.old) → (result ≡ XXH_ERROR) × (state.new ≡ state.old) }
+{
+    if !state.is_usable() {
+        return XXH_ERROR;
+    }
+    state.hasher.add_piece(input);
+    XXH_OK
+}
+
+/// `XXH64_hash_t XXH64_digest(const XXH64_state_t* state)`: the hash of the bytes that the state was given, which
+/// stays as it is. The answer is 0 for a state that was never reset.
+#[unsafe(no_mangle)]
+pub extern "C" fn XXH64_digest(state: &Xxh64State) -> u64
+    ensures message { (seed : ℕ) (m : List ℕ) → WasGiven state.now seed m → result ≡ xxh64 seed m }
+    ensures exact { IsUsable state.now → result ≡ finish_value (record_of_state state.now) }
+    ensures refused { (¬ IsUsable state.now) → result ≡ 0 }
+{
+    if !state.is_usable() {
+        return 0;
+    }
+    state.hasher.finish()
+}
+
+/// `void XXH64_copyState(XXH64_state_t* dst, const XXH64_state_t* src)`: makes `dst` the same as `src`.
+#[unsafe(no_mangle)]
+pub extern "C" fn XXH64_copyState(dst: &mut Xxh64State, src: &Xxh64State)
+    ensures { dst.new ≡ src.now }
+{
+    *dst = *src;
+}
+
+/// `void XXH64_canonicalFromHash(XXH64_canonical_t* dst, XXH64_hash_t hash)`: the eight bytes of the hash, the
+/// highest first.
+#[unsafe(no_mangle)]
+pub extern "C" fn XXH64_canonicalFromHash(dst: &mut [u8; 8], hash: u64)
+    ensures { dst.new ≡ to_be_bytes w64 hash }
+{
+    *dst = hash.to_be_bytes();
+}
+
+/// `XXH64_hash_t XXH64_hashFromCanonical(const XXH64_canonical_t* src)`: the hash of these eight bytes, of which
+/// the highest is first.
+#[unsafe(no_mangle)]
+pub extern "C" fn XXH64_hashFromCanonical(src: &[u8; 8]) -> u64
+    ensures { result ≡ from_be_bytes w64 src.now }
+{
+    u64::from_be_bytes(*src)
+}
