@@ -45,6 +45,13 @@ struct library {
 
 static struct library reference, ours;
 
+/* Stops: nothing could be compared. */
+static void fail(const char *what)
+{
+    fprintf(stderr, "calls: %s\n", what);
+    exit(2);
+}
+
 static void *symbol(void *handle, const char *path, const char *name)
 {
     void *found = dlsym(handle, name);
@@ -58,10 +65,7 @@ static void *symbol(void *handle, const char *path, const char *name)
 static void load(struct library *library, const char *path)
 {
     void *handle = dlopen(path, RTLD_NOW | RTLD_LOCAL);
-    if (!handle) {
-        fprintf(stderr, "calls: %s\n", dlerror());
-        exit(2);
-    }
+    if (!handle) fail(dlerror());
 #define LOAD(name) library->name = (__typeof__(&name))symbol(handle, path, #name);
     EACH_CALL(LOAD)
 }
@@ -126,10 +130,7 @@ static uint64_t random_seed(void)
 static unsigned char *guarded(void)
 {
     unsigned char *room = mmap(0, ROOM + 4096, PROT_READ | PROT_WRITE, MAP_PRIVATE | MAP_ANONYMOUS, -1, 0);
-    if (room == MAP_FAILED || mprotect(room + ROOM, 4096, PROT_NONE)) {
-        perror("calls: no memory");
-        exit(2);
-    }
+    if (room == MAP_FAILED || mprotect(room + ROOM, 4096, PROT_NONE)) fail("no memory");
     for (size_t i = 0; i < ROOM; i++) room[i] = (unsigned char)(random_word() >> 56);
     return room;
 }
@@ -377,12 +378,14 @@ static void refused_secrets(void)
     XXH64_hash_t before = ours.XXH3_64bits_digest(state);
     XXH128_hash_t none = { 0, 0 };
     for (size_t m = 0; m < 600; m++) {
-        const unsigned char *secret = secret_of(m);
+        const unsigned char *secret = m ? secret_of(m) : NULL;
         if (m >= XXH3_SECRET_SIZE_MIN && m <= XXH3_STREAM_SECRET_SIZE_MAX) continue;
         tell(ours.XXH3_64bits_reset_withSecret(state, secret, m) == XXH_ERROR, "64 takes a secret of %zu bytes", m);
         tell(ours.XXH3_128bits_reset_withSecret(state, secret, m) == XXH_ERROR, "128 takes a secret of %zu bytes", m);
-        tell(ours.XXH3_64bits_reset_withSecretandSeed(state, secret, m, 5) == XXH_ERROR, "64 takes %zu bytes and a seed", m);
-        tell(ours.XXH3_128bits_reset_withSecretandSeed(state, secret, m, 5) == XXH_ERROR, "128 takes %zu bytes and a seed", m);
+        tell(ours.XXH3_64bits_reset_withSecretandSeed(state, secret, m, 5) == XXH_ERROR,
+             "64 takes a secret of %zu bytes and a seed", m);
+        tell(ours.XXH3_128bits_reset_withSecretandSeed(state, secret, m, 5) == XXH_ERROR,
+             "128 takes a secret of %zu bytes and a seed", m);
         tell(ours.XXH3_64bits_digest(state) == before, "a refused secret of %zu bytes changes the state", m);
         if (m >= XXH3_SECRET_SIZE_MIN) continue;
         tell(ours.XXH3_64bits_withSecret(p, 700, secret, m) == 0, "64 hashes with %zu bytes", m);
@@ -421,74 +424,118 @@ static void null_inputs(void)
     BOTH(no_3, XXH3_freeState);
 }
 
-/* ---- States ---- */
+/* ---- States of ours: of each kind, with the value that the reference has for the same bytes ---- */
+
+enum kind { KIND_32, KIND_64, KIND_3_64, KIND_3_128, KINDS };
+
+static void *created(enum kind kind)
+{
+    switch (kind) {
+    case KIND_32: return ours.XXH32_createState();
+    case KIND_64: return ours.XXH64_createState();
+    default: return ours.XXH3_createState();
+    }
+}
+
+static void freed(enum kind kind, void *state)
+{
+    switch (kind) {
+    case KIND_32: ours.XXH32_freeState(state); break;
+    case KIND_64: ours.XXH64_freeState(state); break;
+    default: ours.XXH3_freeState(state);
+    }
+}
+
+static XXH_errorcode reset(enum kind kind, void *state, uint32_t seed)
+{
+    switch (kind) {
+    case KIND_32: return ours.XXH32_reset(state, seed);
+    case KIND_64: return ours.XXH64_reset(state, seed);
+    case KIND_3_64: return ours.XXH3_64bits_reset_withSeed(state, seed);
+    default: return ours.XXH3_128bits_reset_withSeed(state, seed);
+    }
+}
+
+static XXH_errorcode update(enum kind kind, void *state, const void *p, size_t n)
+{
+    switch (kind) {
+    case KIND_32: return ours.XXH32_update(state, p, n);
+    case KIND_64: return ours.XXH64_update(state, p, n);
+    case KIND_3_64: return ours.XXH3_64bits_update(state, p, n);
+    default: return ours.XXH3_128bits_update(state, p, n);
+    }
+}
+
+static XXH128_hash_t digest(enum kind kind, const void *state)
+{
+    switch (kind) {
+    case KIND_32: return (XXH128_hash_t){ ours.XXH32_digest(state), 0 };
+    case KIND_64: return (XXH128_hash_t){ ours.XXH64_digest(state), 0 };
+    case KIND_3_64: return (XXH128_hash_t){ ours.XXH3_64bits_digest(state), 0 };
+    default: return ours.XXH3_128bits_digest(state);
+    }
+}
+
+static XXH128_hash_t value(enum kind kind, const void *p, size_t n, uint32_t seed)
+{
+    switch (kind) {
+    case KIND_32: return (XXH128_hash_t){ reference.XXH32(p, n, seed), 0 };
+    case KIND_64: return (XXH128_hash_t){ reference.XXH64(p, n, seed), 0 };
+    case KIND_3_64: return (XXH128_hash_t){ reference.XXH3_64bits_withSeed(p, n, seed), 0 };
+    default: return reference.XXH3_128bits_withSeed(p, n, seed);
+    }
+}
 
 /* A state that was just created stands for no bytes and the seed 0. */
-static void created_states(void)
+static void created_state(enum kind kind)
 {
-    XXH32_state_t *a = ours.XXH32_createState();
-    XXH64_state_t *b = ours.XXH64_createState();
-    XXH3_state_t *c = ours.XXH3_createState();
+    void *state = created(kind);
     size_t n = random_length();
     const unsigned char *p = input_of(n);
-    for (int fed = 0; fed < 2; fed++) {
-        tell(ours.XXH32_digest(a) == reference.XXH32(p, fed ? n : 0, 0), "a created state of XXH32");
-        tell(ours.XXH64_digest(b) == reference.XXH64(p, fed ? n : 0, 0), "a created state of XXH64");
-        tell(ours.XXH3_64bits_digest(c) == reference.XXH3_64bits(p, fed ? n : 0), "a created state of XXH3");
-        tell(same_128(ours.XXH3_128bits_digest(c), reference.XXH3_128bits(p, fed ? n : 0)), "a created state of XXH3");
-        if (fed) break;
-        ours.XXH32_update(a, p, n), ours.XXH64_update(b, p, n), ours.XXH3_128bits_update(c, p, n);
-    }
-    ours.XXH32_freeState(a);
-    ours.XXH64_freeState(b);
-    ours.XXH3_freeState(c);
+    tell(same_128(digest(kind, state), value(kind, NULL, 0, 0)), "a created state of kind %d", (int)kind);
+    tell(update(kind, state, p, n) == XXH_OK, "a created state of kind %d refuses", (int)kind);
+    tell(same_128(digest(kind, state), value(kind, p, n, 0)), "a created state of kind %d and %zu bytes", (int)kind, n);
+    freed(kind, state);
 }
 
-/* Memory of a state in which another program left its bytes: all zero, all ones, any, or a state with some changed. */
-static void spoil(void *state)
+/* Lets a state hold what another program left there: all zero, all ones, any bytes. */
+static void overwrite(unsigned char *state, size_t size)
 {
-    unsigned char *bytes = state;
-    size_t n = malloc_usable_size(state);
-    switch (below(4)) {
-    case 0: memset(bytes, 0, n); break;
-    case 1: memset(bytes, 0xff, n); break;
-    case 2: for (size_t i = 0; i < n; i++) bytes[i] = (unsigned char)random_word(); break;
-    default: for (size_t times = 1 + below(3); times; times--) bytes[below(n)] = (unsigned char)(below(2) ? random_word() : 255);
+    switch (below(3)) {
+    case 0: memset(state, 0, size); break;
+    case 1: memset(state, 0xff, size); break;
+    default: for (size_t i = 0; i < size; i++) state[i] = (unsigned char)random_word();
     }
 }
 
-/* A state that was never reset, or was overwritten: a call answers, and reads and writes nothing else. After an
- * XXH_ERROR nothing has changed, and a reset makes the state good again. */
-static void spoiled_state(int kind)
+/* Changes some bytes of a state. */
+static void spoil(unsigned char *state, size_t size)
+{
+    for (size_t times = 1 + below(3); times; times--) state[below(size)] = (unsigned char)(below(2) ? random_word() : 255);
+}
+
+/* Memory that no reset has written is refused, and stays as it is. A state in which bytes were changed may be refused
+ * or not: then too a call answers, and reads and writes nothing else. A reset makes either good. */
+static void state_never_reset(enum kind kind)
 {
     static const size_t lengths[] = { 0, 1, 31, 64, 255, 256, 257, 512, 513, 1500 };
+    static const XXH128_hash_t none = { 0, 0 };
     static unsigned char before[4096];
-    void *state = kind == 0 ? (void *)ours.XXH32_createState() : kind == 1 ? (void *)ours.XXH64_createState() : (void *)ours.XXH3_createState();
+    void *state = created(kind);
     size_t size = malloc_usable_size(state), n = lengths[below(10)];
     const unsigned char *p = input_of(n);
-    if (size > sizeof before) { fprintf(stderr, "calls: a state of %zu bytes\n", size); exit(2); }
-    spoil(state);
+    int never = below(2) == 0;
+    if (size > sizeof before) fail("a state has more than 4096 bytes");
+    overwrite(state, size);
+    if (!never) reset(kind, state, 5), spoil(state, size);
     memcpy(before, state, size);
-    XXH_errorcode code = kind == 0 ? ours.XXH32_update(state, p, n) : kind == 1 ? ours.XXH64_update(state, p, n)
-        : kind == 2 ? ours.XXH3_64bits_update(state, p, n) : ours.XXH3_128bits_update(state, p, n);
-    tell(code == XXH_OK || code == XXH_ERROR, "update of a spoiled state answers %d", (int)code);
-    tell(code == XXH_OK || !memcmp(before, state, size), "a refused update changes the state");
-    if (kind == 0) ours.XXH32_digest(state);
-    else if (kind == 1) ours.XXH64_digest(state);
-    else ours.XXH3_64bits_digest(state), ours.XXH3_128bits_digest(state);
-    if (kind == 0) {
-        ours.XXH32_reset(state, 9), ours.XXH32_update(state, p, n);
-        tell(ours.XXH32_digest(state) == reference.XXH32(p, n, 9), "XXH32 after a reset");
-        ours.XXH32_freeState(state);
-    } else if (kind == 1) {
-        ours.XXH64_reset(state, 9), ours.XXH64_update(state, p, n);
-        tell(ours.XXH64_digest(state) == reference.XXH64(p, n, 9), "XXH64 after a reset");
-        ours.XXH64_freeState(state);
-    } else {
-        ours.XXH3_64bits_reset_withSeed(state, 9), ours.XXH3_64bits_update(state, p, n);
-        tell(ours.XXH3_64bits_digest(state) == reference.XXH3_64bits_withSeed(p, n, 9), "XXH3 after a reset");
-        ours.XXH3_freeState(state);
-    }
+    XXH_errorcode code = update(kind, state, p, n);
+    XXH128_hash_t hash = digest(kind, state);
+    tell(code == XXH_ERROR || (code == XXH_OK && !never), "kind %d, never reset: %d", (int)kind, (int)code);
+    tell(code == XXH_OK || (!memcmp(before, state, size) && same_128(hash, none)), "kind %d, refused, changes", (int)kind);
+    tell(reset(kind, state, 9) == XXH_OK && update(kind, state, p, n) == XXH_OK, "kind %d refuses after a reset", (int)kind);
+    tell(same_128(digest(kind, state), value(kind, p, n, 9)), "kind %d after a reset", (int)kind);
+    freed(kind, state);
 }
 
 /* ---- More than 4 GiB ---- */
@@ -501,9 +548,10 @@ static const unsigned char *huge_input(void)
 {
     int file = memfd_create("huge", 0);
     unsigned char *room = mmap(0, PARTS * PART, PROT_NONE, MAP_PRIVATE | MAP_ANONYMOUS | MAP_NORESERVE, -1, 0);
-    if (file < 0 || room == MAP_FAILED || ftruncate(file, (off_t)PART)) { perror("calls: --huge"); exit(2); }
+    if (file < 0 || room == MAP_FAILED || ftruncate(file, (off_t)PART)) fail("no memory for an input of more than 4 GiB");
     for (size_t i = 0; i < PARTS; i++)
-        if (mmap(room + i * PART, PART, PROT_READ | PROT_WRITE, MAP_SHARED | MAP_FIXED, file, 0) == MAP_FAILED) { perror("calls: --huge"); exit(2); }
+        if (mmap(room + i * PART, PART, PROT_READ | PROT_WRITE, MAP_SHARED | MAP_FIXED, file, 0) == MAP_FAILED)
+            fail("no memory for an input of more than 4 GiB");
     for (size_t i = 0; i < PART; i += 8) { uint64_t word = random_word(); memcpy(room + i, &word, 8); }
     return room;
 }
@@ -558,8 +606,7 @@ int main(int argc, char **argv)
     every_secret_length();
     refused_secrets();
     group("secrets of each length");
-    for (long i = 0; i < count / 10; i++) created_states();
-    for (long i = 0; i < count; i++) spoiled_state((int)(i % 4));
+    for (long i = 0; i < count; i++) created_state((enum kind)(i % KINDS)), state_never_reset((enum kind)(i % KINDS));
     group("states just created, and never reset");
     if (argc > 4) {
         huge();
