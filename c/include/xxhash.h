@@ -87,11 +87,12 @@ void XXH32_copyState(XXH32_state_t *to, const XXH32_state_t *from);
 /* Lets the state stand for no bytes and the seed. XXH_OK. */
 XXH_errorcode XXH32_reset(XXH32_state_t *state, XXH32_hash_t seed);
 
-/* Lets the state stand for its bytes and these after them. XXH_ERROR, and no change, where the state is none that
- * createState, reset, copyState and update make. */
+/* Lets the state stand for its bytes and these after them: XXH_OK. A state comes from createState, so it was reset;
+ * other memory, which no reset has written, is refused by XXH_ERROR and stays as it is. */
 XXH_errorcode XXH32_update(XXH32_state_t *state, const void *input, size_t length);
 
-/* The hash of the bytes that the state stands for, which may take more bytes afterwards. */
+/* The hash of the bytes that the state stands for, which may take more bytes afterwards. 0 of memory that update
+ * refuses. */
 XXH32_hash_t XXH32_digest(const XXH32_state_t *state);
 
 /* A hash as bytes, and back. */
@@ -114,7 +115,7 @@ XXH64_hash_t XXH64_hashFromCanonical(const XXH64_canonical_t *bytes);
 
 /* The hash of the whole input: with the seed 0, with a seed, with a secret, or with both. With both, an input of up
  * to 240 bytes is hashed with the seed alone, and a longer one with the secret alone. A secret of fewer than
- * XXH3_SECRET_SIZE_MIN bytes gives no hash: the answer is 0. */
+ * XXH3_SECRET_SIZE_MIN bytes, where it is needed, gives no hash: the answer is 0. */
 XXH64_hash_t XXH3_64bits(const void *input, size_t length);
 XXH64_hash_t XXH3_64bits_withSeed(const void *input, size_t length, XXH64_hash_t seed);
 XXH64_hash_t XXH3_64bits_withSecret(const void *input, size_t length, const void *secret, size_t secret_length);
@@ -126,9 +127,9 @@ XXH3_state_t *XXH3_createState(void);
 XXH_errorcode XXH3_freeState(XXH3_state_t *state);
 void XXH3_copyState(XXH3_state_t *to, const XXH3_state_t *from);
 
-/* Let the state stand for no bytes, with the seed 0, with a seed, with a secret, or with both as above. The state
- * keeps a copy of the secret. XXH_ERROR, and no change, where the secret has fewer than XXH3_SECRET_SIZE_MIN bytes
- * or more than XXH3_STREAM_SECRET_SIZE_MAX. */
+/* Let the state stand for no bytes, with the seed 0, with a seed, with a secret, or with both as above: XXH_OK. The
+ * state keeps a copy of the secret. A secret of fewer than XXH3_SECRET_SIZE_MIN bytes or of more than
+ * XXH3_STREAM_SECRET_SIZE_MAX is refused by XXH_ERROR, and the state stays as it is. */
 XXH_errorcode XXH3_64bits_reset(XXH3_state_t *state);
 XXH_errorcode XXH3_64bits_reset_withSeed(XXH3_state_t *state, XXH64_hash_t seed);
 XXH_errorcode XXH3_64bits_reset_withSecret(XXH3_state_t *state, const void *secret, size_t secret_length);
@@ -171,10 +172,6 @@ XXH128_hash_t XXH128_hashFromCanonical(const XXH128_canonical_t *bytes);
 
 /* Writes the XXH3_SECRET_DEFAULT_SIZE bytes of the secret that the seed derives. */
 void XXH3_generateSecret_fromSeed(void *secret, XXH64_hash_t seed);
-
-/* Fills `secret` with a secret made of any bytes. XXH_ERROR, and no change, where it has fewer than
- * XXH3_SECRET_SIZE_MIN bytes. */
-XXH_errorcode XXH3_generateSecret(void *secret, size_t secret_length, const void *bytes, size_t length);
 
 /* ---- Other names of the calls of XXH3, which the C library has for a choice at run time ---- */
 
