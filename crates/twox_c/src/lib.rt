@@ -1,23 +1,93 @@
 //! XXH32, XXH64 and XXH3 under the names of the C library `libxxhash` 0.8.1, as a static library.
 //!
-//! Each export's documentation begins with its declaration in C. A pointer and a length are one parameter here, a
-//! slice. Nothing is asked of a caller that a call can test: a state that was never reset is refused.
+//! Every name that the shared library of Debian's `libxxhash0` exports is here but `XXH3_generateSecret` and the six
+//! that allocate and free states. Each export's documentation begins with its declaration in C, where a pointer
+//! and a length are one parameter here, a slice; a null pointer may stand for no bytes.
 //!
-//! # States
+//! A contract asks nothing of a caller: what can be tested is tested. A state that was never reset, and a secret of
+//! a length that doesn't fit, are refused. A call with an error code then answers `XXH_ERROR` and changes nothing,
+//! and one that answers a hash answers 0. Pointers of states have to be of states, and aligned.
 //!
-//! | C type | size | alignment |
-//! |---|---|---|
-//! | `XXH32_state_t` | 72 | 8 |
-//! | `XXH64_state_t` | 96 | 8 |
-//! | `XXH128_hash_t` | 16 | 8 |
+//! # What crosses
+//!
+//! | C type | here | size | alignment |
+//! |---|---|---|---|
+//! | `XXH32_state_t` | `Xxh32State` | 72 | 8 |
+//! | `XXH64_state_t` | `Xxh64State` | 96 | 8 |
+//! | `XXH3_state_t` | `Xxh3State` | 960 | 8 |
+//! | `XXH128_hash_t` | `Xxh128Hash` | 16 | 8 |
+//! | `XXH32_canonical_t`, `XXH64_canonical_t`, `XXH128_canonical_t` | arrays of bytes | 4, 8, 16 | 1 |
+//! | `XXH_errorcode` | `u32` | 4 | 4 |
+//! | `XXH32_hash_t`, `XXH64_hash_t` | `u32`, `u64` | 4, 8 | 4, 8 |
+//!
+//! # The exports
+//!
+//! ```c
+//! unsigned XXH_versionNumber(void);
+//!
+//! XXH32_hash_t XXH32(const void* input, size_t length, XXH32_hash_t seed);
+//! XXH_errorcode XXH32_reset(XXH32_state_t* state, XXH32_hash_t seed);
+//! XXH_errorcode XXH32_update(XXH32_state_t* state, const void* input, size_t length);
+//! XXH32_hash_t XXH32_digest(const XXH32_state_t* state);
+//! void XXH32_copyState(XXH32_state_t* dst, const XXH32_state_t* src);
+//! void XXH32_canonicalFromHash(XXH32_canonical_t* dst, XXH32_hash_t hash);
+//! XXH32_hash_t XXH32_hashFromCanonical(const XXH32_canonical_t* src);
+//!
+//! XXH64_hash_t XXH64(const void* input, size_t length, XXH64_hash_t seed);
+//! XXH_errorcode XXH64_reset(XXH64_state_t* state, XXH64_hash_t seed);
+//! XXH_errorcode XXH64_update(XXH64_state_t* state, const void* input, size_t length);
+//! XXH64_hash_t XXH64_digest(const XXH64_state_t* state);
+//! void XXH64_copyState(XXH64_state_t* dst, const XXH64_state_t* src);
+//! void XXH64_canonicalFromHash(XXH64_canonical_t* dst, XXH64_hash_t hash);
+//! XXH64_hash_t XXH64_hashFromCanonical(const XXH64_canonical_t* src);
+//!
+//! XXH64_hash_t XXH3_64bits(const void* input, size_t length);
+//! XXH64_hash_t XXH3_64bits_withSeed(const void* input, size_t length, XXH64_hash_t seed);
+//! XXH64_hash_t XXH3_64bits_withSecret(const void* input, size_t length, const void* secret, size_t secretSize);
+//! XXH64_hash_t XXH3_64bits_withSecretandSeed(const void* input, size_t length, const void* secret, size_t secretSize,
+//!                                            XXH64_hash_t seed);
+//! XXH_errorcode XXH3_64bits_reset(XXH3_state_t* state);
+//! XXH_errorcode XXH3_64bits_reset_withSeed(XXH3_state_t* state, XXH64_hash_t seed);
+//! XXH_errorcode XXH3_64bits_reset_withSecret(XXH3_state_t* state, const void* secret, size_t secretSize);
+//! XXH_errorcode XXH3_64bits_reset_withSecretandSeed(XXH3_state_t* state, const void* secret, size_t secretSize,
+//!                                                   XXH64_hash_t seed);
+//! XXH_errorcode XXH3_64bits_update(XXH3_state_t* state, const void* input, size_t length);
+//! XXH64_hash_t XXH3_64bits_digest(const XXH3_state_t* state);
+//! void XXH3_copyState(XXH3_state_t* dst, const XXH3_state_t* src);
+//!
+//! XXH128_hash_t XXH128(const void* input, size_t length, XXH64_hash_t seed);
+//! XXH128_hash_t XXH3_128bits(const void* input, size_t length);
+//! XXH128_hash_t XXH3_128bits_withSeed(const void* input, size_t length, XXH64_hash_t seed);
+//! XXH128_hash_t XXH3_128bits_withSecret(const void* input, size_t length, const void* secret, size_t secretSize);
+//! XXH128_hash_t XXH3_128bits_withSecretandSeed(const void* input, size_t length, const void* secret,
+//!                                              size_t secretSize, XXH64_hash_t seed);
+//! XXH_errorcode XXH3_128bits_reset(XXH3_state_t* state);
+//! XXH_errorcode XXH3_128bits_reset_withSeed(XXH3_state_t* state, XXH64_hash_t seed);
+//! XXH_errorcode XXH3_128bits_reset_withSecret(XXH3_state_t* state, const void* secret, size_t secretSize);
+//! XXH_errorcode XXH3_128bits_reset_withSecretandSeed(XXH3_state_t* state, const void* secret, size_t secretSize,
+//!                                                    XXH64_hash_t seed);
+//! XXH_errorcode XXH3_128bits_update(XXH3_state_t* state, const void* input, size_t length);
+//! XXH128_hash_t XXH3_128bits_digest(const XXH3_state_t* state);
+//! int XXH128_isEqual(XXH128_hash_t h1, XXH128_hash_t h2);
+//! int XXH128_cmp(const void* h1, const void* h2);
+//! void XXH128_canonicalFromHash(XXH128_canonical_t* dst, XXH128_hash_t hash);
+//! XXH128_hash_t XXH128_hashFromCanonical(const XXH128_canonical_t* src);
+//!
+//! void XXH3_generateSecret_fromSeed(void* secretBuffer, XXH64_hash_t seed);
+//! ```
+//!
+//! With `_dispatch` after the name, and the same declaration: `XXH3_64bits`, `XXH3_64bits_withSeed`,
+//! `XXH3_64bits_withSecret`, `XXH3_64bits_update`, and the four of 128 bits.
 #![tactic(auto)]
 
 ghost use Rattle.std.specs.Prelude.{◌≡◌};
 
 mod hash128;
+mod secrets;
 mod xxh32;
 mod xxh3_128;
 mod xxh3_64;
+mod xxh3_state;
 mod xxh64;
 
 /// What a call answers that did what it was asked: `XXH_OK` of the C library.

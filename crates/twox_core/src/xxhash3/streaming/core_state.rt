@@ -73,6 +73,7 @@ impl CoreState {
             < stripes_of (secret_bytes secret.entry) }
         ensures in_range { self.new.buffer_usage ≤ 512 }
         ensures left { min self.new.total_bytes 1 ≤ self.new.buffer_usage }
+        ensures size { length self.old.buffer ≡ BUFFERED_BYTES }
         ensures in_place { 512 < length input.now
             → (64 ≤ self.new.buffer_usage) × (self.new.buffer_usage ≤ 127) }
     {
