@@ -259,7 +259,8 @@ static void stream_64(void)
     BOTH(b, XXH64_freeState);
 }
 
-/* Resets by one of the calls of a width. The reference reads the secret as long as the state is used, so it stays. */
+/* Resets by one of the calls of a width. The reference reads the secret as long as the state is used, so it stays. The
+ * last call gets no seed 0 here: see seed_0_and_secret. */
 static void reset_3(struct pair_3 a, int wide, const void *secret, size_t m, uint64_t seed)
 {
     switch (below(4) + (wide ? 4 : 0)) {
@@ -270,7 +271,7 @@ static void reset_3(struct pair_3 a, int wide, const void *secret, size_t m, uin
     case 4: BOTH(a, XXH3_128bits_reset); break;
     case 5: BOTH(a, XXH3_128bits_reset_withSeed, seed); break;
     case 6: BOTH(a, XXH3_128bits_reset_withSecret, secret, m); break;
-    default: BOTH(a, XXH3_128bits_reset_withSecretandSeed, secret, m, seed); break;
+    default: BOTH(a, XXH3_128bits_reset_withSecretandSeed, secret, m, seed ? seed : 1); break;
     }
 }
 
@@ -390,6 +391,21 @@ static void refused_secrets(void)
         if (m >= XXH3_SECRET_SIZE_MIN) continue;
         tell(ours.XXH3_64bits_withSecret(p, 700, secret, m) == 0, "64 hashes with %zu bytes", m);
         tell(same_128(ours.XXH3_128bits_withSecret(p, 700, secret, m), none), "128 hashes with %zu bytes", m);
+    }
+    ours.XXH3_freeState(state);
+}
+
+/* A secret and the seed 0, of 128 bits: the reference's one-shot takes the default secret for up to 240 bytes, its
+ * stream the secret given. Ours takes the default secret in both. */
+static void seed_0_and_secret(void)
+{
+    XXH3_state_t *state = ours.XXH3_createState();
+    for (size_t n = 0; n < 600; n++) {
+        const unsigned char *p = input_of(n), *secret = secret_of(192);
+        ours.XXH3_128bits_reset_withSecretandSeed(state, secret, 192, 0);
+        ours.XXH3_128bits_update(state, p, n);
+        tell(same_128(ours.XXH3_128bits_digest(state), reference.XXH3_128bits_withSecretandSeed(p, n, secret, 192, 0)),
+             "a stream of %zu bytes with a secret and the seed 0", n);
     }
     ours.XXH3_freeState(state);
 }
@@ -605,6 +621,7 @@ int main(int argc, char **argv)
     group("canonical forms, secrets of seeds, null inputs");
     every_secret_length();
     refused_secrets();
+    seed_0_and_secret();
     group("secrets of each length");
     for (long i = 0; i < count; i++) created_state((enum kind)(i % KINDS)), state_never_reset((enum kind)(i % KINDS));
     group("states just created, and never reset");
