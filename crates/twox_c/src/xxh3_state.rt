@@ -120,7 +120,7 @@ impl Xxh3State {
         if !is_secret_length(secret.len()) {
             return XXH_ERROR;
         }
-        self.core = CoreState::new();
+        self.core.clear();
         self.mark = MARK_3;
         self.set_seed(seed);
         self.secret_length = secret.len();

@@ -184,9 +184,11 @@ end_stripe_follows s m c held long = last_in (nat_lt c.buffer_usage 64) s m c.bu
 
 -- ---- what the core's clauses say
 
-pub stands_fresh : {S : Type 0} (bytes : S → List ℕ) (h : StreamKey S) → StandsFor bytes (record { key = h; state = empty_state }) h.seed (bytes h.secret) []
+-- a stream of no bytes, with any bytes in its buffer
+pub stands_cleared : {S : Type 0} (bytes : S → List ℕ) (h : StreamKey S) (buffer : List ℕ)
+    → StandsFor bytes (record { key = h; state = record empty_state { buffer = buffer } }) h.seed (bytes h.secret) []
 unfolding StandsFor Follows
-stands_fresh bytes h = (
+stands_cleared bytes h buffer = (
   refl,
   refl,
   (
@@ -196,6 +198,10 @@ stands_fresh bytes h = (
     record { taken = took_none (bytes h.secret) []; all = refl; bytes = refl },
   ),
 )
+
+-- and new
+pub stands_fresh : {S : Type 0} (bytes : S → List ℕ) (h : StreamKey S) → StandsFor bytes (record { key = h; state = empty_state }) h.seed (bytes h.secret) []
+stands_fresh bytes h = stands_cleared bytes h empty_state.buffer
 
 pub stands_written : {S : Type 0} (bytes : S → List ℕ) (h : CoreView S) (seed : Option ℕ) (s m d : List ℕ)
     → 0 < stripes_of (bytes h.key.secret) → length h.state.buffer ≡ 512 → h.state.buffer_usage ≤ 512

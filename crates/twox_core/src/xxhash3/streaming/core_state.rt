@@ -58,6 +58,17 @@ impl CoreState {
         }
     }
 
+    /// Forgets all bytes taken: the state is one of no bytes yet, but for bytes of the buffer, which stay as they
+    /// are.
+    #[inline(always)]
+    pub fn clear(&mut self)
+        ensures { self.new ≡ record empty_state { buffer = self.old.buffer } }
+    {
+        self.taken = TakenStripes::new();
+        self.buffer_usage = 0;
+        self.total_bytes = 0;
+    }
+
     /// Takes the bytes of `input` after those taken before.
     // A piece that the buffer has room for is kept, even if it fills the buffer, since the last stripe of a stream
     // is taken by `finish` alone.
