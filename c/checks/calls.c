@@ -1,20 +1,23 @@
 /* Compares two libraries of these calls in one process, on calls and streams drawn at random:
  *
- *     calls REFERENCE OURS COUNT [--huge]
+ *     calls REFERENCE OURS COUNT [--limits]
  *
  * Each input ends where memory that nobody may read begins, and so does each secret. Of streams each digest on the
  * way is compared, with cuts, copies and resets. What the reference leaves undefined is asked of ours alone:
- * secrets that are too short, states that were never reset. --huge adds inputs and streams of more than 4 GiB.
+ * secrets that are too short, states that were never reset. --limits adds inputs and streams of more than 4 GiB, and
+ * states where no memory is left.
  * It prints a line for each group and the first differences, and answers 1 where there is one.
  */
 #define _GNU_SOURCE
 #include <dlfcn.h>
 #include <malloc.h>
+#include <pthread.h>
 #include <stdarg.h>
 #include <stdio.h>
 #include <stdlib.h>
 #include <string.h>
 #include <sys/mman.h>
+#include <sys/resource.h>
 #include <unistd.h>
 #include "xxhash.h"
 
@@ -554,6 +557,57 @@ static void state_never_reset(enum kind kind)
     freed(kind, state);
 }
 
+/* ---- Threads ---- */
+
+#define THREADS 8
+#define STREAMS 1000
+
+/* Streams of ours in pieces of 100 bytes, each kind in turn. Answers how many differ from the reference's one-shots. */
+static void *streams_of_a_thread(void *first)
+{
+    long differ = 0;
+    for (size_t i = (size_t)first; i < (size_t)first + STREAMS; i++) {
+        enum kind kind = (enum kind)(i % KINDS);
+        size_t n = i * 7 % 2000;
+        void *state = created(kind);
+        reset(kind, state, (uint32_t)i);
+        for (size_t at = 0; at < n; at += 100) update(kind, state, input_room + at, n - at < 100 ? n - at : 100);
+        differ += !same_128(digest(kind, state), value(kind, input_room, n, (uint32_t)i));
+        freed(kind, state);
+    }
+    return (void *)differ;
+}
+
+static void threads(void)
+{
+    pthread_t running[THREADS];
+    void *differ;
+    for (size_t i = 0; i < THREADS; i++)
+        if (pthread_create(&running[i], NULL, streams_of_a_thread, (void *)(i * 333))) fail("no thread");
+    for (size_t i = 0; i < THREADS; i++) {
+        pthread_join(running[i], &differ);
+        tell(!differ, "%ld streams of a thread", (long)differ);
+    }
+}
+
+/* ---- No memory ---- */
+
+/* Where memory runs out, createState answers null. What is left is taken first, in pieces of each size. */
+static void no_memory(void)
+{
+    struct piece { struct piece *next; } *pieces = NULL, *piece;
+    struct rlimit none = { 0, 0 }, before;
+    if (getrlimit(RLIMIT_AS, &before)) fail("no limit of memory can be read");
+    none.rlim_max = before.rlim_max;
+    if (setrlimit(RLIMIT_AS, &none)) fail("no limit of memory can be set");
+    for (size_t size = 1024; size >= sizeof *piece; size -= 8)
+        while ((piece = malloc(size))) piece->next = pieces, pieces = piece;
+    void *states[] = { ours.XXH32_createState(), ours.XXH64_createState(), ours.XXH3_createState() };
+    while ((piece = pieces)) pieces = piece->next, free(piece);
+    if (setrlimit(RLIMIT_AS, &before)) fail("no limit of memory can be set");
+    for (int i = 0; i < 3; i++) tell(!states[i], "createState answers %p without memory", states[i]);
+}
+
 /* ---- More than 4 GiB ---- */
 
 #define PART ((size_t)64 << 20)
@@ -603,8 +657,8 @@ static void huge(void)
 
 int main(int argc, char **argv)
 {
-    if (argc < 4 || atol(argv[3]) < 1 || (argc > 4 && strcmp(argv[4], "--huge"))) {
-        fprintf(stderr, "usage: calls REFERENCE OURS COUNT [--huge]\n");
+    if (argc < 4 || atol(argv[3]) < 1 || (argc > 4 && strcmp(argv[4], "--limits"))) {
+        fprintf(stderr, "usage: calls REFERENCE OURS COUNT [--limits]\n");
         return 2;
     }
     long count = atol(argv[3]);
@@ -625,7 +679,11 @@ int main(int argc, char **argv)
     group("secrets of each length");
     for (long i = 0; i < count; i++) created_state((enum kind)(i % KINDS)), state_never_reset((enum kind)(i % KINDS));
     group("states just created, and never reset");
+    threads();
+    group("streams of eight threads at once");
     if (argc > 4) {
+        no_memory();
+        group("without memory");
         huge();
         group("more than 4 GiB");
     }
