@@ -530,7 +530,8 @@ static void overwrite(unsigned char *state, size_t size)
 /* Changes some bytes of a state. */
 static void spoil(unsigned char *state, size_t size)
 {
-    for (size_t times = 1 + below(3); times; times--) state[below(size)] = (unsigned char)(below(2) ? random_word() : 255);
+    for (size_t times = 1 + below(3); times; times--)
+        state[below(size)] = below(2) ? (unsigned char)random_word() : 255;
 }
 
 /* Memory that no reset has written is refused, and stays as it is. A state in which bytes were changed may be refused
@@ -551,8 +552,10 @@ static void state_never_reset(enum kind kind)
     XXH_errorcode code = update(kind, state, p, n);
     XXH128_hash_t hash = digest(kind, state);
     tell(code == XXH_ERROR || (code == XXH_OK && !never), "kind %d, never reset: %d", (int)kind, (int)code);
-    tell(code == XXH_OK || (!memcmp(before, state, size) && same_128(hash, none)), "kind %d, refused, changes", (int)kind);
-    tell(reset(kind, state, 9) == XXH_OK && update(kind, state, p, n) == XXH_OK, "kind %d refuses after a reset", (int)kind);
+    tell(code == XXH_OK || (!memcmp(before, state, size) && same_128(hash, none)), "kind %d, refused, changes",
+         (int)kind);
+    tell(reset(kind, state, 9) == XXH_OK && update(kind, state, p, n) == XXH_OK, "kind %d refuses after a reset",
+         (int)kind);
     tell(same_128(digest(kind, state), value(kind, p, n, 9)), "kind %d after a reset", (int)kind);
     freed(kind, state);
 }
@@ -618,7 +621,8 @@ static const unsigned char *huge_input(void)
 {
     int file = memfd_create("huge", 0);
     unsigned char *room = mmap(0, PARTS * PART, PROT_NONE, MAP_PRIVATE | MAP_ANONYMOUS | MAP_NORESERVE, -1, 0);
-    if (file < 0 || room == MAP_FAILED || ftruncate(file, (off_t)PART)) fail("no memory for an input of more than 4 GiB");
+    if (file < 0 || room == MAP_FAILED || ftruncate(file, (off_t)PART))
+        fail("no memory for an input of more than 4 GiB");
     for (size_t i = 0; i < PARTS; i++)
         if (mmap(room + i * PART, PART, PROT_READ | PROT_WRITE, MAP_SHARED | MAP_FIXED, file, 0) == MAP_FAILED)
             fail("no memory for an input of more than 4 GiB");

@@ -192,8 +192,8 @@ def gdb_session(sides):
         write(os.path.join(folder, 'program.c'), PROGRAM)
         built = subprocess.run(['gcc', '-g', '-O0', 'program.c', '-o', 'program'], cwd=folder)
         want(built.returncode == 0, 'the program was not built')
-        words = ['gdb', '-nx', '-batch', '-ex', 'info line twice', '-ex', 'ptype struct point', '-ex', 'info scope main',
-                 '-ex', 'info functions twice', '-ex', 'disassemble /s twice', 'program']
+        asked = ('info line twice', 'ptype struct point', 'info scope main', 'info functions twice', 'disassemble /s twice')
+        words = ['gdb', '-nx', '-batch', *[word for command in asked for word in ('-ex', command)], 'program']
         theirs, ours, stopped = (run(side, words, folder=folder) for side in (sides.theirs, sides.ours, sides.stopping))
     want(theirs.status == 0 and 'double up;' in theirs.out, tail(theirs.out))
     want(ours.out == theirs.out, 'the session differs')
@@ -268,7 +268,8 @@ def check_all(report, sides):
     report.attempt('python3-xxhash', python_hashes, sides)
     for choice in ('xxh64', 'xxh3', 'xxh128'):
         for sender, receiver in ((ours, theirs), (theirs, ours), (ours, ours)):
-            report.attempt(f'rsync {choice}: {sender.name} sends, {receiver.name} receives', rsync_pair, choice, sender, receiver)
+            name = f'rsync {choice}: {sender.name} sends, {receiver.name} receives'
+            report.attempt(name, rsync_pair, choice, sender, receiver)
         report.attempt(f'rsync {choice}: a wrong library sends', rsync_control, choice, wrong, theirs)
     report.attempt('borgbackup: ours writes, theirs checks', borg_pair, ours, theirs)
     report.attempt('borgbackup: theirs writes, ours checks', borg_pair, theirs, ours)

@@ -1,5 +1,5 @@
-"""Prints hashes of the module xxhash over inputs of many lengths: at once, in pieces, of copies, after a reset. Debian's
-python3 runs it, on one library or another."""
+"""Prints hashes of the module xxhash over inputs of many lengths: at once, in pieces, of copies, after a reset.
+Debian's python3 runs it, on one library or another."""
 import random
 import xxhash
 

@@ -1,4 +1,5 @@
 """One line a check, and the counts at the end."""
+import subprocess
 
 
 class Report:
@@ -15,10 +16,10 @@ class Report:
             print(f'passed  {name}' + (f' ({note})' if note else ''), flush=True)
 
     def attempt(self, name, check, *words):
-        """A check that answers a note, or raises Fault."""
+        """A check that answers a note, or raises Fault. One that takes too long is at fault too."""
         try:
             self.row(name, None, check(*words) or '')
-        except Fault as fault:
+        except (Fault, subprocess.TimeoutExpired) as fault:
             self.row(name, str(fault))
 
 
