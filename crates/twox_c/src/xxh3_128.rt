@@ -173,7 +173,7 @@ pub extern "C" fn XXH3_128bits_withSeed_dispatch(input: &[u8], seed: u64) -> Xxh
     ensures { let s = effective_secret (derived_secret seed) input.now in
         value_of result ≡ xxh3_128 seed s input.now }
 {
-    XXH3_128bits_withSeed(input, seed)
+    XXH128(input, seed)
 }
 
 /// The same as `XXH3_128bits_withSecret`. In the C library it chooses among instruction sets when it runs.
@@ -196,5 +196,5 @@ pub extern "C" fn XXH3_128bits_update_dispatch(state: &mut Xxh3State, input: &[u
     ensures ok { IsUsable state.old → result ≡ XXH_OK }
     ensures refused { (¬ IsUsable state.old) → (result ≡ XXH_ERROR) × (state.new ≡ state.old) }
 {
-    state.update(input)
+    XXH3_128bits_update(state, input)
 }

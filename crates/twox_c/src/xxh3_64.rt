@@ -181,5 +181,5 @@ pub extern "C" fn XXH3_64bits_update_dispatch(state: &mut Xxh3State, input: &[u8
     ensures ok { IsUsable state.old → result ≡ XXH_OK }
     ensures refused { (¬ IsUsable state.old) → (result ≡ XXH_ERROR) × (state.new ≡ state.old) }
 {
-    state.update(input)
+    XXH3_64bits_update(state, input)
 }

@@ -110,7 +110,7 @@ impl Xxh3State {
     }
 
     // Makes the state one of no bytes yet. A secret of another length than a state keeps is refused.
-    #[inline(always)]
+    #[inline(never)]
     pub(crate) fn reset(&mut self, seed: Option<u64>, secret: &[u8]) -> u32
         ensures accepted { IsSecretLength (length secret.now)
             → (result ≡ XXH_OK) × WasGiven self.new seed secret.now [] }
@@ -136,8 +136,8 @@ impl Xxh3State {
         self.reset(Some(DEFAULT_SEED), &DEFAULT_SECRET_RAW)
     }
 
-    // Takes the bytes of a piece, unless the state was never reset.
-    #[inline(always)]
+    // Takes the bytes of a piece, unless the state was never reset. A call of its own, which four exports share.
+    #[inline(never)]
     pub(crate) fn update(&mut self, input: &[u8]) -> u32
         ensures message { (seed : Option ℕ) (s m : List ℕ)
             → WasGiven self.old seed s m → WasGiven self.new seed s (m ++ input.now) }

@@ -43,6 +43,25 @@ impl Xxh64State {
     {
         self.mark == MARK_64 && self.hasher.buffer_usage < 32
     }
+
+    // Takes the bytes of a piece, unless the state was never reset. A call of its own, since fewer registers are
+    // saved where the export only tests the pointer for null.
+    #[inline(never)]
+    fn update(&mut self, input: &[u8]) -> u32
+        ensures message { (seed : ℕ) (m : List ℕ)
+            → WasGiven self.old seed m → WasGiven self.new seed (m ++ input.now) }
+        ensures exact { IsUsable self.old
+            → record_of_state self.new ≡ after_write (record_of_state self.old) input.now }
+        ensures usable { IsUsable self.old → IsUsable self.new }
+        ensures ok { IsUsable self.old → result ≡ XXH_OK }
+        ensures refused { (¬ IsUsable self.old) → (result ≡ XXH_ERROR) × (self.new ≡ self.old) }
+    {
+        if !self.is_usable() {
+            return XXH_ERROR;
+        }
+        self.hasher.add_piece(input);
+        XXH_OK
+    }
 }
 
 /// `XXH64_hash_t XXH64(const void* input, size_t length, XXH64_hash_t seed)`: the hash of `length` bytes.
@@ -79,11 +98,7 @@ pub extern "C" fn XXH64_update(state: &mut Xxh64State, input: &[u8]) -> u32
     ensures ok { IsUsable state.old → result ≡ XXH_OK }
     ensures refused { (¬ IsUsable state.old) → (result ≡ XXH_ERROR) × (state.new ≡ state.old) }
 {
-    if !state.is_usable() {
-        return XXH_ERROR;
-    }
-    state.hasher.add_piece(input);
-    XXH_OK
+    state.update(input)
 }
 
 /// `XXH64_hash_t XXH64_digest(const XXH64_state_t* state)`: the hash of the bytes that the state was given, which
