@@ -106,6 +106,46 @@ def below(tables, bound):
     return markdown(["set", "form", "hash", "size", "ratio", "peer", "spread of the ratio"], [row for _, row in sorted(rows)])
 
 
+def shared_table(table, form):
+    """Debian's time over ours: a line for each size, a column for each hash."""
+    names = list(dict.fromkeys(key[1] for key in table if key[0] == form))
+    sizes = list(dict.fromkeys(key[2] for key in table if key[0] == form))
+    rows = [[figures.size(size)] + [f"{ratio(table[form, name, size], 'c_shared'):.2f}" for name in names] for size in sizes]
+    return markdown(["length" if form in ONESHOTS else "piece"] + names, rows)
+
+
+def shared_slower(table, shortest):
+    """The rows of at least so many bytes in which Debian's library is faster, the lowest ratio first."""
+    rows = []
+    for key, cell in table.items():
+        value = ratio(cell, "c_shared")
+        if key[2] >= shortest and value < 1:
+            spread = figures.spread(figures.ratios(cell, "c_shared", "ours"))
+            rows.append((value, [key[0], key[1], figures.size(key[2]), f"{value:.2f}", f"{100 * spread:.0f}%"]))
+    if not rows:
+        return [f"In no row from {shortest} bytes on is Debian's library faster."]
+    return ([f"The rows from {shortest} bytes on in which Debian's library is faster:", ""]
+            + markdown(["form", "hash", "size", "ratio", "spread of the ratio"], [row for _, row in sorted(rows)]))
+
+
+def shared_section(table):
+    values = [ratio(cell, "c_shared") for key, cell in table.items() if key[2] >= 16]
+    return ["", "## The shared library, through C's own names", "",
+            "The time of Debian's `libxxhash.so.0` over that of ours, which `c/build` makes: both in one process, called "
+            "through the pointers that `dlsym` gives, and ours as the dynamic loader chose it "
+            f"(`{shared_file()}`). From 16 bytes on the ratio is {min(values):.2f} to {max(values):.2f}, with a median of "
+            f"{statistics.median(values):.2f}.", "", *shared_slower(table, 16), "", "### One-shots", "",
+            *shared_table(table, "oneshot"), "", "### Streams in pieces", "", *shared_table(table, "stream")]
+
+
+def shared_file():
+    """The file of ours that the loader chose, below its folder."""
+    for line in open(os.path.join(room, "shared_files")):
+        if line.startswith("ours: "):
+            return line.split("/c/out/lib/")[-1].strip()
+    sys.exit("page.py: the driver of the shared libraries named no file")
+
+
 def picture(table, names):
     """Throughput over the length, one panel a hash, both axes by powers of two."""
     width, height, left, gap = 340, 220, 50, 40
@@ -205,6 +245,7 @@ for instructions, table in tables.items():
     for name in KERNELS:
         text += ["", f"### {name}", "", *one_table(table, "kernel", name, PEERS[:2]),
                  "", *one_table(table, "kernel_stream", name, PEERS[:2])]
+text += shared_section(figures.rows(sorted(glob.glob(os.path.join(room, "shared", "round_*")))))
 text += ["", "## The programs", "", "Wall time of the whole program, the median of five rounds, with the file in the page cache.", "",
          *programs()]
 open(os.path.join(docs, "SPEED.md"), "w").write("\n".join(text) + "\n")

@@ -1,0 +1,235 @@
+/* Measures two shared libraries of the same names in turns, in one process, through the pointers that dlsym gives:
+ *
+ *     shared OURS THEIRS [--quick] [--only WORD]..
+ *
+ * OURS and THEIRS are what dlopen is asked for: a path, or libxxhash.so.0 for the file that the loader chooses. It
+ * writes a line for each row and library, as driver.c does:
+ *
+ *     FORM NAME SIZE LIBRARY NANOSECONDS
+ *
+ * FORM is oneshot or stream; SIZE is the input's length, or of a stream the length of its pieces. NANOSECONDS, of
+ * processor time, is what a call takes, or what a stream takes for 1 MiB with its reset and its digest: the best of
+ * TURNS turns. Before a row is timed both have to agree; status 1 if they do not.
+ */
+#define _GNU_SOURCE
+#include <dlfcn.h>
+#include <link.h>
+#include <stdio.h>
+#include <stdlib.h>
+#include <string.h>
+#include <time.h>
+#include "../c/include/xxhash.h"
+
+#define TURNS 11
+#define SLICE 1000000.0 /* nanoseconds that a library is timed for, a turn */
+#define MIB ((size_t)1 << 20)
+#define ROOM (64 * MIB)
+#define SECRET 192
+#define SEED 7
+
+#define EACH_CALL(X) \
+    X(XXH32) X(XXH32_createState) X(XXH32_reset) X(XXH32_update) X(XXH32_digest) \
+    X(XXH64) X(XXH64_createState) X(XXH64_reset) X(XXH64_update) X(XXH64_digest) X(XXH3_createState) \
+    X(XXH3_64bits) X(XXH3_64bits_withSeed) X(XXH3_64bits_withSecret) X(XXH3_64bits_reset) \
+    X(XXH3_64bits_reset_withSeed) X(XXH3_64bits_reset_withSecret) X(XXH3_64bits_update) X(XXH3_64bits_digest) \
+    X(XXH3_128bits) X(XXH3_128bits_withSeed) X(XXH3_128bits_withSecret) X(XXH3_128bits_reset) \
+    X(XXH3_128bits_reset_withSeed) X(XXH3_128bits_reset_withSecret) X(XXH3_128bits_update) X(XXH3_128bits_digest)
+
+struct library {
+    const char *name;
+    XXH32_state_t *state_32;
+    XXH64_state_t *state_64;
+    XXH3_state_t *state_3;
+#define MEMBER(name) __typeof__(&name) name;
+    EACH_CALL(MEMBER)
+};
+
+static struct library libraries[2];
+
+static void fail(const char *what)
+{
+    fprintf(stderr, "shared: %s\n", what);
+    exit(1);
+}
+
+static void load(struct library *library, const char *name, const char *path)
+{
+    struct link_map *map;
+    void *handle = dlopen(path, RTLD_NOW | RTLD_LOCAL);
+    if (!handle) fail(dlerror());
+    dlinfo(handle, RTLD_DI_LINKMAP, &map);
+    fprintf(stderr, "%s: %s\n", name, map->l_name);
+    library->name = name;
+#define LOAD(call) \
+    if (!(library->call = (__typeof__(&call))dlsym(handle, #call))) fail(dlerror());
+    EACH_CALL(LOAD)
+    library->state_32 = library->XXH32_createState();
+    library->state_64 = library->XXH64_createState();
+    library->state_3 = library->XXH3_createState();
+    if (!library->state_32 || !library->state_64 || !library->state_3) fail("no memory");
+}
+
+enum form { ONESHOT, STREAM };
+static const char *const forms[] = { "oneshot", "stream" };
+
+enum hash { XXH32_, XXH64_, XXH3_64_, XXH3_64_SEEDED, XXH3_64_SECRET, XXH3_128_, XXH3_128_SEEDED, XXH3_128_SECRET, HASHES };
+static const char *const hashes[] = { "XXH32", "XXH64", "XXH3-64", "XXH3-64-seeded", "XXH3-64-secret", "XXH3-128",
+    "XXH3-128-seeded", "XXH3-128-secret" };
+
+struct row { enum form form; enum hash hash; size_t size; };
+
+static unsigned char *input, secret[SECRET];
+
+/* Of 128 bits the sum of the halves is answered. */
+static uint64_t both(XXH128_hash_t hash) { return hash.low64 + hash.high64; }
+
+/* The sum of the answers of so many one-shots. The choice of the call stands outside the loop. */
+static uint64_t oneshots(const struct library *l, enum hash hash, size_t n, long times)
+{
+    uint64_t sum = 0;
+#define TIMES(expression) do { for (long i = 0; i < times; i++) sum += (expression); return sum; } while (0)
+    switch (hash) {
+    case XXH32_: TIMES(l->XXH32(input, n, SEED));
+    case XXH64_: TIMES(l->XXH64(input, n, SEED));
+    case XXH3_64_: TIMES(l->XXH3_64bits(input, n));
+    case XXH3_64_SEEDED: TIMES(l->XXH3_64bits_withSeed(input, n, SEED));
+    case XXH3_64_SECRET: TIMES(l->XXH3_64bits_withSecret(input, n, secret, SECRET));
+    case XXH3_128_: TIMES(both(l->XXH3_128bits(input, n)));
+    case XXH3_128_SEEDED: TIMES(both(l->XXH3_128bits_withSeed(input, n, SEED)));
+    default: TIMES(both(l->XXH3_128bits_withSecret(input, n, secret, SECRET)));
+    }
+}
+
+/* A stream takes 1 MiB in large pieces, and a part of it in small ones. */
+static size_t stream_length(size_t piece) { return piece < 1000 ? MIB / 4 : MIB; }
+
+/* The sum of the answers of so many streams. */
+static uint64_t streams(const struct library *l, enum hash hash, size_t piece, long times)
+{
+    const size_t n = stream_length(piece);
+    uint64_t sum = 0;
+#define FEED(update, state) \
+    for (size_t at = 0; at < n; at += piece) l->update(l->state, input + at, n - at < piece ? n - at : piece)
+#define STREAMS(reset, update, state, digest) \
+    do { for (long i = 0; i < times; i++) { reset; FEED(update, state); sum += digest; } return sum; } while (0)
+#define STREAMS_64(reset) STREAMS(reset, XXH3_64bits_update, state_3, l->XXH3_64bits_digest(l->state_3))
+#define STREAMS_128(reset) STREAMS(reset, XXH3_128bits_update, state_3, both(l->XXH3_128bits_digest(l->state_3)))
+    switch (hash) {
+    case XXH32_: STREAMS(l->XXH32_reset(l->state_32, SEED), XXH32_update, state_32, l->XXH32_digest(l->state_32));
+    case XXH64_: STREAMS(l->XXH64_reset(l->state_64, SEED), XXH64_update, state_64, l->XXH64_digest(l->state_64));
+    case XXH3_64_: STREAMS_64(l->XXH3_64bits_reset(l->state_3));
+    case XXH3_64_SEEDED: STREAMS_64(l->XXH3_64bits_reset_withSeed(l->state_3, SEED));
+    case XXH3_64_SECRET: STREAMS_64(l->XXH3_64bits_reset_withSecret(l->state_3, secret, SECRET));
+    case XXH3_128_: STREAMS_128(l->XXH3_128bits_reset(l->state_3));
+    case XXH3_128_SEEDED: STREAMS_128(l->XXH3_128bits_reset_withSeed(l->state_3, SEED));
+    default: STREAMS_128(l->XXH3_128bits_reset_withSecret(l->state_3, secret, SECRET));
+    }
+}
+
+static uint64_t called(const struct library *l, struct row r, long times)
+{
+    return r.form == ONESHOT ? oneshots(l, r.hash, r.size, times) : streams(l, r.hash, r.size, times);
+}
+
+/* Processor time, so that waiting for a processor does not count. */
+static double now(void)
+{
+    struct timespec t;
+    clock_gettime(CLOCK_THREAD_CPUTIME_ID, &t);
+    return 1e9 * (double)t.tv_sec + (double)t.tv_nsec;
+}
+
+static volatile uint64_t sink;
+
+static double timed(const struct library *l, struct row r, long times)
+{
+    double start = now();
+    sink += called(l, r, times);
+    return (now() - start) / (double)times;
+}
+
+static int quick;
+
+/* How many calls fill a slice. */
+static long times_of(const struct library *l, struct row r)
+{
+    double slice = quick ? SLICE / 3 : SLICE, once = timed(l, r, 1);
+    if (once < 2000) once = timed(l, r, 1000);
+    return once > slice ? 1 : (long)(slice / once) + 1;
+}
+
+static void measure(struct row r)
+{
+    double best[2] = { 1e18, 1e18 };
+    long times[2];
+    if (called(&libraries[0], r, 1) != called(&libraries[1], r, 1)) {
+        fprintf(stderr, "the libraries disagree: %s %s %zu\n", forms[r.form], hashes[r.hash], r.size);
+        exit(1);
+    }
+    for (int k = 0; k < 2; k++) times[k] = times_of(&libraries[k], r);
+    for (int turn = 0; turn < (quick ? 8 : TURNS); turn++)
+        for (int k = 0; k < 2; k++) {
+            int which = (k + turn) % 2;
+            double taken = timed(&libraries[which], r, times[which]);
+            if (taken < best[which]) best[which] = taken;
+        }
+    double scale = r.form == ONESHOT ? 1 : (double)MIB / (double)stream_length(r.size);
+    for (int k = 0; k < 2; k++)
+        printf("%s %s %zu %s %.4f\n", forms[r.form], hashes[r.hash], r.size, libraries[k].name, best[k] * scale);
+    fflush(stdout);
+}
+
+static int words;
+static char **word;
+
+/* Whether each word stands in the row's name. */
+static int wanted(struct row r)
+{
+    char name[100];
+    snprintf(name, sizeof name, "%s %s %zu", forms[r.form], hashes[r.hash], r.size);
+    for (int w = 0; w < words; w++)
+        if (!strstr(name, word[w])) return 0;
+    return 1;
+}
+
+static void rows(enum form form, const size_t *sizes)
+{
+    for (enum hash hash = 0; hash < HASHES; hash++)
+        for (const size_t *size = sizes; *size; size++) {
+            struct row r = { form, hash, *size };
+            if (wanted(r)) measure(r);
+        }
+}
+
+static void fill_input(void)
+{
+    uint64_t x = 1;
+    if (!(input = malloc(ROOM))) fail("no memory");
+    for (size_t i = 0; i < ROOM; i++) {
+        x = x * 6364136223846793005u + 1442695040888963407u;
+        input[i] = (unsigned char)(x >> 56);
+        if (i < SECRET) secret[i] = (unsigned char)(x >> 48);
+    }
+}
+
+int main(int argc, char **argv)
+{
+    static const size_t lengths[] = { 1, 4, 8, 16, 32, 64, 128, 240, 256, 512, 1 << 10, 4 << 10, 16 << 10, 64 << 10,
+        256 << 10, MIB, 4 * MIB, 16 * MIB, ROOM, 0 };
+    static const size_t few_lengths[] = { 1, 4, 16, 64, 240, 256, 1 << 10, 16 << 10, MIB, 0 };
+    static const size_t pieces[] = { 1, 8, 16, 32, 64, 256, 1000, 4096, 65536, 0 };
+    static const size_t few_pieces[] = { 1, 16, 64, 256, 1000, 65536, 0 };
+    static char *given[100];
+    word = given;
+    if (argc < 3) return fprintf(stderr, "usage: shared OURS THEIRS [--quick] [--only WORD]..\n"), 2;
+    for (int i = 3; i < argc && i < 100; i++)
+        if (!strcmp(argv[i], "--quick")) quick = 1;
+        else if (!strcmp(argv[i], "--only") && i + 1 < argc) given[words++] = argv[++i];
+        else return fprintf(stderr, "usage: shared OURS THEIRS [--quick] [--only WORD]..\n"), 2;
+    load(&libraries[0], "ours", argv[1]); /* first, since the loader gives a name that it knows no second file */
+    load(&libraries[1], "c_shared", argv[2]);
+    fill_input();
+    rows(ONESHOT, quick ? few_lengths : lengths);
+    rows(STREAM, quick ? few_pieces : pieces);
+    return 0;
+}

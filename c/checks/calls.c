@@ -1,0 +1,695 @@
+/* Compares two libraries of these calls in one process, on calls and streams drawn at random:
+ *
+ *     calls REFERENCE OURS COUNT [--limits]
+ *
+ * Each input ends where memory that nobody may read begins, and so does each secret. Of streams each digest on the
+ * way is compared, with cuts, copies and resets. What the reference leaves undefined is asked of ours alone:
+ * secrets that are too short, states that were never reset. --limits adds inputs and streams of more than 4 GiB, and
+ * states where no memory is left.
+ * It prints a line for each group and the first differences, and answers 1 where there is one.
+ */
+#define _GNU_SOURCE
+#include <dlfcn.h>
+#include <malloc.h>
+#include <pthread.h>
+#include <stdarg.h>
+#include <stdio.h>
+#include <stdlib.h>
+#include <string.h>
+#include <sys/mman.h>
+#include <sys/resource.h>
+#include <unistd.h>
+#include "xxhash.h"
+
+#define EACH_CALL(X) \
+    X(XXH_versionNumber) \
+    X(XXH32) X(XXH32_createState) X(XXH32_freeState) X(XXH32_copyState) X(XXH32_reset) X(XXH32_update) \
+    X(XXH32_digest) X(XXH32_canonicalFromHash) X(XXH32_hashFromCanonical) \
+    X(XXH64) X(XXH64_createState) X(XXH64_freeState) X(XXH64_copyState) X(XXH64_reset) X(XXH64_update) \
+    X(XXH64_digest) X(XXH64_canonicalFromHash) X(XXH64_hashFromCanonical) \
+    X(XXH3_createState) X(XXH3_freeState) X(XXH3_copyState) \
+    X(XXH3_64bits) X(XXH3_64bits_withSeed) X(XXH3_64bits_withSecret) X(XXH3_64bits_withSecretandSeed) \
+    X(XXH3_64bits_reset) X(XXH3_64bits_reset_withSeed) X(XXH3_64bits_reset_withSecret) \
+    X(XXH3_64bits_reset_withSecretandSeed) X(XXH3_64bits_update) X(XXH3_64bits_digest) \
+    X(XXH3_128bits) X(XXH3_128bits_withSeed) X(XXH3_128bits_withSecret) X(XXH3_128bits_withSecretandSeed) X(XXH128) \
+    X(XXH3_128bits_reset) X(XXH3_128bits_reset_withSeed) X(XXH3_128bits_reset_withSecret) \
+    X(XXH3_128bits_reset_withSecretandSeed) X(XXH3_128bits_update) X(XXH3_128bits_digest) \
+    X(XXH128_isEqual) X(XXH128_cmp) X(XXH128_canonicalFromHash) X(XXH128_hashFromCanonical) \
+    X(XXH3_generateSecret_fromSeed) \
+    X(XXH3_64bits_dispatch) X(XXH3_64bits_withSeed_dispatch) X(XXH3_64bits_withSecret_dispatch) \
+    X(XXH3_64bits_update_dispatch) \
+    X(XXH3_128bits_dispatch) X(XXH3_128bits_withSeed_dispatch) X(XXH3_128bits_withSecret_dispatch) \
+    X(XXH3_128bits_update_dispatch)
+
+struct library {
+#define MEMBER(name) __typeof__(&name) name;
+    EACH_CALL(MEMBER)
+};
+
+static struct library reference, ours;
+
+/* Stops: nothing could be compared. */
+static void fail(const char *what)
+{
+    fprintf(stderr, "calls: %s\n", what);
+    exit(2);
+}
+
+static void *symbol(void *handle, const char *path, const char *name)
+{
+    void *found = dlsym(handle, name);
+    if (!found) {
+        fprintf(stderr, "calls: %s has no %s\n", path, name);
+        exit(2);
+    }
+    return found;
+}
+
+static void load(struct library *library, const char *path)
+{
+    void *handle = dlopen(path, RTLD_NOW | RTLD_LOCAL);
+    if (!handle) fail(dlerror());
+#define LOAD(name) library->name = (__typeof__(&name))symbol(handle, path, #name);
+    EACH_CALL(LOAD)
+}
+
+/* ---- What is compared ---- */
+
+static long compared, differing;
+
+static void tell(int same, const char *form, ...)
+{
+    va_list words;
+    compared++;
+    if (same) return;
+    if (++differing > 20) return;
+    printf("    differs: ");
+    va_start(words, form);
+    vprintf(form, words);
+    va_end(words);
+    printf("\n");
+}
+
+static int same_128(XXH128_hash_t a, XXH128_hash_t b) { return a.low64 == b.low64 && a.high64 == b.high64; }
+
+static void group(const char *name)
+{
+    static long before, differing_before;
+    printf("  %s: %ld compared, %ld differ\n", name, compared - before, differing - differing_before);
+    fflush(stdout);
+    before = compared;
+    differing_before = differing;
+}
+
+/* ---- Inputs ---- */
+
+static uint64_t random_state = 0x9e3779b97f4a7c15u;
+
+static uint64_t random_word(void)
+{
+    random_state = random_state * 6364136223846793005u + 1442695040888963407u;
+    uint64_t x = random_state;
+    x ^= x >> 33;
+    x *= 0xff51afd7ed558ccdu;
+    return x ^ x >> 29;
+}
+
+static size_t below(size_t bound) { return random_word() % bound; }
+
+/* A seed: often 0, small or all ones. */
+static uint64_t random_seed(void)
+{
+    switch (below(6)) {
+    case 0: return 0;
+    case 1: return below(256);
+    case 2: return UINT64_MAX - below(2);
+    default: return random_word();
+    }
+}
+
+#define ROOM ((size_t)1 << 17)
+
+/* A room that ends at memory which may not be read, full of random bytes. */
+static unsigned char *guarded(void)
+{
+    unsigned char *room = mmap(0, ROOM + 4096, PROT_READ | PROT_WRITE, MAP_PRIVATE | MAP_ANONYMOUS, -1, 0);
+    if (room == MAP_FAILED || mprotect(room + ROOM, 4096, PROT_NONE)) fail("no memory");
+    for (size_t i = 0; i < ROOM; i++) room[i] = (unsigned char)(random_word() >> 56);
+    return room;
+}
+
+static unsigned char *input_room, *secret_room;
+
+/* An input or a secret of so many bytes, right before the end of its room. */
+static const unsigned char *input_of(size_t length)
+{
+    input_room[ROOM - 1 - below(64)] = (unsigned char)random_word();
+    return input_room + ROOM - length;
+}
+
+static const unsigned char *secret_of(size_t length)
+{
+    secret_room[ROOM - 1 - below(136)] = (unsigned char)random_word();
+    return secret_room + ROOM - length;
+}
+
+/* A length: most often near the limits of the ranges and of the buffers, seldom long. */
+static size_t random_length(void)
+{
+    switch (below(8)) {
+    case 0: return below(20);
+    case 1: return 230 + below(40);
+    case 2: return 500 + below(40);
+    case 3: return below(5000);
+    case 4: return below(64) ? below(1100) : below(ROOM);
+    default: return below(300);
+    }
+}
+
+/* ---- One-shots ---- */
+
+#define SAME(call, length) \
+    tell(ours.call == reference.call, "%s, length %zu", #call, (size_t)(length))
+#define SAME_128(call, length) \
+    tell(same_128(ours.call, reference.call), "%s, length %zu", #call, (size_t)(length))
+
+static void oneshots(const void *p, size_t n, uint64_t seed, const void *secret, size_t m)
+{
+    SAME(XXH32(p, n, (uint32_t)seed), n);
+    SAME(XXH64(p, n, seed), n);
+    SAME(XXH3_64bits(p, n), n);
+    SAME(XXH3_64bits_withSeed(p, n, seed), n);
+    SAME(XXH3_64bits_withSecret(p, n, secret, m), n);
+    SAME(XXH3_64bits_withSecretandSeed(p, n, secret, m, seed), n);
+    SAME(XXH3_64bits_dispatch(p, n), n);
+    SAME(XXH3_64bits_withSeed_dispatch(p, n, seed), n);
+    SAME(XXH3_64bits_withSecret_dispatch(p, n, secret, m), n);
+    SAME_128(XXH3_128bits(p, n), n);
+    SAME_128(XXH3_128bits_withSeed(p, n, seed), n);
+    SAME_128(XXH3_128bits_withSecret(p, n, secret, m), n);
+    SAME_128(XXH3_128bits_withSecretandSeed(p, n, secret, m, seed), n);
+    SAME_128(XXH128(p, n, seed), n);
+    SAME_128(XXH3_128bits_dispatch(p, n), n);
+    SAME_128(XXH3_128bits_withSeed_dispatch(p, n, seed), n);
+    SAME_128(XXH3_128bits_withSecret_dispatch(p, n, secret, m), n);
+}
+
+static void random_oneshots(void)
+{
+    size_t n = random_length(), m = 136 + below(below(4) ? 121 : 1000);
+    oneshots(input_of(n), n, random_seed(), secret_of(m), m);
+}
+
+/* ---- Streams: a state of each library, which take the same. The arguments of BOTH are used twice. ---- */
+
+struct pair_32 { XXH32_state_t *ours, *reference; };
+struct pair_64 { XXH64_state_t *ours, *reference; };
+struct pair_3 { XXH3_state_t *ours, *reference; };
+
+#define BOTH(pair, call, ...) \
+    tell(ours.call((pair).ours, ##__VA_ARGS__) == reference.call((pair).reference, ##__VA_ARGS__), "%s", #call)
+#define BOTH_128(pair, call) \
+    tell(same_128(ours.call((pair).ours), reference.call((pair).reference)), "%s", #call)
+#define CREATE(kind) { ours.kind##_createState(), reference.kind##_createState() }
+#define COPY(kind, to, from) \
+    (ours.kind##_copyState((to).ours, (from).ours), reference.kind##_copyState((to).reference, (from).reference))
+
+static const void *random_piece(size_t *length)
+{
+    *length = below(4) ? random_length() : below(70);
+    return *length || below(2) ? input_of(*length) : NULL;
+}
+
+static void stream_32(void)
+{
+    struct pair_32 a = CREATE(XXH32), b = CREATE(XXH32);
+    uint32_t seed = (uint32_t)random_seed(), next_seed = (uint32_t)random_seed();
+    BOTH(a, XXH32_reset, seed);
+    BOTH(b, XXH32_reset, 0);
+    for (size_t pieces = below(9); pieces; pieces--) {
+        size_t n;
+        const void *p = random_piece(&n);
+        BOTH(a, XXH32_update, p, n);
+        if (!below(3)) BOTH(a, XXH32_digest);
+        if (!below(4)) COPY(XXH32, b, a);
+        if (!below(9)) BOTH(a, XXH32_reset, next_seed);
+        if (!below(3)) BOTH(b, XXH32_update, p, n / 2);
+    }
+    BOTH(a, XXH32_digest);
+    BOTH(b, XXH32_digest);
+    BOTH(a, XXH32_freeState);
+    BOTH(b, XXH32_freeState);
+}
+
+static void stream_64(void)
+{
+    struct pair_64 a = CREATE(XXH64), b = CREATE(XXH64);
+    uint64_t seed = random_seed(), next_seed = random_seed();
+    BOTH(a, XXH64_reset, seed);
+    BOTH(b, XXH64_reset, 0);
+    for (size_t pieces = below(9); pieces; pieces--) {
+        size_t n;
+        const void *p = random_piece(&n);
+        BOTH(a, XXH64_update, p, n);
+        if (!below(3)) BOTH(a, XXH64_digest);
+        if (!below(4)) COPY(XXH64, b, a);
+        if (!below(9)) BOTH(a, XXH64_reset, next_seed);
+        if (!below(3)) BOTH(b, XXH64_update, p, n / 2);
+    }
+    BOTH(a, XXH64_digest);
+    BOTH(b, XXH64_digest);
+    BOTH(a, XXH64_freeState);
+    BOTH(b, XXH64_freeState);
+}
+
+/* Resets by one of the calls of a width. The reference reads the secret as long as the state is used, so it stays. The
+ * last call gets no seed 0 here: see seed_0_and_secret. */
+static void reset_3(struct pair_3 a, int wide, const void *secret, size_t m, uint64_t seed)
+{
+    switch (below(4) + (wide ? 4 : 0)) {
+    case 0: BOTH(a, XXH3_64bits_reset); break;
+    case 1: BOTH(a, XXH3_64bits_reset_withSeed, seed); break;
+    case 2: BOTH(a, XXH3_64bits_reset_withSecret, secret, m); break;
+    case 3: BOTH(a, XXH3_64bits_reset_withSecretandSeed, secret, m, seed); break;
+    case 4: BOTH(a, XXH3_128bits_reset); break;
+    case 5: BOTH(a, XXH3_128bits_reset_withSeed, seed); break;
+    case 6: BOTH(a, XXH3_128bits_reset_withSecret, secret, m); break;
+    default: BOTH(a, XXH3_128bits_reset_withSecretandSeed, secret, m, seed ? seed : 1); break;
+    }
+}
+
+static void update_3(struct pair_3 a, int wide, const void *p, size_t n)
+{
+    switch (below(8) + (wide ? 8 : 0)) {
+    case 0: BOTH(a, XXH3_64bits_update_dispatch, p, n); break;
+    case 8: BOTH(a, XXH3_128bits_update_dispatch, p, n); break;
+    default:
+        if (wide) BOTH(a, XXH3_128bits_update, p, n);
+        else BOTH(a, XXH3_64bits_update, p, n);
+    }
+}
+
+static void digest_3(struct pair_3 a, int wide)
+{
+    if (wide) BOTH_128(a, XXH3_128bits_digest);
+    else BOTH(a, XXH3_64bits_digest);
+}
+
+static void stream_3(int wide, const unsigned char *secret, size_t m)
+{
+    struct pair_3 a = CREATE(XXH3), b = CREATE(XXH3);
+    reset_3(a, wide, secret, m, random_seed());
+    reset_3(b, wide, secret, m, random_seed());
+    for (size_t pieces = below(12); pieces; pieces--) {
+        size_t n;
+        const void *p = random_piece(&n);
+        update_3(a, wide, p, n);
+        if (!below(3)) digest_3(a, wide);
+        if (!below(4)) COPY(XXH3, b, a);
+        if (!below(9)) reset_3(a, wide, secret, m, random_seed());
+        if (!below(3)) update_3(b, wide, p, n / 2);
+    }
+    digest_3(a, wide);
+    digest_3(b, wide);
+    BOTH(a, XXH3_freeState);
+    BOTH(b, XXH3_freeState);
+}
+
+static void random_stream(void)
+{
+    size_t m = 136 + below(121);
+    switch (below(4)) {
+    case 0: stream_32(); break;
+    case 1: stream_64(); break;
+    case 2: stream_3(0, secret_of(m), m); break;
+    default: stream_3(1, secret_of(m), m); break;
+    }
+}
+
+/* ---- Small calls ---- */
+
+static void canonical_forms(void)
+{
+    uint64_t low = random_word(), high = random_word();
+    XXH32_canonical_t a4, b4;
+    XXH64_canonical_t a8, b8;
+    XXH128_canonical_t a16, b16;
+    XXH128_hash_t one = { low, high };
+    XXH128_hash_t other = { below(2) ? low : random_word(), below(2) ? high : random_word() };
+    ours.XXH32_canonicalFromHash(&a4, (uint32_t)low), reference.XXH32_canonicalFromHash(&b4, (uint32_t)low);
+    ours.XXH64_canonicalFromHash(&a8, low), reference.XXH64_canonicalFromHash(&b8, low);
+    ours.XXH128_canonicalFromHash(&a16, one), reference.XXH128_canonicalFromHash(&b16, one);
+    tell(!memcmp(&a4, &b4, 4), "XXH32_canonicalFromHash");
+    tell(!memcmp(&a8, &b8, 8), "XXH64_canonicalFromHash");
+    tell(!memcmp(&a16, &b16, 16), "XXH128_canonicalFromHash");
+    SAME(XXH32_hashFromCanonical(&b4), 4);
+    SAME(XXH64_hashFromCanonical(&b8), 8);
+    SAME_128(XXH128_hashFromCanonical(&b16), 16);
+    SAME(XXH128_isEqual(one, other), 16);
+    int order = ours.XXH128_cmp(&one, &other), wanted = reference.XXH128_cmp(&one, &other);
+    tell((order > 0) == (wanted > 0) && (order < 0) == (wanted < 0), "XXH128_cmp");
+}
+
+static void secrets_of_seeds(void)
+{
+    unsigned char a[XXH3_SECRET_DEFAULT_SIZE], b[XXH3_SECRET_DEFAULT_SIZE];
+    uint64_t seed = random_seed();
+    ours.XXH3_generateSecret_fromSeed(a, seed);
+    reference.XXH3_generateSecret_fromSeed(b, seed);
+    tell(!memcmp(a, b, sizeof a), "XXH3_generateSecret_fromSeed");
+}
+
+/* ---- Every length of a secret ---- */
+
+static void every_secret_length(void)
+{
+    static const size_t lengths[] = { 0, 3, 8, 16, 17, 128, 129, 240, 241, 255, 256, 257, 512, 1023, 1024, 1025, 4000 };
+    for (size_t m = XXH3_SECRET_SIZE_MIN; m <= XXH3_STREAM_SECRET_SIZE_MAX; m++) {
+        const unsigned char *secret = secret_of(m);
+        for (size_t i = 0; i < sizeof lengths / sizeof *lengths; i++)
+            oneshots(input_of(lengths[i]), lengths[i], random_seed(), secret, m);
+        for (int wide = 0; wide < 2; wide++) stream_3(wide, secret, m);
+    }
+}
+
+/* Ours refuses a secret that is too short, and in a stream one that is too long: the stream goes on as it was. */
+static void refused_secrets(void)
+{
+    XXH3_state_t *state = ours.XXH3_createState();
+    const unsigned char *p = input_of(700);
+    ours.XXH3_64bits_reset_withSeed(state, 11);
+    ours.XXH3_64bits_update(state, p, 700);
+    XXH64_hash_t before = ours.XXH3_64bits_digest(state);
+    XXH128_hash_t none = { 0, 0 };
+    for (size_t m = 0; m < 600; m++) {
+        const unsigned char *secret = m ? secret_of(m) : NULL;
+        if (m >= XXH3_SECRET_SIZE_MIN && m <= XXH3_STREAM_SECRET_SIZE_MAX) continue;
+        tell(ours.XXH3_64bits_reset_withSecret(state, secret, m) == XXH_ERROR, "64 takes a secret of %zu bytes", m);
+        tell(ours.XXH3_128bits_reset_withSecret(state, secret, m) == XXH_ERROR, "128 takes a secret of %zu bytes", m);
+        tell(ours.XXH3_64bits_reset_withSecretandSeed(state, secret, m, 5) == XXH_ERROR,
+             "64 takes a secret of %zu bytes and a seed", m);
+        tell(ours.XXH3_128bits_reset_withSecretandSeed(state, secret, m, 5) == XXH_ERROR,
+             "128 takes a secret of %zu bytes and a seed", m);
+        tell(ours.XXH3_64bits_digest(state) == before, "a refused secret of %zu bytes changes the state", m);
+        if (m >= XXH3_SECRET_SIZE_MIN) continue;
+        tell(ours.XXH3_64bits_withSecret(p, 700, secret, m) == 0, "64 hashes with %zu bytes", m);
+        tell(same_128(ours.XXH3_128bits_withSecret(p, 700, secret, m), none), "128 hashes with %zu bytes", m);
+    }
+    ours.XXH3_freeState(state);
+}
+
+/* A secret and the seed 0, of 128 bits: the reference's one-shot takes the default secret for up to 240 bytes, its
+ * stream the secret given. Ours takes the default secret in both. */
+static void seed_0_and_secret(void)
+{
+    XXH3_state_t *state = ours.XXH3_createState();
+    for (size_t n = 0; n < 600; n++) {
+        const unsigned char *p = input_of(n), *secret = secret_of(192);
+        ours.XXH3_128bits_reset_withSecretandSeed(state, secret, 192, 0);
+        ours.XXH3_128bits_update(state, p, n);
+        tell(same_128(ours.XXH3_128bits_digest(state), reference.XXH3_128bits_withSecretandSeed(p, n, secret, 192, 0)),
+             "a stream of %zu bytes with a secret and the seed 0", n);
+    }
+    ours.XXH3_freeState(state);
+}
+
+/* ---- Null ---- */
+
+static void null_inputs(void)
+{
+    struct pair_32 a = CREATE(XXH32);
+    struct pair_64 b = CREATE(XXH64);
+    oneshots(NULL, 0, random_seed(), secret_of(192), 192);
+    BOTH(a, XXH32_reset, 1);
+    BOTH(a, XXH32_update, NULL, 0);
+    BOTH(a, XXH32_digest);
+    BOTH(b, XXH64_reset, 1);
+    BOTH(b, XXH64_update, NULL, 0);
+    BOTH(b, XXH64_digest);
+    BOTH(a, XXH32_freeState);
+    BOTH(b, XXH64_freeState);
+    for (int wide = 0; wide < 2; wide++) {
+        struct pair_3 c = CREATE(XXH3);
+        reset_3(c, wide, secret_of(192), 192, 1);
+        update_3(c, wide, NULL, 0);
+        digest_3(c, wide);
+        BOTH(c, XXH3_freeState);
+    }
+    struct pair_32 no_32 = { NULL, NULL };
+    struct pair_64 no_64 = { NULL, NULL };
+    struct pair_3 no_3 = { NULL, NULL };
+    BOTH(no_32, XXH32_freeState);
+    BOTH(no_64, XXH64_freeState);
+    BOTH(no_3, XXH3_freeState);
+}
+
+/* ---- States of ours: of each kind, with the value that the reference has for the same bytes ---- */
+
+enum kind { KIND_32, KIND_64, KIND_3_64, KIND_3_128, KINDS };
+
+static void *created(enum kind kind)
+{
+    switch (kind) {
+    case KIND_32: return ours.XXH32_createState();
+    case KIND_64: return ours.XXH64_createState();
+    default: return ours.XXH3_createState();
+    }
+}
+
+static void freed(enum kind kind, void *state)
+{
+    switch (kind) {
+    case KIND_32: ours.XXH32_freeState(state); break;
+    case KIND_64: ours.XXH64_freeState(state); break;
+    default: ours.XXH3_freeState(state);
+    }
+}
+
+static XXH_errorcode reset(enum kind kind, void *state, uint32_t seed)
+{
+    switch (kind) {
+    case KIND_32: return ours.XXH32_reset(state, seed);
+    case KIND_64: return ours.XXH64_reset(state, seed);
+    case KIND_3_64: return ours.XXH3_64bits_reset_withSeed(state, seed);
+    default: return ours.XXH3_128bits_reset_withSeed(state, seed);
+    }
+}
+
+static XXH_errorcode update(enum kind kind, void *state, const void *p, size_t n)
+{
+    switch (kind) {
+    case KIND_32: return ours.XXH32_update(state, p, n);
+    case KIND_64: return ours.XXH64_update(state, p, n);
+    case KIND_3_64: return ours.XXH3_64bits_update(state, p, n);
+    default: return ours.XXH3_128bits_update(state, p, n);
+    }
+}
+
+static XXH128_hash_t digest(enum kind kind, const void *state)
+{
+    switch (kind) {
+    case KIND_32: return (XXH128_hash_t){ ours.XXH32_digest(state), 0 };
+    case KIND_64: return (XXH128_hash_t){ ours.XXH64_digest(state), 0 };
+    case KIND_3_64: return (XXH128_hash_t){ ours.XXH3_64bits_digest(state), 0 };
+    default: return ours.XXH3_128bits_digest(state);
+    }
+}
+
+static XXH128_hash_t value(enum kind kind, const void *p, size_t n, uint32_t seed)
+{
+    switch (kind) {
+    case KIND_32: return (XXH128_hash_t){ reference.XXH32(p, n, seed), 0 };
+    case KIND_64: return (XXH128_hash_t){ reference.XXH64(p, n, seed), 0 };
+    case KIND_3_64: return (XXH128_hash_t){ reference.XXH3_64bits_withSeed(p, n, seed), 0 };
+    default: return reference.XXH3_128bits_withSeed(p, n, seed);
+    }
+}
+
+/* A state that was just created stands for no bytes and the seed 0. */
+static void created_state(enum kind kind)
+{
+    void *state = created(kind);
+    size_t n = random_length();
+    const unsigned char *p = input_of(n);
+    tell(same_128(digest(kind, state), value(kind, NULL, 0, 0)), "a created state of kind %d", (int)kind);
+    tell(update(kind, state, p, n) == XXH_OK, "a created state of kind %d refuses", (int)kind);
+    tell(same_128(digest(kind, state), value(kind, p, n, 0)), "a created state of kind %d and %zu bytes", (int)kind, n);
+    freed(kind, state);
+}
+
+/* Lets a state hold what another program left there: all zero, all ones, any bytes. */
+static void overwrite(unsigned char *state, size_t size)
+{
+    switch (below(3)) {
+    case 0: memset(state, 0, size); break;
+    case 1: memset(state, 0xff, size); break;
+    default: for (size_t i = 0; i < size; i++) state[i] = (unsigned char)random_word();
+    }
+}
+
+/* Changes some bytes of a state. */
+static void spoil(unsigned char *state, size_t size)
+{
+    for (size_t times = 1 + below(3); times; times--)
+        state[below(size)] = below(2) ? (unsigned char)random_word() : 255;
+}
+
+/* Memory that no reset has written is refused, and stays as it is. A state in which bytes were changed may be refused
+ * or not: then too a call answers, and reads and writes nothing else. A reset makes either good. */
+static void state_never_reset(enum kind kind)
+{
+    static const size_t lengths[] = { 0, 1, 31, 64, 255, 256, 257, 512, 513, 1500 };
+    static const XXH128_hash_t none = { 0, 0 };
+    static unsigned char before[4096];
+    void *state = created(kind);
+    size_t size = malloc_usable_size(state), n = lengths[below(10)];
+    const unsigned char *p = input_of(n);
+    int never = below(2) == 0;
+    if (size > sizeof before) fail("a state has more than 4096 bytes");
+    overwrite(state, size);
+    if (!never) reset(kind, state, 5), spoil(state, size);
+    memcpy(before, state, size);
+    XXH_errorcode code = update(kind, state, p, n);
+    XXH128_hash_t hash = digest(kind, state);
+    tell(code == XXH_ERROR || (code == XXH_OK && !never), "kind %d, never reset: %d", (int)kind, (int)code);
+    tell(code == XXH_OK || (!memcmp(before, state, size) && same_128(hash, none)), "kind %d, refused, changes",
+         (int)kind);
+    tell(reset(kind, state, 9) == XXH_OK && update(kind, state, p, n) == XXH_OK, "kind %d refuses after a reset",
+         (int)kind);
+    tell(same_128(digest(kind, state), value(kind, p, n, 9)), "kind %d after a reset", (int)kind);
+    freed(kind, state);
+}
+
+/* ---- Threads ---- */
+
+#define THREADS 8
+#define STREAMS 1000
+
+/* Streams of ours in pieces of 100 bytes, each kind in turn. Answers how many differ from the reference's one-shots. */
+static void *streams_of_a_thread(void *first)
+{
+    long differ = 0;
+    for (size_t i = (size_t)first; i < (size_t)first + STREAMS; i++) {
+        enum kind kind = (enum kind)(i % KINDS);
+        size_t n = i * 7 % 2000;
+        void *state = created(kind);
+        reset(kind, state, (uint32_t)i);
+        for (size_t at = 0; at < n; at += 100) update(kind, state, input_room + at, n - at < 100 ? n - at : 100);
+        differ += !same_128(digest(kind, state), value(kind, input_room, n, (uint32_t)i));
+        freed(kind, state);
+    }
+    return (void *)differ;
+}
+
+static void threads(void)
+{
+    pthread_t running[THREADS];
+    void *differ;
+    for (size_t i = 0; i < THREADS; i++)
+        if (pthread_create(&running[i], NULL, streams_of_a_thread, (void *)(i * 333))) fail("no thread");
+    for (size_t i = 0; i < THREADS; i++) {
+        pthread_join(running[i], &differ);
+        tell(!differ, "%ld streams of a thread", (long)differ);
+    }
+}
+
+/* ---- No memory ---- */
+
+/* Where memory runs out, createState answers null. What is left is taken first, in pieces of each size. */
+static void no_memory(void)
+{
+    struct piece { struct piece *next; } *pieces = NULL, *piece;
+    struct rlimit none = { 0, 0 }, before;
+    if (getrlimit(RLIMIT_AS, &before)) fail("no limit of memory can be read");
+    none.rlim_max = before.rlim_max;
+    if (setrlimit(RLIMIT_AS, &none)) fail("no limit of memory can be set");
+    for (size_t size = 1024; size >= sizeof *piece; size -= 8)
+        while ((piece = malloc(size))) piece->next = pieces, pieces = piece;
+    void *states[] = { ours.XXH32_createState(), ours.XXH64_createState(), ours.XXH3_createState() };
+    while ((piece = pieces)) pieces = piece->next, free(piece);
+    if (setrlimit(RLIMIT_AS, &before)) fail("no limit of memory can be set");
+    for (int i = 0; i < 3; i++) tell(!states[i], "createState answers %p without memory", states[i]);
+}
+
+/* ---- More than 4 GiB ---- */
+
+#define PART ((size_t)64 << 20)
+#define PARTS 66
+
+/* One part of random bytes, mapped so many times in a row. */
+static const unsigned char *huge_input(void)
+{
+    int file = memfd_create("huge", 0);
+    unsigned char *room = mmap(0, PARTS * PART, PROT_NONE, MAP_PRIVATE | MAP_ANONYMOUS | MAP_NORESERVE, -1, 0);
+    if (file < 0 || room == MAP_FAILED || ftruncate(file, (off_t)PART))
+        fail("no memory for an input of more than 4 GiB");
+    for (size_t i = 0; i < PARTS; i++)
+        if (mmap(room + i * PART, PART, PROT_READ | PROT_WRITE, MAP_SHARED | MAP_FIXED, file, 0) == MAP_FAILED)
+            fail("no memory for an input of more than 4 GiB");
+    for (size_t i = 0; i < PART; i += 8) { uint64_t word = random_word(); memcpy(room + i, &word, 8); }
+    return room;
+}
+
+static void huge(void)
+{
+    const unsigned char *p = huge_input();
+    size_t n = PARTS * PART - 5, m = 192;
+    const unsigned char *secret = secret_of(m);
+    SAME(XXH32(p, n, 3), n);
+    SAME(XXH64(p, n, 3), n);
+    SAME(XXH3_64bits_withSecret(p, n, secret, m), n);
+    SAME_128(XXH3_128bits_withSeed(p, n, 3), n);
+    struct pair_32 a = CREATE(XXH32);
+    struct pair_64 b = CREATE(XXH64);
+    struct pair_3 c = CREATE(XXH3);
+    BOTH(a, XXH32_reset, 3);
+    BOTH(b, XXH64_reset, 3);
+    BOTH(c, XXH3_64bits_reset_withSeed, 3);
+    for (size_t at = 0; at < n; at += PART - 77) {
+        size_t piece = n - at < PART - 77 ? n - at : PART - 77;
+        BOTH(a, XXH32_update, p + at, piece);
+        BOTH(b, XXH64_update, p + at, piece);
+        BOTH(c, XXH3_64bits_update, p + at, piece);
+    }
+    BOTH(a, XXH32_digest);
+    BOTH(b, XXH64_digest);
+    BOTH(c, XXH3_64bits_digest);
+    BOTH(a, XXH32_freeState);
+    BOTH(b, XXH64_freeState);
+    BOTH(c, XXH3_freeState);
+}
+
+int main(int argc, char **argv)
+{
+    if (argc < 4 || atol(argv[3]) < 1 || (argc > 4 && strcmp(argv[4], "--limits"))) {
+        fprintf(stderr, "usage: calls REFERENCE OURS COUNT [--limits]\n");
+        return 2;
+    }
+    long count = atol(argv[3]);
+    load(&reference, argv[1]);
+    load(&ours, argv[2]);
+    input_room = guarded();
+    secret_room = guarded();
+    SAME(XXH_versionNumber(), 0);
+    for (long i = 0; i < count / 2; i++) random_oneshots();
+    group("one-shots");
+    for (long i = 0; i < count / 2; i++) random_stream();
+    group("streams");
+    for (long i = 0; i < count / 10; i++) canonical_forms(), secrets_of_seeds(), null_inputs();
+    group("canonical forms, secrets of seeds, null inputs");
+    every_secret_length();
+    refused_secrets();
+    seed_0_and_secret();
+    group("secrets of each length");
+    for (long i = 0; i < count; i++) created_state((enum kind)(i % KINDS)), state_never_reset((enum kind)(i % KINDS));
+    group("states just created, and never reset");
+    threads();
+    group("streams of eight threads at once");
+    if (argc > 4) {
+        no_memory();
+        group("without memory");
+        huge();
+        group("more than 4 GiB");
+    }
+    return differing != 0;
+}

@@ -1,0 +1,281 @@
+"""Debian's own programs on our library beside the original. Each check runs a program on both sides, and on a wrong
+library, where it has to notice. Everything happens in folders of the check's own."""
+import os
+import shutil
+import signal
+import socket
+import subprocess
+import tempfile
+import time
+
+from report import Fault, tail, want
+from sides import loaded, run, want_library
+
+HERE = os.path.dirname(os.path.abspath(__file__))
+PYTHON = '/usr/bin/python3'
+
+
+class Sides:
+    """The original, ours, ours with changed answers, and ours where each hash ends the process."""
+
+    def __init__(self, theirs, ours, wrong, stopping):
+        self.theirs, self.ours, self.wrong, self.stopping = theirs, ours, wrong, stopping
+
+
+def write(path, text):
+    with open(path, 'w') as file:
+        file.write(text)
+
+
+# ---- python3-xxhash ----
+
+def python_hashes(sides):
+    words = [PYTHON, '-B', os.path.join(HERE, 'python_hashes.py')]
+    theirs, ours, wrong = (run(side, words) for side in (sides.theirs, sides.ours, sides.wrong))
+    want(theirs.status == 0, tail(theirs.out))
+    want(ours.out == theirs.out, 'hashes differ from the original')
+    want(wrong.out != theirs.out, 'a wrong library is not noticed')
+    return f'{len(ours.out.splitlines())} lines are the same; a wrong library is noticed'
+
+
+# ---- rsync ----
+
+def rsync_source(folder):
+    """Files of several lengths, and where they go: older copies of them with some bytes changed."""
+    source, target = os.path.join(folder, 'source'), os.path.join(folder, 'target')
+    os.mkdir(source)
+    for length in (0, 1, 700, 5000, 300000, 3000000):
+        with open(os.path.join(source, f'file-{length}'), 'wb') as file:
+            file.write(os.urandom(length))
+    shutil.copytree(source, target)
+    for name in os.listdir(target):
+        path = os.path.join(target, name)
+        with open(path, 'r+b') as file:
+            file.seek(os.path.getsize(path) // 2)
+            file.write(b'changed')
+        os.utime(path, (0, 0))
+    shell = os.path.join(folder, 'shell')
+    write(shell, '#!/bin/sh\nshift\nexec sh -c "$*"\n')
+    os.chmod(shell, 0o755)
+    return source, target, shell
+
+
+def rsync_run(folder, choice, sender, receiver):
+    """Sends with the one library and receives with the other. Answers how the sender ended,
+    whether all files are equal, and what the receiver loaded."""
+    source, target, shell = rsync_source(folder)
+    logs = os.path.join(folder, 'receiver')
+    set_here = ' '.join(f"{name}='{value}'" for name, value in receiver.variables(logs).items())
+    remote = f'env -u LD_LIBRARY_PATH -u GLIBC_TUNABLES {set_here} rsync'
+    done = run(sender, ['rsync', '-a', '--checksum', '--no-whole-file', f'--checksum-choice={choice}', '--stats',
+                        '-e', shell, f'--rsync-path={remote}', source + '/', f'host:{target}/'])
+    same = subprocess.run(['diff', '-rq', source, target], stdout=subprocess.DEVNULL).returncode == 0
+    return done, same, loaded(logs)
+
+
+def rsync_pair(choice, sender, receiver):
+    with tempfile.TemporaryDirectory() as folder:
+        done, same, files = rsync_run(folder, choice, sender, receiver)
+        want(done.status == 0, tail(done.out))
+        want_library(receiver, files)
+        want(same, 'the files differ')
+        matched = [line for line in done.out.splitlines() if line.startswith('Matched data')]
+        want(matched and 'Matched data: 0 ' not in matched[0], 'no block was matched')
+        return matched[0]
+
+
+def rsync_control(choice, sender, receiver):
+    with tempfile.TemporaryDirectory() as folder:
+        done, _, _ = rsync_run(folder, choice, sender, receiver)
+        want(done.status != 0, 'a wrong library is not noticed')
+        return f'noticed: {tail(done.out)}'
+
+
+# ---- borgbackup ----
+
+def borg(side, folder, *words):
+    return run(side, ['borg', *words], folder=folder, BORG_BASE_DIR=os.path.join(folder, side.name),
+               BORG_UNKNOWN_UNENCRYPTED_REPO_ACCESS_IS_OK='yes', BORG_RELOCATED_REPO_ACCESS_IS_OK='yes')
+
+
+def borg_archive(folder, writer):
+    source = os.path.join(folder, 'source')
+    os.mkdir(source)
+    for length in (0, 10, 100000, 4000000):
+        with open(os.path.join(source, f'file-{length}'), 'wb') as file:
+            file.write(os.urandom(length))
+    for words in (['init', '-e', 'none', 'repository'], ['create', 'repository::one', 'source']):
+        done = borg(writer, folder, *words)
+        want(done.status == 0, tail(done.out))
+
+
+def borg_pair(writer, reader):
+    """One side writes an archive, the other checks it, adds to it and takes it out again."""
+    with tempfile.TemporaryDirectory() as folder:
+        borg_archive(folder, writer)
+        os.mkdir(os.path.join(folder, 'out'))
+        for side, where, words in ((reader, '', ['check', '--verify-data', 'repository']),
+                                   (reader, '', ['create', 'repository::two', 'source']),
+                                   (writer, '', ['check', 'repository']),
+                                   (reader, 'out', ['extract', '../repository::one'])):
+            done = borg(side, os.path.join(folder, where), *words)
+            want(done.status == 0 and 'ntegrity' not in done.out, tail(done.out))
+        same = subprocess.run(['diff', '-rq', 'source', 'out/source'], cwd=folder, stdout=subprocess.DEVNULL)
+        want(same.returncode == 0, 'what was taken out differs')
+
+
+def borg_control(writer, reader):
+    with tempfile.TemporaryDirectory() as folder:
+        borg_archive(folder, writer)
+        done = borg(reader, folder, 'create', 'repository::two', 'source')
+        told = [line for line in done.out.splitlines() if 'ntegrity' in line]
+        want(done.status != 0 or told, 'a wrong library is not noticed')
+        return f'noticed: {told[0] if told else tail(done.out)}'
+
+
+def borg_tests(sides):
+    words = [PYTHON, '-B', os.path.join(HERE, 'borg_tests.py')]
+    with tempfile.TemporaryDirectory() as folder:
+        ours, wrong = (run(side, words, folder=folder, HOME=folder) for side in (sides.ours, sides.wrong))
+    want(ours.status == 0, tail(ours.out))
+    want(wrong.status != 0, 'a wrong library is not noticed')
+    return f'{tail(ours.out)}; on a wrong library {tail(wrong.out)}'
+
+
+# ---- apt ----
+
+def apt_root(folder):
+    """A root of apt's own with a repository of made-up packages. Answers the environment variable that names it."""
+    for part in ('etc/apt.conf.d', 'etc/preferences.d', 'repository', 'lists/partial', 'cache/archives/partial'):
+        os.makedirs(os.path.join(folder, part))
+    write(os.path.join(folder, 'repository/Packages'), ''.join(
+        f'Package: made-up-{i}\nVersion: 1.{i}\nArchitecture: all\nMaintainer: nobody\nDepends: made-up-{i // 2 + 1}\n'
+        f'Filename: ./made-up-{i}.deb\nSize: {i}\nSHA256: {i:064d}\nDescription: package {i}\n\n' for i in range(300)))
+    write(os.path.join(folder, 'etc/sources.list'), f'deb [trusted=yes] file:{folder}/repository ./\n')
+    write(os.path.join(folder, 'etc/status'), '')
+    settings = {'Dir::Etc': 'etc', 'Dir::Etc::parts': 'etc/apt.conf.d', 'Dir::Etc::main': 'etc/none', 'Dir::State': '',
+                'Dir::State::lists': 'lists', 'Dir::State::status': 'etc/status', 'Dir::Cache': 'cache'}
+    write(os.path.join(folder, 'conf'), 'APT::Sandbox::User "root";\nDebug::pkgCacheGen "1";\n' + ''.join(
+        f'{name} "{os.path.join(folder, path)}";\n' for name, path in settings.items()))
+    return os.path.join(folder, 'conf')
+
+
+def apt_accepts(side, conf):
+    """Whether apt finds the cache that lies there valid, by the hash that it holds."""
+    done = run(side, ['apt-cache', 'depends', 'made-up-7'], APT_CONFIG=conf)
+    want(done.status == 0 and 'Depends: made-up-4' in done.out, tail(done.out))
+    return 'pkgcache.bin is valid' in done.out
+
+
+def apt_pair(sides, writer, reader):
+    """One side reads the lists and writes the cache, the other finds it valid, and a wrong library doesn't."""
+    with tempfile.TemporaryDirectory() as folder:
+        conf = apt_root(folder)
+        done = run(writer, ['apt-get', 'update'], APT_CONFIG=conf)
+        want(done.status == 0, tail(done.out))
+        want(run(writer, ['apt-cache', 'gencaches'], APT_CONFIG=conf).status == 0, 'no cache was written')
+        want(apt_accepts(reader, conf), 'the cache of the other side is not valid')
+        want(not apt_accepts(sides.wrong, conf), 'a wrong library is not noticed')
+        return 'the cache is valid; a wrong library is noticed'
+
+
+# ---- gdb ----
+
+PROGRAM = '''struct point { int across; double up; };
+static int twice(int value) { return 2 * value; }
+int main(void) { struct point p = { twice(21), 0.5 }; return p.across != 42; }
+'''
+
+
+def gdb_session(sides):
+    with tempfile.TemporaryDirectory() as folder:
+        write(os.path.join(folder, 'program.c'), PROGRAM)
+        built = subprocess.run(['gcc', '-g', '-O0', 'program.c', '-o', 'program'], cwd=folder)
+        want(built.returncode == 0, 'the program was not built')
+        asked = ('info line twice', 'ptype struct point', 'info scope main', 'info functions twice', 'disassemble /s twice')
+        words = ['gdb', '-nx', '-batch', *[word for command in asked for word in ('-ex', command)], 'program']
+        theirs, ours, stopped = (run(side, words, folder=folder) for side in (sides.theirs, sides.ours, sides.stopping))
+    want(theirs.status == 0 and 'double up;' in theirs.out, tail(theirs.out))
+    want(ours.out == theirs.out, 'the session differs')
+    want(stopped.status != 0, 'gdb never asks the library')
+    return f'{len(ours.out.splitlines())} lines are the same; a library that stops at each hash is noticed'
+
+
+# ---- lighttpd ----
+
+def free_port():
+    with socket.socket() as probe:
+        probe.bind(('127.0.0.1', 0))
+        return probe.getsockname()[1]
+
+
+def listens(port):
+    with socket.socket() as probe:
+        return probe.connect_ex(('127.0.0.1', port)) == 0
+
+
+def start_lighttpd(side, folder, port):
+    """A server of the folder's pages that listens."""
+    conf = os.path.join(folder, 'conf')
+    write(conf, f'server.document-root = "{folder}/pages"\nserver.bind = "127.0.0.1"\nserver.port = {port}\n'
+                'server.feature-flags = ("server.h2c" => "enable", "server.h2proto" => "enable")\n'
+                'mimetype.assign = (".txt" => "text/plain")\n')
+    server = subprocess.Popen(['lighttpd', '-D', '-f', conf], env=side.environment(os.path.join(folder, side.name)),
+                              stdout=subprocess.DEVNULL, stderr=subprocess.DEVNULL)
+    for _ in range(200):
+        if listens(port):
+            return server
+        time.sleep(0.05)
+    server.kill()
+    raise Fault('lighttpd does not listen')
+
+
+def lighttpd_answer(side, folder, *headers):
+    """Asks a server on this side for a page by HTTP/2, whose headers lighttpd packs by XXH32. Answers the lines of the
+    status and the ETag."""
+    port = free_port()
+    server = start_lighttpd(side, folder, port)
+    page = f'http://127.0.0.1:{port}/page.txt'
+    try:
+        with open(f'/proc/{server.pid}/maps') as maps:
+            files = {os.path.realpath(line.split()[-1]) for line in maps if 'libxxhash' in line}
+        done = subprocess.run(['curl', '-sI', '--noproxy', '*', '--http2-prior-knowledge', *headers, page],
+                              stdout=subprocess.PIPE, text=True, timeout=30)
+    finally:
+        server.send_signal(signal.SIGTERM)
+        server.wait(timeout=20)
+    want_library(side, files)
+    return [line.strip() for line in done.stdout.splitlines() if line.lower().startswith(('http/2', 'etag'))]
+
+
+def lighttpd_tags(sides):
+    with tempfile.TemporaryDirectory() as folder:
+        os.mkdir(os.path.join(folder, 'pages'))
+        write(os.path.join(folder, 'pages', 'page.txt'), 'a page\n')
+        theirs = lighttpd_answer(sides.theirs, folder)
+        want(len(theirs) == 2 and theirs[0] == 'HTTP/2 200', f'the original answers {theirs}')
+        ours = lighttpd_answer(sides.ours, folder)
+        want(ours == theirs, f'{ours} in place of {theirs}')
+        tag = theirs[1].split(': ', 1)[1]
+        known = lighttpd_answer(sides.ours, folder, '-H', f'If-None-Match: {tag}')
+        want(known and known[0] == 'HTTP/2 304', f'a page that is known by the tag of the original: {known}')
+        want(not lighttpd_answer(sides.stopping, folder), 'lighttpd never asks the library')
+    return f'ETag {tag} on both; a library that stops at each hash is noticed'
+
+
+def check_all(report, sides):
+    theirs, ours, wrong = sides.theirs, sides.ours, sides.wrong
+    report.attempt('python3-xxhash', python_hashes, sides)
+    for choice in ('xxh64', 'xxh3', 'xxh128'):
+        for sender, receiver in ((ours, theirs), (theirs, ours), (ours, ours)):
+            name = f'rsync {choice}: {sender.name} sends, {receiver.name} receives'
+            report.attempt(name, rsync_pair, choice, sender, receiver)
+        report.attempt(f'rsync {choice}: a wrong library sends', rsync_control, choice, wrong, theirs)
+    report.attempt('borgbackup: ours writes, theirs checks', borg_pair, ours, theirs)
+    report.attempt('borgbackup: theirs writes, ours checks', borg_pair, theirs, ours)
+    report.attempt('borgbackup: a wrong library writes', borg_control, wrong, theirs)
+    report.attempt("borgbackup's own tests", borg_tests, sides)
+    report.attempt('apt: ours writes, theirs reads', apt_pair, sides, ours, theirs)
+    report.attempt('apt: theirs writes, ours reads', apt_pair, sides, theirs, ours)
+    report.attempt('gdb', gdb_session, sides)
+    report.attempt('lighttpd', lighttpd_tags, sides)

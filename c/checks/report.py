@@ -1,0 +1,38 @@
+"""One line a check, and the counts at the end."""
+import subprocess
+
+
+class Report:
+    def __init__(self):
+        self.passed, self.failed = 0, 0
+
+    def row(self, name, fault=None, note=''):
+        """A check that passed, or what is at fault with it."""
+        if fault:
+            self.failed += 1
+            print(f'FAILED  {name}: {fault}', flush=True)
+        else:
+            self.passed += 1
+            print(f'passed  {name}' + (f' ({note})' if note else ''), flush=True)
+
+    def attempt(self, name, check, *words):
+        """A check that answers a note, or raises Fault. One that takes too long is at fault too."""
+        try:
+            self.row(name, None, check(*words) or '')
+        except (Fault, subprocess.TimeoutExpired) as fault:
+            self.row(name, str(fault))
+
+
+class Fault(Exception):
+    """What is at fault, in one line."""
+
+
+def want(holds, fault):
+    if not holds:
+        raise Fault(fault)
+
+
+def tail(text):
+    """The last line of a program's output, for a fault."""
+    lines = text.strip().splitlines()
+    return lines[-1][:300] if lines else 'no output'

@@ -1,0 +1,65 @@
+"""Programs on one library or another: which one the loader took is read from what it tells."""
+import glob
+import os
+import re
+import subprocess
+import tempfile
+
+from report import want
+
+THEIRS = '/usr/lib/x86_64-linux-gnu/libxxhash.so.0'
+
+
+class Side:
+    """A library that programs run on: `folder` goes into LD_LIBRARY_PATH, `file` is what the loader has to take."""
+
+    def __init__(self, name, folder, file, tunables=''):
+        self.name, self.folder, self.file, self.tunables = name, folder, file, tunables
+
+    def variables(self, logs):
+        """The environment variables of a program on this side, whose loader writes files with this beginning."""
+        found = {'LD_DEBUG': 'libs', 'LD_DEBUG_OUTPUT': logs}
+        if self.folder:
+            found['LD_LIBRARY_PATH'] = self.folder
+        if self.tunables:
+            found['GLIBC_TUNABLES'] = self.tunables
+        return found
+
+    def environment(self, logs, **more):
+        kept = {name: value for name, value in os.environ.items() if not name.startswith(('LD_', 'GLIBC_'))}
+        return {**kept, **self.variables(logs), **more}
+
+
+def loaded(logs):
+    """The files of libxxhash that the loader set to work, over all processes whose log begins so."""
+    files = set()
+    for log in glob.glob(logs + '.*'):
+        with open(log, errors='replace') as lines:
+            for line in lines:
+                found = re.search(r'calling init: (\S*libxxhash\.so\S*)', line)
+                if found:
+                    files.add(os.path.realpath(found.group(1)))
+    return files
+
+
+class Done:
+    """How a program ended."""
+
+    def __init__(self, status, out, files):
+        self.status, self.out, self.files = status, out, files
+
+
+def run(side, words, want_loaded=True, folder=None, **more):
+    """Runs a program on a side. It has to load that side's library, and no other."""
+    with tempfile.TemporaryDirectory() as room:
+        logs = os.path.join(room, 'log')
+        done = subprocess.run(words, env=side.environment(logs, **more), cwd=folder, stdin=subprocess.DEVNULL,
+                              stdout=subprocess.PIPE, stderr=subprocess.STDOUT, timeout=300)
+        files = loaded(logs)
+    if want_loaded:
+        want_library(side, files)
+    return Done(done.returncode, done.stdout.decode(errors='replace'), files)
+
+
+def want_library(side, files):
+    want(files == {os.path.realpath(side.file)}, f'on {side.name}, {", ".join(files) or "no libxxhash"} was loaded')
