@@ -25,8 +25,8 @@ pub use mixing::{
 pub use parts::{chunks_17_to_128, pairs_of_u64_bytes, stripes_with_tail};
 pub use secret::{OneshotWithSecretError, SECRET_MINIMUM_LENGTH, Secret};
 pub use streaming::{
-    AllocRawHasher, BUFFERED_BYTES, ClonedBuffer, FixedBuffer, FixedMutBuffer, RawHasherCore,
-    SecretBuffer, SecretTooShortError, SecretWithSeedError,
+    AllocRawHasher, BUFFERED_BYTES, ClonedBuffer, CoreState, FixedBuffer, FixedMutBuffer,
+    RawHasherCore, SecretBuffer, SecretTooShortError, SecretWithSeedError, TakenStripes,
 };
 pub use stripes::StripeAccumulator;
 pub use vector::{INITIAL_ACCUMULATORS, Vector};

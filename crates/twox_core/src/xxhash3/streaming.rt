@@ -7,6 +7,7 @@ mod secret_buffer;
 mod taken_stripes;
 
 pub use buffers::{ClonedBuffer, FixedBuffer, FixedMutBuffer};
-pub use core_state::BUFFERED_BYTES;
+pub use core_state::{BUFFERED_BYTES, CoreState};
 pub use raw::{AllocRawHasher, RawHasherCore};
 pub use secret_buffer::{SecretBuffer, SecretTooShortError, SecretWithSeedError};
+pub use taken_stripes::TakenStripes;

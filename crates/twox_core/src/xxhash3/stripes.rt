@@ -16,6 +16,7 @@ pub(crate) const BYTES_TO_READ_AHEAD: usize = 49_152;
 const STRIPES_AHEAD: usize = 16;
 
 /// The accumulators, and how many stripes they have taken since the last scramble.
+#[repr(C)]
 #[derive(Clone, Copy)]
 pub struct StripeAccumulator {
     accumulator: [u64; 8],

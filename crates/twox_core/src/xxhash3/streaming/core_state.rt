@@ -3,6 +3,7 @@
 ghost use Rattle.std.specs.Prelude.{◌≡◌, ℕ, List, ◌++◌, ◌+◌, ◌-◌, ◌*◌, ◌/◌, ◌<◌, ◌≤◌, min, take, length};
 ghost use Rattle.twox_core.specs.Long.{stripes_of};
 ghost use Rattle.twox_core.specs.SecretBytes.{secret_bytes};
+ghost use Rattle.twox_core.specs.Stripes.{current_stripe_of};
 
 use super::taken_stripes::TakenStripes;
 use crate::xxhash3::parts::array_at;
@@ -20,13 +21,23 @@ const _: () = prove!(BUFFERED_BYTES % 64 == 0);
 
 const _: () = prove!(size_of::<CoreState>() == 672);
 
-// No call reads a byte of the buffer that is not in use.
+/// What a stream holds beside its secret and its seed. [`RawHasherCore`](super::RawHasherCore) keeps all three and
+/// is what to use; this is for a stream that lies in memory of another layout, such as one that C holds.
+///
+/// The calls have the secret handed in, and it has to be the same at each. They ask for three things, which hold
+/// of a new state and after each call: the accumulators' place lies in the secret, at most `BUFFERED_BYTES` bytes
+/// wait, and if any bytes were taken, one at least waits. No call reads a byte of the buffer that is not in use.
+#[repr(C)]
 #[derive(Clone, Copy)]
-pub(crate) struct CoreState {
-    pub(crate) taken: TakenStripes,
-    pub(crate) buffer: [u8; BUFFERED_BYTES],
-    pub(crate) buffer_usage: usize,
-    pub(crate) total_bytes: u64,
+pub struct CoreState {
+    /// The stripes taken.
+    pub taken: TakenStripes,
+    /// Begins with the bytes that wait.
+    pub buffer: [u8; BUFFERED_BYTES],
+    /// How many bytes wait.
+    pub buffer_usage: usize,
+    /// The number of bytes taken so far; from 2^64 - 1 on it stays there.
+    pub total_bytes: u64,
 }
 
 impl CoreState {
@@ -34,8 +45,9 @@ impl CoreState {
     ghost use Rattle.twox_core.specs.Finish.{last_bytes, state_finish};
     ghost use Rattle.twox_core.specs.Value.{short_secret, stream_seed};
 
+    /// The state of no bytes yet.
     #[inline(always)]
-    pub(crate) fn new() -> CoreState
+    pub fn new() -> CoreState
         ensures { result ≡ empty_state }
     {
         CoreState {
@@ -46,16 +58,18 @@ impl CoreState {
         }
     }
 
-    // Takes the bytes of `input` after those taken before. A piece that the buffer has room for is kept, even
-    // if it fills the buffer, since the last stripe of a stream is taken by `finish` alone.
+    /// Takes the bytes of `input` after those taken before.
+    // A piece that the buffer has room for is kept, even if it fills the buffer, since the last stripe of a stream
+    // is taken by `finish` alone.
     #[inline(always)]
-    pub(crate) fn write<V: Vector>(&mut self, v: V, input: &[u8], secret: Secret<'_>)
-        requires place { self.old.taken.stripes.current_stripe < stripes_of (secret_bytes secret) }
+    pub fn write<V: Vector>(&mut self, v: V, input: &[u8], secret: Secret<'_>)
+        requires place { current_stripe_of self.old.taken.stripes
+            < stripes_of (secret_bytes secret) }
         requires in_range { self.old.buffer_usage ≤ 512 }
         requires left { min self.old.total_bytes 1 ≤ self.old.buffer_usage }
         ensures exact { self.new
             ≡ state_after_write (secret_bytes secret.entry) self.old input.now }
-        ensures place { self.new.taken.stripes.current_stripe
+        ensures place { current_stripe_of self.new.taken.stripes
             < stripes_of (secret_bytes secret.entry) }
         ensures in_range { self.new.buffer_usage ≤ 512 }
         ensures left { min self.new.total_bytes 1 ≤ self.new.buffer_usage }
@@ -138,16 +152,18 @@ impl CoreState {
         self.buffer_usage = last.len();
     }
 
-    // What `finalize` makes of the bytes taken.
+    /// What `finalize` makes of the bytes taken, which stay. Up to 240 bytes that is with the default secret and
+    /// the seed or, where there is none, with the secret and the seed 0; above with the secret.
     #[inline(always)]
-    pub(crate) fn finish<V: Vector, F: Finalize>(
+    pub fn finish<V: Vector, F: Finalize>(
         &self,
         v: V,
         finalize: &F,
         seed: Option<u64>,
         secret: Secret<'_>,
     ) -> F::Output
-        requires place { self.now.taken.stripes.current_stripe < stripes_of (secret_bytes secret) }
+        requires place { current_stripe_of self.now.taken.stripes
+            < stripes_of (secret_bytes secret) }
         requires in_range { self.now.buffer_usage ≤ 512 }
         requires left { min self.now.total_bytes 1 ≤ self.now.buffer_usage }
         ensures exact { let s = secret_bytes secret.entry in

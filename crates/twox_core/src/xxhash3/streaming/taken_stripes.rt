@@ -8,13 +8,16 @@ use crate::xxhash3::parts::array_at;
 use crate::xxhash3::{Secret, StripeAccumulator, Vector};
 use twox_plain::words::IntoU64;
 
-// What stripes left: the accumulators, the last stripe, of which a short last one of the stream is made, and
-// how many there were.
+/// The stripes that a stream has taken, as what they left.
+#[repr(C)]
 #[derive(Clone, Copy)]
-pub(crate) struct TakenStripes {
-    pub(crate) stripes: StripeAccumulator,
-    pub(crate) last: [u8; 64],
-    pub(crate) count: u64,
+pub struct TakenStripes {
+    /// The accumulators, and their place in the secret.
+    pub stripes: StripeAccumulator,
+    /// The last stripe, of which a short last one of the stream is made.
+    pub last: [u8; 64],
+    /// How many there were; from 2^64 - 1 on it stays there.
+    pub count: u64,
 }
 
 impl TakenStripes {
