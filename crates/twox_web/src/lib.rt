@@ -8,6 +8,7 @@
 ghost use Rattle.std.specs.Prelude.{◌≡◌};
 ghost use Rattle.twox_web.specs.Number.{number_of};
 
+mod by_kernel;
 mod oneshots_3;
 mod plain32;
 mod plain64;

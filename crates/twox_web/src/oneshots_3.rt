@@ -5,7 +5,11 @@ ghost use Rattle.twox_hash.specs.Secret.{default_secret, derived_secret};
 ghost use Rattle.twox_hash.specs.Value.{effective_secret, xxh3_64, xxh3_128};
 ghost use Rattle.twox_web.specs.Number.{number_of};
 
+use crate::by_kernel::{
+    default_64, default_128, keyed_64, keyed_128, long_64, long_128, seeded_64, seeded_128,
+};
 use crate::{DONE, SECRET_TOO_SHORT, Wide, halves};
+use twox_hash::xxhash3::{CUTOFF, Secret};
 use twox_hash::{XxHash3_64, XxHash3_128};
 
 /// The hash of 64 bits of all bytes at once, with the default secret and the seed 0.
@@ -13,7 +17,7 @@ use twox_hash::{XxHash3_64, XxHash3_128};
 pub extern "C" fn twox_xxh3_64(input: &[u8]) -> u64
     ensures { result ≡ xxh3_64 0 default_secret input.now }
 {
-    XxHash3_64::oneshot(input)
+    default_64(input)
 }
 
 /// The hash of 64 bits of all bytes at once, with a seed.
@@ -22,7 +26,7 @@ pub extern "C" fn twox_xxh3_64_with_seed(seed: u64, input: &[u8]) -> u64
     ensures { let s = effective_secret (derived_secret seed) input.now in
         result ≡ xxh3_64 seed s input.now }
 {
-    XxHash3_64::oneshot_with_seed(seed, input)
+    seeded_64(seed, input)
 }
 
 /// Writes the hash of 64 bits of all bytes at once, with a secret and the seed 0, at every length.
@@ -35,13 +39,11 @@ pub extern "C" fn twox_xxh3_64_with_secret(secret: &[u8], input: &[u8], value: &
     ensures value { result ≡ DONE → value.new ≡ xxh3_64 0 secret.now input.now }
     ensures kept { result ≡ SECRET_TOO_SHORT → value.new ≡ value.old }
 {
-    match XxHash3_64::oneshot_with_secret(secret, input) {
-        Ok(hash) => {
-            *value = hash;
-            DONE
-        }
-        Err(_) => SECRET_TOO_SHORT,
-    }
+    let Ok(secret) = Secret::new(secret) else {
+        return SECRET_TOO_SHORT;
+    };
+    *value = keyed_64(secret, input);
+    DONE
 }
 
 /// Writes the hash of 64 bits of all bytes at once, with a seed and a secret. Up to 240 bytes the seed has an
@@ -49,6 +51,7 @@ pub extern "C" fn twox_xxh3_64_with_secret(secret: &[u8], input: &[u8], value: &
 ///
 /// `SECRET_TOO_SHORT`: the input has more than 240 bytes and the secret fewer than 136, and nothing is written.
 #[unsafe(no_mangle)]
+#[tactic(auto, unfolding(twox_core::specs::Value::xxh3_64, twox_core::specs::Value::range_of, twox_core::specs::Value::value64_in, twox_core::specs::Value::effective_secret))]
 pub extern "C" fn twox_xxh3_64_with_seed_and_secret(
     seed: u64,
     secret: &[u8],
@@ -62,13 +65,15 @@ pub extern "C" fn twox_xxh3_64_with_seed_and_secret(
         result ≡ DONE → value.new ≡ xxh3_64 seed s input.now }
     ensures kept { result ≡ SECRET_TOO_SHORT → value.new ≡ value.old }
 {
-    match XxHash3_64::oneshot_with_seed_and_secret(seed, secret, input) {
-        Ok(hash) => {
-            *value = hash;
-            DONE
-        }
-        Err(_) => SECRET_TOO_SHORT,
+    if input.len() <= CUTOFF {
+        *value = XxHash3_64::oneshot_with_seed(seed, input);
+        return DONE;
     }
+    let Ok(secret) = Secret::new(secret) else {
+        return SECRET_TOO_SHORT;
+    };
+    *value = long_64(secret, input);
+    DONE
 }
 
 /// Writes the hash of 128 bits of all bytes at once, with the default secret and the seed 0.
@@ -76,7 +81,7 @@ pub extern "C" fn twox_xxh3_64_with_seed_and_secret(
 pub extern "C" fn twox_xxh3_128(input: &[u8], value: &mut Wide)
     ensures { number_of value.new ≡ xxh3_128 0 default_secret input.now }
 {
-    *value = halves(XxHash3_128::oneshot(input));
+    *value = halves(default_128(input));
 }
 
 /// Writes the hash of 128 bits of all bytes at once, with a seed.
@@ -85,7 +90,7 @@ pub extern "C" fn twox_xxh3_128_with_seed(seed: u64, input: &[u8], value: &mut W
     ensures { let s = effective_secret (derived_secret seed) input.now in
         number_of value.new ≡ xxh3_128 seed s input.now }
 {
-    *value = halves(XxHash3_128::oneshot_with_seed(seed, input));
+    *value = halves(seeded_128(seed, input));
 }
 
 /// Writes the hash of 128 bits of all bytes at once, with a secret and the seed 0, at every length.
@@ -98,13 +103,11 @@ pub extern "C" fn twox_xxh3_128_with_secret(secret: &[u8], input: &[u8], value: 
     ensures value { result ≡ DONE → number_of value.new ≡ xxh3_128 0 secret.now input.now }
     ensures kept { result ≡ SECRET_TOO_SHORT → value.new ≡ value.old }
 {
-    match XxHash3_128::oneshot_with_secret(secret, input) {
-        Ok(hash) => {
-            *value = halves(hash);
-            DONE
-        }
-        Err(_) => SECRET_TOO_SHORT,
-    }
+    let Ok(secret) = Secret::new(secret) else {
+        return SECRET_TOO_SHORT;
+    };
+    *value = halves(keyed_128(secret, input));
+    DONE
 }
 
 /// Writes the hash of 128 bits of all bytes at once, with a seed and a secret. Up to 240 bytes the seed has an
@@ -112,6 +115,7 @@ pub extern "C" fn twox_xxh3_128_with_secret(secret: &[u8], input: &[u8], value: 
 ///
 /// `SECRET_TOO_SHORT`: the input has more than 240 bytes and the secret fewer than 136, and nothing is written.
 #[unsafe(no_mangle)]
+#[tactic(auto, unfolding(twox_core::specs::Value::xxh3_128, twox_core::specs::Value::range_of, twox_core::specs::Value::low_in, twox_core::specs::Value::high_in, twox_core::specs::Value::effective_secret))]
 pub extern "C" fn twox_xxh3_128_with_seed_and_secret(
     seed: u64,
     secret: &[u8],
@@ -125,11 +129,13 @@ pub extern "C" fn twox_xxh3_128_with_seed_and_secret(
         result ≡ DONE → number_of value.new ≡ xxh3_128 seed s input.now }
     ensures kept { result ≡ SECRET_TOO_SHORT → value.new ≡ value.old }
 {
-    match XxHash3_128::oneshot_with_seed_and_secret(seed, secret, input) {
-        Ok(hash) => {
-            *value = halves(hash);
-            DONE
-        }
-        Err(_) => SECRET_TOO_SHORT,
+    if input.len() <= CUTOFF {
+        *value = halves(XxHash3_128::oneshot_with_seed(seed, input));
+        return DONE;
     }
+    let Ok(secret) = Secret::new(secret) else {
+        return SECRET_TOO_SHORT;
+    };
+    *value = halves(long_128(secret, input));
+    DONE
 }

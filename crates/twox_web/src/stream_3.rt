@@ -13,10 +13,11 @@ ghost use Rattle.twox_core.specs.AfterWrite.{state_after_write};
 ghost use Rattle.twox_web.specs.Number.{number_of};
 ghost use Rattle.twox_web.specs.Stream.{seed_of, StandsFor, Fits};
 
+use crate::by_kernel::PageKernel;
 use crate::{DONE, NOT_A_STREAM, SECRET_TOO_SHORT, Wide, halves};
 use twox_hash::words::IntoU64;
 use twox_hash::xxhash3::{
-    BUFFERED_BYTES, CoreState, DefaultSecret, INITIAL_ACCUMULATORS, Kernel, Secret, derived_secret,
+    BUFFERED_BYTES, CoreState, DefaultSecret, INITIAL_ACCUMULATORS, Secret, derived_secret,
 };
 use twox_hash::xxhash3_64::Finalize64;
 use twox_hash::xxhash3_128::Finalize128;
@@ -197,7 +198,7 @@ pub extern "C" fn twox_xxh3_update(stream: &mut Stream, secret: &[u8], input: &[
     if !stream.fits(secret) {
         return NOT_A_STREAM;
     }
-    stream.core.write(Kernel {}, input, secret);
+    stream.core.write(PageKernel {}, input, secret);
     DONE
 }
 
@@ -226,7 +227,7 @@ pub extern "C" fn twox_xxh3_64_digest(stream: &Stream, secret: &[u8], value: &mu
     }
     *value = stream
         .core
-        .finish(Kernel {}, &Finalize64, stream.seed(), secret);
+        .finish(PageKernel {}, &Finalize64, stream.seed(), secret);
     DONE
 }
 
@@ -256,7 +257,7 @@ pub extern "C" fn twox_xxh3_128_digest(stream: &Stream, secret: &[u8], value: &m
     *value = halves(
         stream
             .core
-            .finish(Kernel {}, &Finalize128, stream.seed(), secret),
+            .finish(PageKernel {}, &Finalize128, stream.seed(), secret),
     );
     DONE
 }
