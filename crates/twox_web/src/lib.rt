@@ -9,7 +9,8 @@ ghost use Rattle.std.specs.Prelude.{◌≡◌};
 ghost use Rattle.twox_web.specs.Number.{number_of};
 
 mod by_kernel;
-mod oneshots_3;
+mod oneshots_128;
+mod oneshots_64;
 mod plain32;
 mod plain64;
 mod stream_3;

@@ -18,7 +18,9 @@ pub extern "C" fn twox_xxh32(seed: u32, input: &[u8]) -> u32
 
 /// The size of a stream's record in bytes.
 #[unsafe(no_mangle)]
-pub extern "C" fn twox_xxh32_stream_size() -> usize {
+pub extern "C" fn twox_xxh32_stream_size() -> usize
+    ensures { result ≡ 56 }
+{
     size_of::<SavedState>()
 }
 
@@ -45,14 +47,12 @@ pub extern "C" fn twox_xxh32_update(stream: &mut SavedState, input: &[u8]) -> u3
     ensures exact { result ≡ DONE → stream.new ≡ after_write stream.old input.now }
     ensures kept { result ≡ NOT_A_STREAM → stream.new ≡ stream.old }
 {
-    match XxHash32::from_state(*stream) {
-        Ok(mut hasher) => {
-            hasher.write(input);
-            *stream = hasher.to_state();
-            DONE
-        }
-        Err(_) => NOT_A_STREAM,
-    }
+    let Ok(mut hasher) = XxHash32::from_state(*stream) else {
+        return NOT_A_STREAM;
+    };
+    hasher.write(input);
+    *stream = hasher.to_state();
+    DONE
 }
 
 /// Writes the hash of the bytes taken so far. More may be taken afterwards.
@@ -67,11 +67,9 @@ pub extern "C" fn twox_xxh32_digest(stream: &SavedState, value: &mut u32) -> u32
     ensures exact { result ≡ DONE → value.new ≡ finish_value stream.now }
     ensures kept { result ≡ NOT_A_STREAM → value.new ≡ value.old }
 {
-    match XxHash32::from_state(*stream) {
-        Ok(hasher) => {
-            *value = hasher.finish_32();
-            DONE
-        }
-        Err(_) => NOT_A_STREAM,
-    }
+    let Ok(hasher) = XxHash32::from_state(*stream) else {
+        return NOT_A_STREAM;
+    };
+    *value = hasher.finish_32();
+    DONE
 }

@@ -108,7 +108,9 @@ fn has_no_stripe(core: &CoreState) -> bool
 
 /// The size of a stream's record in bytes.
 #[unsafe(no_mangle)]
-pub extern "C" fn twox_xxh3_stream_size() -> usize {
+pub extern "C" fn twox_xxh3_stream_size() -> usize
+    ensures { result ≡ 688 }
+{
     size_of::<Stream>()
 }
 
