@@ -19,7 +19,7 @@ let jobs = 0;
 class Card {
   constructor(name, blob) {
     this.name = name;
-    this.blob = blob;
+    this.hold(blob);
     this.state = "waiting";
     this.item = $("card").content.firstElementChild.cloneNode(true);
     this.button = this.part(".act");
@@ -27,6 +27,12 @@ class Card {
     this.part("progress").setAttribute("aria-label", `Progress of ${name}`);
     this.button.addEventListener("click", () => this.act());
     this.show("Waiting");
+  }
+
+  /** Keeps the blob and its size, since a browser may say 0 of a file that has vanished meanwhile. */
+  hold(blob) {
+    this.blob = blob;
+    this.size = blob.size;
   }
 
   part(selector) {
@@ -55,8 +61,8 @@ class Card {
     this.started = performance.now();
     this.used = keyInWords(seed, secret);
     cards.set(this.job, this);
-    worker.postMessage({ type: "hash", job: this.job, blob: this.blob, seed, secret });
-    this.show(sizeInWords(this.blob.size));
+    worker.postMessage({ type: "hash", job: this.job, blob: this.blob, size: this.size, seed, secret });
+    this.show(sizeInWords(this.size));
   }
 
   stop() {
@@ -65,15 +71,15 @@ class Card {
   }
 
   progress(done) {
-    this.part("progress").value = done / this.blob.size;
+    this.part("progress").value = done / this.size;
     const seconds = (performance.now() - this.started) / 1000;
-    this.tell(`${sizeInWords(done)} of ${sizeInWords(this.blob.size)}, ${sizeInWords(done / seconds)}/s`);
+    this.tell(`${sizeInWords(done)} of ${sizeInWords(this.size)}, ${sizeInWords(done / seconds)}/s`);
   }
 
   finish(digests, milliseconds) {
     this.digests = digests;
-    const speed = milliseconds >= 1 && this.blob.size > 1e6 ? `, ${sizeInWords(this.blob.size / milliseconds * 1000)}/s` : "";
-    this.end("done", `${sizeInWords(this.blob.size)}${speed}${this.used}`);
+    const speed = milliseconds >= 1 && this.size > 1e6 ? `, ${sizeInWords(this.size / milliseconds * 1000)}/s` : "";
+    this.end("done", `${sizeInWords(this.size)}${speed}${this.used}`);
   }
 
   end(state, words) {
@@ -256,7 +262,7 @@ function hashText() {
     return;
   }
   text ??= addText();
-  text.blob = new Blob([words]);
+  text.hold(new Blob([words]));
   text.start(key);
 }
 
@@ -292,7 +298,6 @@ function clear() {
     card.item.remove();
   }
   $("text").value = "";
-  $("files").value = "";
   removeText();
   say("The list is empty");
   $("files").focus();
@@ -340,7 +345,11 @@ function showUnsupported(message) {
 
 // ---- what the user does
 
-$("files").addEventListener("change", () => addFiles([...$("files").files]));
+$("files").addEventListener("change", () => {
+  const chosen = [...$("files").files];
+  $("files").value = ""; // so that the same file may be chosen again
+  addFiles(chosen);
+});
 $("again").addEventListener("click", hashAgain);
 $("clear").addEventListener("click", clear);
 $("stop-all").addEventListener("click", () => {

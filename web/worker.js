@@ -1,11 +1,12 @@
 /**
  * Hashes what the page hands it, away from the page's own thread. It is sent
  *
- *     { type: "hash", job, blob, seed, secret }    seed a BigInt or undefined, secret bytes or undefined
+ *     { type: "hash", job, blob, size, seed, secret }    seed a BigInt or undefined, secret bytes or undefined
  *     { type: "stop", job }
  *
  * and answers, for a job, any number of `progress` and then one of `done`, `stopped` and `failed`. Jobs run side by
- * side, one piece of each in turn. Once, before all else, it says `ready` or `unsupported`.
+ * side, one piece of each in turn. Once, before all else, it says `ready` or `unsupported`. The size is what the blob
+ * had when it was chosen: one that has another size by now fails.
  */
 import { load, Stream, updateAll } from "./twox_hash.js";
 
@@ -25,12 +26,12 @@ onmessage = async ({ data }) => {
   else run(data);
 };
 
-async function run({ job, blob, seed, secret }) {
+async function run({ job, blob, size, seed, secret }) {
   let streams;
   try {
     streams = streamsFor(seed, secret);
     const start = performance.now();
-    const isWhole = await takeAll(job, blob, Object.values(streams));
+    const isWhole = await takeAll(job, piecesOf(blob, size), Object.values(streams));
     const milliseconds = performance.now() - start;
     if (isWhole) postMessage({ type: "done", job, milliseconds, digests: digestsOf(streams) });
     else postMessage({ type: "stopped", job });
@@ -62,11 +63,11 @@ function digits(value, bits) {
   return value.toString(16).padStart(bits / 4, "0");
 }
 
-/** Has the streams take the whole blob, and answers whether it wasn't stopped before. */
-async function takeAll(job, blob, streams) {
+/** Has the streams take all pieces, and answers whether the job wasn't stopped before. */
+async function takeAll(job, pieces, streams) {
   let done = 0;
   let reported = performance.now();
-  for await (const piece of piecesOf(blob)) {
+  for await (const piece of pieces) {
     if (stopped.has(job)) return false;
     updateAll(streams, piece);
     done += piece.byteLength;
@@ -78,12 +79,12 @@ async function takeAll(job, blob, streams) {
 }
 
 /** The blob's bytes in pieces, of which the next ones are read while one is hashed. */
-async function* piecesOf(blob) {
+async function* piecesOf(blob, size) {
   const reads = [];
   let at = 0;
   const readOn = () => {
-    if (at >= blob.size) return;
-    const next = read(blob, at);
+    if (at >= size) return;
+    const next = read(blob, at, Math.min(at + PIECE_BYTES, size));
     next.catch(() => {}); // a failure is met where the piece is awaited, if it still is
     reads.push(next);
     at += PIECE_BYTES;
@@ -94,11 +95,15 @@ async function* piecesOf(blob) {
     readOn();
     yield piece;
   }
+  if (blob.size !== size) throw changed();
 }
 
-async function read(blob, at) {
-  const part = blob.slice(at, at + PIECE_BYTES);
-  const bytes = await part.arrayBuffer();
-  if (bytes.byteLength !== part.size) throw new DOMException("The file has become shorter.", "NotReadableError");
+async function read(blob, from, to) {
+  const bytes = await blob.slice(from, to).arrayBuffer();
+  if (bytes.byteLength !== to - from) throw changed();
   return bytes;
+}
+
+function changed() {
+  return new DOMException("The file has another size than when it was chosen.", "NotReadableError");
 }
