@@ -268,7 +268,7 @@ function hashText() {
 
 function addText() {
   const card = new Card("Text", new Blob([]));
-  card.act = () => hashText();
+  card.wait = hashText;
   $("list").prepend(card.item);
   return card;
 }
