@@ -1,0 +1,74 @@
+//! One-shots of XXH3 of 64 bits.
+
+ghost use Rattle.std.specs.Prelude.{◌≡◌, ◌↔◌, ◌<◌, ◌≤◌, length};
+ghost use Rattle.twox_hash.specs.Secret.{default_secret, derived_secret};
+ghost use Rattle.twox_hash.specs.Value.{effective_secret, xxh3_64};
+
+use crate::by_kernel::{default_64, keyed_64, long_64, seeded_64};
+use crate::{DONE, SECRET_TOO_SHORT};
+use twox_hash::XxHash3_64;
+use twox_hash::xxhash3::{CUTOFF, Secret};
+
+/// The hash of 64 bits of all bytes at once, with the default secret and the seed 0.
+#[unsafe(no_mangle)]
+pub extern "C" fn twox_xxh3_64(input: &[u8]) -> u64
+    ensures { result ≡ xxh3_64 0 default_secret input.now }
+{
+    default_64(input)
+}
+
+/// The hash of 64 bits of all bytes at once, with a seed.
+#[unsafe(no_mangle)]
+pub extern "C" fn twox_xxh3_64_with_seed(seed: u64, input: &[u8]) -> u64
+    ensures { let s = effective_secret (derived_secret seed) input.now in
+        result ≡ xxh3_64 seed s input.now }
+{
+    seeded_64(seed, input)
+}
+
+/// Writes the hash of 64 bits of all bytes at once, with a secret and the seed 0, at every length.
+///
+/// `SECRET_TOO_SHORT`: the secret has fewer than 136 bytes, and nothing is written.
+#[unsafe(no_mangle)]
+pub extern "C" fn twox_xxh3_64_with_secret(secret: &[u8], input: &[u8], value: &mut u64) -> u32
+    ensures done { result ≡ DONE ↔ (136 ≤ length secret.now) }
+    ensures refused { result ≡ SECRET_TOO_SHORT ↔ (length secret.now < 136) }
+    ensures value { result ≡ DONE → value.new ≡ xxh3_64 0 secret.now input.now }
+    ensures kept { result ≡ SECRET_TOO_SHORT → value.new ≡ value.old }
+{
+    let Ok(secret) = Secret::new(secret) else {
+        return SECRET_TOO_SHORT;
+    };
+    *value = keyed_64(secret, input);
+    DONE
+}
+
+/// Writes the hash of 64 bits of all bytes at once, with a seed and a secret. Up to 240 bytes the seed has an
+/// effect, with the default secret, whatever secret is handed in; above, the secret.
+///
+/// `SECRET_TOO_SHORT`: the input has more than 240 bytes and the secret fewer than 136, and nothing is written.
+#[unsafe(no_mangle)]
+#[tactic(auto, unfolding(twox_core::specs::Value::xxh3_64, twox_core::specs::Value::range_of, twox_core::specs::Value::value64_in, twox_core::specs::Value::effective_secret))]
+pub extern "C" fn twox_xxh3_64_with_seed_and_secret(
+    seed: u64,
+    secret: &[u8],
+    input: &[u8],
+    value: &mut u64,
+) -> u32
+    ensures done { result ≡ DONE ↔ (¬ ((240 < length input.now) × (length secret.now < 136))) }
+    ensures refused { result ≡ SECRET_TOO_SHORT
+        ↔ ((240 < length input.now) × (length secret.now < 136)) }
+    ensures value { let s = effective_secret secret.now input.now in
+        result ≡ DONE → value.new ≡ xxh3_64 seed s input.now }
+    ensures kept { result ≡ SECRET_TOO_SHORT → value.new ≡ value.old }
+{
+    if input.len() <= CUTOFF {
+        *value = XxHash3_64::oneshot_with_seed(seed, input);
+        return DONE;
+    }
+    let Ok(own) = Secret::new(secret) else {
+        return SECRET_TOO_SHORT;
+    };
+    *value = long_64(own, input);
+    DONE
+}

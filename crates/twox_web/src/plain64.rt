@@ -1,0 +1,75 @@
+//! XXH64.
+
+ghost use Rattle.std.specs.Prelude.{◌≡◌, ◌↔◌, ℕ, List, [], ◌++◌};
+ghost use Rattle.twox_hash.specs.Xxh64.{xxh64};
+ghost use Rattle.twox_hash.specs.Record64.{StandsFor, IsReachable, initial_record, after_write, finish_value};
+
+use crate::{DONE, NOT_A_STREAM};
+use twox_hash::XxHash64;
+use twox_hash::xxhash64::SavedState;
+
+/// The hash of all bytes at once.
+#[unsafe(no_mangle)]
+pub extern "C" fn twox_xxh64(seed: u64, input: &[u8]) -> u64
+    ensures { result ≡ xxh64 seed input.now }
+{
+    XxHash64::oneshot(seed, input)
+}
+
+/// The size of a stream's record in bytes.
+#[unsafe(no_mangle)]
+pub extern "C" fn twox_xxh64_stream_size() -> usize
+    ensures { result ≡ 88 }
+{
+    size_of::<SavedState>()
+}
+
+/// Makes the record a stream of no bytes yet, whatever it was.
+#[unsafe(no_mangle)]
+pub extern "C" fn twox_xxh64_start(stream: &mut SavedState, seed: u64)
+    ensures record { stream.new ≡ initial_record seed }
+    ensures empty { StandsFor stream.new [] }
+    ensures seed { stream.new.seed ≡ seed }
+{
+    *stream = XxHash64::with_seed(seed).to_state();
+}
+
+/// Takes the bytes of a piece after those taken before.
+///
+/// `NOT_A_STREAM`: no list of bytes leads to the record. It stays as it was.
+#[unsafe(no_mangle)]
+pub extern "C" fn twox_xxh64_update(stream: &mut SavedState, input: &[u8]) -> u32
+    ensures done { result ≡ DONE ↔ IsReachable stream.old }
+    ensures refused { result ≡ NOT_A_STREAM ↔ (¬ IsReachable stream.old) }
+    ensures message { (m : List ℕ) → StandsFor stream.old m
+        → (result ≡ DONE) × StandsFor stream.new (m ++ input.now) }
+    ensures seed { stream.new.seed ≡ stream.old.seed }
+    ensures exact { result ≡ DONE → stream.new ≡ after_write stream.old input.now }
+    ensures kept { result ≡ NOT_A_STREAM → stream.new ≡ stream.old }
+{
+    let Ok(mut hasher) = XxHash64::from_state(*stream) else {
+        return NOT_A_STREAM;
+    };
+    hasher.write(input);
+    *stream = hasher.to_state();
+    DONE
+}
+
+/// Writes the hash of the bytes taken so far. More may be taken afterwards.
+///
+/// `NOT_A_STREAM`: no list of bytes leads to the record, and nothing is written.
+#[unsafe(no_mangle)]
+pub extern "C" fn twox_xxh64_digest(stream: &SavedState, value: &mut u64) -> u32
+    ensures done { result ≡ DONE ↔ IsReachable stream.now }
+    ensures refused { result ≡ NOT_A_STREAM ↔ (¬ IsReachable stream.now) }
+    ensures message { (m : List ℕ) → StandsFor stream.now m
+        → (result ≡ DONE) × (value.new ≡ xxh64 stream.now.seed m) }
+    ensures exact { result ≡ DONE → value.new ≡ finish_value stream.now }
+    ensures kept { result ≡ NOT_A_STREAM → value.new ≡ value.old }
+{
+    let Ok(hasher) = XxHash64::from_state(*stream) else {
+        return NOT_A_STREAM;
+    };
+    *value = hasher.finish();
+    DONE
+}

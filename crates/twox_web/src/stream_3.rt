@@ -1,0 +1,265 @@
+//! Streams of XXH3. One stream answers both widths.
+//!
+//! A stream's secret lies beside it in the page's memory, and each call is handed it again. So a secret may have
+//! any length, and the clauses speak of the stream and that secret together.
+
+ghost use Rattle.std.specs.Prelude.{◌≡◌, ◌↔◌, ◌<◌, ◌≤◌, ◌+◌, ◌-◌, ◌*◌, ◌^◌, min, ℕ, Option, Some, None, List, [], ◌++◌, length, IsTrue};
+ghost use Rattle.twox_hash.specs.Secret.{derived_secret};
+ghost use Rattle.twox_hash.specs.SecretBytes.{secret_bytes};
+ghost use Rattle.twox_hash.specs.Value.{stream_64, stream_128};
+ghost use Rattle.twox_core.specs.Long.{stripes_of};
+ghost use Rattle.twox_core.specs.Stripes.{no_stripe};
+ghost use Rattle.twox_core.specs.AfterWrite.{state_after_write};
+ghost use Rattle.twox_web.specs.Number.{number_of};
+ghost use Rattle.twox_web.specs.Stream.{seed_of, StandsFor, Fits};
+
+use crate::by_kernel::PageKernel;
+use crate::{DONE, NOT_A_STREAM, SECRET_TOO_SHORT, Wide, halves};
+use twox_hash::words::IntoU64;
+use twox_hash::xxhash3::{
+    BUFFERED_BYTES, CoreState, DefaultSecret, INITIAL_ACCUMULATORS, Secret, derived_secret,
+};
+use twox_hash::xxhash3_64::Finalize64;
+use twox_hash::xxhash3_128::Finalize128;
+
+/// A stream of both widths, over a secret that lies elsewhere.
+#[derive(Clone, Copy)]
+#[repr(C)]
+pub struct Stream {
+    /// How many seeds it was started with: none, or one.
+    pub seeds: u64,
+    /// The seed, if there is one.
+    pub seed: u64,
+    /// The bytes taken.
+    pub core: CoreState,
+}
+
+impl Stream {
+    // A stream of no bytes yet.
+    fn starting_with(seed: Option<u64>) -> Stream
+        ensures { (s : List ℕ) → StandsFor result s seed [] }
+    {
+        let core = CoreState::new();
+        match seed {
+            Some(seed) => Stream {
+                seeds: 1,
+                seed,
+                core,
+            },
+            None => Stream {
+                seeds: 0,
+                seed: 0,
+                core,
+            },
+        }
+    }
+
+    // The seed, if there is one.
+    fn seed(&self) -> Option<u64>
+        ensures { result ≡ seed_of self.now }
+    {
+        if self.seeds == 0 {
+            None
+        } else {
+            Some(self.seed)
+        }
+    }
+
+    // Whether the parts agree with each other and with the secret.
+    fn fits(&self, secret: Secret<'_>) -> bool
+        ensures fits { IsTrue result ↔ Fits (secret_bytes secret.entry) self.now.core }
+        ensures size { length self.now.core.buffer ≡ BUFFERED_BYTES }
+    {
+        let core = &self.core;
+        let room = buffer_room(core);
+        core.taken.stripes.current_stripe() < secret.n_stripes()
+            && core.buffer_usage <= room
+            && core.total_bytes.min(1) <= core.buffer_usage.into_u64()
+            && core.total_bytes == counted_bytes(core)
+            && (core.taken.count > 0 || has_no_stripe(core))
+    }
+}
+
+// How many bytes the buffer has.
+fn buffer_room(core: &CoreState) -> usize
+    ensures value { result ≡ BUFFERED_BYTES }
+    ensures size { length core.now.buffer ≡ BUFFERED_BYTES }
+{
+    core.buffer[..].len()
+}
+
+// The bytes of the stripes taken and those in the buffer.
+fn counted_bytes(core: &CoreState) -> u64
+    ensures { result ≡ min (64 * core.now.taken.count + core.now.buffer_usage) (2 ^ 64 - 1) }
+{
+    core.taken
+        .count
+        .saturating_mul(64)
+        .saturating_add(core.buffer_usage.into_u64())
+}
+
+// Whether the accumulators are those before the first stripe.
+fn has_no_stripe(core: &CoreState) -> bool
+    ensures { IsTrue result ↔ (core.now.taken.stripes ≡ no_stripe) }
+{
+    core.taken.stripes.current_stripe() == 0
+        && core.taken.stripes.accumulators() == INITIAL_ACCUMULATORS
+}
+
+/// The size of a stream's record in bytes.
+#[unsafe(no_mangle)]
+pub extern "C" fn twox_xxh3_stream_size() -> usize
+    ensures { result ≡ 688 }
+{
+    size_of::<Stream>()
+}
+
+/// Makes the record a stream of no bytes yet with a seed, whatever it was, and writes the secret that the seed
+/// derives, which each later call is to be handed.
+#[unsafe(no_mangle)]
+pub extern "C" fn twox_xxh3_start_with_seed(
+    stream: &mut Stream,
+    secret: &mut DefaultSecret,
+    seed: u64,
+)
+    ensures secret { secret.new ≡ derived_secret seed }
+    ensures empty { StandsFor stream.new secret.new (Some seed) [] }
+{
+    *secret = derived_secret(seed);
+    *stream = Stream::starting_with(Some(seed));
+}
+
+/// Makes the record a stream of no bytes yet with the secret alone, whatever it was. Each later call is to be
+/// handed the same secret.
+///
+/// `SECRET_TOO_SHORT`: it has fewer than 136 bytes. The record stays as it was.
+#[unsafe(no_mangle)]
+pub extern "C" fn twox_xxh3_start_with_secret(stream: &mut Stream, secret: &[u8]) -> u32
+    ensures done { result ≡ DONE ↔ (136 ≤ length secret.now) }
+    ensures refused { result ≡ SECRET_TOO_SHORT ↔ (length secret.now < 136) }
+    ensures empty { result ≡ DONE → StandsFor stream.new secret.now None [] }
+    ensures kept { result ≡ SECRET_TOO_SHORT → stream.new ≡ stream.old }
+{
+    start(stream, secret, None)
+}
+
+/// Makes the record a stream of no bytes yet with a seed and a secret, whatever it was. Each later call is to be
+/// handed the same secret.
+///
+/// `SECRET_TOO_SHORT`: it has fewer than 136 bytes. The record stays as it was.
+#[unsafe(no_mangle)]
+pub extern "C" fn twox_xxh3_start_with_seed_and_secret(
+    stream: &mut Stream,
+    seed: u64,
+    secret: &[u8],
+) -> u32
+    ensures done { result ≡ DONE ↔ (136 ≤ length secret.now) }
+    ensures refused { result ≡ SECRET_TOO_SHORT ↔ (length secret.now < 136) }
+    ensures empty { result ≡ DONE → StandsFor stream.new secret.now (Some seed) [] }
+    ensures kept { result ≡ SECRET_TOO_SHORT → stream.new ≡ stream.old }
+{
+    start(stream, secret, Some(seed))
+}
+
+// Starts a stream, if the secret has its minimum length.
+fn start(stream: &mut Stream, secret: &[u8], seed: Option<u64>) -> u32
+    ensures done { result ≡ DONE ↔ (136 ≤ length secret.now) }
+    ensures refused { result ≡ SECRET_TOO_SHORT ↔ (length secret.now < 136) }
+    ensures empty { result ≡ DONE → StandsFor stream.new secret.now seed [] }
+    ensures kept { result ≡ SECRET_TOO_SHORT → stream.new ≡ stream.old }
+{
+    if Secret::new(secret).is_err() {
+        return SECRET_TOO_SHORT;
+    }
+    *stream = Stream::starting_with(seed);
+    DONE
+}
+
+/// Takes the bytes of a piece after those taken before, over the stream's secret.
+///
+/// - `SECRET_TOO_SHORT`: it has fewer than 136 bytes.
+/// - `NOT_A_STREAM`: the record's parts don't agree with each other and with the secret.
+///
+/// Where it refuses, the record stays as it was.
+#[unsafe(no_mangle)]
+pub extern "C" fn twox_xxh3_update(stream: &mut Stream, secret: &[u8], input: &[u8]) -> u32
+    ensures done { result ≡ DONE ↔ ((136 ≤ length secret.now) × Fits secret.now stream.old.core) }
+    ensures short { result ≡ SECRET_TOO_SHORT ↔ (length secret.now < 136) }
+    ensures refused { result ≡ NOT_A_STREAM
+        ↔ ((136 ≤ length secret.now) × (¬ Fits secret.now stream.old.core)) }
+    ensures message { (seed : Option ℕ) (m : List ℕ) → StandsFor stream.old secret.now seed m
+        → 136 ≤ length secret.now
+        → (result ≡ DONE) × StandsFor stream.new secret.now seed (m ++ input.now) }
+    ensures exact { result ≡ DONE → stream.new
+        ≡ record stream.old { core = state_after_write secret.now stream.old.core input.now } }
+    ensures kept { (¬ (result ≡ DONE)) → stream.new ≡ stream.old }
+{
+    let Ok(secret) = Secret::new(secret) else {
+        return SECRET_TOO_SHORT;
+    };
+    if !stream.fits(secret) {
+        return NOT_A_STREAM;
+    }
+    stream.core.write(PageKernel {}, input, secret);
+    DONE
+}
+
+/// Writes the hash of 64 bits of the bytes taken so far, over the stream's secret. More may be taken afterwards.
+///
+/// - `SECRET_TOO_SHORT`: it has fewer than 136 bytes.
+/// - `NOT_A_STREAM`: the record's parts don't agree with each other and with the secret.
+///
+/// Where it refuses, nothing is written.
+#[unsafe(no_mangle)]
+pub extern "C" fn twox_xxh3_64_digest(stream: &Stream, secret: &[u8], value: &mut u64) -> u32
+    ensures done { result ≡ DONE ↔ ((136 ≤ length secret.now) × Fits secret.now stream.now.core) }
+    ensures short { result ≡ SECRET_TOO_SHORT ↔ (length secret.now < 136) }
+    ensures refused { result ≡ NOT_A_STREAM
+        ↔ ((136 ≤ length secret.now) × (¬ Fits secret.now stream.now.core)) }
+    ensures message { (seed : Option ℕ) (m : List ℕ) → StandsFor stream.now secret.now seed m
+        → 136 ≤ length secret.now
+        → (result ≡ DONE) × (value.new ≡ stream_64 seed secret.now m) }
+    ensures kept { (¬ (result ≡ DONE)) → value.new ≡ value.old }
+{
+    let Ok(secret) = Secret::new(secret) else {
+        return SECRET_TOO_SHORT;
+    };
+    if !stream.fits(secret) {
+        return NOT_A_STREAM;
+    }
+    *value = stream
+        .core
+        .finish(PageKernel {}, &Finalize64, stream.seed(), secret);
+    DONE
+}
+
+/// Writes the hash of 128 bits of the bytes taken so far, over the stream's secret. More may be taken afterwards.
+///
+/// - `SECRET_TOO_SHORT`: it has fewer than 136 bytes.
+/// - `NOT_A_STREAM`: the record's parts don't agree with each other and with the secret.
+///
+/// Where it refuses, nothing is written.
+#[unsafe(no_mangle)]
+pub extern "C" fn twox_xxh3_128_digest(stream: &Stream, secret: &[u8], value: &mut Wide) -> u32
+    ensures done { result ≡ DONE ↔ ((136 ≤ length secret.now) × Fits secret.now stream.now.core) }
+    ensures short { result ≡ SECRET_TOO_SHORT ↔ (length secret.now < 136) }
+    ensures refused { result ≡ NOT_A_STREAM
+        ↔ ((136 ≤ length secret.now) × (¬ Fits secret.now stream.now.core)) }
+    ensures message { (seed : Option ℕ) (m : List ℕ) → StandsFor stream.now secret.now seed m
+        → 136 ≤ length secret.now
+        → (result ≡ DONE) × (number_of value.new ≡ stream_128 seed secret.now m) }
+    ensures kept { (¬ (result ≡ DONE)) → value.new ≡ value.old }
+{
+    let Ok(secret) = Secret::new(secret) else {
+        return SECRET_TOO_SHORT;
+    };
+    if !stream.fits(secret) {
+        return NOT_A_STREAM;
+    }
+    *value = halves(
+        stream
+            .core
+            .finish(PageKernel {}, &Finalize128, stream.seed(), secret),
+    );
+    DONE
+}

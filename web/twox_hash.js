@@ -1,0 +1,513 @@
+/**
+ * XXH32, XXH64 and XXH3 of 64 and 128 bits in a browser or in Node, by the WebAssembly module that is built of the
+ * proved crate `twox_web`. This file only carries bytes to the module and values back: it is tested, not proved.
+ *
+ *     import { load, xxh64, Stream } from "./twox_hash.js";
+ *     await load();
+ *     xxh64(new TextEncoder().encode("some bytes"), 1234n).toString(16); // eab55659a496d78b
+ */
+
+/** What a call of the module answers, as the crate `twox_web` names it. */
+const DONE = 0;
+const SECRET_TOO_SHORT = 1;
+const NOT_A_STREAM = 2;
+
+/** The least length of a secret, in bytes. */
+export const SECRET_MINIMUM_LENGTH = 136;
+
+/** The length of a secret that a seed derives. */
+const DERIVED_SECRET_LENGTH = 192;
+
+/** How many bytes are carried to the module at a time: few enough to stay in a cache of the second level. */
+const CHUNK_BYTES = 128 * 1024;
+
+/** The unit in which the module's memory grows. */
+const PAGE_BYTES = 65536;
+
+/** The least room that is lent, in bytes. */
+const SMALLEST_ROOM = 256;
+
+/** The hashes. */
+export const KINDS = Object.freeze(["xxh32", "xxh64", "xxh3_64", "xxh3_128"]);
+
+/** Bits of each hash's value and of its seed. */
+const VALUE_BITS = { xxh32: 32, xxh64: 64, xxh3_64: 64, xxh3_128: 128 };
+const SEED_BITS = { xxh32: 32, xxh64: 64, xxh3_64: 64, xxh3_128: 64 };
+
+/**
+ * Every refusal of this file. `code` says which:
+ *
+ * - `"unsupported"`: there is no 64-bit WebAssembly memory here.
+ * - `"load"`: the module couldn't be read, or isn't the one of `twox_web`.
+ * - `"not-loaded"`: `load()` hasn't been awaited.
+ * - `"kind"`: the name is none of `KINDS`, or the stream is of another hash.
+ * - `"input"`: the bytes aren't an `ArrayBuffer` or a view of one.
+ * - `"seed"`: the seed isn't a whole number of the hash's range.
+ * - `"secret"`: the secret isn't bytes, has fewer than 136 of them, or the hash takes none.
+ * - `"options"`: the options aren't an object, or have a name that is not known.
+ * - `"freed"`: the stream was freed.
+ * - `"memory"`: there is no more memory.
+ */
+export class TwoxHashError extends Error {
+  constructor(code, message, options) {
+    super(message, options);
+    this.name = "TwoxHashError";
+    this.code = code;
+  }
+}
+
+/** A module with a memory of 64-bit addresses and nothing else. */
+const MEMORY64 = Uint8Array.of(0, 0x61, 0x73, 0x6d, 1, 0, 0, 0, 5, 3, 1, 4, 0);
+
+/** Whether WebAssembly runs here with 64-bit addresses, which the module needs. */
+export function isSupported() {
+  return typeof WebAssembly === "object" && WebAssembly.validate(MEMORY64);
+}
+
+let loaded = null;
+let loading = null;
+
+/**
+ * Makes the calls of this file ready. A second call waits for the first one and reads nothing.
+ *
+ * @param {URL | string | Response | BufferSource | WebAssembly.Module} [source] the module; left out, it is read
+ *     from `out/twox_hash.wasm` beside this file
+ * @returns {Promise<void>}
+ */
+export async function load(source = new URL("out/twox_hash.wasm", import.meta.url)) {
+  if (loaded) return;
+  if (!isSupported()) {
+    throw new TwoxHashError(
+      "unsupported",
+      "This browser has no 64-bit WebAssembly memory, which the proved module needs. "
+        + "Chrome and Edge have it from version 133 on, Firefox from 134 on.",
+    );
+  }
+  loading ??= instantiate(source).then((exports) => { loaded = new Room(exports); });
+  try {
+    await loading;
+  } catch (error) {
+    loading = null;
+    if (error instanceof TwoxHashError) throw error;
+    throw new TwoxHashError("load", `The WebAssembly module couldn't be loaded: ${error.message}`, { cause: error });
+  }
+}
+
+async function instantiate(source) {
+  const compiled = source instanceof WebAssembly.Module ? source : await WebAssembly.compile(await bytesOf(source));
+  const { exports } = await WebAssembly.instantiate(compiled, {});
+  if (typeof exports.twox_xxh3_update !== "function") {
+    throw new TwoxHashError("load", "This WebAssembly module isn't the one of the crate twox_web.");
+  }
+  return exports;
+}
+
+async function bytesOf(source) {
+  if (source instanceof ArrayBuffer || ArrayBuffer.isView(source)) return source;
+  if (typeof Response === "function" && source instanceof Response) return fetched(source);
+  const url = new URL(source, import.meta.url);
+  if (url.protocol === "file:") return (await import("node:fs/promises")).readFile(url);
+  return fetched(await fetch(url));
+}
+
+async function fetched(response) {
+  if (!response.ok) throw new Error(`${response.url} answered ${response.status}`);
+  return response.arrayBuffer();
+}
+
+/** The module's memory, lent in rooms whose sizes are powers of two. */
+class Room {
+  constructor(exports) {
+    this.exports = exports;
+    this.end = Number(exports.__heap_base.value);
+    this.free = new Map();
+    this.value = this.take(16);
+    this.chunk = this.take(CHUNK_BYTES);
+  }
+
+  /** The bytes of the memory, of which a larger view is needed where it has grown. */
+  get bytes() {
+    const { buffer } = this.exports.memory;
+    if (this.view?.buffer !== buffer) this.view = new Uint8Array(buffer);
+    return this.view;
+  }
+
+  /** The address of that many bytes, a multiple of 256. */
+  take(length) {
+    const size = roomSize(length);
+    const given = this.free.get(size)?.pop();
+    if (given !== undefined) return given;
+    const start = Math.ceil(this.end / SMALLEST_ROOM) * SMALLEST_ROOM;
+    this.grow(start + size);
+    this.end = start + size;
+    return start;
+  }
+
+  /** Takes back what `take` gave for that length. */
+  give(start, length) {
+    const size = roomSize(length);
+    if (!this.free.has(size)) this.free.set(size, []);
+    this.free.get(size).push(start);
+  }
+
+  /** Makes the memory at least that long. */
+  grow(length) {
+    const pages = Math.ceil((length - this.exports.memory.buffer.byteLength) / PAGE_BYTES);
+    if (pages <= 0) return;
+    try {
+      growBy(this.exports.memory, pages);
+    } catch (error) {
+      throw new TwoxHashError("memory", "The WebAssembly module can't have more memory.", { cause: error });
+    }
+  }
+
+  /** Puts bytes at an address. */
+  put(start, bytes) {
+    this.bytes.set(bytes, start);
+  }
+
+  /** The value of so many bits that a call wrote. */
+  written(bits) {
+    const view = new DataView(this.exports.memory.buffer, this.value);
+    if (bits === 32) return BigInt(view.getUint32(0, true));
+    const low = view.getBigUint64(0, true);
+    return bits === 64 ? low : (view.getBigUint64(8, true) << 64n) | low;
+  }
+}
+
+/** Older engines want the number of pages as a number where newer ones want a BigInt. */
+function growBy(memory, pages) {
+  try {
+    memory.grow(BigInt(pages));
+  } catch (error) {
+    if (!(error instanceof TypeError)) throw error;
+    memory.grow(pages);
+  }
+}
+
+function roomSize(length) {
+  let size = SMALLEST_ROOM;
+  while (size < length) size *= 2;
+  return size;
+}
+
+function room() {
+  if (!loaded) throw new TwoxHashError("not-loaded", "Await load() before the first call.");
+  return loaded;
+}
+
+/** The input as bytes. */
+function asBytes(input, code = "input", what = "The input") {
+  if (input instanceof Uint8Array) return input;
+  if (ArrayBuffer.isView(input)) return new Uint8Array(input.buffer, input.byteOffset, input.byteLength);
+  const isBuffer = input instanceof ArrayBuffer
+    || (typeof SharedArrayBuffer === "function" && input instanceof SharedArrayBuffer);
+  if (isBuffer) return new Uint8Array(input);
+  throw new TwoxHashError(code, `${what} must be bytes: an ArrayBuffer or a view of one, and not ${nameOf(input)}.`);
+}
+
+function nameOf(value) {
+  if (value === null || value === undefined) return String(value);
+  if (typeof value === "object") return `an object of ${value.constructor?.name ?? "no class"}`;
+  return `a ${typeof value}`;
+}
+
+/** The seed as a BigInt of the hash's range. */
+function asSeed(seed, bits) {
+  const isWhole = typeof seed === "bigint" || Number.isSafeInteger(seed);
+  if (!isWhole) {
+    throw new TwoxHashError("seed", `The seed must be a BigInt or a whole number, and not ${shown(seed)}.`);
+  }
+  const value = BigInt(seed);
+  if (value < 0n || value >> BigInt(bits)) {
+    throw new TwoxHashError("seed", `The seed ${value} isn't from 0 to 2^${bits} - 1.`);
+  }
+  return value;
+}
+
+function shown(value) {
+  return typeof value === "number" ? String(value) : nameOf(value);
+}
+
+function asSecret(secret) {
+  const bytes = asBytes(secret, "secret", "The secret");
+  if (bytes.length < SECRET_MINIMUM_LENGTH) {
+    throw new TwoxHashError("secret", `The secret has ${bytes.length} bytes, and ${SECRET_MINIMUM_LENGTH} are needed.`);
+  }
+  return bytes;
+}
+
+function asKind(kind) {
+  if (KINDS.includes(kind)) return kind;
+  throw new TwoxHashError("kind", `The kind must be one of ${KINDS.join(", ")}, and not ${String(kind)}.`);
+}
+
+/** The seed and the secret of the options, each undefined where it isn't given. */
+function asKey(kind, options) {
+  if (options === null || typeof options !== "object") {
+    throw new TwoxHashError("options", `The options must be an object, and not ${nameOf(options)}.`);
+  }
+  const { seed, secret, ...others } = options;
+  const [unknown] = Object.keys(others);
+  if (unknown !== undefined) throw new TwoxHashError("options", `There is no option ${unknown}.`);
+  if (secret !== undefined && !isXxh3(kind)) throw new TwoxHashError("secret", `${kind} takes no secret.`);
+  return {
+    seed: seed === undefined ? undefined : asSeed(seed, SEED_BITS[kind]),
+    secret: secret === undefined ? undefined : asSecret(secret),
+  };
+}
+
+function isXxh3(kind) {
+  return kind === "xxh3_64" || kind === "xxh3_128";
+}
+
+/** Turns a code of the module into an error. This file tests all before it calls, so none is met. */
+function refuse(code) {
+  if (code === DONE) return;
+  if (code === SECRET_TOO_SHORT) throw new TwoxHashError("secret", "The module refused the secret as too short.");
+  if (code === NOT_A_STREAM) throw new TwoxHashError("kind", "The module found no stream there.");
+  throw new TwoxHashError("load", `The module answered the unknown code ${code}.`);
+}
+
+// ---- one-shots
+
+/**
+ * XXH32 of the bytes.
+ *
+ * @param {BufferSource} input
+ * @param {number | bigint} [seed] from 0 to 2^32 - 1
+ * @returns {bigint} below 2^32
+ */
+export function xxh32(input, seed = 0) {
+  return hash("xxh32", input, { seed });
+}
+
+/**
+ * XXH64 of the bytes.
+ *
+ * @param {BufferSource} input
+ * @param {number | bigint} [seed] from 0 to 2^64 - 1
+ * @returns {bigint} below 2^64
+ */
+export function xxh64(input, seed = 0) {
+  return hash("xxh64", input, { seed });
+}
+
+/**
+ * XXH3 of 64 bits of the bytes. With a seed and a secret the seed has an effect up to 240 bytes, and the secret
+ * above; a secret alone has one at every length.
+ *
+ * @param {BufferSource} input
+ * @param {{ seed?: number | bigint, secret?: BufferSource }} [options] the seed from 0 to 2^64 - 1, the secret of
+ *     136 bytes or more
+ * @returns {bigint} below 2^64
+ */
+export function xxh3_64(input, options = {}) {
+  return hash("xxh3_64", input, options);
+}
+
+/**
+ * XXH3 of 128 bits of the bytes, under the same options.
+ *
+ * @param {BufferSource} input
+ * @param {{ seed?: number | bigint, secret?: BufferSource }} [options]
+ * @returns {bigint} below 2^128
+ */
+export function xxh3_128(input, options = {}) {
+  return hash("xxh3_128", input, options);
+}
+
+function hash(kind, input, options) {
+  const memory = room();
+  const bytes = asBytes(input);
+  const key = asKey(kind, options);
+  return bytes.length > CHUNK_BYTES ? hashInChunks(kind, bytes, options) : hashAtOnce(memory, kind, bytes, key);
+}
+
+function hashInChunks(kind, bytes, options) {
+  const stream = new Stream(kind, options);
+  try {
+    return stream.update(bytes).digest();
+  } finally {
+    stream.free();
+  }
+}
+
+function hashAtOnce(memory, kind, bytes, { seed, secret }) {
+  memory.put(memory.chunk, bytes);
+  const input = [BigInt(memory.chunk), BigInt(bytes.length)];
+  if (secret === undefined) return oneshot(memory, kind, seed ?? 0n, input);
+  const at = memory.take(secret.length);
+  try {
+    memory.put(at, secret);
+    return oneshotWithSecret(memory, kind, seed, [BigInt(at), BigInt(secret.length)], input);
+  } finally {
+    memory.give(at, secret.length);
+  }
+}
+
+function oneshot(memory, kind, seed, input) {
+  const calls = memory.exports;
+  const value = BigInt(memory.value);
+  switch (kind) {
+    case "xxh32": return BigInt(calls.twox_xxh32(Number(seed), ...input) >>> 0);
+    case "xxh64": return BigInt.asUintN(64, calls.twox_xxh64(seed, ...input));
+    case "xxh3_64": return BigInt.asUintN(64, oneshot64(calls, seed, input));
+    default:
+      if (seed === 0n) calls.twox_xxh3_128(...input, value);
+      else calls.twox_xxh3_128_with_seed(seed, ...input, value);
+      return memory.written(128);
+  }
+}
+
+function oneshot64(calls, seed, input) {
+  return seed === 0n ? calls.twox_xxh3_64(...input) : calls.twox_xxh3_64_with_seed(seed, ...input);
+}
+
+function oneshotWithSecret(memory, kind, seed, secret, input) {
+  const name = seed === undefined ? `twox_${kind}_with_secret` : `twox_${kind}_with_seed_and_secret`;
+  const seeds = seed === undefined ? [] : [seed];
+  refuse(memory.exports[name](...seeds, ...secret, ...input, BigInt(memory.value)));
+  return memory.written(VALUE_BITS[kind]);
+}
+
+// ---- streams
+
+/** Gives back the memory of streams that were let go without `free`. */
+const lost = new FinalizationRegistry((rooms) => giveBack(rooms));
+
+function giveBack(rooms) {
+  for (const [start, length] of rooms) loaded.give(start, length);
+}
+
+/** How each hash's record is made, and which export goes on and ends. */
+const FAMILY = { xxh32: "xxh32", xxh64: "xxh64", xxh3_64: "xxh3", xxh3_128: "xxh3" };
+
+/** Has a stream take bytes that lie in the module's memory; no method, so that callers don't. */
+let updateFromMemory;
+
+/** Bytes that come in pieces. `update` takes a piece, and `digest` answers the hash of all so far. */
+export class Stream {
+  #kind;
+  #record;
+  #secret = [];
+  #rooms = [];
+
+  static {
+    updateFromMemory = (stream, start, length) => stream.#updateFrom(start, length);
+  }
+
+  /**
+   * A stream of no bytes yet.
+   *
+   * @param {"xxh32" | "xxh64" | "xxh3_64" | "xxh3_128"} kind
+   * @param {{ seed?: number | bigint, secret?: BufferSource }} [options] as for the one-shots; XXH32 and XXH64 take
+   *     no secret
+   */
+  constructor(kind, options = {}) {
+    const memory = room();
+    this.#kind = asKind(kind);
+    const key = asKey(kind, options);
+    this.#record = this.#take(Number(memory.exports[`twox_${FAMILY[kind]}_stream_size`]()));
+    if (isXxh3(kind)) this.#startXxh3(memory, key);
+    else this.#startPlain(memory, key);
+    lost.register(this, this.#rooms, this);
+  }
+
+  /** The hash that `digest()` answers. */
+  get kind() {
+    return this.#kind;
+  }
+
+  /**
+   * Takes the bytes of a piece after those taken before.
+   *
+   * @param {BufferSource} piece
+   * @returns {this}
+   */
+  update(piece) {
+    updateAll([this], piece);
+    return this;
+  }
+
+  /**
+   * The hash of the bytes taken so far. More may be taken afterwards. A stream of XXH3 answers both widths.
+   *
+   * @param {"xxh32" | "xxh64" | "xxh3_64" | "xxh3_128"} [kind] the stream's own, if it is left out
+   * @returns {bigint}
+   */
+  digest(kind = this.#kind) {
+    const memory = this.#room();
+    if (FAMILY[asKind(kind)] !== FAMILY[this.#kind]) {
+      throw new TwoxHashError("kind", `A stream of ${this.#kind} answers no ${kind}.`);
+    }
+    refuse(memory.exports[`twox_${kind}_digest`](this.#record, ...this.#secret, BigInt(memory.value)));
+    return memory.written(VALUE_BITS[kind]);
+  }
+
+  /** Gives the stream's memory back. Later calls of it are refused. */
+  free() {
+    lost.unregister(this);
+    giveBack(this.#rooms);
+    this.#rooms = [];
+    this.#record = undefined;
+  }
+
+  #updateFrom(start, length) {
+    const memory = this.#room();
+    const update = memory.exports[`twox_${FAMILY[this.#kind]}_update`];
+    refuse(update(this.#record, ...this.#secret, start, length));
+  }
+
+  #startPlain(memory, { seed = 0n }) {
+    const { twox_xxh32_start: start32, twox_xxh64_start: start64 } = memory.exports;
+    if (this.#kind === "xxh32") start32(this.#record, Number(seed));
+    else start64(this.#record, seed);
+  }
+
+  #startXxh3(memory, { seed, secret }) {
+    const calls = memory.exports;
+    if (secret === undefined) {
+      const at = this.#take(DERIVED_SECRET_LENGTH);
+      calls.twox_xxh3_start_with_seed(this.#record, at, seed ?? 0n);
+      this.#secret = [at, BigInt(DERIVED_SECRET_LENGTH)];
+      return;
+    }
+    const at = this.#take(secret.length);
+    memory.put(Number(at), secret);
+    this.#secret = [at, BigInt(secret.length)];
+    if (seed === undefined) refuse(calls.twox_xxh3_start_with_secret(this.#record, ...this.#secret));
+    else refuse(calls.twox_xxh3_start_with_seed_and_secret(this.#record, seed, ...this.#secret));
+  }
+
+  // Room of the stream's own, as the address that a call takes.
+  #take(length) {
+    const start = loaded.take(length);
+    this.#rooms.push([start, length]);
+    return BigInt(start);
+  }
+
+  #room() {
+    if (this.#record === undefined) throw new TwoxHashError("freed", "The stream was freed.");
+    return room();
+  }
+}
+
+/**
+ * Has several streams take the same piece, which is carried to the module once.
+ *
+ * @param {Iterable<Stream>} streams
+ * @param {BufferSource} piece
+ */
+export function updateAll(streams, piece) {
+  const memory = room();
+  const bytes = asBytes(piece);
+  const all = [...streams];
+  let at = 0;
+  do {
+    const chunk = bytes.subarray(at, at + CHUNK_BYTES);
+    memory.put(memory.chunk, chunk);
+    for (const stream of all) updateFromMemory(stream, BigInt(memory.chunk), BigInt(chunk.length));
+    at += chunk.length;
+  } while (at < bytes.length);
+}
