@@ -15,7 +15,7 @@ use super::parts::array_at;
 use super::primes::{PRIME64_1, PRIME64_2};
 use super::stripes::StripeAccumulator;
 use super::{Secret, Vector, avalanche, fold};
-use twox_plain::words::{IntoU64, IntoU128, u64_at};
+use twox_plain::words::{IntoU64, IntoU128, bp_as_chunks, u64_at};
 
 /// The kernel of this program.
 pub type Kernel = lanes4::Impl;
@@ -161,8 +161,8 @@ impl<V: Vector> Algorithm<V> {
         acc
     }
 
-    // The accumulators with the first stripes of a block, from the secret's start on. No scramble follows the stripe
-    // at the secret's last place here, so that one is taken by itself.
+    // The accumulators with the first stripes of a block, from the secret's start on. No scramble follows, so this
+    // loop has no test for one.
     #[inline(always)]
     fn accumulate_block(
         &self,
@@ -175,16 +175,12 @@ impl<V: Vector> Algorithm<V> {
         requires places { count ≤ stripes_of (secret_bytes secret) }
         ensures { result ≡ accumulate_block (secret_bytes secret.entry) acc block.now count }
     {
-        let last_place = secret.n_stripes() - 1;
-        let (front, rest) = block.split_at(64 * count.min(last_place));
-        let mut stripes = StripeAccumulator::starting_with(acc);
-        stripes.process_near(self.0, front, secret);
-        let mut acc = stripes.accumulators();
-        if count > last_place {
-            self.0
-                .accumulate(&mut acc, array_at(rest, 0), secret.stripe(last_place));
+        let (stripes, _) = bp_as_chunks(block);
+        let mut taken = acc;
+        'stripes: for i in 0..count {
+            self.0.accumulate(&mut taken, &stripes[i], secret.stripe(i));
         }
-        acc
+        taken
     }
 }
 

@@ -13,7 +13,7 @@ use super::{INITIAL_ACCUMULATORS, Secret, Vector};
 use twox_plain::words::{bp_as_chunks, u64_at};
 
 /// From how many bytes on stripes are taken out of line, in the way that is fastest for their number.
-pub(crate) const MANY_BYTES: usize = 4096;
+pub(crate) const MANY_BYTES: usize = 16_384;
 
 /// From how many bytes on a stripe further on is read ahead, where whole blocks aren't taken.
 const BYTES_TO_READ_AHEAD: usize = 49_152;
