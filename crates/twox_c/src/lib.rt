@@ -8,6 +8,19 @@
 //! a length that doesn't fit, are refused. A call with an error code then answers `XXH_ERROR` and changes nothing,
 //! and one that answers a hash answers 0. Pointers of states have to be of states, and aligned.
 //!
+//! Each call does what the header `xxhash.h` of that release says under its name, but for this:
+//!
+//! - A state of XXH3 keeps its secret itself, of 136 to 256 bytes. The C library keeps a pointer, so that its caller
+//!   has to keep the secret, of any length from 136 bytes on.
+//! - A state whose secret was refused stays as it was. In the C library `_reset_withSecret` resets it all the same.
+//! - After `XXH3_128bits_reset_withSecretandSeed` with the seed 0, up to 240 bytes are hashed with the default
+//!   secret, as `XXH3_128bits_withSecretandSeed` does. The C library's stream uses the caller's secret there.
+//! - A one-shot with a secret of fewer than 136 bytes answers 0, and so does the digest of a state that was never
+//!   reset. The header leaves these open.
+//! - A null pointer of a state is not told: the C library answers `XXH_ERROR` to one in a reset of XXH3. Nor is a
+//!   null pointer of bytes with a length above 0, which an update of the C library passes over.
+//! - A state is larger than the C library's, so no client may lay one on its stack by that library's header.
+//!
 //! # What crosses
 //!
 //! | C type | here | size | alignment |

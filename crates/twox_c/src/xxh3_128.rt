@@ -15,8 +15,8 @@ use twox_hash::XxHash3_128;
 use twox_hash::xxhash3::derived_secret;
 use twox_hash::xxhash3_128::Finalize128;
 
-/// `XXH128_hash_t XXH3_128bits(const void* input, size_t length)`: the hash of `length` bytes, with the default secret and
-/// the seed 0. `input` may be null where `length` is 0.
+/// `XXH128_hash_t XXH3_128bits(const void* input, size_t length)`: the hash of `length` bytes, with the default
+/// secret and the seed 0. `input` may be null where `length` is 0.
 #[unsafe(no_mangle)]
 pub extern "C" fn XXH3_128bits(input: &[u8]) -> Xxh128Hash
     ensures { value_of result ≡ xxh3_128 0 default_secret input.now }
@@ -24,9 +24,9 @@ pub extern "C" fn XXH3_128bits(input: &[u8]) -> Xxh128Hash
     Xxh128Hash::of(XxHash3_128::oneshot(input))
 }
 
-/// `XXH128_hash_t XXH3_128bits_withSeed(const void* input, size_t length, XXH64_hash_t seed)`: the hash of `length` bytes
-/// with a seed: up to 240 bytes with the default secret, above with the secret that the seed derives. `input` may be
-/// null where `length` is 0.
+/// `XXH128_hash_t XXH3_128bits_withSeed(const void* input, size_t length, XXH64_hash_t seed)`: the hash of
+/// `length` bytes with a seed: up to 240 bytes with the default secret, above with the secret that the seed
+/// derives. `input` may be null where `length` is 0.
 #[unsafe(no_mangle)]
 pub extern "C" fn XXH3_128bits_withSeed(input: &[u8], seed: u64) -> Xxh128Hash
     ensures { let s = effective_secret (derived_secret seed) input.now in
@@ -35,9 +35,9 @@ pub extern "C" fn XXH3_128bits_withSeed(input: &[u8], seed: u64) -> Xxh128Hash
     Xxh128Hash::of(XxHash3_128::oneshot_with_seed(seed, input))
 }
 
-/// `XXH128_hash_t XXH3_128bits_withSecret(const void* input, size_t length, const void* secret, size_t secretSize)`: the
-/// hash of `length` bytes with a secret, at every length, and the seed 0. `input` may be null where `length` is 0. The answer
-/// is 0 for a secret of fewer than 136 bytes.
+/// `XXH128_hash_t XXH3_128bits_withSecret(const void* input, size_t length, const void* secret, size_t
+/// secretSize)`: the hash of `length` bytes with a secret, at every length, and the seed 0. `input` may be null
+/// where `length` is 0. The answer is 0 for a secret of fewer than 136 bytes.
 #[unsafe(no_mangle)]
 pub extern "C" fn XXH3_128bits_withSecret(input: &[u8], secret: &[u8]) -> Xxh128Hash
     ensures value { 136 ≤ length secret.now → value_of result ≡ xxh3_128 0 secret.now input.now }
@@ -46,10 +46,10 @@ pub extern "C" fn XXH3_128bits_withSecret(input: &[u8], secret: &[u8]) -> Xxh128
     Xxh128Hash::of(XxHash3_128::oneshot_with_secret(secret, input).unwrap_or(0))
 }
 
-/// `XXH128_hash_t XXH3_128bits_withSecretandSeed(const void* input, size_t length, const void* secret, size_t secretSize,
-/// XXH64_hash_t seed)`: the hash of `length` bytes: up to 240 with the default secret and the seed, above with the
-/// secret. `input` may be null where `length` is 0. The answer is 0 for more than 240 bytes and a secret of fewer than
-/// 136.
+/// `XXH128_hash_t XXH3_128bits_withSecretandSeed(const void* input, size_t length, const void* secret, size_t
+/// secretSize, XXH64_hash_t seed)`: the hash of `length` bytes: up to 240 with the default secret and the seed,
+/// above with the secret. `input` may be null where `length` is 0. The answer is 0 for more than 240 bytes and a
+/// secret of fewer than 136.
 #[unsafe(no_mangle)]
 pub extern "C" fn XXH3_128bits_withSecretandSeed(
     input: &[u8],
@@ -57,7 +57,8 @@ pub extern "C" fn XXH3_128bits_withSecretandSeed(
     seed: u64,
 ) -> Xxh128Hash
     ensures value { let s = effective_secret secret.now input.now in
-        ((length input.now ≤ 240) ⊎ (136 ≤ length secret.now)) → value_of result ≡ xxh3_128 seed s input.now }
+        ((length input.now ≤ 240) ⊎ (136 ≤ length secret.now))
+        → value_of result ≡ xxh3_128 seed s input.now }
     ensures refused { 240 < length input.now → length secret.now < 136 → value_of result ≡ 0 }
 {
     Xxh128Hash::of(XxHash3_128::oneshot_with_seed_and_secret(seed, secret, input).unwrap_or(0))
@@ -92,8 +93,9 @@ pub extern "C" fn XXH3_128bits_reset_withSeed(state: &mut Xxh3State, seed: u64) 
     state.reset(Some(seed), &derived_secret(seed))
 }
 
-/// `XXH_errorcode XXH3_128bits_reset_withSecret(XXH3_state_t* state, const void* secret, size_t secretSize)`: makes
-/// the state one of no bytes yet, with the secret alone, whatever it held, and answers `XXH_OK`. The secret is copied.
+/// `XXH_errorcode XXH3_128bits_reset_withSecret(XXH3_state_t* state, const void* secret, size_t secretSize)`:
+/// makes the state one of no bytes yet, with the secret alone, whatever it held, and answers `XXH_OK`. The secret
+/// is copied.
 ///
 /// A secret of fewer than 136 bytes or of more than 256 is refused: the state stays as it is, and the answer is
 /// `XXH_ERROR`. The C library keeps a pointer in place of the secret, and takes longer ones.
@@ -153,7 +155,8 @@ pub extern "C" fn XXH3_128bits_update(state: &mut Xxh3State, input: &[u8]) -> u3
 pub extern "C" fn XXH3_128bits_digest(state: &Xxh3State) -> Xxh128Hash
     ensures message { (seed : Option ℕ) (s m : List ℕ)
         → WasGiven state.now seed s m → value_of result ≡ stream_128 seed s m }
-    ensures exact { IsUsable state.now → value_of result ≡ value_128 (λ x. x) (stream_of state.now) }
+    ensures exact { IsUsable state.now
+        → value_of result ≡ value_128 (λ x. x) (stream_of state.now) }
     ensures refused { (¬ IsUsable state.now) → value_of result ≡ 0 }
 {
     Xxh128Hash::of(state.finish(&Finalize128).unwrap_or(0))

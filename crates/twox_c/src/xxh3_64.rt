@@ -13,8 +13,8 @@ use twox_hash::XxHash3_64;
 use twox_hash::xxhash3::derived_secret;
 use twox_hash::xxhash3_64::Finalize64;
 
-/// `XXH64_hash_t XXH3_64bits(const void* input, size_t length)`: the hash of `length` bytes, with the default secret and
-/// the seed 0. `input` may be null where `length` is 0.
+/// `XXH64_hash_t XXH3_64bits(const void* input, size_t length)`: the hash of `length` bytes, with the default
+/// secret and the seed 0. `input` may be null where `length` is 0.
 #[unsafe(no_mangle)]
 pub extern "C" fn XXH3_64bits(input: &[u8]) -> u64
     ensures { result ≡ xxh3_64 0 default_secret input.now }
@@ -22,9 +22,9 @@ pub extern "C" fn XXH3_64bits(input: &[u8]) -> u64
     XxHash3_64::oneshot(input)
 }
 
-/// `XXH64_hash_t XXH3_64bits_withSeed(const void* input, size_t length, XXH64_hash_t seed)`: the hash of `length` bytes
-/// with a seed: up to 240 bytes with the default secret, above with the secret that the seed derives. `input` may be
-/// null where `length` is 0.
+/// `XXH64_hash_t XXH3_64bits_withSeed(const void* input, size_t length, XXH64_hash_t seed)`: the hash of `length`
+/// bytes with a seed: up to 240 bytes with the default secret, above with the secret that the seed derives.
+/// `input` may be null where `length` is 0.
 #[unsafe(no_mangle)]
 pub extern "C" fn XXH3_64bits_withSeed(input: &[u8], seed: u64) -> u64
     ensures { let s = effective_secret (derived_secret seed) input.now in
@@ -33,9 +33,9 @@ pub extern "C" fn XXH3_64bits_withSeed(input: &[u8], seed: u64) -> u64
     XxHash3_64::oneshot_with_seed(seed, input)
 }
 
-/// `XXH64_hash_t XXH3_64bits_withSecret(const void* input, size_t length, const void* secret, size_t secretSize)`: the
-/// hash of `length` bytes with a secret, at every length, and the seed 0. `input` may be null where `length` is 0. The answer
-/// is 0 for a secret of fewer than 136 bytes.
+/// `XXH64_hash_t XXH3_64bits_withSecret(const void* input, size_t length, const void* secret, size_t
+/// secretSize)`: the hash of `length` bytes with a secret, at every length, and the seed 0. `input` may be null
+/// where `length` is 0. The answer is 0 for a secret of fewer than 136 bytes.
 #[unsafe(no_mangle)]
 pub extern "C" fn XXH3_64bits_withSecret(input: &[u8], secret: &[u8]) -> u64
     ensures value { 136 ≤ length secret.now → result ≡ xxh3_64 0 secret.now input.now }
@@ -44,14 +44,15 @@ pub extern "C" fn XXH3_64bits_withSecret(input: &[u8], secret: &[u8]) -> u64
     XxHash3_64::oneshot_with_secret(secret, input).unwrap_or(0)
 }
 
-/// `XXH64_hash_t XXH3_64bits_withSecretandSeed(const void* input, size_t length, const void* secret, size_t secretSize,
-/// XXH64_hash_t seed)`: the hash of `length` bytes: up to 240 with the default secret and the seed, above with the
-/// secret. `input` may be null where `length` is 0. The answer is 0 for more than 240 bytes and a secret of fewer than
-/// 136.
+/// `XXH64_hash_t XXH3_64bits_withSecretandSeed(const void* input, size_t length, const void* secret, size_t
+/// secretSize, XXH64_hash_t seed)`: the hash of `length` bytes: up to 240 with the default secret and the seed,
+/// above with the secret. `input` may be null where `length` is 0. The answer is 0 for more than 240 bytes and a
+/// secret of fewer than 136.
 #[unsafe(no_mangle)]
 pub extern "C" fn XXH3_64bits_withSecretandSeed(input: &[u8], secret: &[u8], seed: u64) -> u64
     ensures value { let s = effective_secret secret.now input.now in
-        ((length input.now ≤ 240) ⊎ (136 ≤ length secret.now)) → result ≡ xxh3_64 seed s input.now }
+        ((length input.now ≤ 240) ⊎ (136 ≤ length secret.now))
+        → result ≡ xxh3_64 seed s input.now }
     ensures refused { 240 < length input.now → length secret.now < 136 → result ≡ 0 }
 {
     XxHash3_64::oneshot_with_seed_and_secret(seed, secret, input).unwrap_or(0)
@@ -77,8 +78,9 @@ pub extern "C" fn XXH3_64bits_reset_withSeed(state: &mut Xxh3State, seed: u64) -
     state.reset(Some(seed), &derived_secret(seed))
 }
 
-/// `XXH_errorcode XXH3_64bits_reset_withSecret(XXH3_state_t* state, const void* secret, size_t secretSize)`: makes
-/// the state one of no bytes yet, with the secret alone, whatever it held, and answers `XXH_OK`. The secret is copied.
+/// `XXH_errorcode XXH3_64bits_reset_withSecret(XXH3_state_t* state, const void* secret, size_t secretSize)`:
+/// makes the state one of no bytes yet, with the secret alone, whatever it held, and answers `XXH_OK`. The secret
+/// is copied.
 ///
 /// A secret of fewer than 136 bytes or of more than 256 is refused: the state stays as it is, and the answer is
 /// `XXH_ERROR`. The C library keeps a pointer in place of the secret, and takes longer ones.

@@ -98,7 +98,8 @@ impl Xxh3State {
     #[inline(always)]
     fn set_seed(&mut self, seed: Option<u64>)
         ensures seed { seed_of self.new ≡ seed }
-        ensures others { self.new ≡ record self.old { has_seed = self.new.has_seed; seed = self.new.seed } }
+        ensures others { self.new ≡
+            record self.old { has_seed = self.new.has_seed; seed = self.new.seed } }
     {
         match seed {
             Some(seed) => {
@@ -163,9 +164,11 @@ impl Xxh3State {
             → result ≡ Some (F.small_of finalize.now (short_secret seed s) (stream_seed seed) m) }
         ensures long { (seed : Option ℕ) (s m : List ℕ) → WasGiven self.now seed s m
             → 240 < length m
-            → result ≡ Some (F.large_of finalize.now (stream_accumulators s m) (stream_block m) (last_stripe m) s (counted (length m))) }
+            → result ≡ Some (F.large_of finalize.now (stream_accumulators s m) (stream_block m)
+            (last_stripe m) s (counted (length m))) }
         ensures exact { IsUsable self.now
-            → result ≡ Some (core_finish (F.small_of finalize.now) (F.large_of finalize.now) (λ x. x) (stream_of self.now)) }
+            → result ≡ Some (core_finish (F.small_of finalize.now) (F.large_of finalize.now)
+            (λ x. x) (stream_of self.now)) }
         ensures refused { (¬ IsUsable self.now) → result ≡ None }
     {
         if !self.is_usable() {
