@@ -1,6 +1,6 @@
 /**
  * The tests of twox_hash.js, for Node and for a browser. Each is one line of what is looked at; the values are the
- * reference library's, of oracle/vectors.txt.
+ * reference library's, of oracle/vectors.txt and of xxhsum.
  */
 import {
   KINDS, Stream, TwoxHashError, isSupported, load, updateAll, xxh3_128, xxh3_64, xxh32, xxh64,
@@ -55,6 +55,13 @@ function rowsOf(table) {
 /** The rows that are tried. */
 function chosen(table) {
   return rowsOf(table).filter(({ length }, i) => i % STRIDE === 0 || length >= LONG);
+}
+
+/** An input of several chunks: the bytes 0 to 250 over and over. */
+const MANY = 1_000_003;
+
+function many() {
+  return Uint8Array.from({ length: MANY }, (_, i) => i % 251);
 }
 
 function oneshot({ kind, seed, input, options }) {
@@ -126,6 +133,14 @@ const TESTS = {
     const wrong = rows.filter((row) => !rowIsRight(row));
     return { ok: rows.length > 500 && wrong.length === 0, words: wrong[0]?.line ?? `${rows.length} rows` };
   },
+  "1,000,003 bytes, which are carried in chunks, at once and in pieces": (table, digests) => {
+    const input = many();
+    const wrong = KINDS.filter((kind) => {
+      const values = [ONESHOTS[kind](input), inPieces({ kind, options: {} }, input, [400_000]), inPieces({ kind, options: {} }, input, [7])];
+      return values.some((value) => value !== BigInt(`0x${digests[kind]}`));
+    });
+    return { ok: wrong.length === 0, words: wrong.join(" ") };
+  },
   "refused calls, by their codes": () => {
     const wrong = REFUSED.filter(([code, call]) => codeOf(call) !== code);
     return { ok: wrong.length === 0, words: wrong.length ? String(wrong[0]) : `${REFUSED.length} calls` };
@@ -173,17 +188,20 @@ const TESTS = {
   },
 };
 
-/** Runs all tests, and gives a line for each: its name, whether it passed, and what was seen. */
-export async function runTests(table, source) {
+/**
+ * Runs all tests, and gives a line for each: its name, whether it passed, and what was seen. `table` is the text of
+ * oracle/vectors.txt, and `digests` what xxhsum says of `many()`, by the kind.
+ */
+export async function runTests(table, digests) {
   const early = codeOf(() => KINDS.map((kind) => new Stream(kind)));
-  await load(source);
+  await load();
   const first = { name: "calls before load() are refused", ok: early === "not-loaded" && isSupported(), words: early };
-  return [first, ...Object.entries(TESTS).map(([name, test]) => run(name, test, table))];
+  return [first, ...Object.entries(TESTS).map(([name, test]) => run(name, test, table, digests))];
 }
 
-function run(name, test, table) {
+function run(name, test, table, digests) {
   try {
-    return { name, ...test(table) };
+    return { name, ...test(table, digests) };
   } catch (error) {
     return { name, ok: false, words: String(error.stack ?? error) };
   }
