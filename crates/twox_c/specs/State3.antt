@@ -1,5 +1,5 @@
 -- A state of XXH3 that C holds, for both widths.
-use Rattle.std.specs.Prelude.{◌≡◌, ◌<◌, ◌≤◌, ◌==◌, ℕ, Option, Some, None, List, take, length, min, if◌then◌else◌}
+use Rattle.std.specs.Prelude.{◌≡◌, ◌<◌, ◌≤◌, ◌==◌, ℕ, Option, Some, None, List, take, min, if◌then◌else◌}
 use Rattle.twox_core.specs.Long.{stripes_of}
 use Rattle.twox_core.specs.Stripes.{current_stripe_of}
 use Rattle.twox_core.specs.CoreView.{CoreView}
