@@ -55,7 +55,8 @@ pub fn keyed_64(secret: Secret<'_>, input: &[u8]) -> u64
     }
 }
 
-// Above 240 bytes no seed enters. A call of its own, so that short inputs pay nothing for the room of long ones.
+// A call of its own, so that short inputs pay nothing for the room of long ones.
+/// The hash of more than 240 bytes under a secret, where no seed enters.
 #[inline(never)]
 #[tactic(auto, using(twox_core::proofs::EndingFacts::block_low))]
 pub fn long_64(secret: Secret<'_>, input: &[u8]) -> u64
@@ -114,7 +115,8 @@ pub fn keyed_128(secret: Secret<'_>, input: &[u8]) -> u128
     }
 }
 
-// Above 240 bytes no seed enters. A call of its own, so that short inputs pay nothing for the room of long ones.
+// A call of its own, so that short inputs pay nothing for the room of long ones.
+/// The hash of more than 240 bytes under a secret, where no seed enters.
 #[inline(never)]
 #[tactic(auto, using(twox_core::proofs::EndingFacts::block_both))]
 pub fn long_128(secret: Secret<'_>, input: &[u8]) -> u128

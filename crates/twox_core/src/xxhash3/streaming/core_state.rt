@@ -69,9 +69,9 @@ impl CoreState {
         self.total_bytes = 0;
     }
 
-    /// Takes the bytes of `input` after those taken before.
     // A piece that the buffer has room for is kept, even if it fills the buffer, since the last stripe of a stream
     // is taken by `finish` alone.
+    /// Takes the bytes of `input` after those taken before.
     #[inline(always)]
     pub fn write<V: Vector>(&mut self, v: V, input: &[u8], secret: Secret<'_>)
         requires place { current_stripe_of self.old.taken.stripes
