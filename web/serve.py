@@ -9,7 +9,7 @@ import os
 import sys
 import webbrowser
 
-TOP = os.path.dirname(os.path.dirname(os.path.abspath(__file__)))
+TOP = os.path.dirname(os.path.dirname(os.path.realpath(__file__)))
 PORT = 8000
 PUBLIC = ("/web/", "/docs/", "/crates/", "/README.md", "/CALLING.md", "/CONTRIBUTING.md", "/LICENSE",
           "/oracle/vectors.txt")
@@ -31,10 +31,13 @@ class Handler(http.server.SimpleHTTPRequestHandler):
             self.send_header("Location", "/web/")
             self.end_headers()
             return None
-        if not self.path.startswith(PUBLIC):
+        if not os.path.realpath(self.translate_path(self.path)).startswith(tuple(TOP + it.rstrip("/") for it in PUBLIC)):
             self.send_error(404)
             return None
         return super().send_head()
+
+    def guess_type(self, path):
+        return self.extensions_map.get(os.path.splitext(path)[1], self.extensions_map[""])
 
     def end_headers(self):
         self.send_header("Cache-Control", "no-cache")
