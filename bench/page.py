@@ -246,6 +246,7 @@ for instructions, table in tables.items():
         text += ["", f"### {name}", "", *one_table(table, "kernel", name, PEERS[:2]),
                  "", *one_table(table, "kernel_stream", name, PEERS[:2])]
 text += shared_section(figures.rows(sorted(glob.glob(os.path.join(room, "shared", "round_*")))))
+text += ["", *open(os.path.join(room, "web.md")).read().splitlines()]
 text += ["", "## The programs", "", "Wall time of the whole program, the median of five rounds, with the file in the page cache.", "",
          *programs()]
 open(os.path.join(docs, "SPEED.md"), "w").write("\n".join(text) + "\n")
