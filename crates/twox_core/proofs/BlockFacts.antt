@@ -34,7 +34,7 @@ place_within s xs a (suc k) h =
     goes_on s (stripe_at xs (64 * k)) (after_stripes s a xs k) (rw before (omega arith)) ∙ rw before next
 
 -- stripes to the end of a block
-pub place_at_end : (s xs : List ℕ) (a : StripeAccumulator) (k : ℕ) → 0 < k → a.current_stripe + k ≡ stripes_of s → (after_stripes s a xs k).current_stripe ≡ 0
+place_at_end : (s xs : List ℕ) (a : StripeAccumulator) (k : ℕ) → 0 < k → a.current_stripe + k ≡ stripes_of s → (after_stripes s a xs k).current_stripe ≡ 0
 unfolding after_stripes
 place_at_end s xs a zero some h = absurd (omega arith)
 place_at_end s xs a (suc k) some h =

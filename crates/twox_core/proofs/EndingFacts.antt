@@ -2,7 +2,7 @@
 use Rattle.std.proofs.Common.{◌≡◌, ℕ, zero, suc, ◌+◌, ◌-◌, ◌*◌, ◌/◌, ◌%◌, ◌^◌, ◌<◌, ◌≤◌, ◌==◌, false, List, length, take, drop, slice_index, refl, sym, ap, ap₂, ◌∙◌, arith, lit<, add-zero, zero-add, add-one, length-drop}
 use Rattle.std.proofs.Math.Nat.{div-add-mod, div-div-eq-div-mul}
 use Rattle.std.proofs.lemmas.Bool.Decides.{nat_tests}
-use Rattle.std.proofs.lemmas.List.{drop-drop, length-take-le, take_all}
+use Rattle.std.proofs.lemmas.List.{drop-drop, take_all}
 use Rattle.std.proofs.lemmas.Nat.{mod-mul-add, mod_below}
 use Rattle.std.specs.Int.{w64}
 use Rattle.twox_plain.specs.Word.{counted}
@@ -13,7 +13,6 @@ use Rattle.twox_core.specs.Long.{accumulator_after, last_accumulator, stripes_of
 use Rattle.twox_core.specs.Kernel.{eight, accumulate}
 use Rattle.twox_core.specs.Stripes.{at_start, after_stripe, after_stripes}
 use Rattle.twox_core.specs.Ending.{accumulators_after, stripes_before, block_accumulators, last_block, stream_accumulators, stream_block, last_stripe, accumulate_block, final_accumulators, finalize_64, finalize_high, finalize_128}
-use Rattle.twox_core.proofs.StripeFacts.{after_stripes-take}
 use Rattle.twox_core.proofs.AccumulatorFacts.{accumulates, same_accumulators, stripe_done, next_without}
 
 -- ---- a block short of the secret's last place takes no scramble
@@ -32,13 +31,6 @@ block_taken s a b zero h = refl
 block_taken s a b (suc k) h =
     ap (λ x. after_stripe s x (stripe_at b (64 * k))) (block_taken s a b k (omega arith))
     ∙ short s (accumulate_block s a b k) (stripe_at b (64 * k)) k (omega arith)
-
--- where the first k stripes of b were cut out
-pub front_taken : (s a b : List ℕ) (k : ℕ) → k < stripes_of s → 64 * k ≤ length b
-    → after_stripes s (at_start a) (take (64 * k) b) (length (take (64 * k) b) / 64) ≡ record { accumulator = accumulate_block s a b k; current_stripe = k }
-front_taken s a b k h fits =
-    let count : length (take (64 * k) b) / 64 ≡ k = omega (arith, length-take-le (64 * k) b fits) in
-    rw count (after_stripes-take s (at_start a) b (64 * k) k (omega arith)) ∙ block_taken s a b k h
 
 pub accumulate_block-next : (s a b t u : List ℕ) (k : ℕ) → t ≡ stripe_at b (64 * k) → u ≡ stripe_at s (8 * k)
     → accumulate (accumulate_block s a b k) t u ≡ accumulate_block s a b (k + 1)

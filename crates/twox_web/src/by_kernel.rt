@@ -1,8 +1,7 @@
 //! XXH3 at once, by the module's kernel. Up to 240 bytes no kernel has a part in it, and the library's own calls
 //! are taken.
 
-ghost use Rattle.std.specs.Prelude.{◌≡◌, ◌+◌, ◌*◌, ◌^◌, ◌<◌, ◌≤◌, length};
-ghost use Rattle.twox_core.specs.Long.{low_above_240, high_above_240};
+ghost use Rattle.std.specs.Prelude.{◌≡◌, ◌<◌, ◌≤◌, ℕ, length};
 ghost use Rattle.twox_hash.specs.Secret.{default_secret, derived_secret};
 ghost use Rattle.twox_hash.specs.SecretBytes.{secret_bytes};
 ghost use Rattle.twox_hash.specs.Value.{effective_secret, xxh3_64, xxh3_128};
@@ -19,7 +18,6 @@ use twox_hash::{XxHash3_64, XxHash3_128};
 pub type PageKernel = split2::Impl;
 
 /// The hash of 64 bits, with the default secret and the seed 0.
-#[tactic(auto, unfolding(twox_core::specs::Value::xxh3_64, twox_core::specs::Value::range_of, twox_core::specs::Value::value64_in))]
 pub fn default_64(input: &[u8]) -> u64
     ensures { result ≡ xxh3_64 0 default_secret input.now }
 {
@@ -31,7 +29,7 @@ pub fn default_64(input: &[u8]) -> u64
 }
 
 /// The hash of 64 bits, with a seed.
-#[tactic(auto, unfolding(twox_core::specs::Value::xxh3_64, twox_core::specs::Value::range_of, twox_core::specs::Value::value64_in, twox_core::specs::Value::effective_secret))]
+#[tactic(auto, unfolding(twox_core::specs::Value::effective_secret))]
 pub fn seeded_64(seed: u64, input: &[u8]) -> u64
     ensures { let s = effective_secret (derived_secret seed) input.now in
         result ≡ xxh3_64 seed s input.now }
@@ -44,7 +42,6 @@ pub fn seeded_64(seed: u64, input: &[u8]) -> u64
 }
 
 /// The hash of 64 bits, with a secret.
-#[tactic(auto, unfolding(twox_core::specs::Value::xxh3_64, twox_core::specs::Value::range_of, twox_core::specs::Value::value64_in))]
 pub fn keyed_64(secret: Secret<'_>, input: &[u8]) -> u64
     ensures { result ≡ xxh3_64 0 (secret_bytes secret.entry) input.now }
 {
@@ -58,11 +55,10 @@ pub fn keyed_64(secret: Secret<'_>, input: &[u8]) -> u64
 // A call of its own, so that short inputs pay nothing for the room of long ones.
 /// The hash of more than 240 bytes under a secret, where no seed enters.
 #[inline(never)]
-#[tactic(auto, using(twox_core::proofs::EndingFacts::block_low))]
+#[tactic(auto, using(twox_core::proofs::ValueLaws::long_64, twox_core::proofs::EndingFacts::block_low))]
 pub fn long_64(secret: Secret<'_>, input: &[u8]) -> u64
     requires { 240 < length input.now }
-    ensures { let s = secret_bytes secret.entry in
-        result ≡ low_above_240 s input.now }
+    ensures { (any : ℕ) → result ≡ xxh3_64 any (secret_bytes secret.entry) input.now }
 {
     Algorithm(PageKernel {}).oneshot(secret, input, Finalize64)
 }
@@ -71,15 +67,13 @@ pub fn long_64(secret: Secret<'_>, input: &[u8]) -> u64
 #[inline(never)]
 fn long_64_derived(seed: u64, input: &[u8]) -> u64
     requires { 240 < length input.now }
-    ensures { let s = derived_secret seed in
-        result ≡ low_above_240 s input.now }
+    ensures { (any : ℕ) → result ≡ xxh3_64 any (derived_secret seed) input.now }
 {
     let secret = derived_secret(seed);
     long_64(Secret::new(&secret).unwrap(), input)
 }
 
 /// The hash of 128 bits, with the default secret and the seed 0.
-#[tactic(auto, unfolding(twox_core::specs::Value::xxh3_128, twox_core::specs::Value::range_of, twox_core::specs::Value::low_in, twox_core::specs::Value::high_in))]
 pub fn default_128(input: &[u8]) -> u128
     ensures { result ≡ xxh3_128 0 default_secret input.now }
 {
@@ -91,7 +85,7 @@ pub fn default_128(input: &[u8]) -> u128
 }
 
 /// The hash of 128 bits, with a seed.
-#[tactic(auto, unfolding(twox_core::specs::Value::xxh3_128, twox_core::specs::Value::range_of, twox_core::specs::Value::low_in, twox_core::specs::Value::high_in, twox_core::specs::Value::effective_secret))]
+#[tactic(auto, unfolding(twox_core::specs::Value::effective_secret))]
 pub fn seeded_128(seed: u64, input: &[u8]) -> u128
     ensures { let s = effective_secret (derived_secret seed) input.now in
         result ≡ xxh3_128 seed s input.now }
@@ -104,7 +98,6 @@ pub fn seeded_128(seed: u64, input: &[u8]) -> u128
 }
 
 /// The hash of 128 bits, with a secret.
-#[tactic(auto, unfolding(twox_core::specs::Value::xxh3_128, twox_core::specs::Value::range_of, twox_core::specs::Value::low_in, twox_core::specs::Value::high_in))]
 pub fn keyed_128(secret: Secret<'_>, input: &[u8]) -> u128
     ensures { result ≡ xxh3_128 0 (secret_bytes secret.entry) input.now }
 {
@@ -118,11 +111,10 @@ pub fn keyed_128(secret: Secret<'_>, input: &[u8]) -> u128
 // A call of its own, so that short inputs pay nothing for the room of long ones.
 /// The hash of more than 240 bytes under a secret, where no seed enters.
 #[inline(never)]
-#[tactic(auto, using(twox_core::proofs::EndingFacts::block_both))]
+#[tactic(auto, using(twox_core::proofs::ValueLaws::long_128, twox_core::proofs::EndingFacts::block_both))]
 pub fn long_128(secret: Secret<'_>, input: &[u8]) -> u128
     requires { 240 < length input.now }
-    ensures { let s = secret_bytes secret.entry in
-        result ≡ high_above_240 s input.now * 2 ^ 64 + low_above_240 s input.now }
+    ensures { (any : ℕ) → result ≡ xxh3_128 any (secret_bytes secret.entry) input.now }
 {
     Algorithm(PageKernel {}).oneshot(secret, input, Finalize128)
 }
@@ -131,8 +123,7 @@ pub fn long_128(secret: Secret<'_>, input: &[u8]) -> u128
 #[inline(never)]
 fn long_128_derived(seed: u64, input: &[u8]) -> u128
     requires { 240 < length input.now }
-    ensures { let s = derived_secret seed in
-        result ≡ high_above_240 s input.now * 2 ^ 64 + low_above_240 s input.now }
+    ensures { (any : ℕ) → result ≡ xxh3_128 any (derived_secret seed) input.now }
 {
     let secret = derived_secret(seed);
     long_128(Secret::new(&secret).unwrap(), input)

@@ -49,7 +49,7 @@ pub extern "C" fn twox_xxh3_128_with_secret(secret: &[u8], input: &[u8], value: 
 ///
 /// `SECRET_TOO_SHORT`: the input has more than 240 bytes and the secret fewer than 136, and nothing is written.
 #[unsafe(no_mangle)]
-#[tactic(auto, unfolding(twox_core::specs::Value::xxh3_128, twox_core::specs::Value::range_of, twox_core::specs::Value::low_in, twox_core::specs::Value::high_in, twox_core::specs::Value::effective_secret))]
+#[tactic(auto, unfolding(twox_core::specs::Value::effective_secret))]
 pub extern "C" fn twox_xxh3_128_with_seed_and_secret(
     seed: u64,
     secret: &[u8],

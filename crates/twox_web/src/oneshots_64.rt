@@ -48,7 +48,7 @@ pub extern "C" fn twox_xxh3_64_with_secret(secret: &[u8], input: &[u8], value: &
 ///
 /// `SECRET_TOO_SHORT`: the input has more than 240 bytes and the secret fewer than 136, and nothing is written.
 #[unsafe(no_mangle)]
-#[tactic(auto, unfolding(twox_core::specs::Value::xxh3_64, twox_core::specs::Value::range_of, twox_core::specs::Value::value64_in, twox_core::specs::Value::effective_secret))]
+#[tactic(auto, unfolding(twox_core::specs::Value::effective_secret))]
 pub extern "C" fn twox_xxh3_64_with_seed_and_secret(
     seed: u64,
     secret: &[u8],

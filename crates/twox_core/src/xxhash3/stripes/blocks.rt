@@ -1,5 +1,5 @@
 //! Whole blocks under a secret of 192 bytes, the length of the default secret and of all derived ones: a block has
-//! 16 stripes then, and its loop can be unrolled.
+//! 16 stripes then, which are written out.
 
 ghost use Rattle.std.specs.Prelude.{◌≡◌, ℕ, List, ◌+◌, ◌*◌, ◌/◌, ◌≤◌, length};
 ghost use Rattle.twox_core.specs.Ending.{accumulate_block};
