@@ -1,15 +1,17 @@
 //! Little-endian words of a slice, by absolute position, and what belongs to them: conversions that keep the
-//! value, the halves of a word, and the chunks of a slice.
+//! value, the halves of a word, the chunks of a slice, and copies of short slices.
 
 ghost use Rattle.std.specs.Prelude.{◌≡◌, ◌↔◌, ◌+◌, ◌-◌, ◌≤◌, ℕ, List, IsSome, IfSome, length};
 ghost use Rattle.std.specs.Int.{w32, w64};
 ghost use Rattle.twox_plain.specs.Word.{word_at};
 
 mod chunks;
+mod copies;
 mod halves;
 mod widening;
 
 pub use chunks::{bp_as_chunks, bp_as_chunks_mut};
+pub(crate) use copies::copy_short;
 pub use halves::Halves;
 pub use widening::{IntoU32, IntoU64, IntoU128};
 

@@ -14,7 +14,7 @@ returns-then-input-used-clause-exact c =
     let old = record_of c.args.self.now in
     let d = c.args.input.now in
     let width : old.buffer_usage + length d - old.buffer_usage ≡ length d = omega arith in
-    rw (after_piece_kept 32 core_after_stripes (parts old).state d refl (omega arith), c.saturating_add-self.ensures, c.into_u64.ensures, width, c.copy_from_slice.ensures.after) refl
+    rw (after_piece_kept 32 core_after_stripes (parts old).state d refl (omega arith), c.saturating_add-self.ensures, c.into_u64.ensures, width, c.copy_short.ensures) refl
 
 pub returns-then-input-used-clause-message : goal.returns-then-input-used-clause-message
 returns-then-input-used-clause-message c = λ m stands.
