@@ -2,7 +2,7 @@
 
 ghost use Rattle.std.specs.Prelude.{◌≤◌};
 
-use crate::long::{SEED, first, gen_10240};
+use crate::rows::{SEED, first, gen_10240};
 use std::test::Fail;
 use twox_hash::xxhash3::large::{lanes2, lanes4, scalar, split2};
 use twox_hash::xxhash3::{AllocRawHasher, Kernel, Vector};

@@ -2,6 +2,8 @@
 #![tactic(auto)]
 
 #[cfg(test)]
+mod algorithm;
+#[cfg(test)]
 mod fast_and_slow;
 #[cfg(test)]
 mod forged;
@@ -14,18 +16,20 @@ mod keyed_streams;
 #[cfg(test)]
 mod laws;
 #[cfg(test)]
-mod long;
+mod oneshots;
+#[cfg(test)]
+mod parts;
+#[cfg(test)]
+mod pieces;
 #[cfg(test)]
 mod plain;
 #[cfg(test)]
 mod refused_memory;
 #[cfg(test)]
+mod rows;
+#[cfg(test)]
 mod saved;
 #[cfg(test)]
 mod secret_lengths;
-#[cfg(test)]
-mod short;
-#[cfg(test)]
-mod stream_rows;
 #[cfg(test)]
 mod streams;

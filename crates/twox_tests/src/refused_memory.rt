@@ -5,7 +5,7 @@
 //! Each of these calls makes one request, for its secret; all other calls make none, and answer where every
 //! request is refused.
 
-use crate::long::{SEED, first, gen_10240};
+use crate::rows::{SEED, first, gen_10240};
 use linked_list_allocator::LocalHeap;
 use std::alloc::{AllocError, Global};
 use std::boxed::BoxedSlice;

@@ -2,7 +2,7 @@
 
 ghost use Rattle.std.specs.Prelude.{◌≤◌, ◌<◌, length};
 
-use crate::long::{SEED, first, gen_10240};
+use crate::rows::{SEED, first, gen_10240};
 use std::alloc::Global;
 use std::boxed::BoxedSlice;
 use std::test::Fail;

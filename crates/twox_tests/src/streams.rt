@@ -1,10 +1,8 @@
-//! XXH3 of bytes that come in pieces. Each expected value is one that the tests of the Rust crate `twox-hash`
-//! expect, or that of the one-shot, which other tests hold against those.
+//! XXH3 streams: counts, copies, secrets, kernels and texts of errors. Each expected value is one that the tests of
+//! the Rust crate `twox-hash` expect, or that of the one-shot, which other tests hold against those.
 
-ghost use Rattle.std.specs.Prelude.{◌≤◌, ◌<◌, length};
-
-use crate::long::{Counting, SEED, first, gen_10240};
-use std::alloc::Global;
+use crate::algorithm::Counting;
+use crate::rows::{SEED, first, gen_10240};
 use std::boxed::BoxedSlice;
 use std::cell::Cell;
 use std::hash;
@@ -13,208 +11,9 @@ use twox_hash::xxhash3::{
     AllocRawHasher, BUFFERED_BYTES, DEFAULT_SECRET_RAW, Kernel, RawHasherCore, Secret,
     StripeAccumulator, default_secret,
 };
-use twox_hash::xxhash3_64::{self, DEFAULT_SECRET_LENGTH, Finalize64, SecretBuffer};
+use twox_hash::xxhash3_64::{self, Finalize64, SecretBuffer};
 use twox_hash::xxhash3_128::{self, Finalize128, FixedBuffer, FixedMutBuffer};
 use twox_hash::{XxHash3_64, XxHash3_128};
-
-const ROWS: [(usize, u64, u128); 21] = [
-    (
-        0,
-        0x2d06_8005_38d3_94c2,
-        0x99aa_06d3_0147_98d8_6001_c324_468d_497f,
-    ),
-    (
-        1,
-        0xc44b_dff4_074e_ecdb,
-        0xa6cd_5e93_9200_0f6a_c44b_dff4_074e_ecdb,
-    ),
-    (
-        2,
-        0xd664_5fc3_051a_9457,
-        0x6a4a_5274_c1b0_d3ad_d664_5fc3_051a_9457,
-    ),
-    (
-        3,
-        0x5f42_99fc_161c_9cbb,
-        0xe3b5_5f57_945a_17cf_5f42_99fc_161c_9cbb,
-    ),
-    (
-        4,
-        0x60da_b036_a582_11f2,
-        0xeb70_bf5f_c779_e9e6_a611_1d53_e80a_3db5,
-    ),
-    (
-        5,
-        0xb075_753a_84ca_0fbe,
-        0x9434_5321_06a7_c141_c920_d234_7a85_929b,
-    ),
-    (
-        8,
-        0x3a1c_2d7c_85af_88f8,
-        0xe1e4_432a_6221_7fe4_cfd5_0c61_c8bb_98c1,
-    ),
-    (
-        9,
-        0xe961_2598_145b_b9dc,
-        0x16c7_69d8_3e4a_ebce_9079_3197_9dca_3746,
-    ),
-    (
-        12,
-        0x5ace_6a51_1c10_894b,
-        0x38f9_2247_a7f7_3cc5_7780_eb31_198f_13ca,
-    ),
-    (
-        16,
-        0x8355_e3a6_f617_70db,
-        0x7295_0631_8276_07e2_8428_12cc_870d_cae2,
-    ),
-    (
-        17,
-        0x9ef3_41a9_9de3_7328,
-        0x685b_c458_b37d_057f_c06e_233d_f772_9217,
-    ),
-    (
-        32,
-        0x3523_581f_e96e_4c05,
-        0x25e7_c9b3_424c_eed2_457d_9566_b6fc_d697,
-    ),
-    (
-        33,
-        0xe68c_56ba_8899_1e58,
-        0x0217_5c3a_abb0_0637_e08d_8495_1339_de86,
-    ),
-    (
-        128,
-        0x85c6_174c_7ff4_c46b,
-        0x1479_2fc3_af88_dc6c_0532_1a0b_64d6_7b41,
-    ),
-    (
-        129,
-        0xec76_42b4_31ba_3e5a,
-        0xdd5e_74ac_6b45_f54e_bc30_b633_82b0_9a3b,
-    ),
-    (
-        239,
-        0x972b_14e3_c46f_214b,
-        0x9843_ab31_a06b_e0df_fe21_3746_28fc_c539,
-    ),
-    (
-        240,
-        0x375a_384d_957f_e865,
-        0x65b5_be86_da55_40e7_c92b_68e1_6f83_bbb6,
-    ),
-    (
-        241,
-        0x02e8_cd95_421c_6d02,
-        0x1da1_cb61_bcb8_a2a1_02e8_cd95_421c_6d02,
-    ),
-    (
-        244,
-        0xbc17_c91e_c3cf_8d7f,
-        0x3ff4_93d7_a813_7ab6_bc17_c91e_c3cf_8d7f,
-    ),
-    (
-        1024,
-        0xe5d7_8baf_a45b_2aa5,
-        0xd0ac_1f7b_93bf_57b9_e5d7_8baf_a45b_2aa5,
-    ),
-    (
-        10240,
-        0xbcd6_3266_df6e_2244,
-        0x4f63_75cc_a7ec_e1e1_bcd6_3266_df6e_2244,
-    ),
-];
-
-// The boxed stream and the raw one, after pieces of `size` bytes.
-fn of_pieces_64(alloc: Global, input: &[u8], size: usize) -> Result<(u64, u64), Fail>
-    requires { 0 < size }
-{
-    let mut boxed = XxHash3_64::new(alloc)?;
-    let mut raw = xxhash3_64::RawHasher::new(SecretBuffer::default());
-    for piece in input.chunks(size) {
-        boxed.write(piece);
-        raw.write(piece);
-    }
-    Ok((boxed.finish(), raw.finish()))
-}
-
-fn of_pieces_128(alloc: Global, input: &[u8], size: usize) -> Result<(u128, u128), Fail>
-    requires { 0 < size }
-{
-    let mut boxed = XxHash3_128::new(alloc)?;
-    let mut raw = xxhash3_128::RawHasher::new(SecretBuffer::default());
-    for piece in input.chunks(size) {
-        boxed.write(piece);
-        raw.write(piece);
-    }
-    Ok((boxed.finish_128(), raw.finish_128()))
-}
-
-#[test]
-fn byte_by_byte(rt: HostRuntime) -> Result<(), Fail> {
-    let bytes = gen_10240();
-    for (n, value, wide) in ROWS {
-        assert!(rt; n <= 10240);
-        let input = first(&bytes, n);
-        assert_eq!(rt;
-            of_pieces_64(rt.alloc(), input, 1)?,
-            (value, value),
-            "{n} bytes"
-        );
-        assert_eq!(rt;
-            of_pieces_128(rt.alloc(), input, 1)?,
-            (wide, wide),
-            "{n} bytes"
-        );
-    }
-    Ok(())
-}
-
-// The last stripe stays in a full buffer, so that the last call takes it, and once.
-#[test]
-fn full_buffer(rt: HostRuntime) -> Result<(), Fail> {
-    let bytes = gen_10240();
-    let input = first(&bytes, 256);
-    let (value, wide) = (XxHash3_64::oneshot(input), XxHash3_128::oneshot(input));
-    for size in [1, 16, 240, 256] {
-        assert_eq!(rt;
-            of_pieces_64(rt.alloc(), input, size)?,
-            (value, value),
-            "pieces of {size}"
-        );
-        assert_eq!(rt;
-            of_pieces_128(rt.alloc(), input, size)?,
-            (wide, wide),
-            "pieces of {size}"
-        );
-    }
-    Ok(())
-}
-
-#[test]
-fn seeds(rt: HostRuntime) -> Result<(), Fail> {
-    let bytes = gen_10240();
-    let input = first(&bytes, 1024);
-    let secret = SecretBuffer::with_seed(SEED, [0; DEFAULT_SECRET_LENGTH]).map_err(
-        |_| "192 bytes",
-    )?;
-    let mut boxed = XxHash3_64::with_seed(rt.alloc(), SEED)?;
-    let mut raw = xxhash3_64::RawHasher::new(secret);
-    for piece in input.chunks(1) {
-        boxed.write(piece);
-        raw.write(piece);
-    }
-    assert_eq!(rt; boxed.finish(), 0x2483_9f0f_cdf4_d078);
-    assert_eq!(rt; raw.finish(), 0x2483_9f0f_cdf4_d078);
-
-    let mut boxed = XxHash3_128::with_seed(rt.alloc(), SEED)?;
-    boxed.write(input);
-    assert_eq!(rt;
-        boxed.finish_128(),
-        XxHash3_128::oneshot_with_seed(SEED, input)
-    );
-    Ok(())
-}
 
 // Up to 240 bytes the held secret isn't used, and it is handed back.
 #[test]
@@ -230,30 +29,6 @@ fn short_inputs_use_the_default_secret(rt: HostRuntime) -> Result<(), Fail> {
     hasher.write(first(&bytes, 17));
     assert_eq!(rt; hasher.finish(), 0x49ca_0fff_0950_1622);
     assert_eq!(rt; hasher.into_secret(), [0; 136]);
-    Ok(())
-}
-
-// 577 bytes are nine stripes before the last, which is all places of 136 bytes: one scramble.
-#[test]
-fn short_secret(rt: HostRuntime) -> Result<(), Fail> {
-    let bytes = gen_10240();
-    let input = first(&bytes, 577);
-    let secret: &[u8; 136] = first(&bytes, 136).first_chunk().ok_or("136 bytes")?;
-    let value = XxHash3_64::oneshot_with_seed_and_secret(5, secret, input)?;
-    let wide = XxHash3_128::oneshot_with_seed_and_secret(5, secret, input)?;
-
-    let mut raw = xxhash3_64::RawHasher::new(SecretBuffer::new(5, secret).map_err(
-        |_| "136 bytes",
-    )?);
-    let held = BoxedSlice::from_slice(rt.alloc(), secret)?;
-    let mut boxed = XxHash3_128::with_seed_and_secret(5, held).map_err(|_| "136 bytes")?;
-    for piece in input.chunks(100) {
-        raw.write(piece);
-        boxed.write(piece);
-    }
-    assert_eq!(rt; raw.finish(), value);
-    assert_eq!(rt; boxed.finish_128(), wide);
-    assert!(rt; boxed.into_secret().as_slice() == secret.as_slice());
     Ok(())
 }
 
@@ -443,5 +218,88 @@ fn counts(rt: HostRuntime) -> Result<(), Fail> {
     let copy = core.clone()?;
     assert_eq!(rt; copy.into_secret(), DEFAULT_SECRET_RAW);
     assert_eq!(rt; default_secret().len(), 192);
+    Ok(())
+}
+
+// The stripes done and the bytes buffered of a core, after pieces.
+fn counts_after(pieces: &[&[u8]]) -> (u64, usize, u64) {
+    let mut core = RawHasherCore::new(SecretBuffer::default());
+    for piece in pieces {
+        core.write(piece);
+    }
+    (
+        core.stripes_done(),
+        core.buffered(),
+        core.finish(Finalize64),
+    )
+}
+
+#[test]
+fn counts_of_long_pieces(rt: HostRuntime) {
+    let bytes = gen_10240();
+    for (n, stripes, buffered) in [(10240, 159, 64), (513, 7, 65), (575, 7, 127)] {
+        assert!(rt; n <= 10240);
+        let input = first(&bytes, n);
+        let value = XxHash3_64::oneshot(input);
+        assert_eq!(rt;
+            counts_after(&[input]),
+            (stripes, buffered, value),
+            "{n} bytes"
+        );
+    }
+    let input = first(&bytes, 513);
+    let (head, tail) = input.split_at(512);
+    let (stripes, buffered, value) = counts_after(&[head, tail]);
+    assert!(rt; stripes <= 8 && buffered <= BUFFERED_BYTES);
+    assert_eq!(rt; 64 * stripes + buffered as u64, 513);
+    assert_eq!(rt; value, XxHash3_64::oneshot(input));
+    assert_eq!(rt;
+        XxHash3_64::oneshot(first(&bytes, 10240)),
+        0xbcd6_3266_df6e_2244
+    );
+}
+
+// Copies of every kind go on by themselves.
+#[test]
+fn copies_of_each_kind(rt: HostRuntime) -> Result<(), Fail> {
+    let bytes = gen_10240();
+    let (half, whole) = (first(&bytes, 600), first(&bytes, 1024));
+    let mut raw = xxhash3_64::RawHasher::new(SecretBuffer::default());
+    raw.write(half);
+    let mut copy = raw.clone()?;
+    copy.write(&whole[600..]);
+    assert_eq!(rt; copy.finish(), 0xe5d7_8baf_a45b_2aa5);
+    assert_eq!(rt; raw.finish(), XxHash3_64::oneshot(half));
+
+    let mut boxed = XxHash3_128::default(rt.alloc())?;
+    boxed.write(half);
+    let mut copy = boxed.clone()?;
+    copy.write(&whole[600..]);
+    assert_eq!(rt;
+        copy.finish_128(),
+        0xd0ac_1f7b_93bf_57b9_e5d7_8baf_a45b_2aa5
+    );
+    assert_eq!(rt; boxed.finish_128(), XxHash3_128::oneshot(half));
+
+    let secret = default_secret();
+    let mut stripes = StripeAccumulator::new();
+    assert!(rt; stripes.current_stripe() < secret.n_stripes());
+    let before = stripes;
+    stripes.process_stripe(Kernel {}, &[1; 64], secret.n_stripes(), secret);
+    assert_eq!(rt; (before.current_stripe(), stripes.current_stripe()), (0, 1));
+    Ok(())
+}
+
+#[test]
+fn texts_of_refused_secrets(rt: HostRuntime) -> Result<(), Fail> {
+    let text = "The secret must have at least 136 bytes";
+    match Secret::new(&[0; 135]) {
+        Ok(_) => assert!(rt; false, "135 bytes"),
+        Err(e) => assert_eq!(rt; format!(in rt.alloc(); "{e}")?.as_str(), text),
+    }
+    match XxHash3_64::oneshot_with_secret(&[0; 135], &[]) {
+        Ok(_) => assert!(rt; false, "135 bytes"),
+        Err(e) => assert_eq!(rt; format!(in rt.alloc(); "{e}")?.as_str(), text),
+    }
     Ok(())
 }

@@ -1,107 +1,12 @@
-//! XXH3 above 240 bytes.
+//! XXH3 by kernels and finalizers of a caller's own.
 
-ghost use Rattle.std.specs.Prelude.{◌≡◌, ◌+◌, ◌≤◌, length};
-
+use crate::rows::{first, gen_10240};
 use std::cell::Cell;
-use std::test::Fail;
 use twox_hash::xxhash3::{
-    Algorithm, DEFAULT_SECRET_RAW, Finalize, INITIAL_ACCUMULATORS, Kernel, Secret, Vector,
-    default_secret,
+    Algorithm, Finalize, INITIAL_ACCUMULATORS, Kernel, Secret, Vector, default_secret,
 };
 use twox_hash::xxhash3_64::Finalize64;
 use twox_hash::xxhash3_128::Finalize128;
-use twox_hash::{XxHash3_64, XxHash3_128};
-
-// The bytes `i mod 251`.
-pub(crate) fn fill(bytes: &mut [u8]) {
-    for i in 0..bytes.len() {
-        bytes[i] = (i % 251) as u8;
-    }
-}
-
-pub(crate) fn gen_10240() -> [u8; 10240] {
-    let mut bytes = [0; 10240];
-    fill(&mut bytes);
-    bytes
-}
-
-// The first `n` of them.
-pub(crate) fn first(bytes: &[u8; 10240], n: usize) -> &[u8]
-    requires { n ≤ 10240 }
-    ensures { length result.now ≡ n }
-{
-    &bytes[..n]
-}
-
-pub(crate) const SEED: u64 = 0xdead_cafe;
-
-#[test]
-fn vectors_64(rt: HostRuntime) {
-    let bytes = gen_10240();
-    for (n, value) in [
-        (241, 0x02e8_cd95_421c_6d02),
-        (244, 0xbc17_c91e_c3cf_8d7f),
-        (1024, 0xe5d7_8baf_a45b_2aa5),
-        (10240, 0xbcd6_3266_df6e_2244),
-    ] {
-        assert!(rt; n <= 10240);
-        assert_eq!(rt; XxHash3_64::oneshot(first(&bytes, n)), value, "{n} bytes");
-    }
-    assert_eq!(rt;
-        XxHash3_64::oneshot_with_seed(SEED, first(&bytes, 241)),
-        0xf984_56bc_25be_0901
-    );
-    assert_eq!(rt;
-        XxHash3_64::oneshot_with_seed(SEED, first(&bytes, 1024)),
-        0x2483_9f0f_cdf4_d078
-    );
-}
-
-#[test]
-fn vectors_128(rt: HostRuntime) {
-    let bytes = gen_10240();
-    for (n, value) in [
-        (241, 0x1da1_cb61_bcb8_a2a1_02e8_cd95_421c_6d02),
-        (244, 0x3ff4_93d7_a813_7ab6_bc17_c91e_c3cf_8d7f),
-        (1024, 0xd0ac_1f7b_93bf_57b9_e5d7_8baf_a45b_2aa5),
-        (10240, 0x4f63_75cc_a7ec_e1e1_bcd6_3266_df6e_2244),
-    ] {
-        assert!(rt; n <= 10240);
-        assert_eq!(rt; XxHash3_128::oneshot(first(&bytes, n)), value, "{n} bytes");
-    }
-}
-
-// Up to 240 bytes the secret has no effect, and above it must be long enough.
-#[test]
-fn secrets(rt: HostRuntime) -> Result<(), Fail> {
-    let bytes = gen_10240();
-    let secret = DEFAULT_SECRET_RAW;
-    let (short, long) = (first(&bytes, 240), first(&bytes, 241));
-    assert_eq!(rt;
-        XxHash3_64::oneshot_with_seed_and_secret(0, &[], short)?,
-        0x375a_384d_957f_e865
-    );
-    assert_eq!(rt;
-        XxHash3_64::oneshot_with_seed_and_secret(7, &secret, long)?,
-        0x02e8_cd95_421c_6d02
-    );
-    assert_eq!(rt;
-        XxHash3_64::oneshot_with_secret(&secret, long)?,
-        0x02e8_cd95_421c_6d02
-    );
-    assert!(rt; XxHash3_64::oneshot_with_seed_and_secret(7, &secret[..135], long).is_err());
-    assert!(rt; XxHash3_64::oneshot_with_secret(&secret[..135], long).is_err());
-
-    let value = 0x1da1_cb61_bcb8_a2a1_02e8_cd95_421c_6d02;
-    assert_eq!(rt;
-        XxHash3_128::oneshot_with_seed_and_secret(7, &secret, long)?,
-        value
-    );
-    assert_eq!(rt; XxHash3_128::oneshot_with_secret(&secret, long)?, value);
-    assert!(rt; XxHash3_128::oneshot_with_seed_and_secret(7, &secret[..135], long).is_err());
-    assert!(rt; XxHash3_128::oneshot_with_secret(&secret[..135], long).is_err());
-    Ok(())
-}
 
 // A kernel that counts its calls.
 #[derive(Clone, Copy)]
