@@ -8,15 +8,17 @@ ghost use Rattle.xxh_program.specs.declared.program.fault.Fault.{Fault};
 use crate::program::blocks::digest_blocks_by;
 use crate::program::command::{Command, parse};
 use crate::program::ends::{Sink, Source};
-use crate::program::engine::{digest, write_all};
+use crate::program::engine::{digest_reading, write_all};
 use crate::program::error::DigestError;
 use crate::program::fault::Fault;
 use crate::program::states::{MAX_READS, resume_32, resume_64, save_32, save_64};
 use std::alloc::Global;
 
-// How many bytes each read is offered for lines of blocks, and how many bytes of lines are written at once.
-const BLOCKS_READ: usize = 131072;
+// How many bytes each read is offered for digests and lines of blocks: more than the buffer of a process's input has,
+// so that they are not copied from there.
+const READ: usize = 131072;
 
+// How many bytes of lines of blocks are written at once.
 const BLOCKS_WRITE: usize = 6400;
 
 /// Does what the words after the program's name ask for, and answers the exit status.
@@ -100,7 +102,7 @@ fn print_blocks<R: Source, W: Sink>(size: u64, r: &mut R, out: &mut W) -> Result
     ensures { DigestsInput R.gives R.fails W.takes W.refuses size
         r.old r.new out.old out.new result }
 {
-    digest_blocks_by::<R, W, BLOCKS_READ, BLOCKS_WRITE>(r, out, size, MAX_READS)
+    digest_blocks_by::<R, W, READ, BLOCKS_WRITE>(r, out, size, MAX_READS)
 }
 
 fn perform<R: Source, W: Sink>(
@@ -116,7 +118,9 @@ fn perform<R: Source, W: Sink>(
         r.old r.new out.old out.new result }
 {
     match command {
-        Command::Hash { kind, seed } => Ok(digest(kind, seed, MAX_READS, r, out)?),
+        Command::Hash { kind, seed } => {
+            Ok(digest_reading::<_, _, READ>(kind, seed, MAX_READS, r, out)?)
+        }
         Command::Save32 { seed } => save_32(alloc, seed, r, out),
         Command::Save64 { seed } => save_64(alloc, seed, r, out),
         Command::Resume32 { json } => resume_32(alloc, json, r, out),

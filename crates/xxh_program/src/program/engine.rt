@@ -17,19 +17,21 @@ use crate::program::hex::write_digits;
 use crate::program::kind::Kind;
 use twox_hash::{XxHash32, XxHash64};
 
-// How many bytes each read is offered.
+// How many bytes each read of the public calls is offered.
 pub(crate) const OFFERED: usize = 4096;
 
 // The most digits that a line has.
 const MOST_DIGITS: usize = 32;
 
 // Feeds the hasher what is read, until a read gives nothing.
-pub(crate) fn read_all<H: Feed, R: Source>(
+pub(crate) fn read_all<H: Feed, R: Source, const READ: usize>(
     hasher: H,
     max_reads: u64,
     r: &mut R,
 ) -> Result<H, DigestError>
-    requires { R.has_failed r.old ≡ false }
+    requires works { R.has_failed r.old ≡ false }
+    requires offers { 1 ≤ READ }
+    requires few { READ ≤ 131072 }
     ensures reads { (pieces : List (List ℕ)) × NoneEmpty pieces
         × ReadsOn R.gives R.fails max_reads pieces r.old r.new result
         × ((result ≡ Err DigestError.TooLong) ↔ (length pieces ≡ max_reads))
@@ -38,7 +40,7 @@ pub(crate) fn read_all<H: Feed, R: Source>(
     ensures never_writes { result ≢ Err DigestError.WriteFailed }
 {
     let mut hasher = hasher;
-    let mut buf = [0; OFFERED];
+    let mut buf = [0; READ];
     for turn in 0..max_reads {
         match r.read(&mut buf) {
             Ok(0) => return Ok(hasher),
@@ -80,7 +82,7 @@ fn write_line<W: Sink>(value: u128, digits: usize, w: &mut W) -> Result<(), Dige
 }
 
 // Feeds the hasher what is read, and writes the line of what it then answers.
-pub(crate) fn digest_on<H: Feed, R: Source, W: Sink>(
+pub(crate) fn digest_on<H: Feed, R: Source, W: Sink, const READ: usize>(
     hasher: H,
     digits: usize,
     max_reads: u64,
@@ -90,6 +92,8 @@ pub(crate) fn digest_on<H: Feed, R: Source, W: Sink>(
     requires reader { R.has_failed r.old ≡ false }
     requires writer { W.has_failed w.old ≡ false }
     requires room { digits ≤ 32 }
+    requires offers { 1 ≤ READ }
+    requires few { READ ≤ 131072 }
     ensures digests { (pieces : List (List ℕ)) × NoneEmpty pieces
         × ReadsOn R.gives R.fails max_reads pieces r.old r.new result
         × ((result ≡ Err DigestError.TooLong) ↔ (length pieces ≡ max_reads))
@@ -101,12 +105,12 @@ pub(crate) fn digest_on<H: Feed, R: Source, W: Sink>(
     ensures unwritten { (result ≡ Err DigestError.ReadFailed) ⊎ (result ≡ Err DigestError.TooLong)
         → w.new ≡ w.old }
 {
-    let hasher = read_all(hasher, max_reads, r)?;
+    let hasher = read_all::<_, _, READ>(hasher, max_reads, r)?;
     write_line(hasher.value(), digits, w)
 }
 
 // The same by a hasher that was given no bytes and answers the kind's value under the seed.
-fn digest_by<H: Feed, R: Source, W: Sink>(
+fn digest_by<H: Feed, R: Source, W: Sink, const READ: usize>(
     kind: Kind,
     seed: u64,
     hasher: H,
@@ -117,6 +121,8 @@ fn digest_by<H: Feed, R: Source, W: Sink>(
     requires reader { R.has_failed r.old ≡ false }
     requires writer { W.has_failed w.old ≡ false }
     requires empty { H.follows hasher seed [] }
+    requires offers { 1 ≤ READ }
+    requires few { READ ≤ 131072 }
     requires value { (m : List ℕ) → H.value_at seed m ≡ value_of kind seed m }
     ensures digests { (pieces : List (List ℕ)) × NoneEmpty pieces
         × ReadsOn R.gives R.fails max_reads pieces r.old r.new result
@@ -126,7 +132,48 @@ fn digest_by<H: Feed, R: Source, W: Sink>(
     ensures read_failed { (result ≡ Err DigestError.ReadFailed) ↔ (R.has_failed r.new ≡ true) }
     ensures write_failed { (result ≡ Err DigestError.WriteFailed) ↔ (W.has_failed w.new ≡ true) }
 {
-    digest_on(hasher, kind.digits(), max_reads, r, w)
+    digest_on::<_, _, _, READ>(hasher, kind.digits(), max_reads, r, w)
+}
+
+// What `digest` does, with reads that are offered so many bytes.
+pub(crate) fn digest_reading<R: Source, W: Sink, const READ: usize>(
+    kind: Kind,
+    seed: u64,
+    max_reads: u64,
+    r: &mut R,
+    w: &mut W,
+) -> Result<(), DigestError>
+    requires reader { R.has_failed r.old ≡ false }
+    requires writer { W.has_failed w.old ≡ false }
+    requires offers { 1 ≤ READ }
+    requires few { READ ≤ 131072 }
+    requires seed { kind ≡ Kind.X32 → seed < 2 ^ 32 }
+    ensures digests { (pieces : List (List ℕ)) × NoneEmpty pieces
+        × ReadsOn R.gives R.fails max_reads pieces r.old r.new result
+        × ((result ≡ Err DigestError.TooLong) ↔ (length pieces ≡ max_reads))
+        × Writes W.takes W.refuses (hex_line (digits_of kind) (value_of kind seed (concat pieces)))
+        w.old w.new result }
+    ensures read_failed { (result ≡ Err DigestError.ReadFailed) ↔ (R.has_failed r.new ≡ true) }
+    ensures write_failed { (result ≡ Err DigestError.WriteFailed) ↔ (W.has_failed w.new ≡ true) }
+{
+    match kind {
+        Kind::X32 => {
+            let hasher = XxHash32::with_seed(seed as u32);
+            digest_by::<_, _, _, READ>(kind, seed, hasher, max_reads, r, w)
+        }
+        Kind::X64 => {
+            let hasher = XxHash64::with_seed(seed);
+            digest_by::<_, _, _, READ>(kind, seed, hasher, max_reads, r, w)
+        }
+        Kind::X3_64 => {
+            let hasher = with_seed_64(seed);
+            digest_by::<_, _, _, READ>(kind, seed, hasher, max_reads, r, w)
+        }
+        Kind::X3_128 => {
+            let hasher = with_seed_128(seed);
+            digest_by::<_, _, _, READ>(kind, seed, hasher, max_reads, r, w)
+        }
+    }
 }
 
 /// Reads to the end of the source and writes the digest line of what was read: the hash of the kind under
@@ -170,22 +217,5 @@ pub fn digest<R: Source, W: Sink>(
     ensures read_failed { (result ≡ Err DigestError.ReadFailed) ↔ (R.has_failed r.new ≡ true) }
     ensures write_failed { (result ≡ Err DigestError.WriteFailed) ↔ (W.has_failed w.new ≡ true) }
 {
-    match kind {
-        Kind::X32 => {
-            let hasher = XxHash32::with_seed(seed as u32);
-            digest_by(kind, seed, hasher, max_reads, r, w)
-        }
-        Kind::X64 => {
-            let hasher = XxHash64::with_seed(seed);
-            digest_by(kind, seed, hasher, max_reads, r, w)
-        }
-        Kind::X3_64 => {
-            let hasher = with_seed_64(seed);
-            digest_by(kind, seed, hasher, max_reads, r, w)
-        }
-        Kind::X3_128 => {
-            let hasher = with_seed_128(seed);
-            digest_by(kind, seed, hasher, max_reads, r, w)
-        }
-    }
+    digest_reading::<_, _, OFFERED>(kind, seed, max_reads, r, w)
 }

@@ -9,7 +9,7 @@ ghost use Rattle.xxh_program.specs.Digest.{ReadsOn, Writes};
 ghost use Rattle.xxh_program.specs.Hex.{hex_line};
 
 use crate::program::ends::{Sink, Source};
-use crate::program::engine::{digest_on, read_all};
+use crate::program::engine::{OFFERED, digest_on, read_all};
 use crate::program::error::DigestError;
 use crate::program::feed::Feed;
 use twox_hash::XxHash32;
@@ -55,7 +55,7 @@ pub fn digest_from_32<R: Source, W: Sink>(
     ensures unwritten { (result ≡ Err DigestError.ReadFailed) ⊎ (result ≡ Err DigestError.TooLong)
         → w.new ≡ w.old }
 {
-    digest_on(hasher, 8, max_reads, r, w)
+    digest_on::<_, _, _, OFFERED>(hasher, 8, max_reads, r, w)
 }
 
 /// Reads as `digest` does, with the same errors of reading, and answers the hasher after what was read.
@@ -75,5 +75,5 @@ pub fn read_on_32<R: Source>(
     ensures read_failed { (result ≡ Err DigestError.ReadFailed) ↔ (R.has_failed r.new ≡ true) }
     ensures never_writes { result ≢ Err DigestError.WriteFailed }
 {
-    read_all(hasher, max_reads, r)
+    read_all::<_, _, OFFERED>(hasher, max_reads, r)
 }

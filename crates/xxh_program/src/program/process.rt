@@ -21,7 +21,8 @@ use std::io::{ErrorKind, Read, Write};
 use std::rt::Env;
 use std::{env, io};
 
-// The input is read by this many bytes: one system call for each read of the engine would halve the speed.
+// The input is read by this many bytes where a read is offered fewer, as for `save` and `resume`: one system call for
+// each of these would halve the speed.
 const INPUT_BUFFER: usize = 65536;
 
 /// Runs the program with the arguments of the process over these streams, and answers the exit status.
