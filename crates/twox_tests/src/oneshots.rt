@@ -43,16 +43,25 @@ fn values_without_a_seed(rt: HostRuntime) -> Result<(), Fail> {
 }
 
 #[test]
-fn values_under_a_seed(rt: HostRuntime) {
+fn values_under_a_seed(rt: HostRuntime) -> Result<(), Fail> {
     let bytes = gen_10240();
     for (len, value) in SEEDED_ROWS {
         assert!(rt; len <= 10240);
+        let input = first(&bytes, len);
         assert_eq!(rt;
-            XxHash3_64::oneshot_with_seed(SEED, first(&bytes, len)),
+            XxHash3_64::oneshot_with_seed(SEED, input),
             value,
             "{len} bytes"
         );
+        if len <= 240 {
+            assert_eq!(rt;
+                XxHash3_64::oneshot_with_seed_and_secret(SEED, &[], input)?,
+                value,
+                "{len} bytes"
+            );
+        }
     }
+    Ok(())
 }
 
 #[test]
@@ -90,12 +99,7 @@ fn secrets_beside_a_seed(rt: HostRuntime) -> Result<(), Fail> {
             "{len} bytes"
         );
     }
-    let (short, long) = (first(&bytes, 17), first(&bytes, 241));
-    let too_short = first(&bytes, 135);
-    assert_eq!(rt;
-        XxHash3_64::oneshot_with_seed_and_secret(SEED, &[], short)?,
-        XxHash3_64::oneshot_with_seed(SEED, short)
-    );
+    let (long, too_short) = (first(&bytes, 241), first(&bytes, 135));
     assert!(rt; XxHash3_64::oneshot_with_seed_and_secret(7, too_short, long).is_err());
     assert!(rt; XxHash3_64::oneshot_with_secret(too_short, long).is_err());
     assert!(rt; XxHash3_128::oneshot_with_seed_and_secret(7, too_short, long).is_err());
