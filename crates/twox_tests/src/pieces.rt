@@ -234,3 +234,42 @@ fn growing_streams_are_the_oneshot(rt: HostRuntime) -> Result<(), Fail> {
     }
     Ok(())
 }
+
+// The same by raw streams whose secret stands in an array, as most have it.
+#[test]
+fn byte_by_byte_with_the_secret_in_an_array(rt: HostRuntime) {
+    let bytes = gen_10240();
+    for Row {
+        len,
+        value,
+        wide_value,
+    } in ROWS {
+        assert!(rt; len <= 10240);
+        let mut raw = xxhash3_64::RawHasher::new(SecretBuffer::default());
+        let mut raw_wide = xxhash3_128::RawHasher::new(SecretBuffer::default());
+        for piece in first(&bytes, len).chunks(1) {
+            raw.write(piece);
+            raw_wide.write(piece);
+        }
+        assert_eq!(rt;
+            (raw.finish(), raw_wide.finish_128()),
+            (value, wide_value),
+            "{len} bytes"
+        );
+    }
+}
+
+#[test]
+fn seeded_byte_by_byte_with_the_secret_in_an_array(rt: HostRuntime) -> Result<(), Fail> {
+    let bytes = gen_10240();
+    for (len, value) in SEEDED_ROWS {
+        assert!(rt; len <= 10240);
+        let secret = SecretBuffer::with_seed(SEED, [0; 192]).map_err(|_| "192 bytes")?;
+        let mut raw = xxhash3_64::RawHasher::new(secret);
+        for piece in first(&bytes, len).chunks(1) {
+            raw.write(piece);
+        }
+        assert_eq!(rt; raw.finish(), value, "{len} bytes");
+    }
+    Ok(())
+}
