@@ -193,16 +193,26 @@ impl Finalize for Finalize128 {
     }
 }
 
-// The shortest inputs come first: they then pay nothing for the room that longer ones take, and the calls that
-// look alike become different code.
+// Inputs above 16 bytes are a call of their own: they need more registers than there are to spare, and the shortest
+// inputs then save none.
 #[inline(always)]
 fn impl_oneshot_default(input: &[u8]) -> u128
     ensures { result ≡ xxh3_128 0 default_secret input.now }
 {
     if input.len() <= 16 {
         impl_oneshot(default_secret(), DEFAULT_SEED, input)
-    } else if input.len() <= CUTOFF {
-        impl_oneshot(default_secret(), DEFAULT_SEED, input)
+    } else {
+        impl_oneshot_default_from_17(input)
+    }
+}
+
+#[inline(never)]
+fn impl_oneshot_default_from_17(input: &[u8]) -> u128
+    requires { 16 < length input.now }
+    ensures { result ≡ xxh3_128 0 default_secret input.now }
+{
+    if input.len() <= CUTOFF {
+        impl_oneshot_17_to_240(default_secret(), DEFAULT_SEED, input)
     } else {
         impl_oneshot_long(default_secret(), input)
     }
@@ -216,8 +226,19 @@ fn impl_oneshot_seeded(seed: u64, input: &[u8]) -> u128
 {
     if input.len() <= 16 {
         impl_oneshot(default_secret(), seed, input)
-    } else if input.len() <= CUTOFF {
-        impl_oneshot(default_secret(), seed, input)
+    } else {
+        impl_oneshot_seeded_from_17(seed, input)
+    }
+}
+
+#[inline(never)]
+#[tactic(auto, unfolding(twox_core::specs::Value::effective_secret))]
+fn impl_oneshot_seeded_from_17(seed: u64, input: &[u8]) -> u128
+    requires { 16 < length input.now }
+    ensures { result ≡ xxh3_128 seed (effective_secret (derived_secret seed) input.now) input.now }
+{
+    if input.len() <= CUTOFF {
+        impl_oneshot_17_to_240(default_secret(), seed, input)
     } else {
         impl_oneshot_long_seeded(seed, input)
     }
@@ -292,9 +313,21 @@ fn impl_oneshot(secret: Secret<'_>, seed: u64, input: &[u8]) -> u128
     requires { length input.now ≤ 240 }
     ensures { result ≡ xxh3_128 seed (secret_bytes secret.entry) input.now }
 {
-    let halves = if input.len() <= 16 {
-        impl_0_to_16_bytes(secret, seed, input)
-    } else if input.len() <= 128 {
+    if input.len() <= 16 {
+        impl_0_to_16_bytes(secret, seed, input).into_u128()
+    } else {
+        impl_oneshot_17_to_240(secret, seed, input)
+    }
+}
+
+#[inline(always)]
+#[tactic(auto, unfolding(twox_core::specs::Value::xxh3_128, twox_core::specs::Value::range_of, twox_core::specs::Value::low_in, twox_core::specs::Value::high_in))]
+fn impl_oneshot_17_to_240(secret: Secret<'_>, seed: u64, input: &[u8]) -> u128
+    requires above { 16 < length input.now }
+    requires up_to { length input.now ≤ 240 }
+    ensures { result ≡ xxh3_128 seed (secret_bytes secret.entry) input.now }
+{
+    let halves = if input.len() <= 128 {
         impl_17_to_128_bytes(secret, seed, input)
     } else {
         impl_129_to_240_bytes(secret, seed, input)
@@ -491,11 +524,35 @@ fn impl_17_to_128_bytes(secret: Secret<'_>, seed: u64, input: &[u8]) -> X128
     ensures high { result.high
         ≡ high_in Range.Bytes17To128 seed (secret_bytes secret.entry) input.now }
 {
-    let mut accumulators = initial_accumulators(input);
-    for step in 0..4 {
+    let initial = initial_accumulators(input);
+    let accumulators = if input.len() <= 32 {
+        initial
+    } else {
+        mix_above_32(initial, secret, seed, input)
+    };
+    let accumulators = mix_two_chunks(accumulators, secret, seed, input, 0);
+    finalize_medium(accumulators, input.len().into_u64(), seed)
+}
+
+// The accumulators after all steps but the last, from those before the first.
+#[inline(always)]
+fn mix_above_32(initial: Accumulators, secret: Secret<'_>, seed: u64, input: &[u8]) -> Accumulators
+    requires some { 17 ≤ length input.now }
+    requires few { length input.now ≤ 128 }
+    ensures first { let s = secret_bytes secret.entry in
+        let n = steps_of input.now in
+        initial.first ≡ first_17_to_128 seed s input.now n 0
+        → result.first ≡ first_17_to_128 seed s input.now n (n - 1) }
+    ensures second { let s = secret_bytes secret.entry in
+        let n = steps_of input.now in
+        initial.second ≡ second_17_to_128 seed s input.now n 0
+        → result.second ≡ second_17_to_128 seed s input.now n (n - 1) }
+{
+    let mut accumulators = initial;
+    for step in 0..3 {
         accumulators = mix_two_chunks(accumulators, secret, seed, input, 3 - step);
     }
-    finalize_medium(accumulators, input.len().into_u64(), seed)
+    accumulators
 }
 
 #[inline(never)]
