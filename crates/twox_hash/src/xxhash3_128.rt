@@ -525,6 +525,7 @@ fn impl_17_to_128_bytes(secret: Secret<'_>, seed: u64, input: &[u8]) -> X128
         ≡ high_in Range.Bytes17To128 seed (secret_bytes secret.entry) input.now }
 {
     let initial = initial_accumulators(input);
+    // Up to 32 bytes have the last step alone. One test tells them apart, in place of one a step.
     let accumulators = if input.len() <= 32 {
         initial
     } else {
