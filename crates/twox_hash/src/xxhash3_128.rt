@@ -193,26 +193,31 @@ impl Finalize for Finalize128 {
     }
 }
 
-// Inputs above 16 bytes are a call of their own: they need more registers than there are to spare, and the shortest
+// Inputs above 32 bytes are a call of their own: they need more registers than there are to spare, and the shortest
 // inputs then save none.
 #[inline(always)]
 fn impl_oneshot_default(input: &[u8]) -> u128
     ensures { result ≡ xxh3_128 0 default_secret input.now }
 {
     if input.len() <= 16 {
-        impl_oneshot(default_secret(), DEFAULT_SEED, input)
+        impl_oneshot_0_to_16(default_secret(), DEFAULT_SEED, input)
+    } else if input.len() <= 32 {
+        impl_oneshot_17_to_32(default_secret(), DEFAULT_SEED, input)
     } else {
-        impl_oneshot_default_from_17(input)
+        impl_oneshot_default_from_33(input)
     }
 }
 
 #[inline(never)]
-fn impl_oneshot_default_from_17(input: &[u8]) -> u128
-    requires { 16 < length input.now }
+#[tactic(auto, unfolding(twox_core::specs::Value::xxh3_128, twox_core::specs::Value::range_of, twox_core::specs::Value::low_in, twox_core::specs::Value::high_in))]
+fn impl_oneshot_default_from_33(input: &[u8]) -> u128
+    requires { 32 < length input.now }
     ensures { result ≡ xxh3_128 0 default_secret input.now }
 {
-    if input.len() <= CUTOFF {
-        impl_oneshot_17_to_240(default_secret(), DEFAULT_SEED, input)
+    if input.len() <= 128 {
+        impl_33_to_128_bytes(default_secret(), DEFAULT_SEED, input).into_u128()
+    } else if input.len() <= CUTOFF {
+        impl_129_to_240_bytes(default_secret(), DEFAULT_SEED, input).into_u128()
     } else {
         impl_oneshot_long(default_secret(), input)
     }
@@ -225,20 +230,25 @@ fn impl_oneshot_seeded(seed: u64, input: &[u8]) -> u128
     ensures { result ≡ xxh3_128 seed (effective_secret (derived_secret seed) input.now) input.now }
 {
     if input.len() <= 16 {
-        impl_oneshot(default_secret(), seed, input)
+        impl_oneshot_0_to_16(default_secret(), seed, input)
+    } else if input.len() <= 32 {
+        impl_oneshot_17_to_32(default_secret(), seed, input)
     } else {
-        impl_oneshot_seeded_from_17(seed, input)
+        impl_oneshot_seeded_from_33(input, seed)
     }
 }
 
+// The seed comes last, where C's calls have it: no register then changes its place on the way.
 #[inline(never)]
-#[tactic(auto, unfolding(twox_core::specs::Value::effective_secret))]
-fn impl_oneshot_seeded_from_17(seed: u64, input: &[u8]) -> u128
-    requires { 16 < length input.now }
+#[tactic(auto, unfolding(twox_core::specs::Value::effective_secret, twox_core::specs::Value::xxh3_128, twox_core::specs::Value::range_of, twox_core::specs::Value::low_in, twox_core::specs::Value::high_in))]
+fn impl_oneshot_seeded_from_33(input: &[u8], seed: u64) -> u128
+    requires { 32 < length input.now }
     ensures { result ≡ xxh3_128 seed (effective_secret (derived_secret seed) input.now) input.now }
 {
-    if input.len() <= CUTOFF {
-        impl_oneshot_17_to_240(default_secret(), seed, input)
+    if input.len() <= 128 {
+        impl_33_to_128_bytes(default_secret(), seed, input).into_u128()
+    } else if input.len() <= CUTOFF {
+        impl_129_to_240_bytes(default_secret(), seed, input).into_u128()
     } else {
         impl_oneshot_long_seeded(seed, input)
     }
@@ -308,27 +318,47 @@ impl IntoU128 for X128 {
 }
 
 #[inline(always)]
-#[tactic(auto, unfolding(twox_core::specs::Value::xxh3_128, twox_core::specs::Value::range_of, twox_core::specs::Value::low_in, twox_core::specs::Value::high_in))]
 fn impl_oneshot(secret: Secret<'_>, seed: u64, input: &[u8]) -> u128
     requires { length input.now ≤ 240 }
     ensures { result ≡ xxh3_128 seed (secret_bytes secret.entry) input.now }
 {
     if input.len() <= 16 {
-        impl_0_to_16_bytes(secret, seed, input).into_u128()
+        impl_oneshot_0_to_16(secret, seed, input)
+    } else if input.len() <= 32 {
+        impl_oneshot_17_to_32(secret, seed, input)
     } else {
-        impl_oneshot_17_to_240(secret, seed, input)
+        impl_oneshot_33_to_240(secret, seed, input)
     }
 }
 
 #[inline(always)]
 #[tactic(auto, unfolding(twox_core::specs::Value::xxh3_128, twox_core::specs::Value::range_of, twox_core::specs::Value::low_in, twox_core::specs::Value::high_in))]
-fn impl_oneshot_17_to_240(secret: Secret<'_>, seed: u64, input: &[u8]) -> u128
+fn impl_oneshot_0_to_16(secret: Secret<'_>, seed: u64, input: &[u8]) -> u128
+    requires { length input.now ≤ 16 }
+    ensures { result ≡ xxh3_128 seed (secret_bytes secret.entry) input.now }
+{
+    impl_0_to_16_bytes(secret, seed, input).into_u128()
+}
+
+#[inline(always)]
+#[tactic(auto, unfolding(twox_core::specs::Value::xxh3_128, twox_core::specs::Value::range_of, twox_core::specs::Value::low_in, twox_core::specs::Value::high_in))]
+fn impl_oneshot_17_to_32(secret: Secret<'_>, seed: u64, input: &[u8]) -> u128
     requires above { 16 < length input.now }
+    requires up_to { length input.now ≤ 32 }
+    ensures { result ≡ xxh3_128 seed (secret_bytes secret.entry) input.now }
+{
+    impl_17_to_32_bytes(secret, seed, input).into_u128()
+}
+
+#[inline(always)]
+#[tactic(auto, unfolding(twox_core::specs::Value::xxh3_128, twox_core::specs::Value::range_of, twox_core::specs::Value::low_in, twox_core::specs::Value::high_in))]
+fn impl_oneshot_33_to_240(secret: Secret<'_>, seed: u64, input: &[u8]) -> u128
+    requires above { 32 < length input.now }
     requires up_to { length input.now ≤ 240 }
     ensures { result ≡ xxh3_128 seed (secret_bytes secret.entry) input.now }
 {
     let halves = if input.len() <= 128 {
-        impl_17_to_128_bytes(secret, seed, input)
+        impl_33_to_128_bytes(secret, seed, input)
     } else {
         impl_129_to_240_bytes(secret, seed, input)
     };
@@ -437,10 +467,11 @@ fn impl_9_to_16_bytes(secret: Secret<'_>, seed: u64, input: &[u8]) -> X128
     let low = product
         .lower_half()
         .wrapping_add((input.len() - 1).into_u64() << 54);
+    // The lower half of `two` counts times the prime, and the upper half in its place.
     let high = product
         .upper_half()
-        .wrapping_add(two.upper_half().into_u64() << 32)
-        .wrapping_add(two.lower_half().into_u64().wrapping_mul(PRIME32_2));
+        .wrapping_add(two)
+        .wrapping_add(two.lower_half().into_u64().wrapping_mul(PRIME32_2 - 1));
     let low = low ^ high.swap_bytes();
     let product = X128 { low, high }
         .into_u128()
@@ -515,24 +546,30 @@ fn mix_two_chunks(
     }
 }
 
+// Up to 32 bytes have the last step alone. One test tells them apart, in place of one a step.
 #[inline(always)]
-fn impl_17_to_128_bytes(secret: Secret<'_>, seed: u64, input: &[u8]) -> X128
+fn impl_17_to_32_bytes(secret: Secret<'_>, seed: u64, input: &[u8]) -> X128
     requires some { 17 ≤ length input.now }
+    requires few { length input.now ≤ 32 }
+    ensures low { result.low
+        ≡ low_in Range.Bytes17To128 seed (secret_bytes secret.entry) input.now }
+    ensures high { result.high
+        ≡ high_in Range.Bytes17To128 seed (secret_bytes secret.entry) input.now }
+{
+    mix_last(initial_accumulators(input), secret, seed, input)
+}
+
+#[inline(always)]
+fn impl_33_to_128_bytes(secret: Secret<'_>, seed: u64, input: &[u8]) -> X128
+    requires some { 33 ≤ length input.now }
     requires few { length input.now ≤ 128 }
     ensures low { result.low
         ≡ low_in Range.Bytes17To128 seed (secret_bytes secret.entry) input.now }
     ensures high { result.high
         ≡ high_in Range.Bytes17To128 seed (secret_bytes secret.entry) input.now }
 {
-    let initial = initial_accumulators(input);
-    // Up to 32 bytes have the last step alone. One test tells them apart, in place of one a step.
-    let accumulators = if input.len() <= 32 {
-        initial
-    } else {
-        mix_above_32(initial, secret, seed, input)
-    };
-    let accumulators = mix_two_chunks(accumulators, secret, seed, input, 0);
-    finalize_medium(accumulators, input.len().into_u64(), seed)
+    let accumulators = mix_above_32(initial_accumulators(input), secret, seed, input);
+    mix_last(accumulators, secret, seed, input)
 }
 
 // The accumulators after all steps but the last, from those before the first.
@@ -554,6 +591,26 @@ fn mix_above_32(initial: Accumulators, secret: Secret<'_>, seed: u64, input: &[u
         accumulators = mix_two_chunks(accumulators, secret, seed, input, 3 - step);
     }
     accumulators
+}
+
+// The value from the accumulators before the last step, which takes the chunks at both ends.
+#[inline(always)]
+fn mix_last(accumulators: Accumulators, secret: Secret<'_>, seed: u64, input: &[u8]) -> X128
+    requires some { 17 ≤ length input.now }
+    requires few { length input.now ≤ 128 }
+    ensures low { let s = secret_bytes secret.entry in
+        let n = steps_of input.now in
+        accumulators.first ≡ first_17_to_128 seed s input.now n (n - 1)
+        → accumulators.second ≡ second_17_to_128 seed s input.now n (n - 1)
+        → result.low ≡ low_in Range.Bytes17To128 seed s input.now }
+    ensures high { let s = secret_bytes secret.entry in
+        let n = steps_of input.now in
+        accumulators.first ≡ first_17_to_128 seed s input.now n (n - 1)
+        → accumulators.second ≡ second_17_to_128 seed s input.now n (n - 1)
+        → result.high ≡ high_in Range.Bytes17To128 seed s input.now }
+{
+    let accumulators = mix_two_chunks(accumulators, secret, seed, input, 0);
+    finalize_medium(accumulators, input.len().into_u64(), seed)
 }
 
 #[inline(never)]

@@ -242,16 +242,19 @@ impl Finalize for Finalize64 {
     }
 }
 
-// The shortest inputs come first: they then pay nothing for the room that longer ones take, and the calls that
-// look alike become different code.
+// The shortest inputs come first: they then pay nothing for the room that longer ones take. Each range is named here,
+// so that no length is compared with 240 before 128.
 #[inline(always)]
+#[tactic(auto, unfolding(twox_core::specs::Value::xxh3_64, twox_core::specs::Value::range_of, twox_core::specs::Value::value64_in))]
 fn impl_oneshot_default(input: &[u8]) -> u64
     ensures { result ≡ xxh3_64 0 default_secret input.now }
 {
     if input.len() <= 16 {
-        impl_oneshot(default_secret(), DEFAULT_SEED, input)
+        impl_0_to_16_bytes(default_secret(), DEFAULT_SEED, input)
+    } else if input.len() <= 128 {
+        impl_17_to_128_bytes(default_secret(), DEFAULT_SEED, input)
     } else if input.len() <= CUTOFF {
-        impl_oneshot(default_secret(), DEFAULT_SEED, input)
+        impl_129_to_240_bytes(default_secret(), DEFAULT_SEED, input, &input[8..])
     } else {
         impl_oneshot_long(default_secret(), input)
     }
@@ -259,14 +262,16 @@ fn impl_oneshot_default(input: &[u8]) -> u64
 
 // The same order, with a seed.
 #[inline(always)]
-#[tactic(auto, unfolding(twox_core::specs::Value::effective_secret))]
+#[tactic(auto, unfolding(twox_core::specs::Value::effective_secret, twox_core::specs::Value::xxh3_64, twox_core::specs::Value::range_of, twox_core::specs::Value::value64_in))]
 fn impl_oneshot_seeded(seed: u64, input: &[u8]) -> u64
     ensures { result ≡ xxh3_64 seed (effective_secret (derived_secret seed) input.now) input.now }
 {
     if input.len() <= 16 {
-        impl_oneshot(default_secret(), seed, input)
+        impl_0_to_16_bytes(default_secret(), seed, input)
+    } else if input.len() <= 128 {
+        impl_17_to_128_bytes(default_secret(), seed, input)
     } else if input.len() <= CUTOFF {
-        impl_oneshot(default_secret(), seed, input)
+        impl_129_to_240_bytes(default_secret(), seed, input, &input[8..])
     } else {
         impl_oneshot_long_seeded(seed, input)
     }
