@@ -259,8 +259,25 @@ fn impl_oneshot_seeded_from_33(input: &[u8], seed: u64) -> u128
 fn impl_oneshot_keyed(secret: Secret<'_>, input: &[u8]) -> u128
     ensures { result ≡ xxh3_128 0 (secret_bytes secret.entry) input.now }
 {
-    if input.len() <= CUTOFF {
-        impl_oneshot(secret, DEFAULT_SEED, input)
+    if input.len() <= 16 {
+        impl_oneshot_0_to_16(secret, DEFAULT_SEED, input)
+    } else if input.len() <= 32 {
+        impl_oneshot_17_to_32(secret, DEFAULT_SEED, input)
+    } else {
+        impl_oneshot_keyed_from_33(secret, input)
+    }
+}
+
+#[inline(never)]
+#[tactic(auto, unfolding(twox_core::specs::Value::xxh3_128, twox_core::specs::Value::range_of, twox_core::specs::Value::low_in, twox_core::specs::Value::high_in))]
+fn impl_oneshot_keyed_from_33(secret: Secret<'_>, input: &[u8]) -> u128
+    requires { 32 < length input.now }
+    ensures { result ≡ xxh3_128 0 (secret_bytes secret.entry) input.now }
+{
+    if input.len() <= 128 {
+        impl_33_to_128_bytes(secret, DEFAULT_SEED, input).into_u128()
+    } else if input.len() <= CUTOFF {
+        impl_129_to_240_bytes(secret, DEFAULT_SEED, input).into_u128()
     } else {
         impl_oneshot_long(secret, input)
     }

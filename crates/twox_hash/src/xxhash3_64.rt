@@ -242,21 +242,28 @@ impl Finalize for Finalize64 {
     }
 }
 
-// The shortest inputs come first: they then pay nothing for the room that longer ones take. Each range is named here,
-// so that no length is compared with 240 before 128.
 #[inline(always)]
-#[tactic(auto, unfolding(twox_core::specs::Value::xxh3_64, twox_core::specs::Value::range_of, twox_core::specs::Value::value64_in))]
 fn impl_oneshot_default(input: &[u8]) -> u64
     ensures { result ≡ xxh3_64 0 default_secret input.now }
 {
+    impl_oneshot_keyed(default_secret(), input)
+}
+
+// With a secret and the seed 0. The shortest inputs come first: they then pay nothing for the room that longer ones
+// take. Each range is named here, so that no length is compared with 240 before 128.
+#[inline(always)]
+#[tactic(auto, unfolding(twox_core::specs::Value::xxh3_64, twox_core::specs::Value::range_of, twox_core::specs::Value::value64_in))]
+fn impl_oneshot_keyed(secret: Secret<'_>, input: &[u8]) -> u64
+    ensures { result ≡ xxh3_64 0 (secret_bytes secret.entry) input.now }
+{
     if input.len() <= 16 {
-        impl_0_to_16_bytes(default_secret(), DEFAULT_SEED, input)
+        impl_0_to_16_bytes(secret, DEFAULT_SEED, input)
     } else if input.len() <= 128 {
-        impl_17_to_128_bytes(default_secret(), DEFAULT_SEED, input)
+        impl_17_to_128_bytes(secret, DEFAULT_SEED, input)
     } else if input.len() <= CUTOFF {
-        impl_129_to_240_bytes(default_secret(), DEFAULT_SEED, input, &input[8..])
+        impl_129_to_240_bytes(secret, DEFAULT_SEED, input, &input[8..])
     } else {
-        impl_oneshot_long(default_secret(), input)
+        impl_oneshot_long(secret, input)
     }
 }
 
@@ -274,18 +281,6 @@ fn impl_oneshot_seeded(seed: u64, input: &[u8]) -> u64
         impl_129_to_240_bytes(default_secret(), seed, input, &input[8..])
     } else {
         impl_oneshot_long_seeded(seed, input)
-    }
-}
-
-// With a secret of the caller's and the seed 0.
-#[inline(always)]
-fn impl_oneshot_keyed(secret: Secret<'_>, input: &[u8]) -> u64
-    ensures { result ≡ xxh3_64 0 (secret_bytes secret.entry) input.now }
-{
-    if input.len() <= CUTOFF {
-        impl_oneshot(secret, DEFAULT_SEED, input)
-    } else {
-        impl_oneshot_long(secret, input)
     }
 }
 
