@@ -264,13 +264,13 @@ fn impl_oneshot_keyed(secret: Secret<'_>, input: &[u8]) -> u128
     } else if input.len() <= 32 {
         impl_oneshot_17_to_32(secret, DEFAULT_SEED, input)
     } else {
-        impl_oneshot_keyed_from_33(secret, input)
+        impl_oneshot_keyed_from_33(input, secret)
     }
 }
 
 #[inline(never)]
 #[tactic(auto, unfolding(twox_core::specs::Value::xxh3_128, twox_core::specs::Value::range_of, twox_core::specs::Value::low_in, twox_core::specs::Value::high_in))]
-fn impl_oneshot_keyed_from_33(secret: Secret<'_>, input: &[u8]) -> u128
+fn impl_oneshot_keyed_from_33(input: &[u8], secret: Secret<'_>) -> u128
     requires { 32 < length input.now }
     ensures { result ≡ xxh3_128 0 (secret_bytes secret.entry) input.now }
 {

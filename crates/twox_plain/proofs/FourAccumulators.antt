@@ -1,6 +1,7 @@
 -- Four accumulators that take whole stripes side by side: for any width of their words, any round, and any type
 -- that holds the four. A stripe is four words.
-use Rattle.std.proofs.Common.{◌≡◌, ℕ, ◌+◌, ◌*◌, ◌≤◌, List, ◌++◌, take, drop, length, arith}
+use Rattle.std.proofs.Common.{◌≡◌, ℕ, ◌+◌, ◌*◌, ◌≤◌, List, ◌++◌, take, drop, length, sym, ◌∙◌, arith}
+use Rattle.std.proofs.lemmas.List.{take-append-drop}
 use Rattle.std.specs.Int.{Width, byte_len}
 use Rattle.twox_plain.specs.Word.{word_at}
 use Rattle.twox_plain.specs.Units.{after_units}
@@ -38,3 +39,12 @@ module _ {C : Type 0} (w : Width) (round : ℕ → ℕ → ℕ) (core : ℕ → 
     after_stripes_longer more within =
         let longer = λ (j x : ℕ) (inside : j * byte_len w + byte_len w ≤ stripe). words_longer w round m more x k stripe (j * byte_len w) inside within in
         λ i. core (longer 0 a (omega arith) i) (longer 1 b (omega arith) i) (longer 2 c (omega arith) i) (longer 3 d (omega arith) i)
+
+  -- n stripes more, read in a part that holds them
+  pub after_stripes_part : (a b c d : ℕ) (m part : List ℕ) (k n : ℕ) → part ≡ take (n * stripe) (drop (k * stripe) m) → n * stripe ≤ length part
+      → after_stripes (after_words 0 a m k) (after_words 1 b m k) (after_words 2 c m k) (after_words 3 d m k) part n ≡ after_stripes a b c d m (k + n)
+  after_stripes_part a b c d m part k n e whole =
+      let later = drop (n * stripe) (drop (k * stripe) m) in
+      let joined : part ++ later ≡ drop (k * stripe) m = rw e (take-append-drop (n * stripe) (drop (k * stripe) m)) in
+      sym (after_stripes_longer (after_words 0 a m k) (after_words 1 b m k) (after_words 2 c m k) (after_words 3 d m k) part n later whole)
+      ∙ after_stripes_more a b c d m k (part ++ later) n joined

@@ -1,4 +1,6 @@
 -- The record of a hasher, from its fields in the order in which they lie in memory.
+use Rattle.std.specs.Prelude.{ℕ, List, ◌++◌, ◌*◌, ◌/◌, drop, length}
+use Rattle.twox_plain.specs.Core32.{core_after_stripes}
 use Rattle.twox_plain.specs.declared.xxhash32.SavedState.{SavedState}
 use Rattle.twox_plain.specs.declared.xxhash32.StateInMemory.{StateInMemory}
 
@@ -10,3 +12,13 @@ record_of a = record {
   buffer = a.buffer;
   buffer_usage = a.buffer_usage;
 }
+
+-- the record after d, the rest of a piece that is counted already, for a buffer that is empty
+unfoldable pub after_rest : SavedState → List ℕ → SavedState
+after_rest s d =
+    let rest = drop (length d / 16 * 16) d in
+    record s {
+      core = core_after_stripes s.core d (length d / 16);
+      buffer = rest ++ drop (length rest) s.buffer;
+      buffer_usage = length rest;
+    }

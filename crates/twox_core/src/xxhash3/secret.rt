@@ -70,10 +70,11 @@ impl<'a> Secret<'a> {
         ensures { MatchResult result (λ s. (136 ≤ length bytes.now) × (secret_bytes s
             ≡ bytes.now)) (λ _. length bytes.now < 136) }
     {
-        if bytes.len() < SECRET_MINIMUM_LENGTH {
-            return Err(Error);
+        if bytes.len() >= SECRET_MINIMUM_LENGTH {
+            Ok(Secret { bytes })
+        } else {
+            Err(Error)
         }
-        Ok(Secret { bytes })
     }
 
     /// The words that XXH3 of 64 bits reads.

@@ -1,6 +1,6 @@
 use Rattle.std.proofs.Common.{◌≡◌, ◌-◌, ◌*◌, ◌/◌, ◌≤◌, length, drop}
 use Rattle.twox_plain.specs.Core32.{core_after_stripes}
-use Rattle.twox_plain.proofs.xxhash32.Core.write_many.Given as goal
+use Rattle.twox_plain.proofs.xxhash32.Core.write_stripes.Given as goal
 
 abbrev pub invariant-stripes : goal.invariant-stripes
 invariant-stripes l = record {
