@@ -193,7 +193,7 @@ impl Finalize for Finalize128 {
     }
 }
 
-// Inputs above 32 bytes are a call of their own: they need more registers than there are to spare, and the shortest
+// Inputs above 64 bytes are a call of their own: they need more registers than there are to spare, and the shortest
 // inputs then save none.
 #[inline(always)]
 fn impl_oneshot_default(input: &[u8]) -> u128
@@ -201,21 +201,21 @@ fn impl_oneshot_default(input: &[u8]) -> u128
 {
     if input.len() <= 16 {
         impl_oneshot_0_to_16(default_secret(), DEFAULT_SEED, input)
-    } else if input.len() <= 32 {
-        impl_oneshot_17_to_32(default_secret(), DEFAULT_SEED, input)
+    } else if input.len() <= 64 {
+        impl_oneshot_17_to_64(default_secret(), DEFAULT_SEED, input)
     } else {
-        impl_oneshot_default_from_33(input)
+        impl_oneshot_default_from_65(input)
     }
 }
 
 #[inline(never)]
 #[tactic(auto, unfolding(twox_core::specs::Value::xxh3_128, twox_core::specs::Value::range_of, twox_core::specs::Value::low_in, twox_core::specs::Value::high_in))]
-fn impl_oneshot_default_from_33(input: &[u8]) -> u128
-    requires { 32 < length input.now }
+fn impl_oneshot_default_from_65(input: &[u8]) -> u128
+    requires { 64 < length input.now }
     ensures { result ≡ xxh3_128 0 default_secret input.now }
 {
     if input.len() <= 128 {
-        impl_33_to_128_bytes(default_secret(), DEFAULT_SEED, input).into_u128()
+        impl_65_to_128_bytes(default_secret(), DEFAULT_SEED, input).into_u128()
     } else if input.len() <= CUTOFF {
         impl_129_to_240_bytes(default_secret(), DEFAULT_SEED, input).into_u128()
     } else {
@@ -231,22 +231,22 @@ fn impl_oneshot_seeded(seed: u64, input: &[u8]) -> u128
 {
     if input.len() <= 16 {
         impl_oneshot_0_to_16(default_secret(), seed, input)
-    } else if input.len() <= 32 {
-        impl_oneshot_17_to_32(default_secret(), seed, input)
+    } else if input.len() <= 64 {
+        impl_oneshot_17_to_64(default_secret(), seed, input)
     } else {
-        impl_oneshot_seeded_from_33(input, seed)
+        impl_oneshot_seeded_from_65(input, seed)
     }
 }
 
 // The seed comes last, where C's calls have it: no register then changes its place on the way.
 #[inline(never)]
 #[tactic(auto, unfolding(twox_core::specs::Value::effective_secret, twox_core::specs::Value::xxh3_128, twox_core::specs::Value::range_of, twox_core::specs::Value::low_in, twox_core::specs::Value::high_in))]
-fn impl_oneshot_seeded_from_33(input: &[u8], seed: u64) -> u128
-    requires { 32 < length input.now }
+fn impl_oneshot_seeded_from_65(input: &[u8], seed: u64) -> u128
+    requires { 64 < length input.now }
     ensures { result ≡ xxh3_128 seed (effective_secret (derived_secret seed) input.now) input.now }
 {
     if input.len() <= 128 {
-        impl_33_to_128_bytes(default_secret(), seed, input).into_u128()
+        impl_65_to_128_bytes(default_secret(), seed, input).into_u128()
     } else if input.len() <= CUTOFF {
         impl_129_to_240_bytes(default_secret(), seed, input).into_u128()
     } else {
@@ -261,21 +261,21 @@ fn impl_oneshot_keyed(secret: Secret<'_>, input: &[u8]) -> u128
 {
     if input.len() <= 16 {
         impl_oneshot_0_to_16(secret, DEFAULT_SEED, input)
-    } else if input.len() <= 32 {
-        impl_oneshot_17_to_32(secret, DEFAULT_SEED, input)
+    } else if input.len() <= 64 {
+        impl_oneshot_17_to_64(secret, DEFAULT_SEED, input)
     } else {
-        impl_oneshot_keyed_from_33(input, secret)
+        impl_oneshot_keyed_from_65(input, secret)
     }
 }
 
 #[inline(never)]
 #[tactic(auto, unfolding(twox_core::specs::Value::xxh3_128, twox_core::specs::Value::range_of, twox_core::specs::Value::low_in, twox_core::specs::Value::high_in))]
-fn impl_oneshot_keyed_from_33(input: &[u8], secret: Secret<'_>) -> u128
-    requires { 32 < length input.now }
+fn impl_oneshot_keyed_from_65(input: &[u8], secret: Secret<'_>) -> u128
+    requires { 64 < length input.now }
     ensures { result ≡ xxh3_128 0 (secret_bytes secret.entry) input.now }
 {
     if input.len() <= 128 {
-        impl_33_to_128_bytes(secret, DEFAULT_SEED, input).into_u128()
+        impl_65_to_128_bytes(secret, DEFAULT_SEED, input).into_u128()
     } else if input.len() <= CUTOFF {
         impl_129_to_240_bytes(secret, DEFAULT_SEED, input).into_u128()
     } else {
@@ -341,10 +341,10 @@ fn impl_oneshot(secret: Secret<'_>, seed: u64, input: &[u8]) -> u128
 {
     if input.len() <= 16 {
         impl_oneshot_0_to_16(secret, seed, input)
-    } else if input.len() <= 32 {
-        impl_oneshot_17_to_32(secret, seed, input)
+    } else if input.len() <= 64 {
+        impl_oneshot_17_to_64(secret, seed, input)
     } else {
-        impl_oneshot_33_to_240(secret, seed, input)
+        impl_oneshot_65_to_240(secret, seed, input)
     }
 }
 
@@ -359,23 +359,23 @@ fn impl_oneshot_0_to_16(secret: Secret<'_>, seed: u64, input: &[u8]) -> u128
 
 #[inline(always)]
 #[tactic(auto, unfolding(twox_core::specs::Value::xxh3_128, twox_core::specs::Value::range_of, twox_core::specs::Value::low_in, twox_core::specs::Value::high_in))]
-fn impl_oneshot_17_to_32(secret: Secret<'_>, seed: u64, input: &[u8]) -> u128
+fn impl_oneshot_17_to_64(secret: Secret<'_>, seed: u64, input: &[u8]) -> u128
     requires above { 16 < length input.now }
-    requires up_to { length input.now ≤ 32 }
+    requires up_to { length input.now ≤ 64 }
     ensures { result ≡ xxh3_128 seed (secret_bytes secret.entry) input.now }
 {
-    impl_17_to_32_bytes(secret, seed, input).into_u128()
+    impl_17_to_64_bytes(secret, seed, input).into_u128()
 }
 
 #[inline(always)]
 #[tactic(auto, unfolding(twox_core::specs::Value::xxh3_128, twox_core::specs::Value::range_of, twox_core::specs::Value::low_in, twox_core::specs::Value::high_in))]
-fn impl_oneshot_33_to_240(secret: Secret<'_>, seed: u64, input: &[u8]) -> u128
-    requires above { 32 < length input.now }
+fn impl_oneshot_65_to_240(secret: Secret<'_>, seed: u64, input: &[u8]) -> u128
+    requires above { 64 < length input.now }
     requires up_to { length input.now ≤ 240 }
     ensures { result ≡ xxh3_128 seed (secret_bytes secret.entry) input.now }
 {
     let halves = if input.len() <= 128 {
-        impl_33_to_128_bytes(secret, seed, input)
+        impl_65_to_128_bytes(secret, seed, input)
     } else {
         impl_129_to_240_bytes(secret, seed, input)
     };
@@ -563,22 +563,23 @@ fn mix_two_chunks(
     }
 }
 
-// Up to 32 bytes have the last step alone. One test tells them apart, in place of one a step.
+// Up to 64 bytes have the last two steps alone.
 #[inline(always)]
-fn impl_17_to_32_bytes(secret: Secret<'_>, seed: u64, input: &[u8]) -> X128
+fn impl_17_to_64_bytes(secret: Secret<'_>, seed: u64, input: &[u8]) -> X128
     requires some { 17 ≤ length input.now }
-    requires few { length input.now ≤ 32 }
+    requires few { length input.now ≤ 64 }
     ensures low { result.low
         ≡ low_in Range.Bytes17To128 seed (secret_bytes secret.entry) input.now }
     ensures high { result.high
         ≡ high_in Range.Bytes17To128 seed (secret_bytes secret.entry) input.now }
 {
-    mix_last(initial_accumulators(input), secret, seed, input)
+    let accumulators = mix_two_chunks(initial_accumulators(input), secret, seed, input, 1);
+    mix_last(accumulators, secret, seed, input)
 }
 
 #[inline(always)]
-fn impl_33_to_128_bytes(secret: Secret<'_>, seed: u64, input: &[u8]) -> X128
-    requires some { 33 ≤ length input.now }
+fn impl_65_to_128_bytes(secret: Secret<'_>, seed: u64, input: &[u8]) -> X128
+    requires some { 65 ≤ length input.now }
     requires few { length input.now ≤ 128 }
     ensures low { result.low
         ≡ low_in Range.Bytes17To128 seed (secret_bytes secret.entry) input.now }

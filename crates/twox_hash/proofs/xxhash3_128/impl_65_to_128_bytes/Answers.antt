@@ -1,5 +1,5 @@
 use Rattle.twox_core.specs.Middle.{first_17_to_128, second_17_to_128}
-use Rattle.twox_hash.proofs.xxhash3_128.impl_33_to_128_bytes.Goals as goal
+use Rattle.twox_hash.proofs.xxhash3_128.impl_65_to_128_bytes.Goals as goal
 
 pub returns-clause-low : goal.returns-clause-low
 unfolding first_17_to_128 second_17_to_128
