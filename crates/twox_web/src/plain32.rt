@@ -1,4 +1,4 @@
-//! XXH32.
+//! XXH32, by stripes alone, since this target has no vectors.
 
 ghost use Rattle.std.specs.Prelude.{◌≡◌, ◌↔◌, ℕ, List, [], ◌++◌};
 ghost use Rattle.twox_hash.specs.Xxh32.{xxh32};
@@ -13,7 +13,7 @@ use twox_hash::xxhash32::SavedState;
 pub extern "C" fn twox_xxh32(seed: u32, input: &[u8]) -> u32
     ensures { result ≡ xxh32 seed input.now }
 {
-    XxHash32::oneshot(seed, input)
+    XxHash32::oneshot_by_stripes(seed, input)
 }
 
 /// The size of a stream's record in bytes.
@@ -50,7 +50,7 @@ pub extern "C" fn twox_xxh32_update(stream: &mut SavedState, input: &[u8]) -> u3
     let Ok(mut hasher) = XxHash32::from_state(*stream) else {
         return NOT_A_STREAM;
     };
-    hasher.write(input);
+    hasher.write_by_stripes(input);
     *stream = hasher.to_state();
     DONE
 }

@@ -7,7 +7,7 @@ use Rattle.twox_plain.proofs.Message32.{value_of_message}
 use Rattle.twox_plain.proofs.xxhash32.impl_long.Goals as goal
 
 pub returns : goal.returns
-returns c =
+returns g c =
     let m = c.args.input.now in
     let n = length m / 16 in
     let taken : c.write_many-rest.new.self ≡ core_of_stripes c.args.seed m n =

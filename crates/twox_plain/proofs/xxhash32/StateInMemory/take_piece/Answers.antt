@@ -8,7 +8,7 @@ use Rattle.twox_plain.proofs.xxhash32.StateInMemory.take_piece.Goals as goal
 
 pub returns-then-input-used-clause-exact : goal.returns-then-input-used-clause-exact
 unfolding after_write core_after_stripes after_units
-returns-then-input-used-clause-exact c =
+returns-then-input-used-clause-exact g c =
     let old = record_of c.args.self.now in
     let d = c.args.input.now in
     let width : old.buffer_usage + length d - old.buffer_usage ≡ length d = omega arith in
