@@ -43,6 +43,10 @@ fn values_of_32_bits(rt: HostRuntime) {
     ];
     for (seed, input, value) in rows {
         assert_eq!(rt; XxHash32::oneshot(seed, input), value);
+        assert_eq!(rt; XxHash32::oneshot_by_stripes(seed, input), value);
+        let mut by_stripes = XxHash32::with_seed(seed);
+        by_stripes.write_by_stripes(input);
+        assert_eq!(rt; by_stripes.finish_32(), value);
         let mut hasher = XxHash32::with_seed(seed);
         hasher.write(&[]);
         for i in 0..input.len() {
