@@ -25,20 +25,28 @@ XXH3_state_t *XXH3_createState(void)
     return state;
 }
 
+/* Calls of twox_c, which take the mark of a reset from a state: memory that comes back from malloc is no state. */
+void twox_c_forget_xxh32(XXH32_state_t *state);
+void twox_c_forget_xxh64(XXH64_state_t *state);
+void twox_c_forget_xxh3(XXH3_state_t *state);
+
 XXH_errorcode XXH32_freeState(XXH32_state_t *state)
 {
+    if (state) twox_c_forget_xxh32(state);
     free(state);
     return XXH_OK;
 }
 
 XXH_errorcode XXH64_freeState(XXH64_state_t *state)
 {
+    if (state) twox_c_forget_xxh64(state);
     free(state);
     return XXH_OK;
 }
 
 XXH_errorcode XXH3_freeState(XXH3_state_t *state)
 {
+    if (state) twox_c_forget_xxh3(state);
     free(state);
     return XXH_OK;
 }

@@ -74,7 +74,7 @@ def rows_file(program, title, rows):
         "use Rattle.std.specs.Prelude.{◌≡◌}",
         "use Rattle.std.proofs.Common.{refl}",
         *imports([d for d in program.order if d in needed]),
-        "use Rattle.twox_plain.proofs.OutsideVectors.{drawn}",
+        "use Rattle.twox_words.proofs.OutsideVectors.{drawn}",
     ]) + "\n" + "".join(statements)
 
 
@@ -99,7 +99,7 @@ def common_file(program):
 def files():
     program = antt.Program(antt.Definitions(table.TOP, table.CRATES), table.ENTRIES)
     rows = proved_rows.choose()
-    out = {("twox_plain", "OutsideVectors"): common_file(program)}
+    out = {("twox_words", "OutsideVectors"): common_file(program)}
     for place, (title, entries) in FILES.items():
         out[place] = rows_file(program, title, [row for row in rows if row.entry in entries])
     return {os.path.join(table.TOP, "crates", crate, "proofs", f"{name}.antt"): text for (crate, name), text in out.items()}

@@ -3,7 +3,7 @@ import os
 
 FOLDER = os.path.dirname(os.path.abspath(__file__))
 TOP = os.path.dirname(FOLDER)
-CRATES = ["twox_plain", "twox_core"]
+CRATES = ["twox_words", "twox_plain", "twox_core"]
 # The names by which the definitions are asked.
 ENTRIES = ["xxh32", "xxh64", "xxh3_64", "xxh3_128", "default_secret", "derived_secret", "effective_secret", "counted"]
 HASHES = {"32": "xxh32", "64": "xxh64", "3-64": "xxh3_64", "3-128": "xxh3_128"}

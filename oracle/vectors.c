@@ -46,6 +46,9 @@ static const char *const names[] = { "32", "64", "3-64", "3-128" };
 
 static void print_wide(XXH128_hash_t h) { printf("%016" PRIx64 "%016" PRIx64 "\n", h.high64, h.low64); }
 
+/* In what follows each random number is drawn into a variable of its own: a compiler chooses the order in which it
+ * evaluates the arguments of a call, and the table is the same on every processor. */
+
 /* A request with a seed and no secret. */
 static void seeded(enum hash hash, uint64_t seed, size_t length, uint64_t start)
 {
@@ -57,6 +60,20 @@ static void seeded(enum hash hash, uint64_t seed, size_t length, uint64_t start)
     case H3_64: printf("%016" PRIx64 "\n", XXH3_64bits_withSeed(input, length, seed)); break;
     case H3_128: print_wide(XXH3_128bits_withSeed(input, length, seed)); break;
     }
+}
+
+/* The same with a random input, and with a random seed too. */
+static void seeded_input(enum hash hash, uint64_t seed, size_t length)
+{
+    const uint64_t start = random_number();
+    seeded(hash, seed, length, start);
+}
+
+static void seeded_at_random(enum hash hash, size_t length)
+{
+    const uint64_t start = random_number();
+    const uint64_t seed = random_number();
+    seeded(hash, hash == H32 ? seed & 0xFFFFFFFFu : seed, length, start);
 }
 
 /* A request with a secret: alone, or with a seed. */
@@ -75,6 +92,22 @@ static void keyed(enum hash hash, int has_seed, uint64_t seed, size_t secret_len
                             : XXH3_128bits_withSecret(input, length, secret, secret_length));
 }
 
+/* The same with a random secret and input: alone, and with a random seed, which is drawn where it isn't used too. */
+static void keyed_alone(enum hash hash, size_t secret_length, size_t length)
+{
+    const uint64_t start = random_number();
+    const uint64_t secret_start = random_number();
+    keyed(hash, 0, 0, secret_length, secret_start, length, start);
+}
+
+static void keyed_and_seeded(enum hash hash, int has_seed, size_t secret_length, size_t length)
+{
+    const uint64_t start = random_number();
+    const uint64_t secret_start = random_number();
+    const uint64_t seed = random_number();
+    keyed(hash, has_seed, seed, secret_length, secret_start, length, start);
+}
+
 /* The edges of every range, stripe, block and buffer. */
 static const size_t edges[] = {
     0, 1, 3, 4, 7, 8, 9, 15, 16, 17, 31, 32, 33, 63, 64, 65, 95, 96, 97, 127, 128, 129, 143, 144, 145, 159, 160,
@@ -89,16 +122,16 @@ static void all_seeded(enum hash hash)
     const uint64_t mask = hash == H32 ? 0xFFFFFFFFu : UINT64_MAX;
     const uint64_t seeds[] = { 0, 1, 0xFFFFFFFFu, 0x8000000000000000u, UINT64_MAX };
     for (size_t length = 0; length <= 300; length++) {
-        seeded(hash, 0, length, random_number());
-        seeded(hash, random_number() & mask, length, random_number());
+        seeded_input(hash, 0, length);
+        seeded_at_random(hash, length);
     }
     for (size_t e = 0; e < EDGES; e++) {
-        for (size_t s = 0; s < sizeof seeds / sizeof seeds[0]; s++) seeded(hash, seeds[s] & mask, edges[e], random_number());
-        seeded(hash, random_number() & mask, edges[e], random_number());
+        for (size_t s = 0; s < sizeof seeds / sizeof seeds[0]; s++) seeded_input(hash, seeds[s] & mask, edges[e]);
+        seeded_at_random(hash, edges[e]);
     }
     for (int k = 0; k < 200; k++) {
         size_t length = random_number() % (LONGEST_RANDOM + 1);
-        seeded(hash, random_number() & mask, length, random_number());
+        seeded_at_random(hash, length);
     }
 }
 
@@ -107,12 +140,12 @@ static void all_keyed(enum hash hash)
     const size_t lengths[] = { 136, 137, 143, 144, 192, 256, 300 };
     for (size_t l = 0; l < sizeof lengths / sizeof lengths[0]; l++) {
         for (size_t e = 0; e < EDGES; e++) {
-            keyed(hash, 0, 0, lengths[l], random_number(), edges[e], random_number());
-            keyed(hash, 1, random_number(), lengths[l], random_number(), edges[e], random_number());
+            keyed_alone(hash, lengths[l], edges[e]);
+            keyed_and_seeded(hash, 1, lengths[l], edges[e]);
         }
         for (int k = 0; k < 40; k++) {
             size_t length = random_number() % (LONGEST_RANDOM + 1);
-            keyed(hash, k % 2, random_number(), lengths[l], random_number(), length, random_number());
+            keyed_and_seeded(hash, k % 2, lengths[l], length);
         }
     }
 }
@@ -124,8 +157,11 @@ static void every_length(enum hash hash)
     const size_t lengths[] = { 136, 137, 143, 144, 192, 300 };
     for (size_t l = 0; l < sizeof lengths / sizeof lengths[0]; l++) {
         const uint64_t secret_start = random_number();
-        for (size_t length = 0; length <= 1100; length++)
-            keyed(hash, length > 240, random_number(), lengths[l], secret_start, length, random_number());
+        for (size_t length = 0; length <= 1100; length++) {
+            const uint64_t start = random_number();
+            const uint64_t seed = random_number();
+            keyed(hash, length > 240, seed, lengths[l], secret_start, length, start);
+        }
     }
 }
 
@@ -138,8 +174,8 @@ static void past_scrambles(enum hash hash)
         for (size_t block = 1; block <= 3; block++)
             for (size_t past = 0; past <= 3; past++) {
                 const size_t length = block * 64 * ((lengths[l] - 64) / 8) + past - 1;
-                keyed(hash, 0, 0, lengths[l], random_number(), length, random_number());
-                keyed(hash, 1, random_number(), lengths[l], random_number(), length, random_number());
+                keyed_alone(hash, lengths[l], length);
+                keyed_and_seeded(hash, 1, lengths[l], length);
             }
 }
 
@@ -149,10 +185,9 @@ static void long_inputs(enum hash hash)
     const size_t lengths[] = { 10000, 10240, 16384, 32767, 49151, 49152, 49153, 65535, 65536, 65537, 99999, 100000 };
     const size_t secrets[] = { 136, 192, 1000 };
     for (size_t l = 0; l < sizeof lengths / sizeof lengths[0]; l++) {
-        seeded(hash, 0, lengths[l], random_number());
-        seeded(hash, random_number() & (hash == H32 ? 0xFFFFFFFFu : UINT64_MAX), lengths[l], random_number());
-        for (size_t s = 0; s < 3 && hash >= H3_64; s++)
-            keyed(hash, s == 1, random_number(), secrets[s], random_number(), lengths[l], random_number());
+        seeded_input(hash, 0, lengths[l]);
+        seeded_at_random(hash, lengths[l]);
+        for (size_t s = 0; s < 3 && hash >= H3_64; s++) keyed_and_seeded(hash, s == 1, secrets[s], lengths[l]);
     }
 }
 

@@ -1,273 +1,217 @@
-/** The page: what is to be hashed, by which seed and secret, and what came of it. worker.js does the hashing. */
-import { SECRET_MINIMUM_LENGTH } from "./twox_hash.js";
+/** The page: the list of what is hashed, and what the user does. worker.js does the hashing. */
+import { Card } from "./card.js";
+import { Checklist, compareWithField, readChecklist } from "./checksums.js";
+import { filesOfDrop, filesOfInput } from "./gather.js";
+import { readKey } from "./key.js";
+import { BEGINNING_BYTES, ENDINGS, mayBeList } from "./lines.js";
+import { $, NAMES, copy, counted, say } from "./words.js";
 
 const MILLISECONDS_AFTER_TYPING = 120;
+const MILLISECONDS_BEFORE_COMPARING = 30;
 
-/** The names of the digests, in the order in which they are shown. */
-const NAMES = { xxh32: "XXH32", xxh64: "XXH64", xxh3_64: "XXH3, 64 bits", xxh3_128: "XXH3, 128 bits" };
+/** Comparing takes no more than this part of the page's time, however many files there are. */
+const PART_FOR_COMPARING = 0.1;
 
-const $ = (id) => document.getElementById(id);
+/** From how many files on the rows are compact. */
+const COMPACT_FROM = 4;
+
+/** Longer files are no checksum files. */
+const CHECKLIST_BYTES = 16 * 1024 * 1024;
+
 const worker = new Worker("worker.js", { type: "module" });
+
+// ---- the list
+
+/** The files, first come first served; the text; and the checksum files. */
+const files = [];
+let text = null;
+const checklists = [];
 
 /** The cards by the number of the job that runs or waits for them. */
 const cards = new Map();
 let jobs = 0;
 
-// ---- cards
+/** What a card asks of the page. */
+const list = {
+  isCompact: false,
 
-/** A file or a text, and its place in the list. */
-class Card {
-  constructor(name, blob) {
-    this.name = name;
-    this.hold(blob);
-    this.state = "waiting";
-    this.item = $("card").content.firstElementChild.cloneNode(true);
-    this.button = this.part(".act");
-    this.part(".name").textContent = name;
-    this.part("progress").setAttribute("aria-label", `Progress of ${name}`);
-    this.button.addEventListener("click", () => this.act());
-    this.show("Waiting");
-  }
+  start(card, { seed, secret }) {
+    const job = ++jobs;
+    cards.set(job, card);
+    worker.postMessage({ type: "hash", job, blob: card.blob, size: card.size, seed, secret });
+    return job;
+  },
 
-  /** Keeps the blob and its size, since a browser may say 0 of a file that has vanished meanwhile. */
-  hold(blob) {
-    this.blob = blob;
-    this.size = blob.size;
-  }
+  stop({ job }) {
+    worker.postMessage({ type: "stop", job });
+  },
 
-  part(selector) {
-    return this.item.querySelector(selector);
-  }
+  forget({ job }) {
+    cards.delete(job);
+  },
 
-  /** What the card's button does now: it stops what runs or waits, and starts again what doesn't. */
-  act() {
-    if (this.isBusy()) this.stop();
-    else this.wait();
-  }
+  shownKinds({ isOpen }) {
+    return this.isCompact && !isOpen ? [$("kind").value] : Object.keys(NAMES);
+  },
 
-  isBusy() {
-    return this.state === "waiting" || this.state === "running";
-  }
+  /** Starts the next file if none runs. With a wrong seed or secret, nothing starts until it is put right. */
+  startNext() {
+    const next = files.find((card) => card.state === "waiting");
+    if (!next || files.some((card) => card.state === "running")) return;
+    const key = readKey();
+    if (!key.wrong) {
+      next.start(key);
+      return;
+    }
+    $("key").open = true;
+    next.tell(`Waiting for ${key.wrong} to be right`);
+  },
 
-  wait() {
-    this.state = "waiting";
-    this.show("Waiting");
-    startNext();
-  }
+  /** Takes a card or a checksum file out of the list. */
+  remove(item) {
+    const next = item.item.nextElementSibling ?? item.item.previousElementSibling;
+    if (item === text) $("text").value = "";
+    if (item.state === "running") this.stop(item);
+    if (item.job) this.forget(item);
+    drop(files, item);
+    drop(checklists, item);
+    if (item === text) text = null;
+    item.item.remove();
+    say(`${item.name} was removed`);
+    (next?.querySelector(".remove") ?? $("files")).focus();
+    this.changed();
+    this.startNext();
+  },
 
-  start({ seed, secret }) {
-    this.state = "running";
-    this.job = ++jobs;
-    this.started = performance.now();
-    this.used = keyInWords(seed, secret);
-    cards.set(this.job, this);
-    worker.postMessage({ type: "hash", job: this.job, blob: this.blob, size: this.size, seed, secret });
-    this.show(sizeInWords(this.size));
-  }
+  hashInstead(checklist) {
+    const card = new Card(list, checklist.name, checklist.file);
+    checklist.item.remove();
+    $("list").append(card.item);
+    card.part(".remove").focus();
+    drop(checklists, checklist);
+    files.push(card);
+    this.startNext();
+    this.changed();
+  },
 
-  stop() {
-    if (this.state === "running") worker.postMessage({ type: "stop", job: this.job });
-    else this.end("stopped", "Stopped. There is no digest.");
-  }
+  changed() {
+    comparing ??= setTimeout(compare, Math.max(MILLISECONDS_BEFORE_COMPARING, lastComparing / PART_FOR_COMPARING));
+  },
+};
 
-  progress(done) {
-    this.part("progress").value = done / this.size;
-    const seconds = (performance.now() - this.started) / 1000;
-    this.tell(`${sizeInWords(done)} of ${sizeInWords(this.size)}, ${sizeInWords(done / seconds)}/s`);
-  }
-
-  finish(digests, milliseconds) {
-    this.digests = digests;
-    const speed = milliseconds >= 1 && this.size > 1e6 ? `, ${sizeInWords(this.size / milliseconds * 1000)}/s` : "";
-    this.end("done", `${sizeInWords(this.size)}${speed}${this.used}`);
-  }
-
-  end(state, words) {
-    cards.delete(this.job);
-    this.state = state;
-    this.show(words);
-    startNext();
-  }
-
-  show(words) {
-    this.item.classList.toggle("failed", this.state === "failed");
-    this.part("progress").hidden = this.state !== "running";
-    if (this.state !== "running") this.part("progress").value = 0;
-    this.showDigests();
-    this.showButton();
-    this.tell(words);
-    showActions();
-  }
-
-  showDigests() {
-    const list = this.part("dl");
-    list.hidden = this.state !== "done";
-    list.replaceChildren(...(list.hidden ? [] : Object.keys(NAMES).map((kind) => digestOf(this, kind))));
-  }
-
-  showButton() {
-    const word = this.isBusy() ? "Stop" : this.state === "done" ? "" : "Start again";
-    this.button.hidden = !word;
-    this.button.textContent = word;
-    this.button.setAttribute("aria-label", `${word}: ${this.name}`);
-  }
-
-  tell(words) {
-    this.part(".state").textContent = words;
-  }
+function drop(items, item) {
+  if (items.includes(item)) items.splice(items.indexOf(item), 1);
 }
 
-function digestOf(card, kind) {
-  const row = $("digest").content.firstElementChild.cloneNode(true);
-  const value = card.digests[kind];
-  const button = row.querySelector("button");
-  row.querySelector("dt").textContent = NAMES[kind];
-  row.querySelector("code").textContent = value ?? "none: the seed has more than 32 bits";
-  row.classList.toggle("none", !value);
-  row.dataset.kind = kind;
-  button.hidden = !value;
-  button.setAttribute("aria-label", `Copy ${NAMES[kind]} of ${card.name}`);
-  button.addEventListener("click", () => copy(value, button, NAMES[kind]));
-  return row;
+let comparing;
+let lastComparing = 0;
+
+/** Shows all that depends on more than one card. */
+function compare() {
+  clearTimeout(comparing);
+  comparing = undefined;
+  const started = performance.now();
+  const all = text ? [text, ...files] : files;
+  const verdicts = [compareWithField(all), ...checklists.map((checklist) => checklist.compare(files))];
+  for (const card of all) card.judge(verdicts.map((them) => them.get(card)).filter(Boolean));
+  showActions();
+  lastComparing = performance.now() - started;
 }
 
-async function copy(value, button, name) {
-  try {
-    await navigator.clipboard.writeText(value);
-    button.textContent = "Copied";
-    say(`${name} copied`);
-    setTimeout(() => { button.textContent = "Copy"; }, 1500);
-  } catch {
-    getSelection().selectAllChildren(button.previousElementSibling);
-    say(`${name} is selected: this browser doesn't let the page copy it`);
-  }
+function showActions() {
+  const isBusy = files.some((card) => card.isBusy());
+  const hasDigests = files.some((card) => card.digests);
+  $("results").hidden = files.length === 0 && text === null && checklists.length === 0;
+  $("stop-all").hidden = !isBusy;
+  $("again").hidden = files.length === 0 || isBusy;
+  $("lines").hidden = !hasDigests;
+  $("lines-note").hidden = !files.some((card) => card.digests && card.used);
+  showCompact(files.length >= COMPACT_FROM);
 }
 
-// ---- words
-
-function sizeInWords(bytes) {
-  if (bytes < 1000) return bytes === 1 ? "1 byte" : `${Math.round(bytes)} bytes`;
-  const units = ["kB", "MB", "GB", "TB"];
-  let value = bytes / 1000;
-  let unit = 0;
-  while (value >= 999.5 && unit < units.length - 1) {
-    value /= 1000;
-    unit += 1;
-  }
-  return `${value.toPrecision(3)} ${units[unit]}`;
+function showCompact(isCompact) {
+  if (list.isCompact === isCompact) return;
+  list.isCompact = isCompact;
+  $("list").classList.toggle("compact", isCompact);
+  showChosenKind();
 }
 
-function keyInWords(seed, secret) {
-  const words = [];
-  if (seed !== undefined) words.push(`seed ${seed}`);
-  if (secret !== undefined) words.push(`a secret of ${secret.length} bytes`);
-  return words.length ? `, with ${words.join(" and ")}` : "";
-}
-
-/** Has a screen reader say it. */
-function say(words) {
-  $("status").textContent = words;
-}
-
-// ---- seed and secret
-
-/** The seed that is written, undefined where there is none; an error where it is no seed. */
-function readSeed() {
-  const words = $("seed").value.trim();
-  if (words === "") return undefined;
-  if (!/^(0x[0-9a-f]+|[0-9]+)$/i.test(words) || BigInt(words) >= 2n ** 64n) {
-    throw new Error("This is no whole number from 0 to 18446744073709551615, nor one in hexadecimal after 0x.");
-  }
-  return BigInt(words);
-}
-
-/** The secret that is written, undefined where there is none; an error where it is no secret. */
-function readSecret() {
-  const words = $("secret").value;
-  if (words === "") return undefined;
-  const isHex = document.querySelector("[name=form]:checked").value === "hex";
-  const bytes = isHex ? bytesOfHex(words) : new TextEncoder().encode(words);
-  if (bytes.length < SECRET_MINIMUM_LENGTH) {
-    throw new Error(`This secret has ${bytes.length} bytes, and ${SECRET_MINIMUM_LENGTH} are needed.`);
-  }
-  return bytes;
-}
-
-function bytesOfHex(words) {
-  const digits = words.replace(/[\s:]/g, "");
-  const wrong = digits.match(/[^0-9a-f]/i);
-  if (wrong) throw new Error(`"${wrong[0]}" is no hexadecimal digit.`);
-  if (digits.length % 2) throw new Error(`These are ${digits.length} hexadecimal digits, and a byte has two.`);
-  return Uint8Array.from(digits.match(/../g) ?? [], (pair) => parseInt(pair, 16));
-}
-
-/** What a field says, or undefined with its error shown; `isWrong` tells the two kinds of undefined apart. */
-function readField(field, read) {
-  let message = "";
-  let value;
-  try {
-    value = read();
-  } catch (error) {
-    message = error.message;
-  }
-  if ($(`${field}-error`).textContent !== message) $(`${field}-error`).textContent = message;
-  $(field).setAttribute("aria-invalid", String(message !== ""));
-  return { value, isWrong: message !== "" };
-}
-
-/** The seed and the secret, or null where one of them is wrong. */
-function readKey() {
-  const seed = readField("seed", readSeed);
-  const secret = readField("secret", readSecret);
-  return seed.isWrong || secret.isWrong ? null : { seed: seed.value, secret: secret.value };
+function showChosenKind() {
+  for (const card of text ? [text, ...files] : files) card.showDigests();
 }
 
 // ---- what is to be hashed
 
-/** The files, first come first served, and the text. */
-const files = [];
-let text = null;
-
-function addFiles(list) {
-  for (const file of list) {
-    const card = new Card(file.name, file);
-    files.push(card);
-    $("list").append(card.item);
-  }
-  if (list.length) say(list.length === 1 ? `${list[0].name} was added` : `${list.length} files were added`);
-  showActions();
-  startNext();
+/** Adds what was found, checksum files as such, and shows where the results are. */
+async function add(found) {
+  const checks = await Promise.all(found.map(({ file }) => checklistIn(file)));
+  found.forEach(({ path, file, error }, i) => {
+    if (checks[i]) addChecklist(path, file, checks[i]);
+    else addFile(path, file, error);
+  });
+  if (found.length) say(found.length === 1 ? `${found[0].path} was added` : `${counted(found.length, "file")} were added`);
+  $("files-note").textContent = found.length ? "" : "There is no file in it.";
+  compare();
+  list.startNext();
+  if (found.length) showResults();
 }
 
-/** Starts the next file if none runs. With a wrong seed or secret, nothing starts until it is put right. */
-function startNext() {
-  const next = files.find((card) => card.state === "waiting");
-  if (!next || files.some((card) => card.state === "running")) return;
-  const key = readKey();
-  if (key) {
-    next.start(key);
-    return;
+async function checklistIn(file) {
+  if (!file || file.size === 0 || file.size > CHECKLIST_BYTES) return null;
+  try {
+    if (!mayBeList(await file.slice(0, BEGINNING_BYTES).text())) return null;
+  } catch {
+    return null; // what can't be read is told when it is hashed
   }
-  $("key").open = true;
-  next.tell("Waiting for a seed and secret that are right");
+  return readChecklist(file);
+}
+
+function addFile(path, file, error) {
+  const card = new Card(list, path, file ?? new Blob([]));
+  files.push(card);
+  $("list").append(card.item);
+  if (!error) return;
+  card.wait = () => card.end("failed", failureInWords(error));
+  card.wait();
+}
+
+function addChecklist(path, file, lines) {
+  const checklist = new Checklist(list, path, lines);
+  checklist.file = file;
+  checklists.push(checklist);
+  $("checklists").append(checklist.item);
+}
+
+/** On a small screen what was added stands below what is seen. */
+function showResults() {
+  const { top } = $("results").getBoundingClientRect();
+  if (top >= 0 && top < innerHeight * 0.7) return;
+  const isCalm = matchMedia("(prefers-reduced-motion: reduce)").matches;
+  $("results").scrollIntoView({ behavior: isCalm ? "auto" : "smooth" });
 }
 
 function hashText() {
-  if (text?.state === "running") worker.postMessage({ type: "stop", job: text.job });
-  if (text) cards.delete(text.job);
+  if (text?.state === "running") list.stop(text);
+  if (text) list.forget(text);
   const words = $("text").value;
   const key = readKey();
-  if (words === "" || !key) {
+  $("text-error").textContent = words && key.wrong ? `Not hashed: ${key.wrong} must be right first.` : "";
+  if (words === "") {
     removeText();
     return;
   }
   text ??= addText();
   text.hold(new Blob([words]));
-  text.start(key);
+  if (!key.wrong) {
+    text.start(key);
+    return;
+  }
+  text.state = "waiting";
+  text.show(`Waiting for ${key.wrong} to be right`);
 }
 
 function addText() {
-  const card = new Card("Text", new Blob([]));
+  const card = new Card(list, "Text", new Blob([]));
   card.wait = hashText;
   $("list").prepend(card.item);
   return card;
@@ -276,31 +220,42 @@ function addText() {
 function removeText() {
   text?.item.remove();
   text = null;
-  showActions();
-}
-
-function showActions() {
-  $("results").hidden = files.length === 0 && text === null;
-  $("stop-all").hidden = !files.some((card) => card.isBusy());
-  $("again").hidden = files.length === 0 || files.some((card) => card.isBusy());
+  list.changed();
 }
 
 function hashAgain() {
   for (const card of files) card.state = "waiting";
   for (const card of files) card.show("Waiting");
-  startNext();
+  list.startNext();
 }
 
 function clear() {
   for (const card of files.splice(0)) {
-    if (card.state === "running") worker.postMessage({ type: "stop", job: card.job });
-    cards.delete(card.job);
-    card.item.remove();
+    if (card.state === "running") list.stop(card);
+    list.forget(card);
   }
+  checklists.length = 0;
   $("text").value = "";
-  removeText();
+  text = null;
+  $("list").replaceChildren();
+  $("checklists").replaceChildren();
+  compare();
   say("The list is empty");
   $("files").focus();
+}
+
+/** What xxhsum would print of the files, under the hash of the choice. */
+function lines() {
+  return files.map((card) => card.line($("kind").value)).join("");
+}
+
+function save() {
+  const link = document.createElement("a");
+  link.href = URL.createObjectURL(new Blob([lines()], { type: "text/plain" }));
+  link.download = `checksums.${ENDINGS[$("kind").value]}`;
+  link.click();
+  setTimeout(() => URL.revokeObjectURL(link.href), 60_000);
+  say(`${link.download} is saved`);
 }
 
 // ---- what the worker says
@@ -345,22 +300,28 @@ function showUnsupported(message) {
 
 // ---- what the user does
 
-$("files").addEventListener("change", () => {
-  const chosen = [...$("files").files];
-  $("files").value = ""; // so that the same file may be chosen again
-  addFiles(chosen);
-});
+for (const field of [$("files"), $("folder")]) {
+  field.addEventListener("change", () => {
+    const chosen = filesOfInput(field);
+    field.value = ""; // so that the same file may be chosen again
+    add(chosen);
+  });
+}
 $("again").addEventListener("click", hashAgain);
 $("clear").addEventListener("click", clear);
+$("kind").addEventListener("change", showChosenKind);
+$("copy-all").addEventListener("click", () => copy(lines(), $("copy-all"), "all lines"));
+$("save").addEventListener("click", save);
 $("stop-all").addEventListener("click", () => {
   for (const card of files.filter((card) => card.isBusy()).reverse()) card.stop();
 });
+$("expected").addEventListener("input", compare);
 
 let typing;
 for (const field of [$("text"), $("seed"), $("secret"), ...document.querySelectorAll("[name=form]")]) {
   field.addEventListener("input", () => {
     clearTimeout(typing);
-    typing = setTimeout(() => { hashText(); startNext(); }, MILLISECONDS_AFTER_TYPING);
+    typing = setTimeout(() => { hashText(); list.startNext(); }, MILLISECONDS_AFTER_TYPING);
   });
 }
 
@@ -371,8 +332,10 @@ addEventListener("dragover", (event) => {
 addEventListener("dragleave", (event) => {
   if (!event.relatedTarget) document.body.classList.remove("dropping");
 });
-addEventListener("drop", (event) => {
+addEventListener("drop", async (event) => {
   event.preventDefault();
   document.body.classList.remove("dropping");
-  if (!$("files").disabled) addFiles([...event.dataTransfer.files]);
+  if (!$("files").disabled) add(await filesOfDrop(event.dataTransfer));
 });
+
+$("asleep").remove();

@@ -35,6 +35,8 @@ export type ErrorCode =
   | "seed"
   | "secret"
   | "options"
+  | "value"
+  | "state"
   | "freed"
   | "memory";
 
@@ -48,13 +50,24 @@ export class TwoxHashError extends Error {
 /** Whether WebAssembly runs here with 64-bit addresses, which the module needs. */
 export function isSupported(): boolean;
 
+/** The WebAssembly module, or where it is. */
+export type Source = URL | string | Response | BufferSource | WebAssembly.Module;
+
 /**
  * Makes the calls ready. A second call waits for the first one and reads nothing.
  *
- * @param source the module; left out, it is read from `out/twox_hash.wasm` beside this file
+ * @param source the module, or a function that gives it; left out, it is read from `out/twox_hash.wasm` beside this
+ *     file
  * @throws {TwoxHashError} `unsupported`, `load`
  */
-export function load(source?: URL | string | Response | BufferSource | WebAssembly.Module): Promise<void>;
+export function load(source?: Source | (() => Source | Promise<Source>)): Promise<void>;
+
+/**
+ * The value with all digits of its hash, zeros in front among them: 8, 16 or 32.
+ *
+ * @throws {TwoxHashError} `value`, `kind`
+ */
+export function toHex(value: bigint, kind: Kind): string;
 
 /** XXH32 of the bytes, below 2^32. */
 export function xxh32(input: Bytes, seed?: Seed): bigint;
@@ -78,6 +91,14 @@ export class Stream {
   update(piece: Bytes): this;
   /** The hash of the bytes taken so far; more may follow. A stream of XXH3 answers both widths. */
   digest(kind?: Kind): bigint;
+  /** The stream's state as bytes, from which `Stream.load` goes on. A secret that was handed over isn't among them. */
+  save(): Uint8Array;
+  /**
+   * A stream that goes on from where another was saved, with the secret that it was started with, if there was one.
+   *
+   * @throws {TwoxHashError} `state` where no stream leads to these bytes, `secret` where it is another one
+   */
+  static load(saved: Bytes, options?: { secret?: Bytes }): Stream;
   /** Gives the stream's memory back. Later calls of it are refused. */
   free(): void;
 }

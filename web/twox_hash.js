@@ -1,10 +1,11 @@
 /**
- * XXH32, XXH64 and XXH3 of 64 and 128 bits in a browser or in Node, by the WebAssembly module that is built of the
- * proved crate `twox_web`. This file only carries bytes to the module and values back: it is tested, not proved.
+ * XXH32, XXH64 and XXH3 of 64 and 128 bits by the WebAssembly module that is built of the proved crate `twox_web`.
+ * This file only carries bytes to the module and values back: it is tested, not proved. It asks for nothing but what
+ * browsers have; node.js and inline.js load the module in other ways.
  *
- *     import { load, xxh64, Stream } from "./twox_hash.js";
+ *     import { load, toHex, xxh64 } from "./twox_hash.js";
  *     await load();
- *     xxh64(new TextEncoder().encode("some bytes"), 1234n).toString(16); // eab55659a496d78b
+ *     toHex(xxh64(new TextEncoder().encode("some bytes"), 1234n), "xxh64"); // eab55659a496d78b
  */
 
 /** What a call of the module answers, as the crate `twox_web` names it. */
@@ -30,6 +31,9 @@ const SMALLEST_ROOM = 256;
 /** The hashes. */
 export const KINDS = Object.freeze(["xxh32", "xxh64", "xxh3_64", "xxh3_128"]);
 
+/** The stream that computes a hash: one of XXH3 answers both widths. */
+const FAMILY = { xxh32: "xxh32", xxh64: "xxh64", xxh3_64: "xxh3", xxh3_128: "xxh3" };
+
 /** Bits of each hash's value and of its seed. */
 const VALUE_BITS = { xxh32: 32, xxh64: 64, xxh3_64: 64, xxh3_128: 128 };
 const SEED_BITS = { xxh32: 32, xxh64: 64, xxh3_64: 64, xxh3_128: 64 };
@@ -45,6 +49,8 @@ const SEED_BITS = { xxh32: 32, xxh64: 64, xxh3_64: 64, xxh3_128: 64 };
  * - `"seed"`: the seed isn't a whole number of the hash's range.
  * - `"secret"`: the secret isn't bytes, has fewer than 136 of them, or the hash takes none.
  * - `"options"`: the options aren't an object, or have a name that is not known.
+ * - `"value"`: the value isn't one of the hash.
+ * - `"state"`: the bytes aren't a stream's saved state.
  * - `"freed"`: the stream was freed.
  * - `"memory"`: there is no more memory.
  */
@@ -70,19 +76,14 @@ let loading = null;
 /**
  * Makes the calls of this file ready. A second call waits for the first one and reads nothing.
  *
- * @param {URL | string | Response | BufferSource | WebAssembly.Module} [source] the module; left out, it is read
- *     from `out/twox_hash.wasm` beside this file
+ * @param {Source | (() => Source | Promise<Source>)} [source] the module, where `Source` is
+ *     `URL | string | Response | BufferSource | WebAssembly.Module`; left out, it is fetched from
+ *     `out/twox_hash.wasm` beside this file
  * @returns {Promise<void>}
  */
-export async function load(source = new URL("out/twox_hash.wasm", import.meta.url)) {
+export async function load(source = besideThisFile) {
   if (loaded) return;
-  if (!isSupported()) {
-    throw new TwoxHashError(
-      "unsupported",
-      "This browser has no 64-bit WebAssembly memory, which the proved module needs. "
-        + "Chrome and Edge have it from version 133 on, Firefox from 134 on.",
-    );
-  }
+  if (!isSupported()) throw new TwoxHashError("unsupported", lackInWords());
   loading ??= instantiate(source).then((exports) => { loaded = new Room(exports); });
   try {
     await loading;
@@ -93,8 +94,24 @@ export async function load(source = new URL("out/twox_hash.wasm", import.meta.ur
   }
 }
 
+function lackInWords() {
+  const node = globalThis.process?.versions?.node;
+  if (!node) {
+    return "This browser has no 64-bit WebAssembly memory, which the proved module needs. "
+      + "Chrome and Edge have it from version 133 on, Firefox from 134 on.";
+  }
+  return `Node ${node} runs without 64-bit WebAssembly memory, which the proved module needs. `
+    + "Node has it from version 24 on, and before that with the flag --experimental-wasm-memory64.";
+}
+
+/** Bundlers find the module by this very expression, and put it beside what they write. */
+function besideThisFile() {
+  return new URL("out/twox_hash.wasm", import.meta.url);
+}
+
 async function instantiate(source) {
-  const compiled = source instanceof WebAssembly.Module ? source : await WebAssembly.compile(await bytesOf(source));
+  const given = typeof source === "function" ? await source() : source;
+  const compiled = given instanceof WebAssembly.Module ? given : await WebAssembly.compile(await bytesOf(given));
   const { exports } = await WebAssembly.instantiate(compiled, {});
   if (typeof exports.twox_xxh3_update !== "function") {
     throw new TwoxHashError("load", "This WebAssembly module isn't the one of the crate twox_web.");
@@ -105,8 +122,9 @@ async function instantiate(source) {
 async function bytesOf(source) {
   if (source instanceof ArrayBuffer || ArrayBuffer.isView(source)) return source;
   if (typeof Response === "function" && source instanceof Response) return fetched(source);
-  const url = new URL(source, import.meta.url);
-  if (url.protocol === "file:") return (await import("node:fs/promises")).readFile(url);
+  // Where a bundle has no address of its own, a name counts from the page.
+  const url = new URL(source, import.meta.url ?? globalThis.location?.href);
+  if (url.protocol === "file:") throw new Error(`${url} is a file, which node.js reads and a page can't`);
   return fetched(await fetch(url));
 }
 
@@ -258,7 +276,7 @@ function asKey(kind, options) {
 }
 
 function isXxh3(kind) {
-  return kind === "xxh3_64" || kind === "xxh3_128";
+  return FAMILY[kind] === "xxh3";
 }
 
 /** Turns a code of the module into an error. This file tests all before it calls, so none is met. */
@@ -267,6 +285,24 @@ function refuse(code) {
   if (code === SECRET_TOO_SHORT) throw new TwoxHashError("secret", "The module refused the secret as too short.");
   if (code === NOT_A_STREAM) throw new TwoxHashError("kind", "The module found no stream there.");
   throw new TwoxHashError("load", `The module answered the unknown code ${code}.`);
+}
+
+/**
+ * The value with all digits of its hash, zeros in front among them.
+ *
+ * @param {bigint} value what a call answered
+ * @param {"xxh32" | "xxh64" | "xxh3_64" | "xxh3_128"} kind the hash that it is of
+ * @returns {string} 8, 16 or 32 digits
+ */
+export function toHex(value, kind) {
+  const bits = VALUE_BITS[asKind(kind)];
+  if (typeof value !== "bigint") {
+    throw new TwoxHashError("value", `The value must be a BigInt, and not ${nameOf(value)}.`);
+  }
+  if (value < 0n || value >> BigInt(bits)) {
+    throw new TwoxHashError("value", `The value ${value} isn't from 0 to 2^${bits} - 1, as those of ${kind} are.`);
+  }
+  return value.toString(16).padStart(bits / 4, "0");
 }
 
 // ---- one-shots
@@ -380,8 +416,10 @@ function giveBack(rooms) {
   for (const [start, length] of rooms) loaded.give(start, length);
 }
 
-/** How each hash's record is made, and which export goes on and ends. */
-const FAMILY = { xxh32: "xxh32", xxh64: "xxh64", xxh3_64: "xxh3", xxh3_128: "xxh3" };
+/** The length of a stream's record, in bytes. */
+function recordLength({ exports }, kind) {
+  return Number(exports[`twox_${FAMILY[kind]}_stream_size`]());
+}
 
 /** Has a stream take bytes that lie in the module's memory; no method, so that callers don't. */
 let updateFromMemory;
@@ -391,6 +429,7 @@ export class Stream {
   #kind;
   #record;
   #secret = [];
+  #hasOwnSecret = false;
   #rooms = [];
 
   static {
@@ -408,7 +447,7 @@ export class Stream {
     const memory = room();
     this.#kind = asKind(kind);
     const key = asKey(kind, options);
-    this.#record = this.#take(Number(memory.exports[`twox_${FAMILY[kind]}_stream_size`]()));
+    this.#record = this.#take(recordLength(memory, kind));
     if (isXxh3(kind)) this.#startXxh3(memory, key);
     else this.#startPlain(memory, key);
     lost.register(this, this.#rooms, this);
@@ -441,8 +480,59 @@ export class Stream {
     if (FAMILY[asKind(kind)] !== FAMILY[this.#kind]) {
       throw new TwoxHashError("kind", `A stream of ${this.#kind} answers no ${kind}.`);
     }
-    refuse(memory.exports[`twox_${kind}_digest`](this.#record, ...this.#secret, BigInt(memory.value)));
+    refuse(this.#digestCode(memory, kind));
     return memory.written(VALUE_BITS[kind]);
+  }
+
+  /**
+   * The stream's state as bytes, from which `Stream.load` goes on. A secret that was handed over isn't among them.
+   *
+   * @returns {Uint8Array}
+   */
+  save() {
+    const memory = this.#room();
+    const start = Number(this.#record);
+    const record = memory.bytes.slice(start, start + recordLength(memory, this.#kind));
+    return savedOf(this.#kind, record, this.#hasOwnSecret ? this.#digestOfSecret(memory) : undefined);
+  }
+
+  /**
+   * A stream that goes on from where another was saved.
+   *
+   * @param {BufferSource} saved what `save` gave
+   * @param {{ secret?: BufferSource }} [options] the secret that the stream was started with, where one was
+   * @returns {Stream}
+   */
+  static load(saved, options = {}) {
+    const memory = room();
+    const state = readSaved(memory, asBytes(saved, "state", "The saved state"));
+    const { seed } = options ?? {};
+    if (seed !== undefined) throw new TwoxHashError("options", "The seed is part of the saved state.");
+    const { secret } = asKey(state.kind, options);
+    const stream = new Stream(state.kind, secret === undefined ? { seed: state.seed } : { secret });
+    try {
+      stream.#goOnFrom(memory, state);
+      return stream;
+    } catch (error) {
+      stream.free();
+      throw error;
+    }
+  }
+
+  #goOnFrom(memory, { record, digestOfSecret }) {
+    const digest = this.#hasOwnSecret ? this.#digestOfSecret(memory) : undefined;
+    if (digest !== digestOfSecret) throw new TwoxHashError("secret", secretInWords(digest, digestOfSecret));
+    memory.put(Number(this.#record), record);
+    if (this.#digestCode(memory) !== DONE) throw notAState("no bytes lead to it");
+  }
+
+  #digestOfSecret({ exports }) {
+    return BigInt.asUintN(64, exports.twox_xxh64(0n, ...this.#secret));
+  }
+
+  // What the module says of the record, with the digest at the value's place.
+  #digestCode(memory, kind = this.#kind) {
+    return memory.exports[`twox_${kind}_digest`](this.#record, ...this.#secret, BigInt(memory.value));
   }
 
   /** Gives the stream's memory back. Later calls of it are refused. */
@@ -476,6 +566,7 @@ export class Stream {
     const at = this.#take(secret.length);
     memory.put(Number(at), secret);
     this.#secret = [at, BigInt(secret.length)];
+    this.#hasOwnSecret = true;
     if (seed === undefined) refuse(calls.twox_xxh3_start_with_secret(this.#record, ...this.#secret));
     else refuse(calls.twox_xxh3_start_with_seed_and_secret(this.#record, seed, ...this.#secret));
   }
@@ -510,4 +601,80 @@ export function updateAll(streams, piece) {
     for (const stream of all) updateFromMemory(stream, BigInt(memory.chunk), BigInt(chunk.length));
     at += chunk.length;
   } while (at < bytes.length);
+}
+
+// ---- saved states
+
+// A state is a head, the stream's record as it lies in the module's memory, and the XXH64 of both. The head is the
+// mark with the format's version, the number of the hash among KINDS, whether an own secret is needed, six zeros, and
+// the XXH64 of that secret. Numbers are little-endian.
+const MARK = new TextEncoder().encode("twoxhsh1");
+const HEAD_BYTES = 24;
+const KIND_AT = 8;
+const NEEDS_SECRET_AT = 9;
+const DIGEST_OF_SECRET_AT = 16;
+const CHECK_BYTES = 8;
+
+/** Where the number of seeds and the seed lie in a record of XXH3: 1 and a seed, or 0 for the secret alone. */
+const SEEDS_AT = 0;
+const SEED_AT = 8;
+
+/** The bytes of a record that belong to none of its fields. */
+const PADDING = { xxh32: [44, 48] };
+
+function savedOf(kind, record, digestOfSecret) {
+  const saved = new Uint8Array(HEAD_BYTES + record.length + CHECK_BYTES);
+  const view = new DataView(saved.buffer);
+  saved.set(MARK);
+  saved[KIND_AT] = KINDS.indexOf(kind);
+  if (digestOfSecret !== undefined) {
+    saved[NEEDS_SECRET_AT] = 1;
+    view.setBigUint64(DIGEST_OF_SECRET_AT, digestOfSecret, true);
+  }
+  saved.set(record, HEAD_BYTES);
+  saved.subarray(HEAD_BYTES).fill(0, ...(PADDING[kind] ?? [0, 0]));
+  view.setBigUint64(saved.length - CHECK_BYTES, xxh64(saved.subarray(0, -CHECK_BYTES)), true);
+  return saved;
+}
+
+/** What a saved state says, where its form is right. Whether bytes lead to its record is asked of the module. */
+function readSaved(memory, saved) {
+  const view = new DataView(saved.buffer, saved.byteOffset, saved.byteLength);
+  if (saved.length < HEAD_BYTES || MARK.some((byte, i) => saved[i] !== byte)) throw notAState("its mark isn't there");
+  const kind = KINDS[saved[KIND_AT]];
+  if (kind === undefined) throw notAState("its hash is none of the four");
+  const length = HEAD_BYTES + recordLength(memory, kind) + CHECK_BYTES;
+  if (saved.length !== length) throw notAState(`it has ${saved.length} bytes, and one of ${kind} has ${length}`);
+  const record = new Uint8Array(saved.subarray(HEAD_BYTES, length - CHECK_BYTES));
+  const digestOfSecret = saved[NEEDS_SECRET_AT] ? view.getBigUint64(DIGEST_OF_SECRET_AT, true) : undefined;
+  if (!sameBytes(savedOf(kind, record, digestOfSecret), saved)) throw notAState("it was changed");
+  return { kind, record, digestOfSecret, seed: seedIn(kind, record, digestOfSecret) };
+}
+
+/** The seed from which the secret of a stream of XXH3 is derived anew; undefined where there is no need. */
+function seedIn(kind, record, digestOfSecret) {
+  if (!isXxh3(kind)) {
+    if (digestOfSecret !== undefined) throw notAState(`${kind} takes no secret`);
+    return undefined;
+  }
+  const view = new DataView(record.buffer);
+  const seeds = view.getBigUint64(SEEDS_AT, true);
+  if (seeds > 1n) throw notAState(`it has ${seeds} seeds`);
+  if (digestOfSecret !== undefined) return undefined;
+  if (seeds === 0n) throw notAState("it has neither a seed nor a secret");
+  return view.getBigUint64(SEED_AT, true);
+}
+
+function sameBytes(left, right) {
+  return left.length === right.length && left.every((byte, i) => byte === right[i]);
+}
+
+function notAState(why) {
+  return new TwoxHashError("state", `These bytes are no saved state: ${why}.`);
+}
+
+function secretInWords(given, needed) {
+  if (needed === undefined) return "The saved stream has no secret of its own, and one was given.";
+  if (given === undefined) return "The saved stream goes on with the secret alone that it was started with.";
+  return "The saved stream was started with another secret.";
 }

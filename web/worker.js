@@ -8,7 +8,7 @@
  * side, one piece of each in turn. Once, before all else, it says `ready` or `unsupported`. The size is what the blob
  * had when it was chosen: one that has another size by now fails.
  */
-import { load, Stream, updateAll } from "./twox_hash.js";
+import { load, Stream, toHex, updateAll } from "./twox_hash.js";
 
 const PIECE_BYTES = 8 * 1024 * 1024;
 const READS_AHEAD = 2;
@@ -52,15 +52,11 @@ function streamsFor(seed, secret) {
 
 function digestsOf({ xxh32, xxh64, xxh3 }) {
   return {
-    xxh32: xxh32 && digits(xxh32.digest(), 32),
-    xxh64: digits(xxh64.digest(), 64),
-    xxh3_64: digits(xxh3.digest("xxh3_64"), 64),
-    xxh3_128: digits(xxh3.digest("xxh3_128"), 128),
+    xxh32: xxh32 && toHex(xxh32.digest(), "xxh32"),
+    xxh64: toHex(xxh64.digest(), "xxh64"),
+    xxh3_64: toHex(xxh3.digest("xxh3_64"), "xxh3_64"),
+    xxh3_128: toHex(xxh3.digest("xxh3_128"), "xxh3_128"),
   };
-}
-
-function digits(value, bits) {
-  return value.toString(16).padStart(bits / 4, "0");
 }
 
 /** Has the streams take all pieces, and answers whether the job wasn't stopped before. */

@@ -1,11 +1,12 @@
 /* Compares two libraries of these calls in one process, on calls and streams drawn at random:
  *
- *     calls REFERENCE OURS COUNT [--limits]
+ *     calls REFERENCE OURS COUNT [--limits | --freed]
  *
  * Each input ends where memory that nobody may read begins, and so does each secret. Of streams each digest on the
  * way is compared, with cuts, copies and resets. What the reference leaves undefined is asked of ours alone:
  * secrets that are too short, states that were never reset. --limits adds inputs and streams of more than 4 GiB, and
- * states where no memory is left.
+ * states where no memory is left. --freed asks in place of all that for memory which held a state and was freed; it is
+ * not for valgrind, since nobody has written to such memory.
  * It prints a line for each group and the first differences, and answers 1 where there is one.
  */
 #define _GNU_SOURCE
@@ -20,6 +21,9 @@
 #include <sys/resource.h>
 #include <unistd.h>
 #include "xxhash.h"
+#ifdef __x86_64__
+#include "xxh_x86dispatch.h"
+#endif
 
 #define EACH_CALL(X) \
     X(XXH_versionNumber) \
@@ -35,11 +39,19 @@
     X(XXH3_128bits_reset) X(XXH3_128bits_reset_withSeed) X(XXH3_128bits_reset_withSecret) \
     X(XXH3_128bits_reset_withSecretandSeed) X(XXH3_128bits_update) X(XXH3_128bits_digest) \
     X(XXH128_isEqual) X(XXH128_cmp) X(XXH128_canonicalFromHash) X(XXH128_hashFromCanonical) \
-    X(XXH3_generateSecret_fromSeed) \
+    X(XXH3_generateSecret) X(XXH3_generateSecret_fromSeed) \
+    EACH_DISPATCHED_CALL(X)
+
+/* The C library has these on x86-64 alone. */
+#ifdef __x86_64__
+#define EACH_DISPATCHED_CALL(X) \
     X(XXH3_64bits_dispatch) X(XXH3_64bits_withSeed_dispatch) X(XXH3_64bits_withSecret_dispatch) \
     X(XXH3_64bits_update_dispatch) \
     X(XXH3_128bits_dispatch) X(XXH3_128bits_withSeed_dispatch) X(XXH3_128bits_withSecret_dispatch) \
     X(XXH3_128bits_update_dispatch)
+#else
+#define EACH_DISPATCHED_CALL(X)
+#endif
 
 struct library {
 #define MEMBER(name) __typeof__(&name) name;
@@ -181,17 +193,19 @@ static void oneshots(const void *p, size_t n, uint64_t seed, const void *secret,
     SAME(XXH3_64bits_withSeed(p, n, seed), n);
     SAME(XXH3_64bits_withSecret(p, n, secret, m), n);
     SAME(XXH3_64bits_withSecretandSeed(p, n, secret, m, seed), n);
-    SAME(XXH3_64bits_dispatch(p, n), n);
-    SAME(XXH3_64bits_withSeed_dispatch(p, n, seed), n);
-    SAME(XXH3_64bits_withSecret_dispatch(p, n, secret, m), n);
     SAME_128(XXH3_128bits(p, n), n);
     SAME_128(XXH3_128bits_withSeed(p, n, seed), n);
     SAME_128(XXH3_128bits_withSecret(p, n, secret, m), n);
     SAME_128(XXH3_128bits_withSecretandSeed(p, n, secret, m, seed), n);
     SAME_128(XXH128(p, n, seed), n);
+#ifdef __x86_64__
+    SAME(XXH3_64bits_dispatch(p, n), n);
+    SAME(XXH3_64bits_withSeed_dispatch(p, n, seed), n);
+    SAME(XXH3_64bits_withSecret_dispatch(p, n, secret, m), n);
     SAME_128(XXH3_128bits_dispatch(p, n), n);
     SAME_128(XXH3_128bits_withSeed_dispatch(p, n, seed), n);
     SAME_128(XXH3_128bits_withSecret_dispatch(p, n, secret, m), n);
+#endif
 }
 
 static void random_oneshots(void)
@@ -281,8 +295,10 @@ static void reset_3(struct pair_3 a, int wide, const void *secret, size_t m, uin
 static void update_3(struct pair_3 a, int wide, const void *p, size_t n)
 {
     switch (below(8) + (wide ? 8 : 0)) {
+#ifdef __x86_64__
     case 0: BOTH(a, XXH3_64bits_update_dispatch, p, n); break;
     case 8: BOTH(a, XXH3_128bits_update_dispatch, p, n); break;
+#endif
     default:
         if (wide) BOTH(a, XXH3_128bits_update, p, n);
         else BOTH(a, XXH3_64bits_update, p, n);
@@ -359,6 +375,22 @@ static void secrets_of_seeds(void)
     tell(!memcmp(a, b, sizeof a), "XXH3_generateSecret_fromSeed");
 }
 
+/* A secret of a custom seed, in a room that ends at memory which may not be read, and too short for one in ten. The
+ * bytes before the room stay as they are. */
+static void generated_secrets(void)
+{
+    static unsigned char theirs[16 + 1000];
+    size_t n = below(10) ? XXH3_SECRET_SIZE_MIN + below(865) : below(XXH3_SECRET_SIZE_MIN);
+    size_t m = below(20) ? below(600) : 0;
+    const unsigned char *seed = m || below(2) ? input_of(m) : NULL;
+    unsigned char *room = secret_room + ROOM - n;
+    memcpy(theirs, room - 16, 16 + n);
+    XXH_errorcode code = ours.XXH3_generateSecret(room, n, seed, m);
+    tell(code == reference.XXH3_generateSecret(theirs + 16, n, seed, m), "XXH3_generateSecret, %zu of %zu: %d", n, m,
+         (int)code);
+    tell(!memcmp(room - 16, theirs, 16 + n), "XXH3_generateSecret, %zu of %zu", n, m);
+}
+
 /* ---- Every length of a secret ---- */
 
 static void every_secret_length(void)
@@ -398,17 +430,21 @@ static void refused_secrets(void)
     ours.XXH3_freeState(state);
 }
 
-/* A secret and the seed 0, of 128 bits: the reference's one-shot takes the default secret for up to 240 bytes, its
- * stream the secret given. Ours takes the default secret in both. */
+/* A secret and the seed 0, of 128 bits: the reference's one-shot takes the default secret for up to 240 bytes, and its
+ * digest the secret given, whichever call reset the stream. Ours takes the default secret in both. */
 static void seed_0_and_secret(void)
 {
     XXH3_state_t *state = ours.XXH3_createState();
     for (size_t n = 0; n < 600; n++) {
         const unsigned char *p = input_of(n), *secret = secret_of(192);
-        ours.XXH3_128bits_reset_withSecretandSeed(state, secret, 192, 0);
-        ours.XXH3_128bits_update(state, p, n);
-        tell(same_128(ours.XXH3_128bits_digest(state), reference.XXH3_128bits_withSecretandSeed(p, n, secret, 192, 0)),
-             "a stream of %zu bytes with a secret and the seed 0", n);
+        for (int wide = 0; wide < 2; wide++) {
+            if (wide) ours.XXH3_128bits_reset_withSecretandSeed(state, secret, 192, 0);
+            else ours.XXH3_64bits_reset_withSecretandSeed(state, secret, 192, 0);
+            ours.XXH3_128bits_update(state, p, n);
+            XXH128_hash_t wanted = reference.XXH3_128bits_withSecretandSeed(p, n, secret, 192, 0);
+            tell(same_128(ours.XXH3_128bits_digest(state), wanted), "%zu bytes with a secret and the seed 0, reset %d",
+                 n, wide);
+        }
     }
     ours.XXH3_freeState(state);
 }
@@ -441,6 +477,35 @@ static void null_inputs(void)
     BOTH(no_32, XXH32_freeState);
     BOTH(no_64, XXH64_freeState);
     BOTH(no_3, XXH3_freeState);
+}
+
+/* A null state or secret that the reference refuses. A state of ours stays as it was, and so does a room. */
+static void null_refused(void)
+{
+    struct pair_3 none = { NULL, NULL }, a = CREATE(XXH3);
+    unsigned char room[2][192] = { { 0 } }, *const null = NULL;
+    BOTH(none, XXH3_64bits_reset);
+    BOTH(none, XXH3_64bits_reset_withSeed, 3);
+    BOTH(none, XXH3_64bits_reset_withSecret, secret_of(192), 192);
+    BOTH(none, XXH3_64bits_reset_withSecretandSeed, secret_of(192), 192, 3);
+    BOTH(none, XXH3_128bits_reset);
+    BOTH(none, XXH3_128bits_reset_withSeed, 3);
+    BOTH(none, XXH3_128bits_reset_withSecret, secret_of(192), 192);
+    BOTH(none, XXH3_128bits_reset_withSecretandSeed, secret_of(192), 192, 3);
+    ours.XXH3_64bits_reset_withSeed(a.ours, 11);
+    XXH64_hash_t before = ours.XXH3_64bits_digest(a.ours);
+    for (size_t m = 0; m <= 192; m += 192) {
+        BOTH(a, XXH3_64bits_reset_withSecret, null, m);
+        BOTH(a, XXH3_64bits_reset_withSecretandSeed, null, m, 3);
+        BOTH(a, XXH3_128bits_reset_withSecret, null, m);
+        BOTH(a, XXH3_128bits_reset_withSecretandSeed, null, m, 3);
+    }
+    tell(ours.XXH3_64bits_digest(a.ours) == before, "a null secret changes the state");
+    BOTH(a, XXH3_freeState);
+    SAME(XXH3_generateSecret(null, 192, secret_of(9), 9), 192);
+    tell(ours.XXH3_generateSecret(room[0], 192, null, 9) == reference.XXH3_generateSecret(room[1], 192, null, 9),
+         "XXH3_generateSecret of a null seed");
+    tell(!memcmp(room[0], room[1], 192), "XXH3_generateSecret of a null seed writes");
 }
 
 /* ---- States of ours: of each kind, with the value that the reference has for the same bytes ---- */
@@ -560,6 +625,62 @@ static void state_never_reset(enum kind kind)
     freed(kind, state);
 }
 
+/* ---- Memory of a state that was freed ---- */
+
+/* malloc gives the memory of a state that was just freed, whose rest is what free left of it: it is no state. Answers
+ * whether it was that memory. */
+static int freed_memory(enum kind kind)
+{
+    void *state = created(kind);
+    uintptr_t place = (uintptr_t)state;
+    size_t size = malloc_usable_size(state), n = random_length();
+    reset(kind, state, 5);
+    update(kind, state, input_of(n), n);
+    freed(kind, state);
+    void *memory = malloc(size);
+    if (!memory) fail("no memory");
+    tell(update(kind, memory, input_of(n), n) == XXH_ERROR, "kind %d is served after it was freed", (int)kind);
+    int same = (uintptr_t)memory == place;
+    free(memory);
+    return same;
+}
+
+static void all_freed_memory(long count)
+{
+    long same[KINDS] = { 0 };
+    for (long i = 0; i < count; i++) same[i % KINDS] += freed_memory((enum kind)(i % KINDS));
+    for (int kind = 0; kind < KINDS; kind++) tell(same[kind] > 0, "malloc gives no freed memory of kind %d", kind);
+    group("memory of states that were freed");
+}
+
+/* ---- Every length to 1,100 ---- */
+
+static void stream_in_pieces(enum kind kind, size_t n, size_t piece)
+{
+    void *state = created(kind);
+    uint32_t seed = (uint32_t)random_seed();
+    reset(kind, state, seed);
+    for (size_t at = 0; at < n; at += piece) update(kind, state, input_room + at, n - at < piece ? n - at : piece);
+    tell(same_128(digest(kind, state), value(kind, input_room, n, seed)), "kind %d, %zu bytes in pieces of %zu",
+         (int)kind, n, piece);
+    freed(kind, state);
+}
+
+/* One-shots beside the reference's, where the input begins at one of four alignments; streams of ours in pieces of one
+ * length, or whole, beside the reference's one-shots. */
+static void every_length(void)
+{
+    static const size_t places[] = { 0, 1, 6, 12 }, pieces[] = { 1, 7, 64, 255, 256, 257, 1024, 5000 };
+    for (size_t n = 0; n <= 1100; n++) {
+        for (size_t i = 0; i < sizeof places / sizeof *places; i++) {
+            size_t m = 136 + below(400);
+            oneshots(input_room + places[i], n, random_seed(), secret_of(m), m);
+        }
+        for (int kind = 0; kind < KINDS; kind++)
+            for (size_t i = 0; i < sizeof pieces / sizeof *pieces; i++) stream_in_pieces((enum kind)kind, n, pieces[i]);
+    }
+}
+
 /* ---- Threads ---- */
 
 #define THREADS 8
@@ -661,8 +782,9 @@ static void huge(void)
 
 int main(int argc, char **argv)
 {
-    if (argc < 4 || atol(argv[3]) < 1 || (argc > 4 && strcmp(argv[4], "--limits"))) {
-        fprintf(stderr, "usage: calls REFERENCE OURS COUNT [--limits]\n");
+    int limits = argc == 5 && !strcmp(argv[4], "--limits"), after_free = argc == 5 && !strcmp(argv[4], "--freed");
+    if (argc != (limits || after_free ? 5 : 4) || atol(argv[3]) < 1) {
+        fprintf(stderr, "usage: calls REFERENCE OURS COUNT [--limits | --freed]\n");
         return 2;
     }
     long count = atol(argv[3]);
@@ -670,22 +792,27 @@ int main(int argc, char **argv)
     load(&ours, argv[2]);
     input_room = guarded();
     secret_room = guarded();
+    if (after_free) return all_freed_memory(count), differing != 0;
     SAME(XXH_versionNumber(), 0);
     for (long i = 0; i < count / 2; i++) random_oneshots();
     group("one-shots");
     for (long i = 0; i < count / 2; i++) random_stream();
     group("streams");
-    for (long i = 0; i < count / 10; i++) canonical_forms(), secrets_of_seeds(), null_inputs();
-    group("canonical forms, secrets of seeds, null inputs");
+    for (long i = 0; i < count / 10; i++) canonical_forms(), secrets_of_seeds(), null_inputs(), null_refused();
+    group("canonical forms, secrets of seeds, null pointers");
+    for (long i = 0; i < count; i++) generated_secrets();
+    group("secrets of custom seeds");
     every_secret_length();
     refused_secrets();
     seed_0_and_secret();
     group("secrets of each length");
     for (long i = 0; i < count; i++) created_state((enum kind)(i % KINDS)), state_never_reset((enum kind)(i % KINDS));
     group("states just created, and never reset");
+    every_length();
+    group("each length to 1100");
     threads();
     group("streams of eight threads at once");
-    if (argc > 4) {
+    if (limits) {
         no_memory();
         group("without memory");
         huge();

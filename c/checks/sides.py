@@ -26,8 +26,32 @@ class Side:
         return found
 
     def environment(self, logs, **more):
-        kept = {name: value for name, value in os.environ.items() if not name.startswith(('LD_', 'GLIBC_'))}
-        return {**kept, **self.variables(logs), **more}
+        return {**others(), **self.variables(logs), **more}
+
+    def command(self, words, logs):
+        """How a program is called whose loader writes files with this beginning."""
+        return words
+
+
+class EmulatedSide(Side):
+    """A library for AArch64, on which programs run under qemu. These lie below a folder of packages for arm64, as does
+    all that they read."""
+
+    def __init__(self, name, folder, file, root):
+        super().__init__(name, folder, file)
+        self.root = root
+
+    def environment(self, logs, **more):
+        return {**others(), **more}
+
+    def command(self, words, logs):
+        variables = [word for pair in self.variables(logs).items() for word in ('-E', '='.join(pair))]
+        return ['qemu-aarch64', '-L', self.root, *variables, self.root + words[0], *words[1:]]
+
+
+def others():
+    """The environment without what says how the loader works."""
+    return {name: value for name, value in os.environ.items() if not name.startswith(('LD_', 'GLIBC_'))}
 
 
 def loaded(logs):
@@ -53,8 +77,8 @@ def run(side, words, want_loaded=True, folder=None, **more):
     """Runs a program on a side. It has to load that side's library, and no other."""
     with tempfile.TemporaryDirectory() as room:
         logs = os.path.join(room, 'log')
-        done = subprocess.run(words, env=side.environment(logs, **more), cwd=folder, stdin=subprocess.DEVNULL,
-                              stdout=subprocess.PIPE, stderr=subprocess.STDOUT, timeout=300)
+        done = subprocess.run(side.command(words, logs), env=side.environment(logs, **more), cwd=folder,
+                              stdin=subprocess.DEVNULL, stdout=subprocess.PIPE, stderr=subprocess.STDOUT, timeout=300)
         files = loaded(logs)
     if want_loaded:
         want_library(side, files)

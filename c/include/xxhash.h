@@ -59,10 +59,14 @@ typedef enum {
     XXH_ERROR = 1
 } XXH_errorcode;
 
-/* States of streams. Their size is the library's own affair, so they are made by createState alone. */
-typedef struct XXH32_state_s XXH32_state_t;
-typedef struct XXH64_state_s XXH64_state_t;
-typedef struct XXH3_state_s XXH3_state_t;
+/* States of streams. Their size is the library's own affair, so none lies on the stack or in a struct: where one is
+ * asked for, clang shows these lines, and gcc the message. */
+typedef struct XXH32_state_s XXH32_state_t; /* a state comes from XXH32_createState alone */
+typedef struct XXH64_state_s XXH64_state_t; /* a state comes from XXH64_createState alone */
+typedef struct XXH3_state_s XXH3_state_t; /* a state comes from XXH3_createState alone */
+#if defined(XXH_STATIC_LINKING_ONLY) && defined(__GNUC__) && !defined(__clang__)
+#pragma message "a state comes from createState alone: the size of one on the stack isn't known"
+#endif
 
 /* The bytes of the shortest secret that XXH3 takes. */
 #define XXH3_SECRET_SIZE_MIN 136
@@ -88,7 +92,7 @@ void XXH32_copyState(XXH32_state_t *to, const XXH32_state_t *from);
 XXH_errorcode XXH32_reset(XXH32_state_t *state, XXH32_hash_t seed);
 
 /* Lets the state stand for its bytes and these after them: XXH_OK. A state comes from createState, so it was reset;
- * other memory, which no reset has written, is refused by XXH_ERROR and stays as it is. */
+ * memory without the mark of a reset is refused by XXH_ERROR and stays as it is. */
 XXH_errorcode XXH32_update(XXH32_state_t *state, const void *input, size_t length);
 
 /* The hash of the bytes that the state stands for, which may take more bytes afterwards. 0 of memory that update
@@ -129,7 +133,8 @@ void XXH3_copyState(XXH3_state_t *to, const XXH3_state_t *from);
 
 /* Let the state stand for no bytes, with the seed 0, with a seed, with a secret, or with both as above: XXH_OK. The
  * state keeps a copy of the secret. A secret of fewer than XXH3_SECRET_SIZE_MIN bytes or of more than
- * XXH3_STREAM_SECRET_SIZE_MAX is refused by XXH_ERROR, and the state stays as it is. */
+ * XXH3_STREAM_SECRET_SIZE_MAX, and a null one, are refused by XXH_ERROR, and the state stays as it is. A null state is
+ * refused by XXH_ERROR too. */
 XXH_errorcode XXH3_64bits_reset(XXH3_state_t *state);
 XXH_errorcode XXH3_64bits_reset_withSeed(XXH3_state_t *state, XXH64_hash_t seed);
 XXH_errorcode XXH3_64bits_reset_withSecret(XXH3_state_t *state, const void *secret, size_t secret_length);
@@ -170,21 +175,14 @@ XXH128_hash_t XXH128_hashFromCanonical(const XXH128_canonical_t *bytes);
 
 /* ---- Secrets ---- */
 
+/* Writes a secret of so many bytes that is made of a custom seed of any length: XXH_OK. The default secret stands for
+ * an empty one. Fewer than XXH3_SECRET_SIZE_MIN bytes are refused by XXH_ERROR, and stay as they are. So is a null
+ * room, and a null seed of more than 0 bytes. */
+XXH_errorcode XXH3_generateSecret(void *secret, size_t secret_length, const void *custom_seed,
+                                  size_t custom_seed_length);
+
 /* Writes the XXH3_SECRET_DEFAULT_SIZE bytes of the secret that the seed derives. */
 void XXH3_generateSecret_fromSeed(void *secret, XXH64_hash_t seed);
-
-/* ---- Other names of the calls of XXH3, which the C library has for a choice at run time ---- */
-
-XXH64_hash_t XXH3_64bits_dispatch(const void *input, size_t length);
-XXH64_hash_t XXH3_64bits_withSeed_dispatch(const void *input, size_t length, XXH64_hash_t seed);
-XXH64_hash_t XXH3_64bits_withSecret_dispatch(const void *input, size_t length, const void *secret,
-                                             size_t secret_length);
-XXH_errorcode XXH3_64bits_update_dispatch(XXH3_state_t *state, const void *input, size_t length);
-XXH128_hash_t XXH3_128bits_dispatch(const void *input, size_t length);
-XXH128_hash_t XXH3_128bits_withSeed_dispatch(const void *input, size_t length, XXH64_hash_t seed);
-XXH128_hash_t XXH3_128bits_withSecret_dispatch(const void *input, size_t length, const void *secret,
-                                               size_t secret_length);
-XXH_errorcode XXH3_128bits_update_dispatch(XXH3_state_t *state, const void *input, size_t length);
 
 #ifdef __cplusplus
 }

@@ -1,4 +1,5 @@
-// Measures the module beside the reference library's header built for WebAssembly, and prints a section of Markdown:
+// Measures the module beside the reference library's header built for WebAssembly, and prints rows as bench/measured.py
+// describes them:
 //
 //     node web/bench_c/run.mjs OURS PEER64 PEER32
 //
@@ -112,15 +113,14 @@ function cell(modules, kind, length) {
   return taken;
 }
 
-function inWords(length) {
-  if (length < 1024) return `${length} B`;
-  return length < 1 << 20 ? `${length / 1024} KiB` : `${length / (1 << 20)} MiB`;
-}
-
-function row(length, taken) {
-  const ratio = (peer) => median(taken[peer].map((time, i) => time / taken.ours[i])).toFixed(2);
+function row(name, length, taken) {
+  const peers = ["c_wasm64", "c_wasm32"].map((peer) => {
+    const ratios = taken[peer].map((time, i) => time / taken.ours[i]);
+    const best = Math.min(...taken[peer]) / Math.min(...taken.ours);
+    return `${peer}=${median(ratios).toFixed(2)}/${spread(ratios)}/${best.toFixed(2)}`;
+  });
   const speed = (length / median(taken.ours)).toFixed(2);
-  return `| ${inWords(length)} | ${speed} | ${ratio("c_wasm64")} | ${ratio("c_wasm32")} | ${spread(taken.ours)}% |`;
+  return ["wasm", "oneshot", name, length, speed, spread(taken.ours), ...peers].join("\t");
 }
 
 const [ours, peer64, peer32] = process.argv.slice(2);
@@ -130,13 +130,6 @@ const modules = {
   c_wasm64: await open(peer64, input, peerOf),
   c_wasm32: await open(peer32, input, peerOf),
 };
-console.log(`## WebAssembly
-
-One-shots under the seed 0, called from JavaScript in Node ${process.versions.node}, on one thread: the module that the
-page has, and the reference library's header built by clang for WebAssembly with 64-bit addresses, as the module has
-them, and with 32-bit ones. None of the three has vectors. A ratio is the peer's time over ours; a spread is that of the
-middle half of ${ROUNDS} rounds.`);
 for (const [kind, name] of Object.entries(NAMES)) {
-  console.log(`\n### ${name}\n\n| length | ours GB/s | c_wasm64 | c_wasm32 | spread |\n|---|---|---|---|---|`);
-  for (const length of LENGTHS) console.log(row(length, cell(modules, kind, length)));
+  for (const length of LENGTHS) console.log(row(name, length, cell(modules, kind, length)));
 }

@@ -1,17 +1,16 @@
 /**
- * The tests of twox_hash.js, for Node and for a browser. Each is one line of what is looked at; the values are the
- * reference library's, of oracle/vectors.txt and of xxhsum.
+ * The tests of the module by any of its entries, for Node and for a browser. Each is one line of what is looked at;
+ * the values are the reference library's, of oracle/vectors.txt and of xxhsum.
  */
-import {
-  KINDS, Stream, TwoxHashError, isSupported, load, updateAll, xxh3_128, xxh3_64, xxh32, xxh64,
-} from "../twox_hash.js";
+
+/** The entry that is tested, as the namespace that `import * as twox` gives. */
+let twox;
 
 /** Of each hash's rows one in so many is tried, and every one of long inputs. */
 const STRIDE = 40;
 const LONG = 65535;
 
 const KIND_OF = { 32: "xxh32", 64: "xxh64", "3-64": "xxh3_64", "3-128": "xxh3_128" };
-const ONESHOTS = { xxh32, xxh64, xxh3_64, xxh3_128 };
 
 /** The bytes that a row stands for: oracle/vectors.c says which. */
 function drawn(start, length) {
@@ -34,6 +33,7 @@ class Row {
     this.secretDrawn = secret === "-" ? undefined : secret.split(":");
     this.length = Number(length);
     this.start = BigInt(`0x${start}`);
+    this.digits = answer;
     this.answer = BigInt(`0x${answer}`);
   }
 
@@ -65,12 +65,12 @@ function many() {
 }
 
 function oneshot({ kind, seed, input, options }) {
-  return kind.startsWith("xxh3_") ? ONESHOTS[kind](input, options) : ONESHOTS[kind](input, seed);
+  return kind.startsWith("xxh3_") ? twox[kind](input, options) : twox[kind](input, seed);
 }
 
 /** The digest of the row's input in pieces that end there. */
 function inPieces({ kind, options }, input, ends) {
-  const stream = new Stream(kind, options);
+  const stream = new twox.Stream(kind, options);
   let at = 0;
   for (const end of [...ends, input.length]) {
     stream.update(input.subarray(at, end));
@@ -79,6 +79,44 @@ function inPieces({ kind, options }, input, ends) {
   const value = stream.digest();
   stream.free();
   return value;
+}
+
+/** The digest where the stream is saved and loaded after each piece. */
+function savedBetween({ kind, options }, input, ends) {
+  const { secret } = options;
+  let stream = new twox.Stream(kind, options);
+  let at = 0;
+  for (const end of [...ends, input.length]) {
+    const before = stream.update(input.subarray(at, end));
+    stream = twox.Stream.load(before.save(), secret ? { secret } : {});
+    before.free();
+    at = end;
+  }
+  const value = stream.digest();
+  stream.free();
+  return value;
+}
+
+/** The state of a stream that took so many bytes. */
+function stateOf(kind, length, options = {}) {
+  const stream = new twox.Stream(kind, options).update(new Uint8Array(length));
+  const saved = stream.save();
+  stream.free();
+  return saved;
+}
+
+/** The state with other bytes from there on, and the check that belongs to it. */
+function forged(saved, at, ...bytes) {
+  const other = saved.slice();
+  other.set(bytes, at);
+  new DataView(other.buffer).setBigUint64(other.length - 8, twox.xxh64(other.subarray(0, -8)), true);
+  return other;
+}
+
+function withBit(saved, at, bit) {
+  const other = saved.slice();
+  other[at] ^= 1 << bit;
+  return other;
 }
 
 function rowIsRight(row) {
@@ -94,7 +132,7 @@ function codeOf(call) {
     call();
     return "no error";
   } catch (error) {
-    return error instanceof TwoxHashError && error.name === "TwoxHashError" ? error.code : String(error);
+    return error instanceof twox.TwoxHashError && error.name === "TwoxHashError" ? error.code : String(error);
   }
 }
 
@@ -103,28 +141,75 @@ const SECRET = new Uint8Array(136);
 
 /** Calls that are refused, and the code. */
 const REFUSED = [
-  ["input", () => xxh64("text")],
-  ["input", () => xxh64(undefined)],
-  ["input", () => xxh64([1, 2, 3])],
-  ["input", () => new Stream("xxh64").update("text")],
-  ["seed", () => xxh64(BYTES, -1)],
-  ["seed", () => xxh64(BYTES, 1.5)],
-  ["seed", () => xxh64(BYTES, "7")],
-  ["seed", () => xxh64(BYTES, 2 ** 53)],
-  ["seed", () => xxh64(BYTES, 2n ** 64n)],
-  ["seed", () => xxh32(BYTES, 2 ** 32)],
-  ["seed", () => xxh3_64(BYTES, { seed: null })],
-  ["seed", () => new Stream("xxh32", { seed: 2n ** 32n })],
-  ["secret", () => xxh3_64(BYTES, { secret: SECRET.subarray(1) })],
-  ["secret", () => xxh3_128(BYTES, { seed: 1, secret: SECRET.subarray(1) })],
-  ["secret", () => xxh3_64(BYTES, { secret: "a secret of text" })],
-  ["secret", () => new Stream("xxh3_64", { secret: new Uint8Array(0) })],
-  ["secret", () => new Stream("xxh64", { secret: SECRET })],
-  ["kind", () => new Stream("xxh128")],
-  ["kind", () => new Stream(undefined)],
-  ["kind", () => new Stream("xxh64").digest("xxh32")],
-  ["options", () => xxh3_64(BYTES, 7)],
-  ["options", () => xxh3_64(BYTES, { sead: 7 })],
+  ["input", () => twox.xxh64("text")],
+  ["input", () => twox.xxh64(undefined)],
+  ["input", () => twox.xxh64([1, 2, 3])],
+  ["input", () => new twox.Stream("xxh64").update("text")],
+  ["seed", () => twox.xxh64(BYTES, -1)],
+  ["seed", () => twox.xxh64(BYTES, 1.5)],
+  ["seed", () => twox.xxh64(BYTES, "7")],
+  ["seed", () => twox.xxh64(BYTES, 2 ** 53)],
+  ["seed", () => twox.xxh64(BYTES, 2n ** 64n)],
+  ["seed", () => twox.xxh32(BYTES, 2 ** 32)],
+  ["seed", () => twox.xxh3_64(BYTES, { seed: null })],
+  ["seed", () => new twox.Stream("xxh32", { seed: 2n ** 32n })],
+  ["secret", () => twox.xxh3_64(BYTES, { secret: SECRET.subarray(1) })],
+  ["secret", () => twox.xxh3_128(BYTES, { seed: 1, secret: SECRET.subarray(1) })],
+  ["secret", () => twox.xxh3_64(BYTES, { secret: "a secret of text" })],
+  ["secret", () => new twox.Stream("xxh3_64", { secret: new Uint8Array(0) })],
+  ["secret", () => new twox.Stream("xxh64", { secret: SECRET })],
+  ["kind", () => new twox.Stream("xxh128")],
+  ["kind", () => new twox.Stream(undefined)],
+  ["kind", () => new twox.Stream("xxh64").digest("xxh32")],
+  ["options", () => twox.xxh3_64(BYTES, 7)],
+  ["options", () => twox.xxh3_64(BYTES, { sead: 7 })],
+  ["value", () => twox.toHex(7, "xxh64")],
+  ["value", () => twox.toHex(-1n, "xxh64")],
+  ["value", () => twox.toHex(2n ** 32n, "xxh32")],
+  ["value", () => twox.toHex(2n ** 128n, "xxh3_128")],
+  ["kind", () => twox.toHex(7n)],
+  ["state", () => twox.Stream.load("text")],
+  ["state", () => twox.Stream.load(new Uint8Array(0))],
+  ["state", () => twox.Stream.load(stateOf("xxh64", 3).subarray(1))],
+  ["state", () => twox.Stream.load(stateOf("xxh64", 3).subarray(0, -1))],
+  ["options", () => twox.Stream.load(stateOf("xxh64", 3), { seed: 7 })],
+  ["secret", () => twox.Stream.load(stateOf("xxh64", 3), { secret: SECRET })],
+  ["secret", () => twox.Stream.load(stateOf("xxh3_64", 3), { secret: SECRET })],
+  ["secret", () => twox.Stream.load(stateOf("xxh3_64", 3, { secret: SECRET }))],
+  ["secret", () => twox.Stream.load(stateOf("xxh3_64", 3, { secret: SECRET }), { secret: new Uint8Array(137) })],
+  ["secret", () => twox.Stream.load(stateOf("xxh3_64", 3, { seed: 7, secret: SECRET }))],
+];
+
+/** Where a state's head ends and its record begins. */
+const HEAD = 24;
+
+/** States that nothing but the fault in them gives away: what is wrong, the hash, its bytes, what is put where. */
+const FORGED = [
+  ["another mark", "xxh64", 3, 0, 0x54],
+  ["another version", "xxh64", 3, 7, 0x32],
+  ["no hash's number", "xxh64", 3, 8, 4],
+  ["a mark of the secret that is neither 0 nor 1", "xxh3_64", 3, 9, 2],
+  ["another hash", "xxh64", 3, 8, 0],
+  ["a secret of XXH64", "xxh64", 3, 9, 1],
+  ["a digest where there is no secret", "xxh3_64", 3, 16, 1],
+  ["a byte of the head that is unused", "xxh64", 3, 12, 1],
+  ["a byte between two fields", "xxh32", 3, HEAD + 44, 1],
+  ["XXH32: more bytes than a buffer has", "xxh32", 3, HEAD + 48, 19],
+  ["XXH32: another number of bytes that wait", "xxh32", 3, HEAD + 48, 4],
+  ["XXH32: another length", "xxh32", 3, HEAD, 4],
+  ["XXH32: accumulators before the first stripe", "xxh32", 3, HEAD + 12, 1],
+  ["XXH64: more bytes than a buffer has", "xxh64", 3, HEAD + 80, 35],
+  ["XXH64: another number of bytes that wait", "xxh64", 3, HEAD + 80, 4],
+  ["XXH64: another length", "xxh64", 100, HEAD, 101],
+  ["XXH64: accumulators before the first stripe", "xxh64", 3, HEAD + 16, 1],
+  ["XXH3: two seeds", "xxh3_64", 3, HEAD, 2],
+  ["XXH3: neither seed nor secret", "xxh3_128", 3, HEAD, 0],
+  ["XXH3: accumulators before the first stripe", "xxh3_64", 3, HEAD + 16, 1],
+  ["XXH3: a place beyond the secret", "xxh3_64", 2000, HEAD + 80, 16],
+  ["XXH3: another number of stripes", "xxh3_128", 2000, HEAD + 152, 1],
+  ["XXH3: more bytes than a buffer has", "xxh3_64", 2000, HEAD + 672, 1, 2],
+  ["XXH3: another length", "xxh3_64", 2000, HEAD + 680, 1],
+  ["XXH3: no bytes wait after some", "xxh3_64", 2000, HEAD + 672, 0, 0],
 ];
 
 const TESTS = {
@@ -135,30 +220,65 @@ const TESTS = {
   },
   "1,000,003 bytes, which are carried in chunks, at once and in pieces": (table, digests) => {
     const input = many();
-    const wrong = KINDS.filter((kind) => {
-      const values = [ONESHOTS[kind](input), inPieces({ kind, options: {} }, input, [400_000]), inPieces({ kind, options: {} }, input, [7])];
+    const wrong = twox.KINDS.filter((kind) => {
+      const values = [twox[kind](input), inPieces({ kind, options: {} }, input, [400_000]), inPieces({ kind, options: {} }, input, [7])];
       return values.some((value) => value !== BigInt(`0x${digests[kind]}`));
     });
     return { ok: wrong.length === 0, words: wrong.join(" ") };
+  },
+  "toHex gives all digits, zeros in front among them": (table) => {
+    const rows = rowsOf(table).filter(({ digits, length }) => digits.startsWith("0") && length < 2000);
+    const wrong = rows.filter((row) => twox.toHex(oneshot(row), row.kind) !== row.digits);
+    const kinds = new Set(rows.map(({ kind }) => kind));
+    return { ok: kinds.size === 4 && wrong.length === 0, words: wrong[0]?.line ?? `${rows.length} rows` };
+  },
+  "a stream goes on from where it was saved": (table) => {
+    const rows = chosen(table).filter(({ length }) => length > 0);
+    const wrong = rows.filter((row) => {
+      const { input, length } = row;
+      const cuts = [[], [Math.floor(length / 3), Math.floor(length / 2)], length <= 300 ? [...input.keys()] : [257, 513]];
+      return !cuts.every((ends) => savedBetween(row, input, ends) === row.answer);
+    });
+    return { ok: rows.length > 500 && wrong.length === 0, words: wrong[0]?.line ?? `${rows.length} rows` };
+  },
+  "a state that was saved stays as it is, and gives itself again": () => {
+    const states = twox.KINDS.flatMap((kind) => [0, 3, 100, 600, 2000].map((length) => stateOf(kind, length, { seed: 7 })));
+    const wrong = states.filter((saved) => String(twox.Stream.load(saved).save()) !== String(saved));
+    const inside = Uint8Array.of(1, ...states[0], 2).subarray(1, -1);
+    return { ok: wrong.length === 0 && twox.Stream.load(inside).kind === "xxh32", words: `${states.length} states` };
+  },
+  "a state with any bit changed is refused": () => {
+    const states = twox.KINDS.map((kind) => stateOf(kind, 100));
+    const flipped = states.flatMap((saved) => [...saved.keys()].map((i) => withBit(saved, i, i % 8)));
+    const wrong = flipped.filter((saved) => codeOf(() => twox.Stream.load(saved)) !== "state");
+    return { ok: flipped.length > 1000 && wrong.length === 0, words: `${flipped.length} states` };
+  },
+  "forged states are refused, by their code": () => {
+    const wrong = FORGED.filter(([, kind, length, at, ...bytes]) => {
+      const saved = stateOf(kind, length, { seed: 7 });
+      return codeOf(() => twox.Stream.load(forged(saved, at, ...bytes))) !== "state";
+    });
+    return { ok: wrong.length === 0, words: wrong.length ? wrong[0][0] : `${FORGED.length} states` };
   },
   "refused calls, by their codes": () => {
     const wrong = REFUSED.filter(([code, call]) => codeOf(call) !== code);
     return { ok: wrong.length === 0, words: wrong.length ? String(wrong[0]) : `${REFUSED.length} calls` };
   },
   "a freed stream is refused": () => {
-    const stream = new Stream("xxh3_64");
+    const stream = new twox.Stream("xxh3_64");
     stream.free();
-    const codes = [codeOf(() => stream.update(BYTES)), codeOf(() => stream.update(new Uint8Array(0))), codeOf(() => stream.digest())];
+    const calls = [() => stream.update(BYTES), () => stream.update(new Uint8Array(0)), () => stream.digest(), () => stream.save()];
+    const codes = calls.map(codeOf);
     return { ok: codes.every((code) => code === "freed"), words: codes.join(" ") };
   },
   "every kind of view and buffer": () => {
     const wide = new Uint8Array([9, ...new TextEncoder().encode("some bytes"), 9]);
     const inputs = [wide.subarray(1, 11), new DataView(wide.buffer, 1, 10), wide.slice(1, 11).buffer];
-    return { ok: inputs.every((input) => xxh64(input, 1234) === 0xeab55659a496d78bn) };
+    return { ok: inputs.every((input) => twox.xxh64(input, 1234) === 0xeab55659a496d78bn) };
   },
   "a stream of XXH3 answers both widths, and goes on afterwards": (table) => {
     const row = rowsOf(table).find(({ kind, length, secretDrawn }) => kind === "xxh3_128" && length > 1000 && secretDrawn);
-    const stream = new Stream("xxh3_64", row.options);
+    const stream = new twox.Stream("xxh3_64", row.options);
     const { input } = row;
     stream.update(input.subarray(0, 700)).digest("xxh3_128");
     stream.update(input.subarray(700));
@@ -167,7 +287,7 @@ const TESTS = {
   },
   "many streams side by side, in memory that grows and is used again": (table) => {
     const rows = chosen(table).filter(({ kind }) => kind === "xxh3_128").slice(0, 60);
-    const streams = rows.flatMap((row) => Array.from({ length: 30 }, () => ({ row, stream: new Stream(row.kind, row.options) })));
+    const streams = rows.flatMap((row) => Array.from({ length: 30 }, () => ({ row, stream: new twox.Stream(row.kind, row.options) })));
     for (const { row, stream } of streams) stream.update(row.input);
     const ok = streams.every(({ row, stream }) => stream.digest() === row.answer);
     for (const { stream } of streams) stream.free();
@@ -178,24 +298,25 @@ const TESTS = {
     const secret = new Uint8Array(40_000_000);
     secret.set(row.options.secret);
     // Up to 240 bytes the seed counts and the secret doesn't, so that the row's answer is this one's too.
-    return { ok: xxh3_64(row.input, { seed: row.options.seed, secret }) === row.answer };
+    return { ok: twox.xxh3_64(row.input, { seed: row.options.seed, secret }) === row.answer };
   },
   "updateAll hands several streams the same bytes": (table) => {
     const row = rowsOf(table).find(({ kind, length }) => kind === "xxh64" && length > 1000);
-    const streams = [new Stream("xxh64", row.options), new Stream("xxh64", row.options)];
-    updateAll(streams, row.input);
+    const streams = [new twox.Stream("xxh64", row.options), new twox.Stream("xxh64", row.options)];
+    twox.updateAll(streams, row.input);
     return { ok: streams.every((stream) => stream.digest() === row.answer) };
   },
 };
 
 /**
- * Runs all tests, and gives a line for each: its name, whether it passed, and what was seen. `table` is the text of
- * oracle/vectors.txt, and `digests` what xxhsum says of `many()`, by the kind.
+ * Runs all tests of an entry, and gives a line for each: its name, whether it passed, and what was seen. `table` is
+ * the text of oracle/vectors.txt, and `digests` what xxhsum says of `many()`, by the kind.
  */
-export async function runTests(table, digests) {
-  const early = codeOf(() => KINDS.map((kind) => new Stream(kind)));
-  await load();
-  const first = { name: "calls before load() are refused", ok: early === "not-loaded" && isSupported(), words: early };
+export async function runTests(entry, table, digests) {
+  twox = entry;
+  const early = codeOf(() => twox.KINDS.map((kind) => new twox.Stream(kind)));
+  await twox.load();
+  const first = { name: "calls before load() are refused", ok: early === "not-loaded" && twox.isSupported(), words: early };
   return [first, ...Object.entries(TESTS).map(([name, test]) => run(name, test, table, digests))];
 }
 

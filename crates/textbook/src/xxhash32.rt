@@ -3,7 +3,7 @@
 
 ghost use Rattle.std.specs.Prelude.{◌≡◌, ◌+◌, ◌*◌, ◌/◌, ◌<◌, ◌≤◌, drop, length};
 ghost use Rattle.std.specs.Int.{w32};
-ghost use Rattle.twox_plain.specs.Word.{word_at};
+ghost use Rattle.twox_words.specs.Word.{word_at};
 ghost use Rattle.twox_plain.specs.Units.{after_units};
 ghost use Rattle.twox_plain.specs.Core32.{core_after_stripes};
 ghost use Rattle.twox_plain.specs.Record32.{value_of};

@@ -1,3 +1,4 @@
+pub mod GeneratedSecret
 pub mod Hash128
 pub mod State3
 pub mod State32

@@ -1,10 +1,8 @@
 -- A state of XXH3 that C holds, for both widths.
-use Rattle.std.specs.Prelude.{◌≡◌, ◌<◌, ◌≤◌, ◌==◌, ℕ, Option, Some, None, List, take, min, if◌then◌else◌}
-use Rattle.twox_core.specs.Long.{stripes_of}
-use Rattle.twox_core.specs.Stripes.{current_stripe_of}
+use Rattle.std.specs.Prelude.{◌≡◌, ◌≤◌, ◌==◌, ℕ, Option, Some, None, List, take, if◌then◌else◌}
 use Rattle.twox_core.specs.CoreView.{CoreView}
+use Rattle.twox_core.specs.InRange.{IsInRange}
 use Rattle.twox_core.specs.StandsFor.{StandsFor}
-use Rattle.twox_core.specs.declared.xxhash3.streaming.core_state.CoreState.{CoreState}
 use Rattle.twox_c.specs.declared.xxh3_state.Xxh3State.{Xxh3State}
 use Rattle.twox_c.specs.declared.xxh3_state.TheConstants.{MARK_3}
 
@@ -23,12 +21,6 @@ stream_of c = record { key = record { seed = seed_of c; secret = secret_of c }; 
 pub record IsSecretLength (n : ℕ) : Type 0 where
   pub long_enough : 136 ≤ n
   pub short_enough : n ≤ 256
-
--- the place in the secret s and the number of buffered bytes lie where calls leave them
-pub record IsInRange (s : List ℕ) (c : CoreState) : Type 0 where
-  pub place : current_stripe_of c.taken.stripes < stripes_of s
-  pub within : c.buffer_usage ≤ 512
-  pub left : min c.total_bytes 1 ≤ c.buffer_usage
 
 -- it has the mark of a reset, and all numbers lie in their ranges: calls go on from it, and refuse any other
 pub record IsUsable (c : Xxh3State) : Type 0 where

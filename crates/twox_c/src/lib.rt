@@ -1,11 +1,11 @@
 //! XXH32, XXH64 and XXH3 under the names of the C library `libxxhash` 0.8.1, as a static library.
 //!
-//! Every name that the shared library of Debian's `libxxhash0` exports is here but `XXH3_generateSecret` and the six
-//! that allocate and free states. Each export's documentation begins with its declaration in C, where a pointer
+//! Every name that the shared library of Debian's `libxxhash0` exports is here but the six that allocate and free
+//! states. Each export's documentation begins with its declaration in C, where a pointer
 //! and a length are one parameter here, a slice; a null pointer may stand for no bytes.
 //!
-//! A contract asks nothing of a caller: what can be tested is tested. A state that was never reset, and a secret of
-//! a length that doesn't fit, are refused. A call with an error code then answers `XXH_ERROR` and changes nothing,
+//! A contract asks nothing of a caller: what can be tested is tested. Memory without the mark of a reset, and a
+//! secret of a length that doesn't fit, are refused. A call with an error code then answers `XXH_ERROR` and changes nothing,
 //! and one that answers a hash answers 0. Pointers of states have to be of states, and aligned.
 //!
 //! Each call does what the header `xxhash.h` of that release says under its name, but for this:
@@ -15,10 +15,11 @@
 //! - A state whose secret was refused stays as it was. In the C library `_reset_withSecret` resets it all the same.
 //! - After `XXH3_128bits_reset_withSecretandSeed` with the seed 0, up to 240 bytes are hashed with the default
 //!   secret, as `XXH3_128bits_withSecretandSeed` does. The C library's stream uses the caller's secret there.
-//! - A one-shot with a secret of fewer than 136 bytes answers 0, and so does the digest of a state that was never
-//!   reset. The header leaves these open.
-//! - A null pointer of a state is not told: the C library answers `XXH_ERROR` to one in a reset of XXH3. Nor is a
-//!   null pointer of bytes with a length above 0, which an update of the C library passes over.
+//! - A one-shot with a secret of fewer than 136 bytes answers 0, and so does the digest of memory without the mark of
+//!   a reset. The header leaves these open.
+//! - A null pointer of a state is not told, nor one of a secret or of bytes with a length above 0. To those in a reset
+//!   of XXH3 and in `XXH3_generateSecret` the C library answers `XXH_ERROR`, as `c/guards.c` does, which stands before
+//!   these exports. A null input of an update it passes over.
 //! - A state is larger than the C library's, so no client may lay one on its stack by that library's header.
 //!
 //! # What crosses
@@ -86,7 +87,17 @@
 //! void XXH128_canonicalFromHash(XXH128_canonical_t* dst, XXH128_hash_t hash);
 //! XXH128_hash_t XXH128_hashFromCanonical(const XXH128_canonical_t* src);
 //!
+//! XXH_errorcode XXH3_generateSecret(void* secretBuffer, size_t secretSize, const void* customSeed,
+//!                                   size_t customSeedSize);
 //! void XXH3_generateSecret_fromSeed(void* secretBuffer, XXH64_hash_t seed);
+//! ```
+//!
+//! For `c/states.c` alone, which frees states, and not among the names of the shared library:
+//!
+//! ```c
+//! void twox_c_forget_xxh32(XXH32_state_t* state);
+//! void twox_c_forget_xxh64(XXH64_state_t* state);
+//! void twox_c_forget_xxh3(XXH3_state_t* state);
 //! ```
 //!
 //! With `_dispatch` after the name, and the same declaration: `XXH3_64bits`, `XXH3_64bits_withSeed`,

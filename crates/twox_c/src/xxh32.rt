@@ -44,7 +44,7 @@ impl Xxh32State {
         self.mark == MARK_32 && self.hasher.buffer_usage < 16
     }
 
-    // Takes the bytes of a piece, unless the state was never reset. A call of its own, since fewer registers are
+    // Takes the bytes of a piece, unless it has no mark of a reset. A call of its own, since fewer registers are
     // saved where the export only tests the pointer for null.
     #[inline(never)]
     fn update(&mut self, input: &[u8]) -> u32
@@ -87,7 +87,7 @@ pub extern "C" fn XXH32_reset(state: &mut Xxh32State, seed: u32) -> u32
 /// `XXH_errorcode XXH32_update(XXH32_state_t* state, const void* input, size_t length)`: adds `length` bytes to
 /// those that the state was given. `input` may be null where `length` is 0.
 ///
-/// Answers `XXH_OK`. A state that was never reset is refused: it stays as it is, and the answer is `XXH_ERROR`.
+/// Answers `XXH_OK`. Memory without the mark of a reset is refused: it stays as it is, and the answer is `XXH_ERROR`.
 #[unsafe(no_mangle)]
 pub extern "C" fn XXH32_update(state: &mut Xxh32State, input: &[u8]) -> u32
     ensures message { (seed : ℕ) (m : List ℕ)
@@ -102,7 +102,7 @@ pub extern "C" fn XXH32_update(state: &mut Xxh32State, input: &[u8]) -> u32
 }
 
 /// `XXH32_hash_t XXH32_digest(const XXH32_state_t* state)`: the hash of the bytes that the state was given, which
-/// stays as it is. The answer is 0 for a state that was never reset.
+/// stays as it is. The answer is 0 for memory without the mark of a reset.
 #[unsafe(no_mangle)]
 pub extern "C" fn XXH32_digest(state: &Xxh32State) -> u32
     ensures message { (seed : ℕ) (m : List ℕ) → WasGiven state.now seed m → result ≡ xxh32 seed m }
@@ -113,6 +113,15 @@ pub extern "C" fn XXH32_digest(state: &Xxh32State) -> u32
         return 0;
     }
     state.hasher.finish()
+}
+
+/// `void twox_c_forget_xxh32(XXH32_state_t* state)`: takes the mark of a reset from the state, so that no call goes on
+/// from its memory before the next reset. `XXH32_freeState` calls it before it frees the memory.
+#[unsafe(no_mangle)]
+pub extern "C" fn twox_c_forget_xxh32(state: &mut Xxh32State)
+    ensures { ¬ IsUsable state.new }
+{
+    state.mark = 0;
 }
 
 /// `void XXH32_copyState(XXH32_state_t* dst, const XXH32_state_t* src)`: makes `dst` the same as `src`.

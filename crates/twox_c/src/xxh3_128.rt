@@ -132,7 +132,7 @@ pub extern "C" fn XXH3_128bits_reset_withSecretandSeed(
 /// `XXH_errorcode XXH3_128bits_update(XXH3_state_t* state, const void* input, size_t length)`: adds `length` bytes to
 /// those that the state was given. `input` may be null where `length` is 0.
 ///
-/// Answers `XXH_OK`. A state that was never reset is refused: it stays as it is, and the answer is `XXH_ERROR`.
+/// Answers `XXH_OK`. Memory without the mark of a reset is refused: it stays as it is, and the answer is `XXH_ERROR`.
 #[unsafe(no_mangle)]
 pub extern "C" fn XXH3_128bits_update(state: &mut Xxh3State, input: &[u8]) -> u32
     ensures message { (seed : Option ℕ) (s m : List ℕ)
@@ -149,7 +149,7 @@ pub extern "C" fn XXH3_128bits_update(state: &mut Xxh3State, input: &[u8]) -> u3
 /// `XXH128_hash_t XXH3_128bits_digest(const XXH3_state_t* state)`: the hash of the bytes that the state was given,
 /// which stays as it is. Up to 240 bytes it is made with the default secret and the seed or, after
 /// `XXH3_128bits_reset_withSecret`, with that secret and the seed 0; above with the state's secret, where no seed
-/// enters. The answer is 0 for a state that was never reset.
+/// enters. The answer is 0 for memory without the mark of a reset.
 #[unsafe(no_mangle)]
 #[tactic(auto, unfolding(twox_hash::specs::Streams::value_128))]
 pub extern "C" fn XXH3_128bits_digest(state: &Xxh3State) -> Xxh128Hash

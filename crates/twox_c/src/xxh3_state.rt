@@ -1,14 +1,15 @@
 //! The state of an XXH3 stream, which serves both widths.
 
 ghost use Rattle.std.specs.Prelude.{◌≡◌, ◌↔◌, ◌<◌, ◌≤◌, ℕ, Option, List, [], ◌++◌, IsTrue, length, take};
-ghost use Rattle.twox_plain.specs.Word.{counted};
+ghost use Rattle.twox_words.specs.Word.{counted};
 ghost use Rattle.twox_core.specs.Secret.{default_secret};
 ghost use Rattle.twox_core.specs.SecretBytes.{secret_bytes};
 ghost use Rattle.twox_core.specs.Value.{short_secret, stream_seed};
 ghost use Rattle.twox_core.specs.Ending.{stream_accumulators, stream_block, last_stripe};
 ghost use Rattle.twox_core.specs.AfterWrite.{core_after_write};
 ghost use Rattle.twox_core.specs.Finish.{core_finish};
-ghost use Rattle.twox_c.specs.State3.{IsInRange, IsSecretLength, IsUsable, WasGiven, secret_of, seed_of, stream_of};
+ghost use Rattle.twox_core.specs.InRange.{IsInRange};
+ghost use Rattle.twox_c.specs.State3.{IsSecretLength, IsUsable, WasGiven, secret_of, seed_of, stream_of};
 
 use crate::{XXH_ERROR, XXH_OK};
 use twox_core::xxhash3::{
@@ -137,7 +138,7 @@ impl Xxh3State {
         self.reset(Some(DEFAULT_SEED), &DEFAULT_SECRET_RAW)
     }
 
-    // Takes the bytes of a piece, unless the state was never reset. A call of its own, which four exports share.
+    // Takes the bytes of a piece, unless it has no mark of a reset. A call of its own, which four exports share.
     #[inline(never)]
     pub(crate) fn update(&mut self, input: &[u8]) -> u32
         ensures message { (seed : Option ℕ) (s m : List ℕ)
@@ -156,7 +157,7 @@ impl Xxh3State {
         XXH_OK
     }
 
-    // What `finalize` makes of the bytes taken, or `None` where the state was never reset.
+    // What `finalize` makes of the bytes taken, or `None` where the state has no mark of a reset.
     #[inline(always)]
     pub(crate) fn finish<F: Finalize>(&self, finalize: &F) -> Option<F::Output>
         ensures short { (seed : Option ℕ) (s m : List ℕ) → WasGiven self.now seed s m
@@ -177,6 +178,15 @@ impl Xxh3State {
         let secret = lent(&self.secret, self.secret_length);
         Some(self.core.finish(Kernel {}, finalize, self.seed(), secret))
     }
+}
+
+/// `void twox_c_forget_xxh3(XXH3_state_t* state)`: takes the mark of a reset from the state, so that no call goes on
+/// from its memory before the next reset. `XXH3_freeState` calls it before it frees the memory.
+#[unsafe(no_mangle)]
+pub extern "C" fn twox_c_forget_xxh3(state: &mut Xxh3State)
+    ensures { ¬ IsUsable state.new }
+{
+    state.mark = 0;
 }
 
 /// `void XXH3_copyState(XXH3_state_t* dst, const XXH3_state_t* src)`: makes `dst` the same as `src`.

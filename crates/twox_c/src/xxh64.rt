@@ -44,7 +44,7 @@ impl Xxh64State {
         self.mark == MARK_64 && self.hasher.buffer_usage < 32
     }
 
-    // Takes the bytes of a piece, unless the state was never reset. A call of its own, since fewer registers are
+    // Takes the bytes of a piece, unless it has no mark of a reset. A call of its own, since fewer registers are
     // saved where the export only tests the pointer for null.
     #[inline(never)]
     fn update(&mut self, input: &[u8]) -> u32
@@ -87,7 +87,7 @@ pub extern "C" fn XXH64_reset(state: &mut Xxh64State, seed: u64) -> u32
 /// `XXH_errorcode XXH64_update(XXH64_state_t* state, const void* input, size_t length)`: adds `length` bytes to
 /// those that the state was given. `input` may be null where `length` is 0.
 ///
-/// Answers `XXH_OK`. A state that was never reset is refused: it stays as it is, and the answer is `XXH_ERROR`.
+/// Answers `XXH_OK`. Memory without the mark of a reset is refused: it stays as it is, and the answer is `XXH_ERROR`.
 #[unsafe(no_mangle)]
 pub extern "C" fn XXH64_update(state: &mut Xxh64State, input: &[u8]) -> u32
     ensures message { (seed : ℕ) (m : List ℕ)
@@ -102,7 +102,7 @@ pub extern "C" fn XXH64_update(state: &mut Xxh64State, input: &[u8]) -> u32
 }
 
 /// `XXH64_hash_t XXH64_digest(const XXH64_state_t* state)`: the hash of the bytes that the state was given, which
-/// stays as it is. The answer is 0 for a state that was never reset.
+/// stays as it is. The answer is 0 for memory without the mark of a reset.
 #[unsafe(no_mangle)]
 pub extern "C" fn XXH64_digest(state: &Xxh64State) -> u64
     ensures message { (seed : ℕ) (m : List ℕ) → WasGiven state.now seed m → result ≡ xxh64 seed m }
@@ -113,6 +113,15 @@ pub extern "C" fn XXH64_digest(state: &Xxh64State) -> u64
         return 0;
     }
     state.hasher.finish()
+}
+
+/// `void twox_c_forget_xxh64(XXH64_state_t* state)`: takes the mark of a reset from the state, so that no call goes on
+/// from its memory before the next reset. `XXH64_freeState` calls it before it frees the memory.
+#[unsafe(no_mangle)]
+pub extern "C" fn twox_c_forget_xxh64(state: &mut Xxh64State)
+    ensures { ¬ IsUsable state.new }
+{
+    state.mark = 0;
 }
 
 /// `void XXH64_copyState(XXH64_state_t* dst, const XXH64_state_t* src)`: makes `dst` the same as `src`.

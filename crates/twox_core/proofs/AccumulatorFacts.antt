@@ -2,7 +2,7 @@
 use Rattle.std.proofs.Common.{◌≡◌, ℕ, zero, suc, ◌+◌, ◌-◌, ◌*◌, ◌%◌, ◌<◌, ◌≤◌, ◌==◌, if◌then◌else◌, true, false, List, ◌++◌, length, slice_index, bit_xor, refl, sym, ap, ◌∙◌, arith, lit<, zero-add, add-one}
 use Rattle.std.proofs.lemmas.Nat.{xor_lt}
 use Rattle.std.specs.Int.{w64}
-use Rattle.twox_plain.proofs.WordFacts.{word_at-append, word_at-part}
+use Rattle.twox_words.proofs.WordFacts.{word_at-append, word_at-part}
 use Rattle.twox_core.specs.Steps.{word64}
 use Rattle.twox_core.specs.Parts.{stripe_at}
 use Rattle.twox_core.specs.Long.{accumulate_one, scramble_one, accumulator_after, stripes_of}

@@ -3,7 +3,7 @@ use Rattle.std.proofs.Common.{◌≡◌, ℕ, zero, suc, ◌+◌, ◌*◌, List,
 use Rattle.std.proofs.lemmas.List.{drop-drop, take_at, drop_at}
 use Rattle.std.specs.Int.{w64, to_le_bytes}
 use borrow.Rule.Slice.PartMut.{put_mid}
-use Rattle.twox_plain.proofs.WordFacts.{word_at-append_right, word_at-drop}
+use Rattle.twox_words.proofs.WordFacts.{word_at-append_right, word_at-drop}
 use Rattle.twox_core.specs.Steps.{word64, add64, sub64}
 use Rattle.twox_core.specs.Secret.{derived_pairs}
 

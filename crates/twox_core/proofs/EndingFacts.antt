@@ -5,8 +5,8 @@ use Rattle.std.proofs.lemmas.Bool.Decides.{nat_tests}
 use Rattle.std.proofs.lemmas.List.{drop-drop, take_all}
 use Rattle.std.proofs.lemmas.Nat.{mod-mul-add, mod_below}
 use Rattle.std.specs.Int.{w64}
-use Rattle.twox_plain.specs.Word.{counted}
-use Rattle.twox_plain.proofs.WordFacts.{word_at-part}
+use Rattle.twox_words.specs.Word.{counted}
+use Rattle.twox_words.proofs.WordFacts.{word_at-part}
 use Rattle.twox_core.specs.Steps.{word64, sum_below}
 use Rattle.twox_core.specs.Parts.{stripe_at}
 use Rattle.twox_core.specs.Long.{accumulator_after, last_accumulator, stripes_of, pair_fold, merge_accumulators, low_above_240, high_above_240}

@@ -1,6 +1,6 @@
 -- What the answers of the one-shots tell apart follows from their values.
 use Rattle.std.proofs.Common.{◌≡◌, ℕ, ◌<◌, ◌≤◌, ◌^◌, ◌%◌, List, length, ap, ◌∙◌, arith, inl, inr}
-use Rattle.twox_plain.specs.Word.{IsBytes}
+use Rattle.twox_words.specs.Word.{IsBytes}
 use Rattle.twox_core.specs.OtherBytes.{IsOtherShort64}
 use Rattle.twox_core.specs.Laws.{TellsOthers64, TellsOthers128, HasLowHalf64}
 use Rattle.twox_core.specs.Value.{xxh3_64, xxh3_128}

@@ -2,14 +2,14 @@
 -- library. oracle/make-proofs wrote this file from the table.
 use Rattle.std.specs.Prelude.{◌≡◌}
 use Rattle.std.proofs.Common.{refl}
-use Rattle.twox_plain.specs.Word.{word_at}
+use Rattle.twox_words.specs.Word.{word_at}
 use Rattle.twox_core.specs.Value.{range_of, xxh3_128, high_in, low_in, effective_secret}
 use Rattle.twox_core.specs.Steps.{avalanche_xxh64, fold, avalanche, mix, sum_below}
 use Rattle.twox_core.specs.Short.{combined_bytes, low_1_to_3, mixed_seed, high_0, high_1_to_3, product_4_to_8, high_4_to_8, product_9_to_16, first_9_to_16, second_9_to_16, both_words_9_to_16, high_word_9_to_16, low_word_9_to_16, low_0, low_4_to_8}
 use Rattle.twox_core.specs.Long.{low_above_240, last_accumulator, accumulator_after, scramble_one, accumulate_one, merge_accumulators, pair_fold, high_above_240}
 use Rattle.twox_core.specs.Middle.{first_17_to_128, accumulator_step, second_17_to_128, merge_high, first_129_to_240, pairs_first, second_129_to_240, pairs_second, merge_low}
 use Rattle.twox_core.specs.Secret.{default_secret, derived_secret, derived_pairs}
-use Rattle.twox_plain.proofs.OutsideVectors.{drawn}
+use Rattle.twox_words.proofs.OutsideVectors.{drawn}
 
 pub of_0_bytes_seeded : xxh3_128 0xbb38108688c648dd (effective_secret (derived_secret 0xbb38108688c648dd) (drawn 0x61fc13c9f3988cc 0)) (drawn 0x61fc13c9f3988cc 0) ≡ 0xabda36eb828626ddefadbae6a75d8793
 unfolding word_at range_of avalanche_xxh64 xxh3_128 high_in high_0 low_in low_0 default_secret derived_secret derived_pairs effective_secret drawn

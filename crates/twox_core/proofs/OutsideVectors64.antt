@@ -2,14 +2,14 @@
 -- library. oracle/make-proofs wrote this file from the table.
 use Rattle.std.specs.Prelude.{◌≡◌}
 use Rattle.std.proofs.Common.{refl}
-use Rattle.twox_plain.specs.Word.{word_at}
+use Rattle.twox_words.specs.Word.{word_at}
 use Rattle.twox_core.specs.Value.{xxh3_64, range_of, value64_in, effective_secret}
 use Rattle.twox_core.specs.Short.{value64_0, combined_bytes, low_1_to_3, value64_4_to_8, mixed_seed, strong, value64_9_to_16}
 use Rattle.twox_core.specs.Steps.{avalanche_xxh64, fold, avalanche, mix, sum_below}
 use Rattle.twox_core.specs.Middle.{value64_17_to_128, both_ends, value64_129_to_240, early, later}
 use Rattle.twox_core.specs.Long.{low_above_240, last_accumulator, accumulator_after, scramble_one, accumulate_one, merge_accumulators, pair_fold}
 use Rattle.twox_core.specs.Secret.{default_secret, derived_secret, derived_pairs}
-use Rattle.twox_plain.proofs.OutsideVectors.{drawn}
+use Rattle.twox_words.proofs.OutsideVectors.{drawn}
 
 pub of_0_bytes_seeded : xxh3_64 0x9c0b1f78c7585d7d (effective_secret (derived_secret 0x9c0b1f78c7585d7d) (drawn 0xaaa7f3ed1b82e577 0)) (drawn 0xaaa7f3ed1b82e577 0) ≡ 0xff26732e186928a0
 unfolding word_at xxh3_64 range_of value64_in value64_0 avalanche_xxh64 default_secret derived_secret derived_pairs effective_secret drawn

@@ -2,7 +2,7 @@
 use Rattle.std.proofs.Common.{◌≡◌, ℕ, zero, suc, ◌+◌, ◌-◌, ◌*◌, ◌<◌, ◌≤◌, List, ◌∷◌, length, take, drop, get_or, refl, sym, ap, ap₂, ◌∙◌, arith}
 use Rattle.std.proofs.lemmas.List.{drop-drop}
 use Rattle.std.specs.Simd.{first_chunks}
-use Rattle.twox_plain.proofs.WordFacts.{first_chunks_at, first_chunks_take}
+use Rattle.twox_words.proofs.WordFacts.{first_chunks_at, first_chunks_take}
 use Rattle.twox_core.specs.Parts.{chunk_at, chunks_at, pair_at, pairs_at}
 
 -- ---- chunks of n items

@@ -5,9 +5,9 @@ use Rattle.std.proofs.lemmas.Nat.{xor_lt}
 use Rattle.std.proofs.lemmas.Grind.{same_number_lists}
 use Rattle.std.proofs.lemmas.Bool.{cases_lt}
 use Rattle.std.proofs.lemmas.Bool.Decides.{nat_tests}
-use Rattle.twox_plain.specs.Word.{IsBytes, word_at}
-use Rattle.twox_plain.proofs.OneToOne.{xor_cancel_left, xor_cancel_right, multiple_one_to_one, sum_one_to_one_64}
-use Rattle.twox_plain.proofs.WordLaws.{word_at-lt_32, word_at-lt_64, told_by_word_32, told_by_word_64}
+use Rattle.twox_words.specs.Word.{IsBytes, word_at}
+use Rattle.twox_words.proofs.OneToOne.{xor_cancel_left, xor_cancel_right, multiple_one_to_one, sum_one_to_one_64}
+use Rattle.twox_words.proofs.WordLaws.{word_at-lt_32, word_at-lt_64, told_by_word_32, told_by_word_64}
 use Rattle.twox_core.specs.Primes.{prime32_2, prime64_1}
 use Rattle.twox_core.specs.Secret.{default_secret}
 use Rattle.twox_core.specs.Steps.{word64, avalanche}

@@ -3,7 +3,7 @@ use Rattle.std.proofs.Common.{◌≡◌, ℕ, Option, zero, suc, ◌+◌, ◌-�
 use Rattle.std.proofs.Math.Seq.{take-append-add}
 use Rattle.std.proofs.lemmas.Bool.Decides.{nat_tests}
 use Rattle.std.proofs.lemmas.List.{append-nil, append_assoc, drop-append-le, drop-drop, drop-take, drop_all, drop_at, take_at, length-take-le, take-append-drop}
-use Rattle.twox_plain.specs.Word.{counted}
+use Rattle.twox_words.specs.Word.{counted}
 use Rattle.twox_core.specs.Value.{short_secret, stream_seed}
 use Rattle.twox_core.specs.Long.{stripes_of}
 use Rattle.twox_core.specs.Ending.{accumulators_after, stream_accumulators, stream_block, last_stripe}

@@ -3,8 +3,8 @@ use Rattle.std.proofs.Common.{◌≡◌, ◌≢◌, ℕ, ◌+◌, ◌*◌, ◌/�
 use Rattle.std.proofs.lemmas.Bool.{cases_lt}
 use Rattle.std.proofs.lemmas.Bool.Decides.{nat_tests}
 use Rattle.std.proofs.lemmas.Grind.{same_number_lists}
-use Rattle.twox_plain.specs.Word.{IsBytes}
-use Rattle.twox_plain.proofs.OneToOne.{xor_shift-lt}
+use Rattle.twox_words.specs.Word.{IsBytes}
+use Rattle.twox_words.proofs.OneToOne.{xor_shift-lt}
 use Rattle.twox_core.specs.Steps.{avalanche, avalanche_xxh64}
 use Rattle.twox_core.specs.Short.{value64_0, low_0, high_0, combined_bytes, low_1_to_3, high_1_to_3, value64_4_to_8, product_4_to_8, low_4_to_8, high_4_to_8, product_9_to_16}
 use Rattle.twox_core.specs.Long.{merge_accumulators, low_above_240, high_above_240}

@@ -1,7 +1,7 @@
 -- Outside vectors, checked by computing: the values that the tests of the Rust crate `twox-hash` expect.
 use Rattle.std.specs.Prelude.{◌≡◌, ℕ, zero, suc, ◌+◌, ◌%◌, List, [], ◌∷◌, map}
 use Rattle.std.proofs.Common.{refl}
-use Rattle.twox_plain.specs.Word.{word_at}
+use Rattle.twox_words.specs.Word.{word_at}
 use Rattle.twox_core.specs.Steps.{avalanche, avalanche_xxh64, fold, mix, sum_below}
 use Rattle.twox_core.specs.Secret.{default_secret, derived_pairs, derived_secret}
 use Rattle.twox_core.specs.Short.{value64_0, low_0, high_0, combined_bytes, low_1_to_3, high_1_to_3, mixed_seed, strong, value64_4_to_8, product_4_to_8, low_4_to_8, high_4_to_8, value64_9_to_16, first_9_to_16, second_9_to_16, high_word_9_to_16, low_word_9_to_16, both_words_9_to_16, product_9_to_16}

@@ -2,7 +2,7 @@
 -- definition follows it with: the xxHash specification, "XXH3 algorithm description (for large inputs)",
 -- step 2.
 use Rattle.std.specs.Prelude.{ℕ, ◌+◌, ◌%◌, ◌^◌, List, [], ◌∷◌, slice_index, bit_xor}
-use Rattle.twox_plain.specs.Word.{xor_shift}
+use Rattle.twox_words.specs.Word.{xor_shift}
 use Rattle.twox_core.specs.Primes.{prime32_1}
 use Rattle.twox_core.specs.Steps.{mul64}
 use Rattle.twox_core.specs.Long.{accumulate_one, halves_product, scramble_one}

@@ -1,6 +1,6 @@
 -- What the answer of a one-shot tells apart, as facts about the definition.
 use Rattle.std.specs.Prelude.{◌≡◌, ◌≢◌, ◌≤◌, ◌<◌, ◌^◌, ◌⊎◌, ℕ, List, length}
-use Rattle.twox_plain.specs.Word.{low64}
+use Rattle.twox_words.specs.Word.{low64}
 use Rattle.twox_core.specs.OtherBytes.{IsOtherShort64, IsOtherShort128}
 use Rattle.twox_core.specs.Value.{xxh3_64, xxh3_128}
 

@@ -1,4 +1,4 @@
-pub use Rattle.twox_plain.specs.Word
+pub use Rattle.twox_words.specs.Word
 pub mod Parts
 pub mod Primes
 pub mod Steps
@@ -18,3 +18,4 @@ pub mod CoreView
 pub mod AfterWrite
 pub mod Finish
 pub mod StandsFor
+pub mod InRange

@@ -1,7 +1,7 @@
 -- Above 240 bytes: the xxHash specification, "XXH3 algorithm description (for large inputs)", steps 1 to 4.
 -- Each of the eight accumulators is followed alone, by the number of stripes of 64 bytes, and no seed enters.
 use Rattle.std.specs.Prelude.{ℕ, zero, suc, ◌+◌, ◌-◌, ◌*◌, ◌/◌, ◌%◌, ◌^◌, ◌==◌, List, [], ◌∷◌, length, slice_index, bit_xor, if◌then◌else◌}
-use Rattle.twox_plain.specs.Word.{xor_shift, low32, high32, counted}
+use Rattle.twox_words.specs.Word.{xor_shift, low32, high32, counted}
 use Rattle.twox_core.specs.Primes.{prime32_1, prime32_2, prime32_3, prime64_1, prime64_2, prime64_3, prime64_4, prime64_5}
 use Rattle.twox_core.specs.Steps.{word64, mul64, avalanche, fold, sum_below}
 

@@ -1,6 +1,6 @@
 -- Short inputs whose values of XXH3 never meet, under one seed and one secret.
 use Rattle.std.specs.Prelude.{◌≡◌, ◌≢◌, ◌≤◌, ◌⊎◌, ℕ, List, length}
-use Rattle.twox_plain.specs.Word.{IsBytes}
+use Rattle.twox_words.specs.Word.{IsBytes}
 
 -- n is other bytes than m, both 1 to 3 or both of one length from 4 to 8: their values of 64 bits differ
 pub record IsOtherShort64 (m n : List ℕ) : Type 0 where

@@ -2,7 +2,7 @@
 -- secret, `m` the bytes and `seed` a word of 64 bits.
 use Rattle.std.specs.Prelude.{ℕ, ◌+◌, ◌-◌, ◌*◌, ◌/◌, ◌%◌, ◌^◌, List, length, slice_index, bit_xor}
 use Rattle.std.specs.Int.{w32, w64, rotate_left, swap_bytes}
-use Rattle.twox_plain.specs.Word.{word_at, xor_shift, low32, high32, low64, high64}
+use Rattle.twox_words.specs.Word.{word_at, xor_shift, low32, high32, low64, high64}
 use Rattle.twox_core.specs.Primes.{prime32_2, prime64_1, prime64_2, prime_mx2}
 use Rattle.twox_core.specs.Steps.{word64, add64, sub64, mul64, avalanche, avalanche_xxh64, fold}
 

@@ -1,6 +1,6 @@
 -- The lists of bytes that a stream stands for.
 use Rattle.std.specs.Prelude.{◌≡◌, ◌+◌, ◌-◌, ◌*◌, ◌^◌, ◌<◌, min, ℕ, Option, List, ◌++◌, take, drop, length}
-use Rattle.twox_plain.specs.Word.{counted}
+use Rattle.twox_words.specs.Word.{counted}
 use Rattle.twox_core.specs.Stripes.{HasTaken}
 use Rattle.twox_core.specs.CoreView.{CoreView}
 use Rattle.twox_core.specs.Parts.{stripe_at}

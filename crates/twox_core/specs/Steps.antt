@@ -1,10 +1,9 @@
 -- The mixing steps of XXH3: the xxHash specification, "XXH3 algorithm overview", final mixing step and
--- mixing operation. A step of another hash that it shares stands with that hash.
+-- mixing operation.
 use Rattle.std.specs.Prelude.{ℕ, zero, suc, ◌+◌, ◌*◌, List, bit_xor}
 use Rattle.std.specs.Int.{w64}
-use Rattle.twox_plain.specs.Word.{word_at, wrap_add, wrap_sub, wrap_mul, xor_shift, low64, high64}
-use Rattle.twox_plain.specs.Xxh64 as Xxh64
-use Rattle.twox_core.specs.Primes.{prime_mx1}
+use Rattle.twox_words.specs.Word.{word_at, wrap_add, wrap_sub, wrap_mul, xor_shift, low64, high64}
+use Rattle.twox_core.specs.Primes.{prime64_2, prime64_3, prime_mx1}
 
 -- words of 64 bits
 abbrev pub word64 : List ℕ → ℕ → ℕ
@@ -22,9 +21,9 @@ mul64 x y = wrap_mul w64 x y
 unfoldable pub avalanche : ℕ → ℕ
 avalanche x = xor_shift (mul64 (xor_shift x 37) prime_mx1) 32
 
--- the last step of XXH64
+-- the last step of XXH64: "XXH64 algorithm description", step 6
 unfoldable pub avalanche_xxh64 : ℕ → ℕ
-avalanche_xxh64 x = Xxh64.avalanche x
+avalanche_xxh64 x = xor_shift (mul64 (xor_shift (mul64 (xor_shift x 33) prime64_2) 29) prime64_3) 32
 
 -- the low half of the full product xor its high half
 unfoldable pub fold : ℕ → ℕ → ℕ

@@ -1,5 +1,5 @@
 -- What a stripe does to the accumulators and to their place in the secret.
-use Rattle.std.specs.Prelude.{◌≡◌, ℕ, zero, suc, ◌+◌, ◌-◌, ◌*◌, ◌%◌, ◌==◌, List, length, if◌then◌else◌}
+use Rattle.std.specs.Prelude.{◌≡◌, ◌<◌, ℕ, zero, suc, ◌+◌, ◌-◌, ◌*◌, ◌/◌, ◌%◌, ◌==◌, List, length, if◌then◌else◌}
 use Rattle.twox_core.specs.Long.{stripes_of, initial_accumulators, accumulator_after}
 use Rattle.twox_core.specs.Kernel.{eight, accumulate, round_scramble}
 use Rattle.twox_core.specs.Parts.{stripe_at}
@@ -33,6 +33,11 @@ after_stripe s a t =
 unfoldable pub after_stripes : List ℕ → StripeAccumulator → List ℕ → ℕ → StripeAccumulator
 after_stripes s a xs zero = a
 after_stripes s a xs (suc n) = after_stripe s (after_stripes s a xs n) (stripe_at xs (64 * n))
+
+-- b is a after all stripes of xs, at a place that the secret s has
+pub record AfterStripes (s : List ℕ) (a : StripeAccumulator) (xs : List ℕ) (b : StripeAccumulator) : Type 0 where
+  pub exact : b ≡ after_stripes s a xs (length xs / 64)
+  pub place : current_stripe_of b < stripes_of s
 
 -- a has taken the first k stripes of m
 pub record HasTaken (s m : List ℕ) (k : ℕ) (a : StripeAccumulator) : Type 0 where

@@ -1,7 +1,7 @@
 -- The values of XXH3, of 64 bits and of 128, of any list of bytes: the xxHash specification, "XXH3 algorithm
 -- overview". `seed` and `s` are the seed and the secret that take effect.
 use Rattle.std.specs.Prelude.{ℕ, Option, Some, None, ◌+◌, ◌-◌, ◌*◌, ◌/◌, ◌^◌, nat_lt, if◌then◌else◌, List, length}
-use Rattle.twox_plain.specs.Word.{low64, high64}
+use Rattle.twox_words.specs.Word.{low64, high64}
 use Rattle.twox_core.specs.Steps.{avalanche}
 use Rattle.twox_core.specs.Secret.{default_secret}
 use Rattle.twox_core.specs.Short.{value64_0, low_0, high_0, combined_bytes, low_1_to_3, high_1_to_3, value64_4_to_8, product_4_to_8, low_4_to_8, high_4_to_8, value64_9_to_16, product_9_to_16}

@@ -28,7 +28,7 @@ pub use streaming::{
     AllocRawHasher, BUFFERED_BYTES, ClonedBuffer, CoreState, FixedBuffer, FixedMutBuffer,
     RawHasherCore, SecretBuffer, SecretTooShortError, SecretWithSeedError, TakenStripes,
 };
-pub use stripes::StripeAccumulator;
+pub use stripes::{MANY_BYTES, StripeAccumulator};
 pub use vector::{INITIAL_ACCUMULATORS, Vector};
 
 /// The greatest length that is hashed with the default secret and no stripes.

@@ -1,7 +1,7 @@
 -- The value of a stream is that of the list that it stands for.
 use Rattle.std.proofs.Common.{◌≡◌, ℕ, Option, Some, None, if◌then◌else◌, ◌<◌, ◌≤◌, nat_lt, Bool, true, false, List, length, refl, sym, ◌∙◌, arith}
 use Rattle.std.proofs.lemmas.Bool.Decides.{nat_tests}
-use Rattle.twox_plain.specs.Word.{counted}
+use Rattle.twox_words.specs.Word.{counted}
 use Rattle.twox_core.specs.Secret.{default_secret}
 use Rattle.twox_core.specs.Value.{xxh3_64, xxh3_128, effective_secret, short_secret, stream_secret, stream_seed}
 use Rattle.twox_core.specs.Ending.{stream_accumulators, stream_block, last_stripe, finalize_64, finalize_128}

@@ -1,4 +1,4 @@
-pub use Rattle.twox_plain.specs.Word
+pub use Rattle.twox_words.specs.Word
 pub use Rattle.twox_plain.specs.Units
 pub use Rattle.twox_plain.specs.ChangedUnit
 pub use Rattle.twox_plain.specs.BlockState

@@ -7,7 +7,8 @@ pub mod xxhash3_128;
 pub mod xxhash3_64;
 
 pub use twox_core::xxhash3;
-pub use twox_plain::{words, xxhash32, xxhash64};
+pub use twox_plain::{xxhash32, xxhash64};
+pub use twox_words::words;
 pub use xxhash3_64::Hasher as XxHash3_64;
 pub use xxhash3_128::Hasher as XxHash3_128;
 pub use xxhash32::Hasher as XxHash32;

@@ -2,7 +2,7 @@
 
 ghost use Rattle.std.specs.Prelude.{◌≡◌, ◌≢◌, ◌↔◌, ◌⊎◌, ◌+◌, ◌-◌, ◌*◌, ◌/◌, ◌^◌, ◌<◌, ◌≤◌, ℕ, List, bit_xor, length, MatchResult, IfOk, IsErr};
 ghost use Rattle.std.specs.Int.{w64};
-ghost use Rattle.twox_plain.specs.Word.{low64, high64};
+ghost use Rattle.twox_words.specs.Word.{low64, high64};
 ghost use Rattle.twox_core.specs.Laws.{TellsOthers128, HasLowHalf64};
 ghost use Rattle.twox_core.specs.Ending.{finalize_128};
 ghost use Rattle.twox_core.specs.Long.{low_above_240, high_above_240};
@@ -22,11 +22,11 @@ pub use twox_core::xxhash3::{
     SECRET_MINIMUM_LENGTH, SecretBuffer, SecretTooShortError, SecretWithSeedError,
 };
 use twox_core::xxhash3::{
-    Algorithm, CUTOFF, DEFAULT_SEED, Finalize, Kernel, Secret, Vector, avalanche, avalanche_xxh64,
-    chunks_17_to_128, default_secret, derived_secret, full_product, impl_1_to_3_bytes_combined,
-    mix_step, pairs_of_u64_bytes, to_u64s,
+    Algorithm, CUTOFF, DEFAULT_SEED, Finalize, Kernel, MANY_BYTES, Secret, Vector, avalanche,
+    avalanche_xxh64, chunks_17_to_128, default_secret, derived_secret, full_product,
+    impl_1_to_3_bytes_combined, mix_step, pairs_of_u64_bytes, to_u64s,
 };
-use twox_plain::words::{Halves, IntoU64, IntoU128, bp_as_chunks, u32_at, u64_at};
+use twox_words::words::{Halves, IntoU64, IntoU128, bp_as_chunks, u32_at, u64_at};
 
 /// Calculates the 128-bit hash: of all bytes at once, or of bytes that come in pieces. The secret of a stream
 /// is in memory of its own.
@@ -291,7 +291,21 @@ fn impl_oneshot_long(secret: Secret<'_>, input: &[u8]) -> u128
     requires { 240 < length input.now }
     ensures { (any : ℕ) → result ≡ xxh3_128 any (secret_bytes secret.entry) input.now }
 {
-    Algorithm(Kernel {}).oneshot(secret, input, Finalize128)
+    if input.len() < MANY_BYTES {
+        Algorithm(Kernel {}).oneshot_of::<Finalize128, false>(secret, input, Finalize128)
+    } else {
+        impl_oneshot_many(secret, input)
+    }
+}
+
+// The same of many bytes, as the last call of the one above, which so keeps no register for it.
+#[inline(never)]
+#[tactic(auto, using(twox_core::proofs::ValueLaws::long_128, twox_core::proofs::EndingFacts::block_both))]
+fn impl_oneshot_many(secret: Secret<'_>, input: &[u8]) -> u128
+    requires { 240 < length input.now }
+    ensures { (any : ℕ) → result ≡ xxh3_128 any (secret_bytes secret.entry) input.now }
+{
+    Algorithm(Kernel {}).oneshot_of::<Finalize128, true>(secret, input, Finalize128)
 }
 
 // The same with the secret that a seed derives. The seed 0 derives the default one.

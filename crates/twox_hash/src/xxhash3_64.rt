@@ -21,11 +21,11 @@ pub use twox_core::xxhash3::{
     SECRET_MINIMUM_LENGTH, SecretBuffer, SecretTooShortError, SecretWithSeedError,
 };
 use twox_core::xxhash3::{
-    Algorithm, CUTOFF, DEFAULT_SEED, Finalize, Kernel, Secret, Vector, avalanche, avalanche_xxh64,
-    chunks_17_to_128, default_secret, derived_secret, fold, impl_1_to_3_bytes_combined, mix_step,
-    mix_words,
+    Algorithm, CUTOFF, DEFAULT_SEED, Finalize, Kernel, MANY_BYTES, Secret, Vector, avalanche,
+    avalanche_xxh64, chunks_17_to_128, default_secret, derived_secret, fold,
+    impl_1_to_3_bytes_combined, mix_step, mix_words,
 };
-use twox_plain::words::{Halves, IntoU64, u32_at, u64_at};
+use twox_words::words::{Halves, IntoU64, u32_at, u64_at};
 
 /// Calculates the 64-bit hash: of all bytes at once, or of bytes that come in pieces. The secret of a stream
 /// is in memory of its own.
@@ -292,7 +292,21 @@ fn impl_oneshot_long(secret: Secret<'_>, input: &[u8]) -> u64
     requires { 240 < length input.now }
     ensures { (any : ℕ) → result ≡ xxh3_64 any (secret_bytes secret.entry) input.now }
 {
-    Algorithm(Kernel {}).oneshot(secret, input, Finalize64)
+    if input.len() < MANY_BYTES {
+        Algorithm(Kernel {}).oneshot_of::<Finalize64, false>(secret, input, Finalize64)
+    } else {
+        impl_oneshot_many(secret, input)
+    }
+}
+
+// The same of many bytes, as the last call of the one above, which so keeps no register for it.
+#[inline(never)]
+#[tactic(auto, using(twox_core::proofs::ValueLaws::long_64, twox_core::proofs::EndingFacts::block_low))]
+fn impl_oneshot_many(secret: Secret<'_>, input: &[u8]) -> u64
+    requires { 240 < length input.now }
+    ensures { (any : ℕ) → result ≡ xxh3_64 any (secret_bytes secret.entry) input.now }
+{
+    Algorithm(Kernel {}).oneshot_of::<Finalize64, true>(secret, input, Finalize64)
 }
 
 // The same with the secret that a seed derives. The seed 0 derives the default one.

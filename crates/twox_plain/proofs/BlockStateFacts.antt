@@ -7,7 +7,7 @@ use Rattle.std.proofs.lemmas.Nat.{div-mul-add, mod-mul-add, div-add-mod', mod_be
 use Rattle.std.proofs.lemmas.Slice.{take-put_mid}
 use Rattle.std.proofs.Math.Nat.{div-eq_of_lt}
 use Rattle.std.proofs.Math.Seq.{take-append-add, drop-append-add}
-use Rattle.twox_plain.specs.Word.{counted}
+use Rattle.twox_words.specs.Word.{counted}
 use Rattle.twox_plain.specs.BlockState.{BlockState, Follows, AgreeInUse, buffer_with, after_blocks, after_piece}
 
 -- the counted length of a longer message

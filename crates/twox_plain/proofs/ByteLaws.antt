@@ -2,12 +2,12 @@
 -- each step does.
 use Rattle.std.proofs.Common.{◌≡◌, ◌≢◌, ℕ, ◌+◌, ◌-◌, ◌^◌, ◌<◌, ◌≤◌, List, slice_index, inl, inr, sym, ap, subst, ◌∙◌, arith}
 use Rattle.std.proofs.lemmas.Bool.{cases_lt}
-use Rattle.twox_plain.specs.Word.{IsBytes}
+use Rattle.twox_words.specs.Word.{IsBytes}
 use Rattle.twox_plain.specs.Units.{after_units}
 use Rattle.twox_plain.specs.ChangedUnit.{DiffersWithin}
 use Rattle.twox_plain.proofs.UnitFacts.{after_units_same}
 use Rattle.twox_plain.proofs.UnitLaws.{IsTelling, start_told, unit_told}
-use Rattle.twox_plain.proofs.WordLaws.{differ}
+use Rattle.twox_plain.proofs.ChangedUnitFacts.{differ}
 
 module _ (states : ℕ) (take_byte : ℕ → ℕ → ℕ) (tells : IsTelling states (2 ^ 8) take_byte) where
   -- the value after the k bytes of m from byte i on

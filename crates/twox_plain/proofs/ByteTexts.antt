@@ -5,7 +5,7 @@ use Rattle.std.proofs.lemmas.Bool.Decides.{nat_tests}
 use Rattle.serde_json.specs.Data.{items_depth}
 use Rattle.serde_json.specs.Written.{items_have_float, items_text}
 use Rattle.serde_json.proofs.OnLiterals.{serde_json_on_literals}
-use Rattle.twox_plain.specs.Word.{IsBytes}
+use Rattle.twox_words.specs.Word.{IsBytes}
 use Rattle.twox_plain.specs.SavedText.{item_count, item_bytes, bytes_of_data, more_numbers, numbers_text, items_of_bytes, bytes_data}
 
 pub no_float : (bytes : List ℕ) → items_have_float (items_of_bytes bytes) ≡ false

@@ -3,7 +3,7 @@
 use Rattle.std.proofs.Common.{◌≡◌, ℕ, ◌+◌, ◌*◌, ◌≤◌, List, ◌++◌, take, drop, length, sym, ◌∙◌, arith}
 use Rattle.std.proofs.lemmas.List.{take-append-drop}
 use Rattle.std.specs.Int.{Width, byte_len}
-use Rattle.twox_plain.specs.Word.{word_at}
+use Rattle.twox_words.specs.Word.{word_at}
 use Rattle.twox_plain.specs.Units.{after_units}
 use Rattle.twox_plain.proofs.UnitFacts.{words_one, words_more, words_longer}
 

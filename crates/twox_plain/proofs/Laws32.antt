@@ -3,16 +3,17 @@ use Rattle.std.proofs.Common.{◌≡◌, ◌≢◌, ℕ, zero, suc, ◌+◌, ◌
 use Rattle.std.proofs.lemmas.Bool.{cases_lt}
 use Rattle.std.proofs.lemmas.Bool.Decides.{nat_tests}
 use Rattle.std.specs.Int.{w32, rotate_left}
-use Rattle.twox_plain.specs.Word.{IsBytes, word_at, counted}
+use Rattle.twox_words.specs.Word.{IsBytes, word_at, counted}
 use Rattle.twox_plain.specs.Units.{after_units}
 use Rattle.twox_plain.specs.ChangedUnit.{DiffersWithin, IsUnit32}
 use Rattle.twox_plain.specs.Xxh32.{p1, p2, p3, p4, p5, initial_accumulators, round, accumulator, convergence, start, take_word, take_byte, after_words, after_tail, avalanche, xxh32}
-use Rattle.twox_plain.proofs.Rotations.{left-lt}
-use Rattle.twox_plain.proofs.OneToOne.{IsOneToOne, multiple_one_to_one, sum_one_to_one_32, left_one_to_one, turned_multiple_told, avalanche_told}
+use Rattle.twox_words.proofs.Rotations.{left-lt}
+use Rattle.twox_words.proofs.OneToOne.{IsOneToOne, multiple_one_to_one, sum_one_to_one_32, left_one_to_one, turned_multiple_told, avalanche_told}
 use Rattle.twox_plain.proofs.ByteLaws.{bytes_told, byte_noticed}
 use Rattle.twox_plain.proofs.UnitFacts.{after_units_same}
 use Rattle.twox_plain.proofs.UnitLaws.{IsTelling, after_units-lt, start_told, unit_told}
-use Rattle.twox_plain.proofs.WordLaws.{word_at-lt_32, told_by_word_32, differ, word_outside}
+use Rattle.twox_words.proofs.WordLaws.{word_at-lt_32, told_by_word_32}
+use Rattle.twox_plain.proofs.ChangedUnitFacts.{differ, word_outside}
 
 -- ---- the steps
 

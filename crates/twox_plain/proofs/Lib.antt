@@ -2,7 +2,7 @@ pub mod BlockStateFacts
 pub mod ByteItems
 pub mod ByteLaws
 pub mod ByteTexts
-pub mod ChunksFront
+pub mod ChangedUnitFacts
 pub mod Core32Facts
 pub mod Core64Facts
 pub mod FourAccumulators
@@ -10,15 +10,12 @@ pub mod Laws32
 pub mod Laws64
 pub mod Message32
 pub mod Message64
-pub mod OneToOne
 pub mod Reachability32
 pub mod Reachability64
 pub mod Reachability
-pub mod OutsideVectors
 pub mod OutsideVectors32
 pub mod OutsideVectors64
 pub mod RecordFacts
-pub mod Rotations
 pub mod SavedTexts
 pub mod SavedTexts32
 pub mod SavedTexts64
@@ -28,5 +25,3 @@ pub mod UnitFacts
 pub mod UnitLaws
 pub mod Vectors32
 pub mod Vectors64
-pub mod WordFacts
-pub mod WordLaws

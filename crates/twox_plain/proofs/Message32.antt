@@ -3,7 +3,7 @@ use Rattle.std.proofs.Common.{◌≡◌, ℕ, ◌*◌, ◌/◌, ◌%◌, ◌<◌
 use Rattle.std.proofs.lemmas.Bool.{cases_lt}
 use Rattle.std.proofs.lemmas.Bool.Decides.{nat_tests}
 use Rattle.std.specs.Int.{w32}
-use Rattle.twox_plain.specs.Word.{wrap_add, counted}
+use Rattle.twox_words.specs.Word.{wrap_add, counted}
 use Rattle.twox_plain.specs.Xxh32.{p5, convergence, start, after_tail, avalanche, xxh32}
 use Rattle.twox_plain.specs.Core32.{core_of_stripes, core_after_stripes}
 use Rattle.twox_plain.specs.Record32.{StandsFor, AgreeInUse, parts, initial_record, after_write, value_of, finish_value}

@@ -3,7 +3,7 @@ use Rattle.std.proofs.Common.{◌≡◌, ℕ, ◌*◌, ◌/◌, ◌%◌, ◌<◌
 use Rattle.std.proofs.lemmas.Bool.{cases_lt}
 use Rattle.std.proofs.lemmas.Bool.Decides.{nat_tests}
 use Rattle.std.specs.Int.{w64}
-use Rattle.twox_plain.specs.Word.{wrap_add, counted}
+use Rattle.twox_words.specs.Word.{wrap_add, counted}
 use Rattle.twox_plain.specs.Xxh64.{p5, convergence, start, after_tail, avalanche, xxh64}
 use Rattle.twox_plain.specs.Core64.{core_of_stripes, core_after_stripes}
 use Rattle.twox_plain.specs.Record64.{StandsFor, AgreeInUse, parts, initial_record, after_write, value_of, finish_value}

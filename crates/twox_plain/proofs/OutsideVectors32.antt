@@ -3,9 +3,9 @@
 use Rattle.std.specs.Prelude.{◌≡◌}
 use Rattle.std.proofs.Common.{refl}
 use Rattle.twox_plain.specs.Xxh32.{xxh32, start, accumulator, after_tail, after_words}
-use Rattle.twox_plain.specs.Word.{word_at}
+use Rattle.twox_words.specs.Word.{word_at}
 use Rattle.twox_plain.specs.Units.{after_units}
-use Rattle.twox_plain.proofs.OutsideVectors.{drawn}
+use Rattle.twox_words.proofs.OutsideVectors.{drawn}
 
 pub of_0_bytes_seeded : xxh32 0x20764753 (drawn 0x86ad14d4430c32b6 0) ≡ 0x38892884
 unfolding xxh32 start after_units after_tail after_words drawn

@@ -2,10 +2,10 @@
 -- library. oracle/make-proofs wrote this file from the table.
 use Rattle.std.specs.Prelude.{◌≡◌}
 use Rattle.std.proofs.Common.{refl}
-use Rattle.twox_plain.specs.Word.{word_at}
+use Rattle.twox_words.specs.Word.{word_at}
 use Rattle.twox_plain.specs.Units.{after_units}
 use Rattle.twox_plain.specs.Xxh64.{xxh64, start, accumulator, after_tail, after_words, after_eights}
-use Rattle.twox_plain.proofs.OutsideVectors.{drawn}
+use Rattle.twox_words.proofs.OutsideVectors.{drawn}
 
 pub of_0_bytes_seeded : xxh64 0x263779b261667c10 (drawn 0xa03088c49e60b1b3 0) ≡ 0xf61706642cc9a00e
 unfolding after_units xxh64 start after_tail after_words after_eights drawn

@@ -7,13 +7,13 @@ use Rattle.std.proofs.lemmas.Nat.{from_le_bytes-to_le_bytes_4, from_le_bytes-to_
 use Rattle.std.proofs.Math.Nat.{add-mod-mod, add-mod_left, mod-eq_of_lt, eq-or-lt_of_le, mul-le-mul_left}
 use Rattle.std.specs.Int.{Width, w32, w64, byte_len, from_le_bytes, to_le_bytes, rotate_left}
 use mir.Val.{bits}
-use Rattle.twox_plain.specs.Word.{IsBytes, word_at, wrap_add, wrap_mul, counted}
+use Rattle.twox_words.specs.Word.{IsBytes, word_at, wrap_add, wrap_mul, counted}
 use Rattle.twox_plain.specs.Units.{after_units}
 use Rattle.twox_plain.specs.BlockState.{BlockState, Follows}
-use Rattle.twox_plain.proofs.Rotations.{rotated, turned_back, left_is_rotated, rotated-lt}
-use Rattle.twox_plain.proofs.OneToOne.{multiple_back}
-use Rattle.twox_plain.proofs.WordFacts.{word_at-append, word_at-append_right}
-use Rattle.twox_plain.proofs.WordLaws.{IsBytes-part}
+use Rattle.twox_words.proofs.Rotations.{rotated, turned_back, left_is_rotated, rotated-lt}
+use Rattle.twox_words.proofs.OneToOne.{multiple_back}
+use Rattle.twox_words.proofs.WordFacts.{word_at-append, word_at-append_right}
+use Rattle.twox_words.proofs.WordLaws.{IsBytes-part}
 use Rattle.twox_plain.proofs.BlockStateFacts.{follows_from}
 use Rattle.twox_plain.proofs.FourAccumulators.{after_stripes}
 

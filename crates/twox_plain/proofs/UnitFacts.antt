@@ -1,11 +1,12 @@
 -- A value that takes words or bytes of a list, one after another, where the list is cut or joined.
-use Rattle.std.proofs.Common.{◌≡◌, ℕ, zero, suc, ◌+◌, ◌*◌, ◌<◌, ◌≤◌, List, ◌++◌, length, take, drop, slice_index, refl, ap, ap₂, ◌∙◌, arith, add-one, add-zero, add-suc}
-use Rattle.std.proofs.lemmas.List.{get_or-drop}
-use Rattle.std.proofs.lemmas.Nat.{mul-le}
+use Rattle.std.proofs.Common.{◌≡◌, ℕ, zero, suc, ◌+◌, ◌-◌, ◌*◌, ◌/◌, ◌<◌, ◌≤◌, List, ◌++◌, length, take, drop, slice_index, refl, sym, ap, ap₂, ◌∙◌, arith, add-one, add-zero, add-suc}
+use Rattle.std.proofs.Math.Nat.{add-div_right, add-mul, div-mul-le_self, one-mul, zero-mul}
+use Rattle.std.proofs.lemmas.List.{drop-drop, get_or-drop}
+use Rattle.std.proofs.lemmas.Nat.{le-div, mul-le}
 use Rattle.std.specs.Int.{Width, byte_len}
-use Rattle.twox_plain.specs.Word.{word_at}
+use Rattle.twox_words.specs.Word.{word_at}
 use Rattle.twox_plain.specs.Units.{after_units}
-use Rattle.twox_plain.proofs.WordFacts.{word_at-drop, word_at-append, word_at-part}
+use Rattle.twox_words.proofs.WordFacts.{word_at-drop, word_at-append, word_at-part}
 
 pub after_units_none : (step : ℕ → ℕ → ℕ) (unit : ℕ → ℕ) (a : ℕ) → after_units step unit a 0 ≡ a
 unfolding after_units
@@ -60,3 +61,39 @@ pub bytes_drop : (step : ℕ → ℕ → ℕ) (i : ℕ) (m : List ℕ) (a k at :
     → after_units step (λ u. slice_index (drop i m) (0 + at + u)) a k ≡ after_units step (λ u. slice_index m (i + at + u)) a k
 bytes_drop step i m a k at =
     after_units_same step _ _ a k (λ u low. get_or-drop i m (0 + at + u) 0 ∙ ap (slice_index m) (omega arith))
+
+-- ---- a loop that takes a list unit by unit
+
+-- how many units of w bytes were taken of m where this rest is left
+abbrev pub taken : (w : ℕ) (m rest : List ℕ) → ℕ
+taken w m rest = length m / w - length rest / w
+
+-- the rest is what follows the units taken of m
+pub record IsRest (w : ℕ) (m rest : List ℕ) : Type 0 where
+  pub shorter : length rest ≤ length m
+  pub follows : rest ≡ drop (taken w m rest * w) m
+
+one_more : (all before after : ℕ) → before ≡ after + 1 → before ≤ all → all - after ≡ all - before + 1
+one_more all before after next within = omega (arith, next, within)
+
+pub taken_next : (w : ℕ) (m rest after : List ℕ) → 0 < w → length rest ≡ length after + w → length rest ≤ length m → taken w m after ≡ taken w m rest + 1
+taken_next w m rest after some unit shorter =
+    let most : length rest / w * w ≤ length m = omega (arith, div-mul-le_self (length rest) w, shorter) in
+    one_more (length m / w) (length rest / w) (length after / w)
+    (ap (λ (n : ℕ). n / w) unit ∙ add-div_right (length after) some)
+    (le-div (length rest / w) (length m) w some most)
+
+pub rest_next : (w : ℕ) (m rest after : List ℕ) → 0 < w → after ≡ drop w rest → length rest ≡ length after + w → IsRest w m rest → IsRest w m after
+rest_next w m rest after some cut unit held =
+    let n = taken w m rest in
+    let place : n * w + w ≡ (n + 1) * w = rw (add-mul n 1 w, one-mul w) refl in
+    record {
+      shorter = omega (arith, unit, held.shorter);
+      follows = cut ∙ ap (drop w) held.follows ∙ drop-drop w (n * w) m
+          ∙ ap (λ (k : ℕ). drop k m) place ∙ ap (λ (k : ℕ). drop (k * w) m) (sym (taken_next w m rest after some unit held.shorter));
+    }
+
+pub rest_whole : (w : ℕ) (m : List ℕ) → IsRest w m m
+rest_whole w m =
+    let none : length m / w - length m / w ≡ 0 = omega arith in
+    record { shorter = omega arith; follows = rw (none, zero-mul w) refl }

@@ -2,7 +2,7 @@
 use Rattle.std.proofs.Common.{◌≡◌, ◌≢◌, ℕ, zero, suc, ◌<◌, ◌≤◌, inl, inr, sym, ap, subst, ◌∙◌, arith}
 use Rattle.std.proofs.Math.Nat.{eq-or-lt_of_le}
 use Rattle.twox_plain.specs.Units.{after_units}
-use Rattle.twox_plain.proofs.OneToOne.{IsOneToOne}
+use Rattle.twox_words.proofs.OneToOne.{IsOneToOne}
 use Rattle.twox_plain.proofs.UnitFacts.{after_units_same}
 
 -- a step from states and units to states, one to one in each of the two

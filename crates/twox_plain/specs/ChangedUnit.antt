@@ -1,6 +1,6 @@
 -- Lists that differ in one unit of a hash alone, and that a hash tells them from one another.
 use Rattle.std.specs.Prelude.{◌≡◌, ◌≢◌, ◌<◌, ◌≤◌, ◌⊎◌, ◌+◌, ◌*◌, ◌/◌, ◌%◌, ℕ, List, length, slice_index}
-use Rattle.twox_plain.specs.Word.{IsBytes}
+use Rattle.twox_words.specs.Word.{IsBytes}
 
 -- n is another list of the same length as m, and agrees with it outside the `size` bytes from byte `from` on
 pub record DiffersWithin (from size : ℕ) (m n : List ℕ) : Type 0 where

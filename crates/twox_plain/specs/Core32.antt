@@ -1,7 +1,7 @@
 -- The four accumulators of XXH32 side by side, as the code keeps them.
 use Rattle.std.specs.Prelude.{ℕ, List, ◌+◌, ◌*◌}
 use Rattle.std.specs.Int.{w32}
-use Rattle.twox_plain.specs.Word.{word_at}
+use Rattle.twox_words.specs.Word.{word_at}
 use Rattle.twox_plain.specs.Units.{after_units}
 use Rattle.twox_plain.specs.Xxh32.{accumulator, round}
 use Rattle.twox_plain.specs.declared.xxhash32.Core.{Core}

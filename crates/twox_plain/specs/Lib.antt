@@ -9,8 +9,8 @@ pub mod Saved32
 pub mod Saved64
 pub mod SavedText
 pub mod Units
-pub mod Word
 pub mod Xxh32
 pub mod Xxh64
 pub mod StateInMemory64
 pub mod StateInMemory32
+pub use Rattle.twox_words.specs.Word

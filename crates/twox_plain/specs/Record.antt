@@ -2,7 +2,7 @@
 -- `core_of seed m k` is the accumulators of the seed after the first k stripes of m, and `core_after c d k` is
 -- what c becomes by the first k stripes of d.
 use Rattle.std.specs.Prelude.{◌≡◌, ◌<◌, ◌+◌, ◌-◌, ◌%◌, ◌^◌, ℕ, List, [], length, min, replicate}
-use Rattle.twox_plain.specs.Word.{counted}
+use Rattle.twox_words.specs.Word.{counted}
 use Rattle.twox_plain.specs.BlockState.{BlockState, Follows, after_piece}
 use Rattle.twox_plain.specs.BlockState as Block
 

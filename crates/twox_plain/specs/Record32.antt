@@ -3,7 +3,7 @@ use Rattle.std.specs.Prelude.{ℕ, ◌%◌, ◌^◌, List, length, take, nat_lt,
 use Rattle.std.specs.Cmp.Lexicographic.{pointwise}
 use Rattle.std.specs.Ordering.{on, eq_of_both}
 use Rattle.std.specs.Int.{w32}
-use Rattle.twox_plain.specs.Word.{IsBytes, wrap_add}
+use Rattle.twox_words.specs.Word.{IsBytes, wrap_add}
 use Rattle.twox_plain.specs.Xxh32.{p5, convergence, after_tail, avalanche}
 use Rattle.twox_plain.specs.Core32.{core_of_stripes, core_after_stripes}
 use Rattle.twox_plain.specs.Record as Plain

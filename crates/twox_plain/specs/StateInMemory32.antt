@@ -1,6 +1,7 @@
 -- The record of a hasher, from its fields in the order in which they lie in memory.
-use Rattle.std.specs.Prelude.{ℕ, List, ◌++◌, ◌*◌, ◌/◌, drop, length}
+use Rattle.std.specs.Prelude.{◌≡◌, ℕ, List, ◌++◌, ◌*◌, ◌/◌, ◌<◌, drop, length}
 use Rattle.twox_plain.specs.Core32.{core_after_stripes}
+use Rattle.twox_plain.specs.Record32.{after_write}
 use Rattle.twox_plain.specs.declared.xxhash32.SavedState.{SavedState}
 use Rattle.twox_plain.specs.declared.xxhash32.StateInMemory.{StateInMemory}
 
@@ -22,3 +23,9 @@ after_rest s d =
       buffer = rest ++ drop (length rest) s.buffer;
       buffer_usage = length rest;
     }
+
+-- b is the memory a after the piece d
+pub record AfterPiece (a : StateInMemory) (d : List ℕ) (b : StateInMemory) : Type 0 where
+  pub exact : record_of b ≡ after_write (record_of a) d
+  pub seed : b.seed ≡ a.seed
+  pub in_range : b.buffer_usage < 16

@@ -2,7 +2,7 @@
 -- list is read as a whole, by absolute positions, and each accumulator is followed by itself.
 use Rattle.std.specs.Prelude.{ℕ, ◌+◌, ◌*◌, ◌/◌, ◌%◌, nat_lt, List, [], ◌∷◌, length, slice_index, bit_xor, if◌then◌else◌}
 use Rattle.std.specs.Int.{w32, w64, rotate_left}
-use Rattle.twox_plain.specs.Word.{word_at, wrap_add, wrap_sub, wrap_mul, xor_shift, counted}
+use Rattle.twox_words.specs.Word.{word_at, wrap_add, wrap_sub, wrap_mul, xor_shift, counted}
 use Rattle.twox_plain.specs.Units.{after_units}
 
 abbrev pub p1 : ℕ

@@ -1,7 +1,8 @@
-//! XXH32 and XXH64, and the little-endian words that every hash of this repository reads.
+//! XXH32 and XXH64.
 #![tactic(auto)]
 
 mod saved_text;
-pub mod words;
 pub mod xxhash32;
 pub mod xxhash64;
+
+pub use twox_words::words;

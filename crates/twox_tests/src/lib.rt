@@ -1,35 +1,27 @@
-//! Tests of the hashes through the public calls of `twox_hash` alone.
+//! Tests of XXH3 through the public calls of `twox_hash` alone. Those of XXH32 and XXH64 are
+//! in `plain_tests`, those of what XXH3 is made of in `core_tests`, those of its memory in `memory_tests`.
+//!
+//! A test states nothing, so its proof has little to find as long as each function is small: a call and what is
+//! asked of its answer stand in a function of their own, which callers see without the call's contract.
 #![tactic(auto)]
 
 #[cfg(test)]
 mod algorithm;
 #[cfg(test)]
-mod fast_and_slow;
-#[cfg(test)]
-mod forged;
-#[cfg(test)]
-mod great_streams;
+mod counts;
 #[cfg(test)]
 mod kernels;
 #[cfg(test)]
-mod keyed_streams;
+mod kinds;
 #[cfg(test)]
 mod laws;
 #[cfg(test)]
 mod oneshots;
 #[cfg(test)]
-mod parts;
-#[cfg(test)]
 mod pieces;
-#[cfg(test)]
-mod plain;
-#[cfg(test)]
-mod refused_memory;
 #[cfg(test)]
 mod rows;
 #[cfg(test)]
-mod saved;
-#[cfg(test)]
 mod secret_lengths;
 #[cfg(test)]
-mod streams;
+mod secrets;

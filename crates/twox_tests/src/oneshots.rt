@@ -1,127 +1,135 @@
 //! XXH3 of slices at once, with each way to name a secret and a seed.
 
-use crate::rows::{ROWS, Row, SEED, SEEDED_ROWS, first, gen_10240};
+use crate::rows::{SEED, first, gen_10240, rows, seeded_rows};
+use std::alloc::Global;
+use std::fmt;
 use std::test::Fail;
 use twox_hash::xxhash3::secret::Error;
 use twox_hash::xxhash3::{DEFAULT_SECRET_RAW, OneshotWithSecretError, Secret};
 use twox_hash::{XxHash3_64, XxHash3_128};
 
+fn under_secret_64(secret: &[u8], input: &[u8]) -> Result<u64, OneshotWithSecretError> {
+    XxHash3_64::oneshot_with_secret(secret, input)
+}
+
+fn under_secret_128(secret: &[u8], input: &[u8]) -> Result<u128, OneshotWithSecretError> {
+    XxHash3_128::oneshot_with_secret(secret, input)
+}
+
+fn under_both_64(seed: u64, secret: &[u8], input: &[u8]) -> Result<u64, OneshotWithSecretError> {
+    XxHash3_64::oneshot_with_seed_and_secret(seed, secret, input)
+}
+
+fn under_both_128(seed: u64, secret: &[u8], input: &[u8]) -> Result<u128, OneshotWithSecretError> {
+    XxHash3_128::oneshot_with_seed_and_secret(seed, secret, input)
+}
+
 // Every one-shot, with each way to name the default secret and the seed 0.
-#[test]
-fn values_without_a_seed(rt: HostRuntime) -> Result<(), Fail> {
-    let bytes = gen_10240();
-    let secret = DEFAULT_SECRET_RAW;
-    for Row {
-        len,
-        value,
-        wide_value,
-    } in ROWS {
-        assert!(rt; len <= 10240);
-        let input = first(&bytes, len);
-        assert_eq!(rt;
-            [
-                XxHash3_64::oneshot(input),
-                XxHash3_64::oneshot_with_seed(0, input),
-                XxHash3_64::oneshot_with_secret(&secret, input)?,
-                XxHash3_64::oneshot_with_seed_and_secret(0, &secret, input)?,
-            ],
-            [value; 4],
-            "{len} bytes"
-        );
-        assert_eq!(rt;
-            [
-                XxHash3_128::oneshot(input),
-                XxHash3_128::oneshot_with_seed(0, input),
-                XxHash3_128::oneshot_with_secret(&secret, input)?,
-                XxHash3_128::oneshot_with_seed_and_secret(0, &secret, input)?,
-            ],
-            [wide_value; 4],
-            "{len} bytes"
-        );
-    }
-    Ok(())
+fn has_value_64(input: &[u8], value: u64) -> bool {
+    XxHash3_64::oneshot(input) == value
+        && XxHash3_64::oneshot_with_seed(0, input) == value
+        && under_secret_64(&DEFAULT_SECRET_RAW, input) == Ok(value)
+        && under_both_64(0, &DEFAULT_SECRET_RAW, input) == Ok(value)
+}
+
+fn has_value_128(input: &[u8], value: u128) -> bool {
+    XxHash3_128::oneshot(input) == value
+        && XxHash3_128::oneshot_with_seed(0, input) == value
+        && under_secret_128(&DEFAULT_SECRET_RAW, input) == Ok(value)
+        && under_both_128(0, &DEFAULT_SECRET_RAW, input) == Ok(value)
 }
 
 #[test]
-fn values_under_a_seed(rt: HostRuntime) -> Result<(), Fail> {
+fn values_without_a_seed(rt: HostRuntime) {
     let bytes = gen_10240();
-    for (len, value) in SEEDED_ROWS {
-        assert!(rt; len <= 10240);
-        let input = first(&bytes, len);
-        assert_eq!(rt;
-            XxHash3_64::oneshot_with_seed(SEED, input),
-            value,
-            "{len} bytes"
-        );
-        if len <= 240 {
-            assert_eq!(rt;
-                XxHash3_64::oneshot_with_seed_and_secret(SEED, &[], input)?,
-                value,
-                "{len} bytes"
-            );
-        }
+    for row in rows() {
+        let input = first(&bytes, row.len);
+        assert!(rt; has_value_64(input, row.value), "{} bytes", row.len);
+        assert!(rt; has_value_128(input, row.wide_value), "{} bytes", row.len);
     }
-    Ok(())
+}
+
+// Up to 240 bytes any secret may stand beside the seed, even none.
+fn has_seeded_value(input: &[u8], value: u64) -> bool {
+    XxHash3_64::oneshot_with_seed(SEED, input) == value
+        && (input.len() > 240 || under_both_64(SEED, &[], input) == Ok(value))
 }
 
 #[test]
-fn a_secret_of_zeros(rt: HostRuntime) -> Result<(), Fail> {
-    assert_eq!(rt; XxHash3_64::oneshot_with_secret(&[0; 136], &[])?, 0);
-    assert_eq!(rt; XxHash3_128::oneshot_with_secret(&[0; 136], &[])?, 0);
-    assert_eq!(rt;
-        XxHash3_64::oneshot_with_secret(&[0; 136], &[0; 4])?,
-        0x7ec8_7193_96e4_65d3
-    );
-    Ok(())
+fn values_under_a_seed(rt: HostRuntime) {
+    let bytes = gen_10240();
+    for (len, value) in seeded_rows() {
+        assert!(rt; has_seeded_value(first(&bytes, len), value), "{len} bytes");
+    }
+}
+
+#[test]
+fn a_secret_of_zeros(rt: HostRuntime) {
+    assert!(rt; under_secret_64(&[0; 136], &[]) == Ok(0));
+    assert!(rt; under_secret_128(&[0; 136], &[]) == Ok(0));
+    assert!(rt; under_secret_64(&[0; 136], &[0; 4]) == Ok(0x7ec8_7193_96e4_65d3));
 }
 
 // Up to 240 bytes a secret beside a seed has no effect, and above it must be long enough and the seed has none.
-#[test]
-fn secrets_beside_a_seed(rt: HostRuntime) -> Result<(), Fail> {
-    let bytes = gen_10240();
-    let secret = DEFAULT_SECRET_RAW;
-    for Row {
-        len,
-        value,
-        wide_value,
-    } in ROWS {
-        assert!(rt; len <= 10240);
-        let input = first(&bytes, len);
-        let (seed, secret): (u64, &[u8]) = if len <= 240 { (0, &[]) } else { (7, &secret) };
-        assert_eq!(rt;
-            XxHash3_64::oneshot_with_seed_and_secret(seed, secret, input)?,
-            value,
-            "{len} bytes"
-        );
-        assert_eq!(rt;
-            XxHash3_128::oneshot_with_seed_and_secret(seed, secret, input)?,
-            wide_value,
-            "{len} bytes"
-        );
+fn is_the_seedless(input: &[u8], value: u64, wide: u128) -> bool {
+    if input.len() <= 240 {
+        under_both_64(0, &[], input) == Ok(value) && under_both_128(0, &[], input) == Ok(wide)
+    } else {
+        under_both_64(7, &DEFAULT_SECRET_RAW, input) == Ok(value)
+            && under_both_128(7, &DEFAULT_SECRET_RAW, input) == Ok(wide)
     }
-    let (long, too_short) = (first(&bytes, 241), first(&bytes, 135));
-    assert!(rt; XxHash3_64::oneshot_with_seed_and_secret(7, too_short, long).is_err());
-    assert!(rt; XxHash3_64::oneshot_with_secret(too_short, long).is_err());
-    assert!(rt; XxHash3_128::oneshot_with_seed_and_secret(7, too_short, long).is_err());
-    assert!(rt; XxHash3_128::oneshot_with_secret(too_short, long).is_err());
-    Ok(())
 }
 
 #[test]
-fn a_secret_that_is_too_short(rt: HostRuntime) -> Result<(), Fail> {
-    let refused = OneshotWithSecretError::from(Error);
-    assert_eq!(rt;
-        XxHash3_64::oneshot_with_secret(&[0; 135], &[]),
-        Err(refused)
-    );
-    assert_eq!(rt;
-        XxHash3_128::oneshot_with_secret(&[0; 135], &[]),
-        Err(refused)
-    );
-    assert!(rt; Secret::new(&[0; 135]).is_err());
+fn secrets_beside_a_seed(rt: HostRuntime) {
+    let bytes = gen_10240();
+    for row in rows() {
+        let input = first(&bytes, row.len);
+        assert!(rt;
+            is_the_seedless(input, row.value, row.wide_value),
+            "{} bytes",
+            row.len
+        );
+    }
+}
 
-    let text = "The secret must have at least 136 bytes";
-    assert_eq!(rt; format!(in rt.alloc(); "{refused}")?.as_str(), text);
-    assert_eq!(rt; format!(in rt.alloc(); "{Error}")?.as_str(), text);
+#[test]
+fn secrets_that_are_too_short(rt: HostRuntime) {
+    let bytes = gen_10240();
+    let (long, too_short) = (first(&bytes, 241), first(&bytes, 135));
+    let refused = OneshotWithSecretError::from(Error);
+    assert!(rt; under_both_64(7, too_short, long) == Err(refused));
+    assert!(rt; under_secret_64(too_short, long) == Err(refused));
+    assert!(rt; under_both_128(7, too_short, long) == Err(refused));
+    assert!(rt; under_secret_128(too_short, long) == Err(refused));
+    assert!(rt; under_secret_64(&[0; 135], &[]) == Err(refused));
+    assert!(rt; under_secret_128(&[0; 135], &[]) == Err(refused));
+    assert!(rt; Secret::new(&[0; 135]).is_err());
+}
+
+fn reads<E: fmt::Display + Drop>(alloc: Global, error: E) -> Result<bool, Fail> {
+    let text = format!(in alloc; "{error}")?;
+    Ok(text.as_str() == "The secret must have at least 136 bytes")
+}
+
+#[test]
+fn texts_of_refused_secrets(rt: HostRuntime) -> Result<(), Fail> {
+    assert!(rt; reads(rt.alloc(), Error)?);
+    assert!(rt; reads(rt.alloc(), OneshotWithSecretError::from(Error))?);
+    Ok(())
+}
+
+fn refusal_of_a_secret(secret: &[u8]) -> Result<Error, Fail> {
+    Ok(Secret::new(secret).err().ok_or("135 bytes")?)
+}
+
+fn refusal_of_a_oneshot(secret: &[u8]) -> Result<OneshotWithSecretError, Fail> {
+    Ok(under_secret_64(secret, &[]).err().ok_or("135 bytes")?)
+}
+
+#[test]
+fn texts_of_secrets_that_are_too_short(rt: HostRuntime) -> Result<(), Fail> {
+    assert!(rt; reads(rt.alloc(), refusal_of_a_secret(&[0; 135])?)?);
+    assert!(rt; reads(rt.alloc(), refusal_of_a_oneshot(&[0; 135])?)?);
     Ok(())
 }

@@ -1,7 +1,5 @@
 //! The input of the tests of XXH3, and the values that the tests of the Rust crate `twox-hash` expect of it.
 
-ghost use Rattle.std.specs.Prelude.{◌≡◌, ◌≤◌, length};
-
 /// The values of the first `len` bytes under the seed 0.
 #[derive(Clone, Copy)]
 pub(crate) struct Row {
@@ -10,7 +8,7 @@ pub(crate) struct Row {
     pub(crate) wide_value: u128,
 }
 
-pub(crate) const ROWS: [Row; 21] = [
+const ROWS: [Row; 21] = [
     Row {
         len: 0,
         value: 0x2d06_8005_38d3_94c2,
@@ -121,7 +119,7 @@ pub(crate) const ROWS: [Row; 21] = [
 pub(crate) const SEED: u64 = 0xdead_cafe;
 
 /// The values of 64 bits of so many bytes under that seed.
-pub(crate) const SEEDED_ROWS: [(usize, u64); 8] = [
+const SEEDED_ROWS: [(usize, u64); 8] = [
     (0, 0x4aed_e683_89c0_e311),
     (1, 0x78fc_079a_75aa_f3c0),
     (4, 0x1b73_06b8_9f25_4507),
@@ -132,23 +130,38 @@ pub(crate) const SEEDED_ROWS: [(usize, u64); 8] = [
     (1024, 0x2483_9f0f_cdf4_d078),
 ];
 
+// The tables, as values that a caller knows nothing of: a check would read each row anew in each caller.
+pub(crate) fn rows() -> [Row; 21] {
+    ROWS
+}
+
+pub(crate) fn seeded_rows() -> [(usize, u64); 8] {
+    SEEDED_ROWS
+}
+
 // The bytes `i mod 251`.
-pub(crate) fn fill(bytes: &mut [u8]) {
+fn fill(bytes: &mut [u8]) {
     for i in 0..bytes.len() {
         bytes[i] = (i % 251) as u8;
     }
 }
 
-pub(crate) fn gen_10240() -> [u8; 10240] {
-    let mut bytes = [0; 10240];
+pub(crate) fn generated<const N: usize>() -> [u8; N] {
+    let mut bytes = [0; N];
     fill(&mut bytes);
     bytes
 }
 
-// The first `n` of them.
-pub(crate) fn first(bytes: &[u8; 10240], n: usize) -> &[u8]
-    requires { n ≤ 10240 }
-    ensures { length result.now ≡ n }
-{
-    &bytes[..n]
+pub(crate) fn gen_10240() -> [u8; 10240] {
+    generated()
+}
+
+// The first `n` of them, or all.
+pub(crate) fn first(bytes: &[u8; 10240], n: usize) -> &[u8] {
+    &bytes[..n.min(10240)]
+}
+
+// The bytes from one place to before another, where these are in order and in range, and none else.
+pub(crate) fn between(bytes: &[u8; 10240], start: usize, end: usize) -> &[u8] {
+    bytes.get(start..end).unwrap_or(&[])
 }

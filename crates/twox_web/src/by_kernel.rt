@@ -52,7 +52,6 @@ pub fn keyed_64(secret: Secret<'_>, input: &[u8]) -> u64
     }
 }
 
-// A call of its own, so that short inputs pay nothing for the room of long ones.
 /// The hash of more than 240 bytes under a secret, where no seed enters.
 #[inline(never)]
 #[tactic(auto, using(twox_core::proofs::ValueLaws::long_64, twox_core::proofs::EndingFacts::block_low))]
@@ -60,6 +59,7 @@ pub fn long_64(secret: Secret<'_>, input: &[u8]) -> u64
     requires { 240 < length input.now }
     ensures { (any : ℕ) → result ≡ xxh3_64 any (secret_bytes secret.entry) input.now }
 {
+    // A call of its own, so that short inputs pay nothing for the room of long ones.
     Algorithm(PageKernel {}).oneshot(secret, input, Finalize64)
 }
 
@@ -108,7 +108,6 @@ pub fn keyed_128(secret: Secret<'_>, input: &[u8]) -> u128
     }
 }
 
-// A call of its own, so that short inputs pay nothing for the room of long ones.
 /// The hash of more than 240 bytes under a secret, where no seed enters.
 #[inline(never)]
 #[tactic(auto, using(twox_core::proofs::ValueLaws::long_128, twox_core::proofs::EndingFacts::block_both))]
@@ -116,6 +115,7 @@ pub fn long_128(secret: Secret<'_>, input: &[u8]) -> u128
     requires { 240 < length input.now }
     ensures { (any : ℕ) → result ≡ xxh3_128 any (secret_bytes secret.entry) input.now }
 {
+    // A call of its own, so that short inputs pay nothing for the room of long ones.
     Algorithm(PageKernel {}).oneshot(secret, input, Finalize128)
 }
 

@@ -3,10 +3,10 @@
 ghost use Rattle.std.specs.Prelude.{◌≡◌, ◌↔◌, ◌<◌, ◌≤◌, length};
 ghost use Rattle.twox_hash.specs.Secret.{default_secret, derived_secret};
 ghost use Rattle.twox_hash.specs.Value.{effective_secret, xxh3_128};
-ghost use Rattle.twox_web.specs.Number.{number_of};
+ghost use Rattle.twox_exports.specs.Number.{number_of};
 
 use crate::by_kernel::{default_128, keyed_128, long_128, seeded_128};
-use crate::{DONE, SECRET_TOO_SHORT, Wide, halves};
+use twox_exports::{DONE, SECRET_TOO_SHORT, Wide, halves};
 use twox_hash::XxHash3_128;
 use twox_hash::xxhash3::{CUTOFF, Secret};
 

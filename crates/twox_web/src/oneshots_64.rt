@@ -5,7 +5,7 @@ ghost use Rattle.twox_hash.specs.Secret.{default_secret, derived_secret};
 ghost use Rattle.twox_hash.specs.Value.{effective_secret, xxh3_64};
 
 use crate::by_kernel::{default_64, keyed_64, long_64, seeded_64};
-use crate::{DONE, SECRET_TOO_SHORT};
+use twox_exports::{DONE, SECRET_TOO_SHORT};
 use twox_hash::XxHash3_64;
 use twox_hash::xxhash3::{CUTOFF, Secret};
 

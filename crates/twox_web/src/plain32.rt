@@ -4,7 +4,7 @@ ghost use Rattle.std.specs.Prelude.{◌≡◌, ◌↔◌, ℕ, List, [], ◌++�
 ghost use Rattle.twox_hash.specs.Xxh32.{xxh32};
 ghost use Rattle.twox_hash.specs.Record32.{StandsFor, IsReachable, initial_record, after_write, finish_value};
 
-use crate::{DONE, NOT_A_STREAM};
+use twox_exports::{DONE, NOT_A_STREAM};
 use twox_hash::XxHash32;
 use twox_hash::xxhash32::SavedState;
 

@@ -4,7 +4,7 @@ ghost use Rattle.std.specs.Prelude.{◌≡◌, ◌↔◌, ℕ, List, [], ◌++�
 ghost use Rattle.twox_hash.specs.Xxh64.{xxh64};
 ghost use Rattle.twox_hash.specs.Record64.{StandsFor, IsReachable, initial_record, after_write, finish_value};
 
-use crate::{DONE, NOT_A_STREAM};
+use twox_exports::{DONE, NOT_A_STREAM};
 use twox_hash::XxHash64;
 use twox_hash::xxhash64::SavedState;
 

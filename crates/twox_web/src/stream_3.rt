@@ -5,22 +5,17 @@
 
 ghost use Rattle.std.specs.Prelude.{◌≡◌, ◌↔◌, ◌<◌, ◌≤◌, ◌+◌, ◌-◌, ◌*◌, ◌^◌, min, ℕ, Option, Some, None, List, [], ◌++◌, length, IsTrue};
 ghost use Rattle.twox_hash.specs.Secret.{derived_secret};
-ghost use Rattle.twox_hash.specs.SecretBytes.{secret_bytes};
 ghost use Rattle.twox_hash.specs.Value.{stream_64, stream_128};
-ghost use Rattle.twox_core.specs.Long.{stripes_of};
 ghost use Rattle.twox_core.specs.Stripes.{no_stripe};
 ghost use Rattle.twox_core.specs.AfterWrite.{state_after_write};
-ghost use Rattle.twox_web.specs.Number.{number_of};
-ghost use Rattle.twox_web.specs.Stream.{seed_of, StandsFor, Fits};
+ghost use Rattle.twox_exports.specs.Number.{number_of};
+ghost use Rattle.twox_web.specs.Stream.{seed_of, StandsFor, IsCounted, Fits};
 
 use crate::by_kernel::PageKernel;
-use crate::{DONE, NOT_A_STREAM, SECRET_TOO_SHORT, Wide, halves};
+use twox_exports::stream_3::{finish_64, finish_128, start as begin, write};
+use twox_exports::{DONE, NOT_A_STREAM, SECRET_TOO_SHORT, Wide};
 use twox_hash::words::IntoU64;
-use twox_hash::xxhash3::{
-    BUFFERED_BYTES, CoreState, DefaultSecret, INITIAL_ACCUMULATORS, Secret, derived_secret,
-};
-use twox_hash::xxhash3_64::Finalize64;
-use twox_hash::xxhash3_128::Finalize128;
+use twox_hash::xxhash3::{CoreState, DefaultSecret, INITIAL_ACCUMULATORS, Secret, derived_secret};
 
 /// A stream of both widths, over a secret that lies elsewhere.
 #[derive(Clone, Copy)]
@@ -39,7 +34,7 @@ impl Stream {
     fn starting_with(seed: Option<u64>) -> Stream
         ensures { (s : List ℕ) → StandsFor result s seed [] }
     {
-        let core = CoreState::new();
+        let core = begin();
         match seed {
             Some(seed) => Stream {
                 seeds: 1,
@@ -64,28 +59,13 @@ impl Stream {
             Some(self.seed)
         }
     }
-
-    // Whether the parts agree with each other and with the secret.
-    fn fits(&self, secret: Secret<'_>) -> bool
-        ensures fits { IsTrue result ↔ Fits (secret_bytes secret.entry) self.now.core }
-        ensures size { length self.now.core.buffer ≡ BUFFERED_BYTES }
-    {
-        let core = &self.core;
-        let room = buffer_room(core);
-        core.taken.stripes.current_stripe() < secret.n_stripes()
-            && core.buffer_usage <= room
-            && core.total_bytes.min(1) <= core.buffer_usage.into_u64()
-            && core.total_bytes == counted_bytes(core)
-            && (core.taken.count > 0 || has_no_stripe(core))
-    }
 }
 
-// How many bytes the buffer has.
-fn buffer_room(core: &CoreState) -> usize
-    ensures value { result ≡ BUFFERED_BYTES }
-    ensures size { length core.now.buffer ≡ BUFFERED_BYTES }
+// Whether the length agrees with the stripes taken and the bytes that wait, and the accumulators with no stripe.
+fn is_counted(core: &CoreState) -> bool
+    ensures { IsTrue result ↔ IsCounted core.now }
 {
-    core.buffer[..].len()
+    core.total_bytes == counted_bytes(core) && (core.taken.count > 0 || has_no_stripe(core))
 }
 
 // The bytes of the stripes taken and those in the buffer.
@@ -104,6 +84,18 @@ fn has_no_stripe(core: &CoreState) -> bool
 {
     core.taken.stripes.current_stripe() == 0
         && core.taken.stripes.accumulators() == INITIAL_ACCUMULATORS
+}
+
+// Why a record whose numbers don't agree is refused: the secret comes first.
+fn refusal(secret: &[u8]) -> u32
+    ensures short { result ≡ SECRET_TOO_SHORT ↔ (length secret.now < 136) }
+    ensures long { result ≡ NOT_A_STREAM ↔ (136 ≤ length secret.now) }
+    ensures refused { ¬ (result ≡ DONE) }
+{
+    match Secret::new(secret) {
+        Ok(_) => NOT_A_STREAM,
+        Err(_) => SECRET_TOO_SHORT,
+    }
 }
 
 /// The size of a stream's record in bytes.
@@ -194,14 +186,10 @@ pub extern "C" fn twox_xxh3_update(stream: &mut Stream, secret: &[u8], input: &[
         ≡ record stream.old { core = state_after_write secret.now stream.old.core input.now } }
     ensures kept { (¬ (result ≡ DONE)) → stream.new ≡ stream.old }
 {
-    let Ok(secret) = Secret::new(secret) else {
-        return SECRET_TOO_SHORT;
-    };
-    if !stream.fits(secret) {
-        return NOT_A_STREAM;
+    if !is_counted(&stream.core) {
+        return refusal(secret);
     }
-    stream.core.write(PageKernel {}, input, secret);
-    DONE
+    write(&mut stream.core, PageKernel {}, secret, input)
 }
 
 /// Writes the hash of 64 bits of the bytes taken so far, over the stream's secret. More may be taken afterwards.
@@ -221,16 +209,10 @@ pub extern "C" fn twox_xxh3_64_digest(stream: &Stream, secret: &[u8], value: &mu
         → (result ≡ DONE) × (value.new ≡ stream_64 seed secret.now m) }
     ensures kept { (¬ (result ≡ DONE)) → value.new ≡ value.old }
 {
-    let Ok(secret) = Secret::new(secret) else {
-        return SECRET_TOO_SHORT;
-    };
-    if !stream.fits(secret) {
-        return NOT_A_STREAM;
+    if !is_counted(&stream.core) {
+        return refusal(secret);
     }
-    *value = stream
-        .core
-        .finish(PageKernel {}, &Finalize64, stream.seed(), secret);
-    DONE
+    finish_64(&stream.core, PageKernel {}, stream.seed(), secret, value)
 }
 
 /// Writes the hash of 128 bits of the bytes taken so far, over the stream's secret. More may be taken afterwards.
@@ -250,16 +232,8 @@ pub extern "C" fn twox_xxh3_128_digest(stream: &Stream, secret: &[u8], value: &m
         → (result ≡ DONE) × (number_of value.new ≡ stream_128 seed secret.now m) }
     ensures kept { (¬ (result ≡ DONE)) → value.new ≡ value.old }
 {
-    let Ok(secret) = Secret::new(secret) else {
-        return SECRET_TOO_SHORT;
-    };
-    if !stream.fits(secret) {
-        return NOT_A_STREAM;
+    if !is_counted(&stream.core) {
+        return refusal(secret);
     }
-    *value = halves(
-        stream
-            .core
-            .finish(PageKernel {}, &Finalize128, stream.seed(), secret),
-    );
-    DONE
+    finish_128(&stream.core, PageKernel {}, stream.seed(), secret, value)
 }

@@ -1,12 +1,3 @@
 pub mod BlockEndFacts
 pub mod BlockFacts
-pub mod BlockPlace
-pub mod BufferedFacts
-pub mod HexPlace
-pub mod HexValue
-pub mod HexVectors
-pub mod MemoryFacts
-pub mod MemoryPieces
-pub mod NumberFacts
-pub mod PieceFacts
-pub mod ProcessFacts
+pub mod FedFacts

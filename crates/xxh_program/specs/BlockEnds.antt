@@ -3,10 +3,10 @@ use Rattle.std.specs.Prelude.{ℕ, ◌≤◌, ◌⊎◌, List, length}
 use Rattle.std.specs.List.{concat}
 use Rattle.std.specs.declared.result.Result.{Result}
 use Rattle.std.specs.declared.result.Result.TheVariants.{Ok, Err}
-use Rattle.xxh_program.specs.declared.program.error.DigestError.{DigestError}
-use Rattle.xxh_program.specs.declared.program.error.DigestError.TheVariants.{ReadFailed, WriteFailed, TooLong}
-use Rattle.xxh_program.specs.Pieces.{Pieces, Step, Failing}
-use Rattle.xxh_program.specs.Digest.{ReadsOn, Took, Refused}
+use Rattle.xxh_io.specs.declared.error.DigestError.{DigestError}
+use Rattle.xxh_io.specs.declared.error.DigestError.TheVariants.{ReadFailed, WriteFailed, TooLong}
+use Rattle.xxh_io.specs.Pieces.{Pieces, Step, Failing}
+use Rattle.xxh_io.specs.Digest.{ReadsOn, Took, Refused}
 use Rattle.xxh_program.specs.Blocks.{block_lines, whole_block_lines}
 
 -- What was read and what was written, `pieces` being the pieces that are not empty: where the reading came to

@@ -1,18 +1,14 @@
 -- The digest lines of the blocks of a list of bytes.
 use Rattle.std.proofs.Common.{zero, suc}
-use Rattle.std.specs.Prelude.{ℕ, ◌+◌, ◌-◌, ◌*◌, ◌/◌, ◌%◌, ◌^◌, min, List, [], ◌∷◌, ◌++◌, length, slice_range}
+use Rattle.std.specs.Prelude.{ℕ, ◌+◌, ◌-◌, ◌*◌, ◌/◌, ◌%◌, ◌^◌, min, List, [], ◌++◌, length, slice_range}
 use Rattle.std.specs.Int.{div_ceil}
 use Rattle.twox_hash.specs.Secret.{default_secret}
 use Rattle.twox_hash.specs.Value.{xxh3_128}
-use Rattle.xxh_program.specs.Hex.{hex_digits, hex_line}
+pub use Rattle.xxh_io.specs.Hex.{offset_line}
 
 -- the bytes of the block c: from c * block on, up to (c + 1) * block or the end of m
 abbrev pub block_bytes : ℕ → List ℕ → ℕ → List ℕ
 block_bytes block m c = slice_range m (c * block) (min ((c + 1) * block) (length m))
-
--- the offset in 16 digits, a space, the value in 32 digits and a line feed
-unfoldable pub offset_line : ℕ → ℕ → List ℕ
-offset_line offset value = hex_digits 16 offset ++ (32 ∷ hex_line 32 value)
 
 -- the line of the block c: where it begins, or 2^64 - 1 where that is smaller, and XXH3 of 128 bits of its
 -- bytes under the seed 0 and the default secret

@@ -1,20 +1,19 @@
 -- What the program does with the command of its words.
-use Rattle.std.specs.Prelude.{◌≡◌, ℕ, List, Bool, is_err, IfErr}
+use Rattle.std.specs.Prelude.{◌≡◌, ℕ, List}
 use Rattle.std.specs.List.{concat}
 use Rattle.std.specs.declared.result.Result.{Result}
 use Rattle.std.specs.declared.result.Result.TheVariants.{Ok, Err}
-use Rattle.xxh_program.specs.declared.program.error.DigestError.{DigestError}
-use Rattle.xxh_program.specs.declared.program.error.DigestError.TheVariants.{WriteFailed}
-use Rattle.xxh_program.specs.declared.program.fault.Fault.{Fault}
-use Rattle.xxh_program.specs.declared.program.command.Command.{Command}
-use Rattle.xxh_program.specs.declared.program.command.Command.TheVariants.{Hash, Save32, Save64, Resume32, Resume64, Blocks}
-use Rattle.xxh_program.specs.Pieces.{NoneEmpty, Step, Failing}
-use Rattle.xxh_program.specs.Digest.{ReadsOn, Writes}
+use Rattle.xxh_io.specs.declared.error.DigestError.{DigestError}
+use Rattle.xxh_io.specs.declared.fault.Fault.{Fault}
+use Rattle.xxh_io.specs.declared.command.Command.{Command}
+use Rattle.xxh_io.specs.declared.command.Command.TheVariants.{Hash, Save32, Save64, Resume32, Resume64, Blocks}
+use Rattle.xxh_io.specs.Pieces.{NoneEmpty, Step, Failing}
+use Rattle.xxh_io.specs.Digest.{ReadsOn, Writes}
 use Rattle.xxh_program.specs.BlockEnds.{DigestsBlocks}
-use Rattle.xxh_program.specs.Hex.{hex_line}
+use Rattle.xxh_io.specs.Hex.{hex_line}
 use Rattle.xxh_program.specs.Kind.{digits_of, value_of}
 use Rattle.xxh_program.specs.States.{most_reads, digest_answer, Saves32, Saves64, Resumes32, Resumes64}
-use Rattle.xxh_program.specs.Fault.{line_of, status_of}
+pub use Rattle.xxh_io.specs.Tells.{Tells, status_after}
 
 -- the lines of the blocks of the input were printed, as block digests say
 abbrev pub DigestsInput : {R W : Type 0} → Step R → Failing R → Step W → Failing W → ℕ → R → R → W
@@ -47,16 +46,3 @@ Performs gives fails takes refuses (Ok (Resume64 json)) r_old r_new w_old w_new 
 Performs gives fails takes refuses (Ok (Blocks size)) r_old r_new w_old w_new answer =
     (digested : Result (Unit {0}) DigestError) × (answer ≡ digest_answer digested)
     × DigestsInput gives fails takes refuses size r_old r_new w_old w_new digested
-
--- a fault's line was written to the standard error, as far as it took it, and nothing without a fault
-abbrev pub Tells : {E : Type 0} → Step E → Failing E → (E → Bool) → Result (Unit {0}) Fault → E
-    → E → Type 0
-Tells takes refuses has_failed (Ok x) old new = new ≡ old
-Tells takes refuses has_failed (Err fault) old new =
-    (written : Result (Unit {0}) DigestError) × Writes takes refuses (line_of fault) old new written
-    × IfErr written (λ e. e ≡ WriteFailed) × (has_failed new ≡ is_err written)
-
--- the exit status
-abbrev pub status_after : Result (Unit {0}) Fault → ℕ
-status_after (Ok x) = 0
-status_after (Err fault) = status_of fault

@@ -11,13 +11,13 @@ use Rattle.twox_hash.specs.Saved32
 use Rattle.twox_hash.specs.Saved64
 use Rattle.twox_plain.specs.declared.xxhash32.SavedState.{SavedState as State32}
 use Rattle.twox_plain.specs.declared.xxhash64.SavedState.{SavedState as State64}
-use Rattle.xxh_program.specs.declared.program.error.DigestError.{DigestError}
-use Rattle.xxh_program.specs.declared.program.error.DigestError.TheVariants.{ReadFailed, WriteFailed, TooLong}
-use Rattle.xxh_program.specs.declared.program.fault.Fault.{Fault}
-use Rattle.xxh_program.specs.declared.program.fault.Fault.TheVariants.{BadState, OutOfMemory, Digest}
-use Rattle.xxh_program.specs.Pieces.{NoneEmpty, Step, Failing}
-use Rattle.xxh_program.specs.Digest.{ReadsOn, Writes}
-use Rattle.xxh_program.specs.Hex.{hex_line}
+use Rattle.xxh_io.specs.declared.error.DigestError.{DigestError}
+use Rattle.xxh_io.specs.declared.error.DigestError.TheVariants.{ReadFailed, WriteFailed, TooLong}
+use Rattle.xxh_io.specs.declared.fault.Fault.{Fault}
+use Rattle.xxh_io.specs.declared.fault.Fault.TheVariants.{BadState, OutOfMemory, Digest}
+use Rattle.xxh_io.specs.Pieces.{NoneEmpty, Step, Failing}
+use Rattle.xxh_io.specs.Digest.{ReadsOn, Writes}
+use Rattle.xxh_io.specs.Hex.{hex_line}
 
 -- the program bounds its reads by this
 abbrev pub most_reads : ℕ

@@ -1,10 +1,10 @@
 //! What the program prints and answers.
 
-use crate::ends::{Pieces, Taken};
-use crate::over_memory::{run_line, run_words};
+use crate::calls::run_by;
+use crate::ends::{Offered, Taken};
+use crate::over_memory::{Ran, run_line, run_words};
 use std::alloc::{AllocError, Global};
-use std::test::Fail;
-use xxh_program::program::run;
+use xxh_program::program::ScriptSource;
 
 const USAGE: &[u8] =
     b"xxh: usage: xxh hash|save|resume 32|64|3-64|3-128 [SEED|JSON] or xxh blocks SIZE\n";
@@ -41,20 +41,17 @@ hash 64 18446744073709551615,some bytes,68cffc67a3e39e33
 hash 3-64 18446744073709551615,some bytes,f2bedbe5c1d104be
 hash 3-128 18446744073709551615,some bytes,bff237cde472fcf2e98c75f91e037435";
 
+// Words, the input and the digits, with commas between them.
+fn prints(alloc: Global, row: &str) -> Result<bool, AllocError> {
+    let (words, rest) = row.split_once(',').unwrap_or((row, ""));
+    let (input, digits) = rest.split_once(',').unwrap_or((rest, ""));
+    Ok(run_line(alloc, words, input.as_bytes())?.printed_line(digits))
+}
+
 #[test]
-fn digest_lines(rt: HostRuntime) -> Result<(), Fail> {
+fn digest_lines(rt: HostRuntime) -> Result<(), AllocError> {
     for row in DIGESTS.lines() {
-        let (words, rest) = row.split_once(',').ok_or("a row has three parts")?;
-        let (input, digits) = rest.split_once(',').ok_or("a row has three parts")?;
-        let ran = run_line(rt.alloc(), words, input.as_bytes())?;
-        assert_eq!(rt; ran.status, 0, "{row}");
-        assert_eq!(rt;
-            ran.out.split_last(),
-            Some((&b'\n', digits.as_bytes())),
-            "{row}"
-        );
-        assert_eq!(rt; ran.err.len(), 0, "{row}");
-        assert_eq!(rt; ran.unread, 0, "{row}");
+        assert!(rt; prints(rt.alloc(), row)?, "{row}");
     }
     Ok(())
 }
@@ -95,12 +92,30 @@ block 4
 blocks 4 5
 blocks 32 4 5";
 
+// This line and status 2, and nothing is read or printed.
+fn is_refused(ran: &Ran, line: &[u8]) -> bool {
+    let quiet = ran.status == 2 && ran.out.is_empty() && ran.unread == 10;
+    quiet && ran.err.as_slice() == line
+}
+
+// The first row that is not refused by this line, if there is one.
+fn not_refused<'a>(
+    alloc: Global,
+    rows: &'a str,
+    line: &[u8],
+) -> Result<Option<&'a str>, AllocError> {
+    for row in rows.lines() {
+        if !is_refused(&run_line(alloc, row, b"some bytes")?, line) {
+            return Ok(Some(row));
+        }
+    }
+    Ok(None)
+}
+
 #[test]
-fn words_that_are_no_command(rt: HostRuntime) -> Result<(), Fail> {
-    let ran = run_words(rt.alloc(), &[], b"some bytes");
-    assert_eq!(rt; ran.status, 2);
-    assert_eq!(rt; ran.err.as_slice(), USAGE);
-    refused(&rt, MISUSES, USAGE)
+fn words_that_are_no_command(rt: HostRuntime) {
+    assert!(rt; is_refused(&run_words(rt.alloc(), &[], b"some bytes"), USAGE));
+    assert_eq!(rt; not_refused(rt.alloc(), MISUSES, USAGE), Ok(None));
 }
 
 // No digits, other characters, and numbers that are too great.
@@ -126,8 +141,8 @@ save 64 18446744073709551616
 save 64 +1";
 
 #[test]
-fn words_that_are_no_seed(rt: HostRuntime) -> Result<(), Fail> {
-    refused(&rt, NO_SEEDS, BAD_SEED)
+fn words_that_are_no_seed(rt: HostRuntime) {
+    assert_eq!(rt; not_refused(rt.alloc(), NO_SEEDS, BAD_SEED), Ok(None));
 }
 
 // No block, no digits, other characters, and numbers that are too great.
@@ -144,90 +159,64 @@ blocks 18446744073709551616
 blocks 99999999999999999999999999";
 
 #[test]
-fn words_that_are_no_size(rt: HostRuntime) -> Result<(), Fail> {
-    refused(&rt, NO_SIZES, BAD_SIZE)
+fn words_that_are_no_size(rt: HostRuntime) {
+    assert_eq!(rt; not_refused(rt.alloc(), NO_SIZES, BAD_SIZE), Ok(None));
 }
 
-// Each row is answered by this line and status 2, and reads and prints nothing.
-fn refused(rt: &HostRuntime, rows: &str, line: &[u8]) -> Result<(), Fail> {
-    for row in rows.lines() {
-        let ran = run_line(rt.alloc(), row, b"some bytes")?;
-        let told = ran.err.as_slice();
-        if ran.status != 2 || told != line || ran.out.len() != 0 || ran.unread != 10 {
-            rt.eprintln(row)?;
-            return Err(Fail::from("the row is not refused so"));
-        }
-    }
-    Ok(())
-}
-
-/// What a run over scripted ends came to.
-#[derive(Drop)]
-struct Scripted {
-    status: u8,
-    out: Vec<u8>,
-    err: Vec<u8>,
-}
-
-fn hash_scripted(
+// Over ends of which one fails: the status, what is printed by fives, and what is told by sevens.
+fn ends_with(
     alloc: Global,
-    seed: &str,
-    fail_at: usize,
-    room: usize,
-    err_room: usize,
-) -> Result<Scripted, AllocError> {
-    let mut words = Vec::new(alloc);
-    words.push("hash")?;
-    words.push("64")?;
-    words.push(seed)?;
-    let mut r = Pieces::new(b"some bytes", &[4, 6], fail_at);
-    let mut out = Taken::new(alloc, room, 5, 0);
-    let mut err = Taken::new(alloc, err_room, 7, 0);
-    let status = run(alloc, &words, &mut r, &mut out, &mut err);
-    Ok(Scripted {
-        status,
-        out: out.into_bytes(),
-        err: err.into_bytes(),
-    })
+    words: [&str; 3],
+    read_fails: u64,
+    out: (usize, &[u8]),
+    err: (usize, &[u8]),
+    status: u8,
+) -> bool {
+    let mut r = ScriptSource::new(b"some bytes", &[4, 6], read_fails);
+    let mut printed = Taken::new(alloc, out.0, 5);
+    let mut told = Taken::new(alloc, err.0, 7);
+    let given = run_by(alloc, &words, &mut r, &mut printed, &mut told);
+    given == status && printed.holds(out.1) && told.holds(err.1)
 }
+
+const HASH: [&str; 3] = ["hash", "64", "1234"];
 
 #[test]
-fn a_read_that_fails(rt: HostRuntime) -> Result<(), Fail> {
+fn ends_that_fail(rt: HostRuntime) {
+    let line = b"eab55659a496d78b\n".as_slice();
+    let told = (100, b"xxh: read failed\n".as_slice());
     for fail_at in 1..4 {
-        let ran = hash_scripted(rt.alloc(), "1234", fail_at, 17, 100)?;
-        assert_eq!(rt; ran.status, 1, "{fail_at}");
-        assert_eq!(rt; ran.out.len(), 0, "{fail_at}");
-        assert_eq!(rt;
-            ran.err.as_slice(),
-            b"xxh: read failed\n".as_slice(),
+        assert!(rt;
+            ends_with(rt.alloc(), HASH, fail_at, (17, b""), told, 1),
             "{fail_at}"
         );
     }
-    Ok(())
-}
-
-#[test]
-fn a_write_that_fails(rt: HostRuntime) -> Result<(), Fail> {
-    for room in 0..17 {
-        let ran = hash_scripted(rt.alloc(), "1234", 0, room, 100)?;
-        assert_eq!(rt; ran.status, 1, "{room}");
-        assert_eq!(rt; ran.out.as_slice(), &b"eab55659a496d78b"[..room], "{room}");
-        assert_eq!(rt;
-            ran.err.as_slice(),
-            b"xxh: write failed\n".as_slice(),
-            "{room}"
-        );
+    let told = (100, b"xxh: write failed\n".as_slice());
+    for room in 0..17usize {
+        let out = (room, line.get(..room).unwrap_or(line));
+        assert!(rt; ends_with(rt.alloc(), HASH, 0, out, told, 1), "{room}");
     }
-    Ok(())
 }
 
 #[test]
-fn a_fault_that_cannot_be_told(rt: HostRuntime) -> Result<(), Fail> {
-    let ran = hash_scripted(rt.alloc(), "1234", 1, 17, 5)?;
-    assert_eq!(rt; ran.status, 1);
-    assert_eq!(rt; ran.err.as_slice(), b"xxh: ".as_slice());
-    let ran = hash_scripted(rt.alloc(), "x", 0, 17, 0)?;
-    assert_eq!(rt; ran.status, 2);
-    assert_eq!(rt; ran.err.len(), 0);
-    Ok(())
+fn a_fault_that_cannot_be_told(rt: HostRuntime) {
+    assert!(rt; ends_with(rt.alloc(), HASH, 1, (17, b""), (5, b"xxh: "), 1));
+    assert!(rt; ends_with(rt.alloc(), ["hash", "64", "x"], 0, (17, b""), (0, b""), 2));
+}
+
+// Each read of these words is offered so many bytes.
+fn offers(alloc: Global, words: [&str; 3], bytes: usize) -> bool {
+    let mut r = Offered::new(&[7; 200000]);
+    let mut out = Taken::new(alloc, 1000, 1000);
+    let mut err = Taken::new(alloc, 1000, 1000);
+    let status = run_by(alloc, &words, &mut r, &mut out, &mut err);
+    status == 0 && r.each_was(bytes)
+}
+
+#[test]
+fn reads_are_long_where_nothing_is_saved(rt: HostRuntime) {
+    assert!(rt; offers(rt.alloc(), ["hash", "64", "1"], 131072));
+    assert!(rt; offers(rt.alloc(), ["hash", "3-128", "1"], 131072));
+    assert!(rt; offers(rt.alloc(), ["save", "32", "1"], 4096));
+    assert!(rt; offers(rt.alloc(), ["save", "64", "1"], 4096));
 }

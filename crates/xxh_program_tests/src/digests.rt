@@ -1,246 +1,258 @@
-//! Digest lines and refusals. Each expected value is published by xxHash or twox-hash, or comes from the C
-//! library 0.8.1.
+//! Digest lines and refusals, over ends that follow a script. Each expected value is published by xxHash or twox-hash,
+//! or comes from the C library 0.8.1.
 
-use crate::ends::{Pieces, Taken};
+ghost use Rattle.std.specs.Prelude.{◌≤◌};
+
+use crate::calls::{Way, digest_by};
+use crate::ends::{Offered, Taken};
 use std::alloc::{AllocError, Global};
 use std::test::Fail;
-use twox_hash::{XxHash32, XxHash64};
-use xxh_program::program::{
-    DigestError, Kind, digest, digest_from_32, digest_from_64, read_on_32, read_on_64,
-};
+use xxh_program::program::{DigestError, Kind, ScriptSink, ScriptSource, Sink, digest_of_bytes};
 
 const MANY: u64 = u64::MAX;
 
-/// What is digested, in which pieces, and where an end fails.
+/// What is digested, in which pieces, where an end fails, how many reads are allowed, and what the sink takes at once.
 #[derive(Clone, Copy)]
 struct Case<'a> {
-    kind: Kind,
-    seed: u64,
+    way: Way,
+    seed: u32,
     bytes: &'a [u8],
     sizes: &'a [usize],
-    read_fails: usize,
+    read_fails: u64,
     max_reads: u64,
-    room: usize,
     take: usize,
-    write_fails: usize,
+    write_fails: u64,
 }
 
-/// What came of it: the answer, what was written, the reads that were made, and what they were offered.
-#[derive(Drop)]
-struct Outcome {
-    answer: Result<(), DigestError>,
-    written: Vec<u8>,
-    reads: usize,
-    offers: (usize, usize),
-}
-
-fn digested(alloc: Global, case: Case<'_>) -> Outcome {
-    let mut r = Pieces::new(case.bytes, case.sizes, case.read_fails);
-    let mut w = Taken::new(alloc, case.room, case.take, case.write_fails);
-    // No seed here is too great for XXH32.
-    let seed = case.seed.min(0xffff_ffff);
-    let answer = digest(case.kind, seed, case.max_reads, &mut r, &mut w);
-    Outcome {
-        answer,
-        written: w.into_bytes(),
-        reads: r.reads(),
-        offers: r.offers(),
+// In pieces of four and of one byte, and of all that is left.
+const fn unhindered(way: Way, seed: u32, bytes: &[u8]) -> Case<'_> {
+    Case {
+        way,
+        seed,
+        bytes,
+        sizes: &[4, 1, 9],
+        read_fails: 0,
+        max_reads: 4,
+        take: 40,
+        write_fails: 0,
     }
 }
 
-// Four, one and five bytes, and the digest line of XXH64 under 1234.
-const SOME: Case<'static> = Case {
-    kind: Kind::X64,
-    seed: 1234,
-    bytes: b"some bytes",
-    sizes: &[4, 1, 5],
-    read_fails: 0,
-    max_reads: MANY,
-    room: 40,
-    take: 40,
-    write_fails: 0,
-};
+// Whether the digest has this answer, writes this into a sink with room for `N` bytes, and makes so many reads.
+fn comes_to<const N: usize>(
+    case: Case<'_>,
+    answer: Result<(), DigestError>,
+    written: &[u8],
+    reads: u64,
+) -> bool
+    requires { N ≤ 64 }
+{
+    let mut r = ScriptSource::new(case.bytes, case.sizes, case.read_fails);
+    let mut w = ScriptSink::<N>::new(case.take.max(1), case.write_fails);
+    let given = digest_by(case.way, case.seed, case.max_reads, &mut r, &mut w);
+    given == answer && w.bytes() == written && r.reads() == reads
+}
 
-const SOME_LINE: &[u8] = b"eab55659a496d78b\n";
-
-// The same under XXH3.
-const SOME_3_64: Case<'static> = Case {
-    kind: Kind::X3_64,
-    ..SOME
-};
-
-const SOME_3_64_LINE: &[u8] = b"582ee33d9ad8c6e9\n";
-
-const SOME_3_128: Case<'static> = Case {
-    kind: Kind::X3_128,
-    ..SOME
-};
-
-const SOME_3_128_LINE: &[u8] = b"d13af43e9c4507cfc327b2ddc4f87078\n";
-
-// Four, one and nine bytes, and the digest line of XXH32.
-const HELLO: Case<'static> = Case {
-    kind: Kind::X32,
-    seed: 0,
-    bytes: b"Hello, world!\0",
-    sizes: &[4, 1, 9],
-    read_fails: 0,
-    max_reads: MANY,
-    room: 40,
-    take: 40,
-    write_fails: 0,
-};
-
-const HELLO_LINE: &[u8] = b"9e5e7e93\n";
+// The digests of the tests by script, and their lines.
+const ROWS: [(Way, u32, &[u8], &[u8]); 7] = [
+    (Way::Fresh(Kind::X32), 0, b"Hello, world!\0", b"9e5e7e93\n"),
+    (Way::Fresh(Kind::X32), 1234, b"some bytes", b"92f68bd9\n"),
+    (
+        Way::Fresh(Kind::X64),
+        1234,
+        b"some bytes",
+        b"eab55659a496d78b\n",
+    ),
+    (
+        Way::Fresh(Kind::X3_64),
+        1234,
+        b"some bytes",
+        b"582ee33d9ad8c6e9\n",
+    ),
+    (
+        Way::Fresh(Kind::X3_128),
+        1234,
+        b"some bytes",
+        b"d13af43e9c4507cfc327b2ddc4f87078\n",
+    ),
+    (Way::From32, 1234, b"some bytes", b"92f68bd9\n"),
+    (Way::From64, 1234, b"some bytes", b"eab55659a496d78b\n"),
+];
 
 #[test]
 fn each_read_fails_in_turn(rt: HostRuntime) {
-    for case in [SOME, SOME_3_64, SOME_3_128, HELLO] {
-        for at in 1..5 {
+    for (way, seed, bytes, _) in ROWS {
+        for read_fails in 1..5 {
             let script = Case {
-                read_fails: at,
-                max_reads: 4,
-                ..case
+                read_fails,
+                ..unhindered(way, seed, bytes)
             };
-            let done = digested(rt.alloc(), script);
-            assert_eq!(rt; done.answer, Err(DigestError::ReadFailed), "{at}");
-            assert_eq!(rt; done.written.len(), 0, "{at}");
-            assert_eq!(rt; done.reads, at);
+            assert!(rt; comes_to::<40>(script, Err(DigestError::ReadFailed), b"", read_fails));
         }
     }
 }
 
 #[test]
 fn too_long_where_each_allowed_read_gave_bytes(rt: HostRuntime) {
-    for (case, line) in [
-        (SOME, SOME_LINE),
-        (SOME_3_64, SOME_3_64_LINE),
-        (SOME_3_128, SOME_3_128_LINE),
-        (HELLO, HELLO_LINE),
-    ] {
-        for max_reads in 0..5 {
+    for (way, seed, bytes, line) in ROWS {
+        for max_reads in 0..4 {
             let script = Case {
                 max_reads,
-                take: 1,
-                ..case
+                ..unhindered(way, seed, bytes)
             };
-            let done = digested(rt.alloc(), script);
-            if max_reads < 4 {
-                assert_eq!(rt; done.answer, Err(DigestError::TooLong), "{max_reads}");
-                assert_eq!(rt; done.written.len(), 0, "{max_reads}");
-            } else {
-                assert_eq!(rt; done.answer, Ok(()), "{max_reads}");
-                assert_eq!(rt; done.written.as_slice(), line, "{max_reads}");
-            }
-            assert_eq!(rt; done.reads as u64, max_reads);
+            assert!(rt; comes_to::<40>(script, Err(DigestError::TooLong), b"", max_reads));
         }
-    }
-}
-
-// What a sink takes a write, so that the line is this many writes.
-#[test]
-fn each_write_fails_in_turn(rt: HostRuntime) {
-    for (case, line, take, writes) in [
-        (SOME, SOME_LINE, 5, 4),
-        (SOME_3_64, SOME_3_64_LINE, 5, 4),
-        (SOME_3_128, SOME_3_128_LINE, 11, 3),
-        (HELLO, HELLO_LINE, 3, 3),
-    ] {
-        for at in 1..writes + 1 {
+        for take in [1, 40] {
             let script = Case {
                 take,
-                write_fails: at,
-                ..case
+                ..unhindered(way, seed, bytes)
             };
-            let done = digested(rt.alloc(), script);
-            assert_eq!(rt; done.answer, Err(DigestError::WriteFailed), "{at}");
-            let held = take * (at - 1);
-            assert_eq!(rt;
-                done.written.as_slice(),
-                &line[..held.min(line.len())],
-                "{at}"
-            );
+            assert!(rt; comes_to::<40>(script, Ok(()), line, 4));
         }
     }
 }
 
-// One byte a read, of which three are allowed: the lines of no, one and two bytes, and too long from three on.
+// The sink takes so many bytes a write, and each write fails in turn.
+#[test]
+fn each_write_fails_in_turn(rt: HostRuntime) {
+    for (way, seed, bytes, line) in ROWS {
+        for take in [1usize, 3, 5, 11] {
+            for before in 0..line.len().div_ceil(take) {
+                let script = Case {
+                    take,
+                    write_fails: before as u64 + 1,
+                    ..unhindered(way, seed, bytes)
+                };
+                let taken = line.get(..before.saturating_mul(take)).unwrap_or(line);
+                assert!(rt; comes_to::<40>(script, Err(DigestError::WriteFailed), taken, 4));
+            }
+        }
+    }
+}
+
+// The digits fill the sink, and the line feed finds no room: sinks of 8, 16 and 32 bytes, which each take all at once.
+#[test]
+fn a_script_sink_that_is_one_byte_short(rt: HostRuntime) {
+    let refused = Err(DigestError::WriteFailed);
+    for (way, seed, bytes, line) in ROWS {
+        let script = Case {
+            take: line.len().saturating_sub(1),
+            ..unhindered(way, seed, bytes)
+        };
+        let digits = line.strip_suffix(b"\n").unwrap_or(line);
+        assert!(rt;
+            match digits.len() {
+                8 => comes_to::<8>(script, refused, digits, 4),
+                16 => comes_to::<16>(script, refused, digits, 4),
+                _ => comes_to::<32>(script, refused, digits, 4),
+            }
+        );
+    }
+}
+
+#[test]
+fn three_bytes_of_a_line(rt: HostRuntime) {
+    for take in [1, 3] {
+        let script = Case {
+            take,
+            ..unhindered(Way::Fresh(Kind::X32), 0, b"")
+        };
+        assert!(rt; comes_to::<3>(script, Err(DigestError::WriteFailed), b"02c", 1));
+    }
+}
+
+// One byte a read, of which three are allowed: the lines of no, one and two bytes.
+const SHORT: [(Kind, u32, &[u8], [&[u8]; 3]); 4] = [
+    (
+        Kind::X64,
+        1234,
+        b"some",
+        [
+            b"e80dc1ad52e210e4\n",
+            b"58736a8b8b0cacae\n",
+            b"7b8f459eb26ff3eb\n",
+        ],
+    ),
+    (
+        Kind::X3_64,
+        1234,
+        b"some",
+        [
+            b"f35ab113ab655b45\n",
+            b"841e8e30ffd5f648\n",
+            b"7e9ea5ed84024150\n",
+        ],
+    ),
+    (
+        Kind::X3_128,
+        1234,
+        b"some",
+        [
+            b"afaec08c9afb18eaaab3643ec3994e5d\n",
+            b"a097157fdcf6409f841e8e30ffd5f648\n",
+            b"5ae80027fd7c77c87e9ea5ed84024150\n",
+        ],
+    ),
+    (
+        Kind::X32,
+        0,
+        b"Hell",
+        [b"02cc5d05\n", b"26837556\n", b"1631b926\n"],
+    ),
+];
+
 #[test]
 fn one_byte_a_read(rt: HostRuntime) {
-    for (case, lines) in [
-        (
-            SOME,
-            [
-                "e80dc1ad52e210e4\n",
-                "58736a8b8b0cacae\n",
-                "7b8f459eb26ff3eb\n",
-            ],
-        ),
-        (
-            SOME_3_64,
-            [
-                "f35ab113ab655b45\n",
-                "841e8e30ffd5f648\n",
-                "7e9ea5ed84024150\n",
-            ],
-        ),
-        (
-            SOME_3_128,
-            [
-                "afaec08c9afb18eaaab3643ec3994e5d\n",
-                "a097157fdcf6409f841e8e30ffd5f648\n",
-                "5ae80027fd7c77c87e9ea5ed84024150\n",
-            ],
-        ),
-        (HELLO, ["02cc5d05\n", "26837556\n", "1631b926\n"]),
-    ] {
-        for count in 0..5 {
+    for (kind, seed, bytes, lines) in SHORT {
+        for (count, line) in lines.iter().enumerate() {
             let script = Case {
-                bytes: &case.bytes[..count],
                 sizes: &[1, 1, 1, 1],
                 max_reads: 3,
-                ..case
+                ..unhindered(Way::Fresh(kind), seed, bytes.get(..count).unwrap_or(bytes))
             };
-            let done = digested(rt.alloc(), script);
-            if count < 3 {
-                assert_eq!(rt; done.answer, Ok(()), "{count}");
-                assert_eq!(rt; done.written.as_slice(), lines[count].as_bytes(), "{count}");
-            } else {
-                assert_eq!(rt; done.answer, Err(DigestError::TooLong), "{count}");
-                assert_eq!(rt; done.written.len(), 0, "{count}");
-            }
+            assert!(rt; comes_to::<40>(script, Ok(()), line, count as u64 + 1));
+        }
+    }
+}
+
+// Too long from three bytes on, and a failed read after one byte.
+#[test]
+fn one_byte_a_read_and_no_line(rt: HostRuntime) {
+    for (kind, seed, bytes, _) in SHORT {
+        for count in 3..5 {
+            let script = Case {
+                sizes: &[1, 1, 1, 1],
+                max_reads: 3,
+                ..unhindered(Way::Fresh(kind), seed, bytes.get(..count).unwrap_or(bytes))
+            };
+            assert!(rt; comes_to::<40>(script, Err(DigestError::TooLong), b"", 3));
         }
         let script = Case {
             sizes: &[1, 1],
             read_fails: 2,
-            ..case
+            ..unhindered(Way::Fresh(kind), seed, bytes)
         };
-        let done = digested(rt.alloc(), script);
-        assert_eq!(rt; done.answer, Err(DigestError::ReadFailed));
-        assert_eq!(rt; done.written.len(), 0);
+        assert!(rt; comes_to::<40>(script, Err(DigestError::ReadFailed), b"", 2));
     }
+}
+
+// What is written of the line where the sink has so much room, by ends of the tests.
+fn fits(alloc: Global, row: (Way, u32, &[u8], &[u8]), room: usize) -> bool {
+    let (way, seed, bytes, line) = row;
+    let mut w = Taken::new(alloc, room, 40);
+    let answer = digest_by(way, seed, MANY, &mut Offered::new(bytes), &mut w);
+    let is_refused = matches!(&answer, Err(DigestError::WriteFailed));
+    let is_as_told = is_refused != answer.is_ok() && w.failed() == is_refused;
+    let taken = line.get(..room).unwrap_or(line);
+    is_as_told && is_refused == (room < line.len()) && w.holds(taken)
 }
 
 #[test]
 fn a_sink_with_too_little_room(rt: HostRuntime) {
-    for (case, line) in [
-        (SOME, SOME_LINE),
-        (SOME_3_64, SOME_3_64_LINE),
-        (SOME_3_128, SOME_3_128_LINE),
-        (HELLO, HELLO_LINE),
-    ] {
-        for room in 0..line.len() {
-            let done = digested(rt.alloc(), Case { room, ..case });
-            assert_eq!(rt; done.answer, Err(DigestError::WriteFailed), "{room}");
-            assert_eq!(rt; done.written.as_slice(), &line[..room], "{room}");
+    for row in ROWS {
+        for room in 0..40 {
+            assert!(rt; fits(rt.alloc(), row, room), "{room}");
         }
-        let script = Case {
-            room: line.len(),
-            ..case
-        };
-        let done = digested(rt.alloc(), script);
-        assert_eq!(rt; done.answer, Ok(()));
-        assert_eq!(rt; done.written.as_slice(), line);
     }
 }
 
@@ -253,82 +265,37 @@ fn cycling(alloc: Global, len: usize) -> Result<Vec<u8>, AllocError> {
     Ok(bytes)
 }
 
+// Whether the line is this, and each of four reads was offered the whole buffer.
+fn is_offered_4096(alloc: Global, kind: Kind, seed: u32, bytes: &[u8], line: &str) -> bool {
+    let mut r = Offered::new(bytes);
+    let mut w = Taken::new(alloc, 40, 40);
+    let answer = digest_by(Way::Fresh(kind), seed, MANY, &mut r, &mut w);
+    answer == Ok(()) && w.holds(line.as_bytes()) && r.reads() == 4 && r.each_was(4096)
+}
+
 #[test]
 fn each_read_is_offered_the_whole_buffer(rt: HostRuntime) -> Result<(), Fail> {
     let bytes = cycling(rt.alloc(), 10000)?;
-    let sizes = [9999; 3];
     for (kind, seed, line) in [
-        (Kind::X32, 0, b"96bf9b9b\n".as_slice()),
-        (Kind::X64, 0, b"b3dba2084c8288c4\n".as_slice()),
-        (Kind::X3_64, 0, b"1cb3abee1c2fc1c4\n".as_slice()),
-        (Kind::X3_64, 1234, b"cfb79922e0953cfc\n".as_slice()),
-        (
-            Kind::X3_128,
-            0,
-            b"89dec82a789965e61cb3abee1c2fc1c4\n".as_slice(),
-        ),
-        (
-            Kind::X3_128,
-            1234,
-            b"acddaf73bf3f9d4ccfb79922e0953cfc\n".as_slice(),
-        ),
+        (Kind::X32, 0, "96bf9b9b\n"),
+        (Kind::X64, 0, "b3dba2084c8288c4\n"),
+        (Kind::X3_64, 0, "1cb3abee1c2fc1c4\n"),
+        (Kind::X3_64, 1234, "cfb79922e0953cfc\n"),
+        (Kind::X3_128, 0, "89dec82a789965e61cb3abee1c2fc1c4\n"),
+        (Kind::X3_128, 1234, "acddaf73bf3f9d4ccfb79922e0953cfc\n"),
     ] {
-        let case = Case {
-            kind,
-            seed,
-            bytes: bytes.as_slice(),
-            sizes: &sizes,
-            ..SOME
-        };
-        let done = digested(rt.alloc(), case);
-        assert_eq!(rt; done.answer, Ok(()));
-        assert_eq!(rt; done.written.as_slice(), line);
-        assert_eq!(rt; done.reads, 4);
-        assert_eq!(rt; done.offers, (4096, 4096));
+        assert!(rt;
+            is_offered_4096(rt.alloc(), kind, seed, bytes.as_slice(), line),
+            "{line}"
+        );
     }
     Ok(())
 }
 
-/// What a digest of these bytes, after a first part that was read on, comes to.
-fn goes_on_64(
-    alloc: Global,
-    first: &[u8],
-    then: &[u8],
-    max_reads: u64,
-) -> Result<Vec<u8>, DigestError> {
-    let mut r = Pieces::new(first, &[100], 0);
-    let hasher = read_on_64(XxHash64::with_seed(1234), MANY, &mut r)?;
-    let mut r = Pieces::new(then, &[100], 0);
-    let mut w = Taken::new(alloc, 40, 40, 0);
-    digest_from_64(hasher, max_reads, &mut r, &mut w)?;
-    Ok(w.into_bytes())
-}
-
-fn goes_on_32(
-    alloc: Global,
-    first: &[u8],
-    then: &[u8],
-    read_fails: usize,
-) -> Result<Vec<u8>, DigestError> {
-    let mut r = Pieces::new(first, &[100], 0);
-    let hasher = read_on_32(XxHash32::with_seed(0), MANY, &mut r)?;
-    let mut r = Pieces::new(then, &[100], read_fails);
-    let mut w = Taken::new(alloc, 40, 40, 0);
-    digest_from_32(hasher, MANY, &mut r, &mut w)?;
-    Ok(w.into_bytes())
-}
-
+// The same over memory alone: no call of the digest is given an allocator, and so none can ask for memory.
 #[test]
-fn a_digest_goes_on(rt: HostRuntime) -> Result<(), Fail> {
-    let line = goes_on_64(rt.alloc(), b"some", b" bytes", 2)?;
-    assert_eq!(rt; line.as_slice(), SOME_LINE);
-    let line = goes_on_64(rt.alloc(), b"some bytes", b"", 1)?;
-    assert_eq!(rt; line.as_slice(), SOME_LINE);
-    let refused = goes_on_64(rt.alloc(), b"some", b" bytes", 1).err();
-    assert_eq!(rt; refused, Some(DigestError::TooLong));
-    let line = goes_on_32(rt.alloc(), b"Hello", b", world!\0", 0)?;
-    assert_eq!(rt; line.as_slice(), HELLO_LINE);
-    let refused = goes_on_32(rt.alloc(), b"Hello", b", world!\0", 2).err();
-    assert_eq!(rt; refused, Some(DigestError::ReadFailed));
-    Ok(())
+fn the_line_of_bytes_in_memory(rt: HostRuntime) {
+    let mut sink = ScriptSink::<60>::new(7, 0);
+    let answer = digest_of_bytes(Kind::X32, 1234, b"some bytes", &mut sink);
+    assert!(rt; answer == Ok(()) && sink.bytes() == b"92f68bd9\n".as_slice());
 }

@@ -1,13 +1,13 @@
 //! Tests of the digest engine and of the program `xxh`, through the public calls of `xxh_program` alone.
-//! Tables are texts, one row a line, since a check reads a text faster than many small arrays.
+//!
+//! Each call stands in a small function with no contract, so that a test, which calls it in a loop over a table, has
+//! nothing to prove of it. Tables are texts where they can be, one row a line.
 #![tactic(auto)]
 
 #[cfg(test)]
-mod adapters;
-#[cfg(test)]
 mod blocks;
 #[cfg(test)]
-mod buffered;
+mod calls;
 #[cfg(test)]
 mod commands;
 #[cfg(test)]
@@ -15,12 +15,12 @@ mod digests;
 #[cfg(test)]
 mod ends;
 #[cfg(test)]
-mod errors;
+mod goes_on;
 #[cfg(test)]
 mod over_memory;
 #[cfg(test)]
 mod process;
 #[cfg(test)]
-mod script;
+mod standard_ends;
 #[cfg(test)]
 mod states;

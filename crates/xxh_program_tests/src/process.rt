@@ -101,27 +101,34 @@ fn run_with(alloc: Global, words: &[&[u8]], flush_fails: bool) -> Ended {
     }
 }
 
+impl Ended {
+    /// Whether all was read, the line was printed and flushed once, and no fault was told.
+    fn printed(&self) -> bool {
+        let line = self.out.bytes.as_slice() == b"eab55659a496d78b\n".as_slice();
+        let quiet = self.status == 0 && self.err.bytes.is_empty() && self.unread == 0;
+        line && quiet && self.out.flushes == 1
+    }
+
+    /// Whether this status was answered and this line told, and nothing was read or printed.
+    fn refused(&self, status: u8, line: &[u8]) -> bool {
+        let unread = self.out.bytes.is_empty() && self.unread == 10;
+        unread && self.status == status && self.err.bytes.as_slice() == line
+    }
+}
+
 #[test]
 fn the_words_are_those_after_the_name(rt: HostRuntime) {
-    for name in [b"xxh".as_slice(), b"".as_slice(), b"hash".as_slice()] {
-        let done = run_with(rt.alloc(), &[name, b"hash", b"64", b"1234"], false);
-        assert_eq!(rt; done.status, 0);
-        assert_eq!(rt; done.out.bytes.as_slice(), b"eab55659a496d78b\n".as_slice());
-        assert_eq!(rt; done.out.flushes, 1);
-        assert_eq!(rt; done.err.bytes.len(), 0);
-        assert_eq!(rt; done.unread, 0);
+    for name in [b"xxh".as_slice(), b"", b"hash"] {
+        assert!(rt; run_with(rt.alloc(), &[name, b"hash", b"64", b"1234"], false).printed());
     }
 }
 
 const USAGE: &[u8] =
     b"xxh: usage: xxh hash|save|resume 32|64|3-64|3-128 [SEED|JSON] or xxh blocks SIZE\n";
 
-// The usage line and the status 2; nothing is read or printed.
+// The usage line and the status 2.
 fn is_no_command(alloc: Global, words: &[&[u8]]) -> bool {
-    let done = run_with(alloc, words, false);
-    let printed = done.out.bytes.len();
-    let told = done.err.bytes.as_slice();
-    done.status == 2 && printed == 0 && told == USAGE && done.unread == 10
+    run_with(alloc, words, false).refused(2, USAGE)
 }
 
 #[test]
@@ -142,19 +149,20 @@ fn arguments_that_are_not_utf_8(rt: HostRuntime) {
     assert!(rt; is_no_command(rt.alloc(), &[b"xxh", b"hash", b"64", b"1", b"\x80"]));
 }
 
+// The line was printed before; what comes of it is told.
+fn is_told(alloc: Global) -> bool {
+    let done = run_with(alloc, &[b"xxh", b"hash", b"64", b"1234"], true);
+    let line = done.out.bytes.as_slice() == b"eab55659a496d78b\n".as_slice();
+    let told = done.err.bytes.as_slice() == b"xxh: write failed\n".as_slice();
+    done.status == 1 && line && told && done.out.flushes == 1 && done.unread == 0
+}
+
 #[test]
 fn a_flush_that_fails(rt: HostRuntime) {
-    let done = run_with(rt.alloc(), &[b"xxh", b"hash", b"64", b"1234"], true);
-    assert_eq!(rt; done.status, 1);
-    assert_eq!(rt; done.out.bytes.as_slice(), b"eab55659a496d78b\n".as_slice());
-    assert_eq!(rt;
-        done.err.bytes.as_slice(),
-        b"xxh: write failed\n".as_slice()
-    );
+    assert!(rt; is_told(rt.alloc()));
     // A fault that came before stays the one that is told.
     let done = run_with(rt.alloc(), &[b"xxh", b"hash", b"64", b"x"], true);
-    assert_eq!(rt; done.status, 2);
-    assert_eq!(rt; done.err.bytes.as_slice(), b"xxh: bad seed\n".as_slice());
+    assert!(rt; done.refused(2, b"xxh: bad seed\n"));
 }
 
 // A word that is longer than any buffer of the system's.
@@ -165,12 +173,7 @@ fn a_long_word(rt: HostRuntime) -> Result<(), Fail> {
         zeros.push(b'0')?;
     }
     zeros.extend_from_slice(b"1234")?;
-    let done = run_with(
-        rt.alloc(),
-        &[b"xxh", b"hash", b"64", zeros.as_slice()],
-        false,
-    );
-    assert_eq!(rt; done.status, 0);
-    assert_eq!(rt; done.out.bytes.as_slice(), b"eab55659a496d78b\n".as_slice());
+    let words = [b"xxh".as_slice(), b"hash", b"64", zeros.as_slice()];
+    assert!(rt; run_with(rt.alloc(), &words, false).printed());
     Ok(())
 }

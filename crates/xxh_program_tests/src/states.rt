@@ -1,11 +1,12 @@
 //! Saved texts, and digests that go on from them.
 
-use crate::ends::{Pieces, Taken};
-use crate::over_memory::{resume, run_line};
-use std::alloc::Global;
+use crate::calls::{reads_on_32, reads_on_64, run_by};
+use crate::over_memory::{run_line, run_words};
+use std::alloc::{AllocError, Global};
 use std::str;
 use std::test::Fail;
-use xxh_program::program::{ScriptSink, ScriptSource, run};
+use twox_hash::{XxHash32, XxHash64};
+use xxh_program::program::{FromRead, ScriptSink, ScriptSource};
 
 const HELLO: &[u8] = b"Hello, world!\0";
 
@@ -20,44 +21,52 @@ const SAVED: &str = "\
 save 32 4294967295={\"buffer\":[115,111,109,101,32,98,121,116,101,115,0,0,0,0,0,0],\"buffer_usage\":10,\"core\":{\"v1\":606290983,\"v2\":2246822518,\"v3\":4294967295,\"v4\":1640531534},\"seed\":4294967295,\"total_len\":10}
 save 64 18446744073709551615={\"buffer\":[115,111,109,101,32,98,121,116,101,115,0,0,0,0,0,0,0,0,0,0,0,0,0,0,0,0,0,0,0,0,0,0],\"buffer_usage\":10,\"core\":{\"v1\":6983438078262162901,\"v2\":14029467366897019726,\"v3\":18446744073709551615,\"v4\":7046029288634856824},\"seed\":18446744073709551615,\"total_len\":10}";
 
+// What stands before and after the first equals sign.
+fn two_parts(row: &str) -> (&str, &str) {
+    row.split_once('=').unwrap_or((row, ""))
+}
+
+// Whether these words print this text and a line feed.
+fn prints(alloc: Global, words: &str, input: &[u8], text: &str) -> Result<bool, AllocError> {
+    Ok(run_line(alloc, words, input)?.printed_line(text))
+}
+
 #[test]
 fn a_saved_text(rt: HostRuntime) -> Result<(), Fail> {
-    let saved = run_line(rt.alloc(), "save 32", HELLO)?;
-    assert_eq!(rt; saved.status, 0);
-    assert_eq!(rt; saved.out.split_last(), Some((&b'\n', HELLO_32.as_bytes())));
-    let saved = run_line(rt.alloc(), "save 64 0", HELLO)?;
-    assert_eq!(rt; saved.status, 0);
-    assert_eq!(rt; saved.out.split_last(), Some((&b'\n', HELLO_64.as_bytes())));
+    assert!(rt; prints(rt.alloc(), "save 32", HELLO, HELLO_32)?);
+    assert!(rt; prints(rt.alloc(), "save 64 0", HELLO, HELLO_64)?);
     for row in SAVED.lines() {
-        let (words, text) = row.split_once('=').ok_or("a row has two parts")?;
-        let saved = run_line(rt.alloc(), words, b"some bytes")?;
-        assert_eq!(rt; saved.status, 0, "{row}");
-        assert_eq!(rt;
-            saved.out.split_last(),
-            Some((&b'\n', text.as_bytes())),
-            "{row}"
-        );
-        assert_eq!(rt; saved.err.len(), 0, "{row}");
+        let (words, text) = two_parts(row);
+        assert!(rt; prints(rt.alloc(), words, b"some bytes", text)?, "{row}");
     }
     Ok(())
 }
 
+// Whether the digest goes on from the text to this line, which has no line feed.
+fn resumes(alloc: Global, kind: &str, text: &str, input: &[u8], line: &str) -> bool {
+    run_words(alloc, &["resume", kind, text], input).printed_line(line)
+}
+
+// The first part is saved by these words, and the second goes on to the line.
+fn two_runs(
+    alloc: Global,
+    words: &str,
+    kind: &str,
+    parts: (&[u8], &[u8]),
+    line: &str,
+) -> Result<bool, Fail> {
+    let saved = run_line(alloc, words, parts.0)?;
+    let text = str::from_utf8(saved.out.as_slice())?;
+    let quiet = saved.status == 0 && saved.err.is_empty() && saved.unread == 0;
+    Ok(quiet && resumes(alloc, kind, text, parts.1, line))
+}
+
 #[test]
 fn a_digest_over_two_runs(rt: HostRuntime) -> Result<(), Fail> {
-    for (kind, words, line) in [
-        ("32", "save 32 1234", b"92f68bd9\n".as_slice()),
-        ("64", "save 64 1234", b"eab55659a496d78b\n".as_slice()),
-    ] {
-        let saved = run_line(rt.alloc(), words, b"some")?;
-        assert_eq!(rt; saved.status, 0, "{kind}");
-        let text = str::from_utf8(saved.out.as_slice())?;
-        let resumed = resume(rt.alloc(), kind, text, b" bytes")?;
-        assert_eq!(rt; resumed.status, 0, "{kind}");
-        assert_eq!(rt; resumed.out.as_slice(), line, "{kind}");
-        assert_eq!(rt; resumed.err.len(), 0, "{kind}");
-    }
-    let resumed = resume(rt.alloc(), "64", HELLO_64, b"")?;
-    assert_eq!(rt; resumed.out.as_slice(), b"7b06c531ea43e89f\n".as_slice());
+    let parts = (b"some".as_slice(), b" bytes".as_slice());
+    assert!(rt; two_runs(rt.alloc(), "save 32 1234", "32", parts, "92f68bd9")?);
+    assert!(rt; two_runs(rt.alloc(), "save 64 1234", "64", parts, "eab55659a496d78b")?);
+    assert!(rt; resumes(rt.alloc(), "64", HELLO_64, b"", "7b06c531ea43e89f"));
     Ok(())
 }
 
@@ -69,13 +78,10 @@ const STATES: &str = "\
 { \"total_len\": 14, \"seed\": 0, \"more\": [null], \"buffer\":[72,101,108,108,111,44,32,119,111,114,108,100,33,0,0,0],\"buffer_usage\":14,\"core\":{\"v1\":606290984,\"v2\":2246822519,\"v3\":0,\"v4\":1640531535}}";
 
 #[test]
-fn texts_that_are_states(rt: HostRuntime) -> Result<(), Fail> {
+fn texts_that_are_states(rt: HostRuntime) {
     for text in STATES.lines() {
-        let resumed = resume(rt.alloc(), "32", text, b"")?;
-        assert_eq!(rt; resumed.status, 0, "{text}");
-        assert_eq!(rt; resumed.out.as_slice(), b"9e5e7e93\n".as_slice(), "{text}");
+        assert!(rt; resumes(rt.alloc(), "32", text, b"", "9e5e7e93"), "{text}");
     }
-    Ok(())
 }
 
 // A kind and a text: a usage that does not fit, accumulators that do not, both; too few bytes, a number that is
@@ -111,39 +117,37 @@ fn is_refused(alloc: Global, kind: &str, text: &str) -> bool {
     let mut r = ScriptSource::new(b"some bytes", &[10], 0);
     let mut out = ScriptSink::<40>::new(40, 0);
     let mut err = ScriptSink::<40>::new(40, 0);
-    let status = run(alloc, &["resume", kind, text], &mut r, &mut out, &mut err);
+    let status = run_by(alloc, &["resume", kind, text], &mut r, &mut out, &mut err);
     let told = err.bytes() == b"xxh: bad state\n".as_slice();
     status == 2 && r.reads() == 0 && out.bytes().is_empty() && told
 }
 
 #[test]
-fn texts_that_are_no_states(rt: HostRuntime) -> Result<(), Fail> {
+fn texts_that_are_no_states(rt: HostRuntime) {
     for row in NO_STATES.lines() {
-        let (kind, text) = row.split_once('=').ok_or("a row has two parts")?;
+        let (kind, text) = two_parts(row);
         assert!(rt; is_refused(rt.alloc(), kind, text), "{row}");
     }
-    Ok(())
 }
 
 #[test]
-fn every_proper_beginning_of_a_text(rt: HostRuntime) -> Result<(), Fail> {
+fn every_proper_beginning_of_a_text(rt: HostRuntime) {
     for (kind, text) in [("32", HELLO_32), ("64", HELLO_64)] {
         for len in 0..text.len() {
-            let front = text.get(..len).ok_or("the text is ASCII")?;
+            let front = text.get(..len).unwrap_or(text);
             assert!(rt; is_refused(rt.alloc(), kind, front), "{len}");
         }
         assert!(rt; !is_refused(rt.alloc(), kind, text));
     }
-    Ok(())
 }
 
-// The status of a run over ends of which one fails, how much it printed, and what it told.
-fn scripted(alloc: Global, words: &[&str], read_fails: usize, room: usize) -> (u8, usize, Vec<u8>) {
-    let mut r = Pieces::new(b"some bytes", &[4, 6], read_fails);
-    let mut out = Taken::new(alloc, room, 1000, 0);
-    let mut err = Taken::new(alloc, 1000, 1000, 0);
-    let status = run(alloc, words, &mut r, &mut out, &mut err);
-    (status, out.into_bytes().len(), err.into_bytes())
+// Where a read fails, nothing is printed; where there is room for eight bytes, those are. Either is told.
+fn tells(alloc: Global, words: &[&str], read_fails: u64, printed: usize, told: &[u8]) -> bool {
+    let mut r = ScriptSource::new(b"some bytes", &[4, 6], read_fails);
+    let mut out = ScriptSink::<8>::new(1000, 0);
+    let mut err = ScriptSink::<40>::new(1000, 0);
+    let status = run_by(alloc, words, &mut r, &mut out, &mut err);
+    status == 1 && out.bytes().len() == printed && err.bytes() == told
 }
 
 #[test]
@@ -155,39 +159,109 @@ fn ends_that_fail(rt: HostRuntime) {
         ["resume", "64", HELLO_64],
     ] {
         for at in 1..4 {
-            let (status, printed, told) = scripted(rt.alloc(), &words, at, 1000);
-            assert_eq!(rt; (status, printed), (1, 0));
-            assert_eq!(rt; told.as_slice(), b"xxh: read failed\n".as_slice());
+            assert!(rt; tells(rt.alloc(), &words, at, 0, b"xxh: read failed\n"));
         }
-        let (status, printed, told) = scripted(rt.alloc(), &words, 0, 8);
-        assert_eq!(rt; (status, printed), (1, 8));
-        assert_eq!(rt; told.as_slice(), b"xxh: write failed\n".as_slice());
+        assert!(rt; tells(rt.alloc(), &words, 0, 8, b"xxh: write failed\n"));
     }
+}
+
+// ---- many lengths
+
+const MOST: u64 = u64::MAX;
+
+/// The bytes 0 to 250 over and over.
+fn cycling(alloc: Global, len: usize) -> Result<Vec<u8>, AllocError> {
+    let mut bytes = Vec::new(alloc);
+    for i in 0..len {
+        bytes.push((i % 251) as u8)?;
+    }
+    Ok(bytes)
+}
+
+// Saved after the first part, resumed over the second: the line is that of the library's one-shot of both. The seeds
+// are the greatest, so that the accumulators have many digits.
+fn is_saved_and_resumed(alloc: Global, bytes: &[u8], cut: usize) -> Result<bool, Fail> {
+    let parts = bytes.split_at_checked(cut).unwrap_or((bytes, b""));
+    let value = XxHash32::oneshot(u32::MAX, bytes);
+    let line = format!(in alloc; "{value:08x}")?;
+    let whole = prints(alloc, "hash 32 4294967295", bytes, line.as_str())?;
+    let first = whole && two_runs(alloc, "save 32 4294967295", "32", parts, line.as_str())?;
+    let value = XxHash64::oneshot(u64::MAX, bytes);
+    let line = format!(in alloc; "{value:016x}")?;
+    let whole = prints(alloc, "hash 64 18446744073709551615", bytes, line.as_str())?;
+    let words = "save 64 18446744073709551615";
+    Ok(first && whole && two_runs(alloc, words, "64", parts, line.as_str())?)
+}
+
+// The first bytes, this many.
+fn front(bytes: &[u8], len: usize) -> &[u8] {
+    bytes.get(..len).unwrap_or(b"")
+}
+
+// Reading on from a fresh hasher gives the library's one-shot.
+fn reads_on(bytes: &[u8]) -> bool {
+    let hasher = XxHash32::with_seed(u32::MAX);
+    let first = match reads_on_32(hasher, MOST, &mut FromRead::new(bytes)) {
+        Ok(after) => after.finish_32() == XxHash32::oneshot(u32::MAX, bytes),
+        Err(_) => false,
+    };
+    let hasher = XxHash64::with_seed(u64::MAX);
+    match reads_on_64(hasher, MOST, &mut FromRead::new(bytes)) {
+        Ok(after) => first && after.finish() == XxHash64::oneshot(u64::MAX, bytes),
+        Err(_) => false,
+    }
+}
+
+// Want of memory is allowed wherever it is asked for, so that a body which gives up past some length is proved. So no
+// length is given up: all up to the fourth stripe of XXH64, and those around where a buffer or a read ends.
+#[test]
+fn lengths_up_to_5000(rt: HostRuntime) -> Result<(), Fail> {
+    let all = cycling(rt.alloc(), 5000)?;
+    for (first, last) in [
+        (0, 131),
+        (255, 257),
+        (1000, 1025),
+        (2047, 2049),
+        (4064, 4129),
+        (4999, 5000),
+    ] {
+        for len in first..last + 1 {
+            let bytes = front(all.as_slice(), len);
+            assert!(rt; is_saved_and_resumed(rt.alloc(), bytes, len)?, "{len}");
+            assert!(rt; is_saved_and_resumed(rt.alloc(), bytes, len / 2)?, "{len}");
+        }
+    }
+    Ok(())
+}
+
+#[test]
+fn every_length_read_on(rt: HostRuntime) -> Result<(), Fail> {
+    let all = cycling(rt.alloc(), 5000)?;
+    for len in 0..5001usize {
+        assert!(rt; reads_on(front(all.as_slice(), len)), "{len}");
+    }
+    Ok(())
+}
+
+#[test]
+fn a_million_bytes(rt: HostRuntime) -> Result<(), Fail> {
+    let bytes = cycling(rt.alloc(), 1000000)?;
+    assert!(rt; reads_on(bytes.as_slice()));
+    for cut in [0, 31, 999999, 1000000] {
+        assert!(rt;
+            is_saved_and_resumed(rt.alloc(), bytes.as_slice(), cut)?,
+            "{cut}"
+        );
+    }
+    Ok(())
 }
 
 // States past the first stripes, of bytes and accumulators with as many digits as there can be.
 #[test]
 fn a_digest_of_long_parts_over_two_runs(rt: HostRuntime) -> Result<(), Fail> {
     let input = [255; 100];
-    for (kind, save, hash) in [
-        ("32", "save 32 4294967295", "hash 32 4294967295"),
-        (
-            "64",
-            "save 64 18446744073709551615",
-            "hash 64 18446744073709551615",
-        ),
-    ] {
-        let whole = run_line(rt.alloc(), hash, &input)?;
-        assert_eq!(rt; whole.status, 0, "{kind}");
-        for cut in [31, 63, 95] {
-            let (first, then) = input.split_at(cut);
-            let saved = run_line(rt.alloc(), save, first)?;
-            assert_eq!(rt; saved.status, 0, "{kind}");
-            let text = str::from_utf8(saved.out.as_slice())?;
-            let resumed = resume(rt.alloc(), kind, text, then)?;
-            assert_eq!(rt; resumed.status, 0, "{kind}");
-            assert_eq!(rt; resumed.out.as_slice(), whole.out.as_slice(), "{kind}");
-        }
+    for cut in [31, 63, 95] {
+        assert!(rt; is_saved_and_resumed(rt.alloc(), &input, cut)?, "{cut}");
     }
     Ok(())
 }

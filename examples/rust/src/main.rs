@@ -4,37 +4,27 @@
 //! hash-file FILE
 //! ```
 
-mod xxhash;
-
 use std::env;
 use std::fs::File;
+use std::hash::Hasher as _;
 use std::io::{self, Write};
-use xxhash::{Xxh32, Xxh3Of128, Xxh3Of64, Xxh64};
+use twox_hash::{XxHash32, XxHash3_128, XxHash3_64, XxHash64};
 
-/// A stream of each hash.
+/// A stream of each hash, with the seed 0.
+#[derive(Default)]
 struct Hashers {
-    xxh32: Xxh32,
-    xxh64: Xxh64,
-    xxh3_64: Xxh3Of64,
-    xxh3_128: Xxh3Of128,
+    xxh32: XxHash32,
+    xxh64: XxHash64,
+    xxh3_64: XxHash3_64,
+    xxh3_128: XxHash3_128,
 }
 
 impl Hashers {
-    /// Streams with the seed 0: `None` where there is no memory.
-    fn new() -> Option<Hashers> {
-        Some(Hashers {
-            xxh32: Xxh32::with_seed(0)?,
-            xxh64: Xxh64::with_seed(0)?,
-            xxh3_64: Xxh3Of64::with_seed(0)?,
-            xxh3_128: Xxh3Of128::with_seed(0)?,
-        })
-    }
-
     fn print(&self, mut out: impl Write) -> io::Result<()> {
-        writeln!(out, "32 {:08x}", self.xxh32.digest())?;
-        writeln!(out, "64 {:016x}", self.xxh64.digest())?;
-        writeln!(out, "3-64 {:016x}", self.xxh3_64.digest())?;
-        writeln!(out, "3-128 {:032x}", self.xxh3_128.digest())?;
+        writeln!(out, "32 {:08x}", self.xxh32.finish_32())?;
+        writeln!(out, "64 {:016x}", self.xxh64.finish())?;
+        writeln!(out, "3-64 {:016x}", self.xxh3_64.finish())?;
+        writeln!(out, "3-128 {:032x}", self.xxh3_128.finish_128())?;
         out.flush()
     }
 }
@@ -42,10 +32,10 @@ impl Hashers {
 /// Each piece that is written goes to each stream.
 impl Write for Hashers {
     fn write(&mut self, piece: &[u8]) -> io::Result<usize> {
-        self.xxh32.update(piece);
-        self.xxh64.update(piece);
-        self.xxh3_64.update(piece);
-        self.xxh3_128.update(piece);
+        self.xxh32.write(piece);
+        self.xxh64.write(piece);
+        self.xxh3_64.write(piece);
+        self.xxh3_128.write(piece);
         Ok(piece.len())
     }
 
@@ -59,7 +49,7 @@ fn main() -> io::Result<()> {
         .nth(1)
         .ok_or_else(|| io::Error::other("usage: hash-file FILE"))?;
     let mut file = File::open(path)?;
-    let mut hashers = Hashers::new().ok_or(io::ErrorKind::OutOfMemory)?;
+    let mut hashers = Hashers::default();
     io::copy(&mut file, &mut hashers)?;
     hashers.print(io::stdout().lock())
 }

@@ -7,7 +7,7 @@ ghost use Rattle.twox_core.specs.SecretBytes.{secret_bytes};
 
 use super::Secret;
 use std::simd::u64x2;
-use twox_plain::words::u64_at;
+use twox_words::words::u64_at;
 
 /// The length of the default secret.
 pub const DEFAULT_SECRET_LENGTH: usize = 192;

@@ -1,23 +1,27 @@
 //! XXH3 above 240 bytes, over any kernel: the xxHash specification, "XXH3 algorithm description (for large
 //! inputs)".
 
-ghost use Rattle.std.specs.Prelude.{◌≡◌, ◌+◌, ◌-◌, ◌*◌, ◌/◌, ◌^◌, ◌<◌, ◌≤◌, ℕ, List, length, take, drop, slice_index};
+ghost use Rattle.std.specs.Prelude.{◌≡◌, ◌+◌, ◌-◌, ◌*◌, ◌/◌, ◌%◌, ◌^◌, ◌<◌, ◌≤◌, ℕ, List, length, take, drop, slice_index, bit_xor};
 ghost use Rattle.twox_core.specs.Long.{merge_accumulators, stripes_of};
 ghost use Rattle.twox_core.specs.Ending.{accumulate_block, block_accumulators, last_block, last_stripe, final_accumulators, finalize_64, finalize_128};
 ghost use Rattle.twox_core.specs.SecretBytes.{secret_bytes};
+ghost use Rattle.twox_core.specs.Steps.{fold};
 
 pub mod lanes2;
 pub mod lanes4;
 pub mod scalar;
 pub mod split2;
+mod word;
 
+use self::word::words;
 use super::parts::array_at;
 use super::primes::{PRIME64_1, PRIME64_2};
-use super::stripes::StripeAccumulator;
+use super::stripes::{MANY_BYTES, STRIPES_IN_BLOCK, StripeAccumulator};
 use super::{Secret, Vector, avalanche, fold};
-use twox_plain::words::{IntoU64, IntoU128, bp_as_chunks, u64_at};
+use std::simd::u64x4;
+use twox_words::words::{IntoU64, IntoU128, bp_as_chunks};
 
-/// The kernel of this program.
+/// The kernel of every call that names none.
 pub type Kernel = lanes4::Impl;
 
 /// What a hash makes of an input: one value for short ones and one for long ones.
@@ -77,10 +81,30 @@ impl<V: Vector> Algorithm<V> {
         ensures { let s = secret_bytes secret.entry in let m = input.now in
             result ≡ F.large_of finalize (block_accumulators s m) (last_block s m) (last_stripe m) s (length m) }
     {
+        if input.len() < MANY_BYTES {
+            self.oneshot_of::<F, false>(secret, input, finalize)
+        } else {
+            self.oneshot_of::<F, true>(secret, input, finalize)
+        }
+    }
+
+    /// The same, where the caller says whether the bytes are many: those that are few then keep no register for a
+    /// call. The value doesn't depend on it.
+    #[inline(always)]
+    pub fn oneshot_of<F: Finalize + Drop, const MANY: bool>(
+        &self,
+        secret: Secret<'_>,
+        input: &[u8],
+        finalize: F,
+    ) -> F::Output
+        requires { 241 ≤ length input.now }
+        ensures { let s = secret_bytes secret.entry in let m = input.now in
+            result ≡ F.large_of finalize (block_accumulators s m) (last_block s m) (last_stripe m) s (length m) }
+    {
         let count = stripes_before_last_block(input.len(), secret.n_stripes());
         let (blocks, last_block) = input.split_at(64 * count);
         let mut stripes = StripeAccumulator::new();
-        stripes.process_stripes(self.0, blocks, secret);
+        stripes.process_blocks::<V, MANY>(self.0, blocks, secret);
         finalize.large(
             self.0,
             stripes.accumulators(),
@@ -111,7 +135,7 @@ impl<V: Vector> Algorithm<V> {
     {
         let acc = self.last_round(acc, last_block, last_stripe, secret);
         let init = len.wrapping_mul(PRIME64_1);
-        final_merge(&acc, init, secret.final_secret())
+        final_merge(acc, init, secret.final_secret(), secret)
     }
 
     /// The value of 128 bits, likewise: its low half is the value of 64 bits, and the high half merges the
@@ -132,9 +156,9 @@ impl<V: Vector> Algorithm<V> {
     {
         let acc = self.last_round(acc, last_block, last_stripe, secret);
         let low = len.wrapping_mul(PRIME64_1);
-        let low = final_merge(&acc, low, secret.final_secret());
+        let low = final_merge(acc, low, secret.final_secret(), secret);
         let high = !len.wrapping_mul(PRIME64_2);
-        let high = final_merge(&acc, high, secret.for_128().final_secret());
+        let high = final_merge(acc, high, secret.for_128().final_secret(), secret);
         from_halves(high, low)
     }
 
@@ -164,7 +188,7 @@ impl<V: Vector> Algorithm<V> {
     // The accumulators with the first stripes of a block, from the secret's start on. No scramble follows, so this
     // loop has no test for one.
     #[inline(always)]
-    fn accumulate_block(
+    pub(super) fn accumulate_block(
         &self,
         acc: [u64; 8],
         block: &[u8],
@@ -197,21 +221,50 @@ fn stripes_before_last_block(len: usize, n_stripes: usize) -> usize
         // One block takes no division.
         return 0;
     }
+    if n_stripes == STRIPES_IN_BLOCK {
+        // Nor does the length of most blocks, which is a power of two.
+        return count / STRIPES_IN_BLOCK * STRIPES_IN_BLOCK;
+    }
     n_stripes * (count / n_stripes)
 }
 
-// The accumulators merged under 64 bytes of the secret: the sum of the folds of neighbours, mixed.
-#[inline(never)]
-fn final_merge(acc: &[u64; 8], init: u64, secret: &[u8; 64]) -> u64
-    ensures { result ≡ merge_accumulators init secret.now 0 (slice_index acc.now) }
+// The accumulators merged under 64 bytes of the secret: the sum of the folds of neighbours, mixed. They stay in
+// registers, four at a time. Every secret passes the test between the halves: without it, LLVM adds the four folds as
+// a vector, which costs more than it saves.
+#[inline(always)]
+fn final_merge(acc: [u64; 8], init: u64, key: &[u8; 64], secret: Secret<'_>) -> u64
+    ensures { result ≡ merge_accumulators init key.now 0 (slice_index acc) }
 {
-    let mut sum = init;
-    for i in 0..4 {
-        let first = acc[2 * i] ^ u64_at(secret, 16 * i);
-        let second = acc[2 * i + 1] ^ u64_at(secret, 16 * i + 8);
-        sum = sum.wrapping_add(fold(first, second));
+    let [a, b, c, d, e, f, g, h] = acc;
+    let front = add_folds(init, keyed_four([a, b, c, d], words(key, 0)));
+    if !secret.is_valid() {
+        return front;
     }
-    avalanche(sum)
+    avalanche(add_folds(front, keyed_four([e, f, g, h], words(key, 4))))
+}
+
+// Four accumulators under their keys.
+#[inline(always)]
+fn keyed_four(acc: [u64; 4], keys: [u64; 4]) -> [u64; 4]
+    ensures a { slice_index result 0 ≡ bit_xor (slice_index acc 0) (slice_index keys 0) }
+    ensures b { slice_index result 1 ≡ bit_xor (slice_index acc 1) (slice_index keys 1) }
+    ensures c { slice_index result 2 ≡ bit_xor (slice_index acc 2) (slice_index keys 2) }
+    ensures d { slice_index result 3 ≡ bit_xor (slice_index acc 3) (slice_index keys 3) }
+{
+    let [a0, a1, a2, a3] = acc;
+    let [k0, k1, k2, k3] = keys;
+    let keys = u64x4::from_array([k0, k1, k2, k3]);
+    (u64x4::from_array([a0, a1, a2, a3]) ^ keys).to_array()
+}
+
+// The sum with the folds of two pairs of neighbours.
+#[inline(always)]
+fn add_folds(sum: u64, keyed: [u64; 4]) -> u64
+    ensures { result ≡ (sum + fold (slice_index keyed 0) (slice_index keyed 1)
+        + fold (slice_index keyed 2) (slice_index keyed 3)) % 2 ^ 64 }
+{
+    let [a, b, c, d] = keyed;
+    sum.wrapping_add(fold(a, b)).wrapping_add(fold(c, d))
 }
 
 // A value of 128 bits from its halves.

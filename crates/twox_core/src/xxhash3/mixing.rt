@@ -2,12 +2,12 @@
 
 ghost use Rattle.std.specs.Prelude.{◌≡◌, ◌+◌, ◌*◌, ◌≤◌, [], ◌∷◌, ℕ, List, length};
 ghost use Rattle.std.specs.Int.{w64};
-ghost use Rattle.twox_plain.specs.Word.{word_at};
+ghost use Rattle.twox_words.specs.Word.{word_at};
 ghost use Rattle.twox_core.specs.Short.{combined_bytes};
 ghost use Rattle.twox_core.specs.Steps.{avalanche, avalanche_xxh64, fold, mix, word64};
 
 use super::primes::{PRIME_MX1, PRIME64_2, PRIME64_3};
-use twox_plain::words::{Halves, IntoU32, IntoU128, u64_at};
+use twox_words::words::{Halves, IntoU32, IntoU128, u64_at};
 
 /// The last byte, the number of bytes, the first byte and the middle one, from the low byte up: the xxHash
 /// specification, "XXH3 algorithm description (for small inputs)", 1 to 3 bytes.

@@ -6,7 +6,7 @@ ghost use Rattle.twox_core.specs.Parts.{chunk_at, chunks_at, pair_at, pairs_at};
 ghost use Rattle.twox_core.specs.SecretBytes.{secret_bytes};
 
 use super::Secret;
-use twox_plain::words::bp_as_chunks;
+use twox_words::words::bp_as_chunks;
 
 // The `n` bytes from byte `from` on.
 #[inline(always)]

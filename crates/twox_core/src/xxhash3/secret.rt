@@ -4,7 +4,7 @@ ghost use Rattle.std.specs.Prelude.{◌≤◌, length};
 
 use super::parts::{array_at, chunks_at, pair_at, pairs_at};
 use std::{error, fmt};
-use twox_plain::words::{u32_at, u64_at};
+use twox_words::words::{u32_at, u64_at};
 
 /// The minimum length of a secret.
 pub const SECRET_MINIMUM_LENGTH: usize = 136;
@@ -179,7 +179,7 @@ pub struct Secret64BitView<'a> {
 impl<'a> Secret64BitView<'a> {
     ghost use Rattle.std.specs.Prelude.{◌≡◌, [], ◌∷◌, length};
     ghost use Rattle.std.specs.Int.{w32, w64};
-    ghost use Rattle.twox_plain.specs.Word.{word_at};
+    ghost use Rattle.twox_words.specs.Word.{word_at};
     ghost use Rattle.twox_core.specs.Parts.{chunk_at, chunks_at};
     ghost use Rattle.twox_core.specs.SecretBytes.{viewed_by_64};
 
@@ -265,7 +265,7 @@ pub struct Secret128BitView<'a> {
 impl<'a> Secret128BitView<'a> {
     ghost use Rattle.std.specs.Prelude.{◌≡◌, ◌-◌, [], ◌∷◌, length};
     ghost use Rattle.std.specs.Int.{w32, w64};
-    ghost use Rattle.twox_plain.specs.Word.{word_at};
+    ghost use Rattle.twox_words.specs.Word.{word_at};
     ghost use Rattle.twox_core.specs.Parts.{pair_at, pairs_at, stripe_at};
     ghost use Rattle.twox_core.specs.SecretBytes.{viewed_by_128};
 

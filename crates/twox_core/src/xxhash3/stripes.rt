@@ -3,17 +3,18 @@
 ghost use Rattle.std.specs.Prelude.{◌≡◌, ◌/◌, ◌<◌, ◌≤◌, length};
 ghost use Rattle.twox_core.specs.Long.{stripes_of};
 ghost use Rattle.twox_core.specs.SecretBytes.{secret_bytes};
-ghost use Rattle.twox_core.specs.Stripes.{current_stripe_of, after_stripes};
+ghost use Rattle.twox_core.specs.Stripes.{AfterStripes, current_stripe_of};
 
 mod blocks;
 
-use self::blocks::{BYTES_IN_BLOCK, STRIPES_IN_BLOCK, take_blocks};
+pub(super) use self::blocks::STRIPES_IN_BLOCK;
+use self::blocks::{BYTES_IN_BLOCK, take_blocks, take_few_blocks};
 use super::primes::PRIME64_1;
 use super::{INITIAL_ACCUMULATORS, Secret, Vector};
-use twox_plain::words::{bp_as_chunks, u64_at};
+use twox_words::words::{bp_as_chunks, u64_at};
 
 /// From how many bytes on stripes are taken out of line, in the way that is fastest for their number.
-pub(crate) const MANY_BYTES: usize = 16_384;
+pub const MANY_BYTES: usize = 16_384;
 
 /// From how many bytes on a stripe further on is read ahead, where whole blocks aren't taken.
 const BYTES_TO_READ_AHEAD: usize = 49_152;
@@ -30,7 +31,7 @@ pub struct StripeAccumulator {
 }
 
 impl StripeAccumulator {
-    ghost use Rattle.twox_core.specs.Stripes.{accumulators_of, at_start, current_stripe_of, no_stripe, after_stripe, after_stripes};
+    ghost use Rattle.twox_core.specs.Stripes.{accumulators_of, at_start, current_stripe_of, no_stripe, after_stripe, AfterStripes};
 
     /// The accumulators before the first stripe.
     #[inline(always)]
@@ -97,22 +98,30 @@ impl StripeAccumulator {
         }
     }
 
-    // Takes the whole stripes of `bytes`.
+    // Takes the whole stripes of `bytes`, which mostly are whole blocks from the secret's start on. The caller says
+    // whether the bytes are many.
     #[inline(always)]
-    pub(crate) fn process_stripes<V: Vector>(&mut self, v: V, bytes: &[u8], secret: Secret<'_>)
+    pub(crate) fn process_blocks<V: Vector, const MANY: bool>(
+        &mut self,
+        v: V,
+        bytes: &[u8],
+        secret: Secret<'_>,
+    )
         requires { current_stripe_of self.old < stripes_of (secret_bytes secret) }
-        ensures exact { self.new
-            ≡ after_stripes (secret_bytes secret.entry) self.old bytes.now (length bytes.now / 64) }
-        ensures place { current_stripe_of self.new < stripes_of (secret_bytes secret.entry) }
+        ensures { AfterStripes (secret_bytes secret.entry) self.old bytes.now self.new }
     {
-        if bytes.len() < MANY_BYTES {
-            self.process_near(v, bytes, secret);
-        } else {
+        let has_whole_blocks = self.current_stripe == 0 && bytes.len() % BYTES_IN_BLOCK == 0;
+        if MANY {
             *self = take_many_stripes(*self, v, bytes, secret);
+        } else if secret.n_stripes() == STRIPES_IN_BLOCK && has_whole_blocks {
+            let taken = take_few_blocks(self.accumulator, v, bytes, secret);
+            *self = StripeAccumulator::starting_with(taken);
+        } else {
+            self.process_near(v, bytes, secret);
         }
     }
 
-    // The same, where the caller knows whether the bytes are many.
+    // The same of bytes that begin and end anywhere.
     #[inline(always)]
     pub(crate) fn process<V: Vector, const MANY: bool>(
         &mut self,
@@ -121,9 +130,7 @@ impl StripeAccumulator {
         secret: Secret<'_>,
     )
         requires { current_stripe_of self.old < stripes_of (secret_bytes secret) }
-        ensures exact { let s = secret_bytes secret.entry in
-            self.new ≡ after_stripes s self.old bytes.now (length bytes.now / 64) }
-        ensures place { current_stripe_of self.new < stripes_of (secret_bytes secret.entry) }
+        ensures { AfterStripes (secret_bytes secret.entry) self.old bytes.now self.new }
     {
         if MANY {
             *self = take_many_stripes(*self, v, bytes, secret);
@@ -136,9 +143,7 @@ impl StripeAccumulator {
     #[inline(always)]
     pub(crate) fn process_near<V: Vector>(&mut self, v: V, bytes: &[u8], secret: Secret<'_>)
         requires { current_stripe_of self.old < stripes_of (secret_bytes secret) }
-        ensures exact { self.new
-            ≡ after_stripes (secret_bytes secret.entry) self.old bytes.now (length bytes.now / 64) }
-        ensures place { current_stripe_of self.new < stripes_of (secret_bytes secret.entry) }
+        ensures { AfterStripes (secret_bytes secret.entry) self.old bytes.now self.new }
     {
         let n_stripes = secret.n_stripes();
         let (stripes, _) = bp_as_chunks(bytes);
@@ -159,9 +164,7 @@ fn take_stripes<V: Vector>(
     secret: Secret<'_>,
 ) -> StripeAccumulator
     requires { current_stripe_of from < stripes_of (secret_bytes secret) }
-    ensures exact { result
-        ≡ after_stripes (secret_bytes secret.entry) from bytes.now (length bytes.now / 64) }
-    ensures place { current_stripe_of result < stripes_of (secret_bytes secret.entry) }
+    ensures { AfterStripes (secret_bytes secret.entry) from bytes.now result }
 {
     let mut taken = from;
     taken.process_near(v, bytes, secret);
@@ -177,9 +180,7 @@ fn take_many_stripes<V: Vector>(
     secret: Secret<'_>,
 ) -> StripeAccumulator
     requires { current_stripe_of from < stripes_of (secret_bytes secret) }
-    ensures exact { result
-        ≡ after_stripes (secret_bytes secret.entry) from bytes.now (length bytes.now / 64) }
-    ensures place { current_stripe_of result < stripes_of (secret_bytes secret.entry) }
+    ensures { AfterStripes (secret_bytes secret.entry) from bytes.now result }
 {
     if secret.n_stripes() == STRIPES_IN_BLOCK && bytes.len() >= BYTES_IN_BLOCK {
         take_stripes_by_blocks(from, v, bytes, secret)
@@ -201,9 +202,7 @@ fn take_stripes_by_blocks<V: Vector>(
     requires all { stripes_of (secret_bytes secret) ≡ 16 }
     requires place { current_stripe_of from < 16 }
     requires some { 1024 ≤ length bytes.now }
-    ensures exact { result
-        ≡ after_stripes (secret_bytes secret.entry) from bytes.now (length bytes.now / 64) }
-    ensures place { current_stripe_of result < stripes_of (secret_bytes secret.entry) }
+    ensures { AfterStripes (secret_bytes secret.entry) from bytes.now result }
 {
     let to_block = (STRIPES_IN_BLOCK - from.current_stripe()) % STRIPES_IN_BLOCK;
     let (front, rest) = bytes.split_at(64 * to_block);
@@ -229,9 +228,7 @@ fn take_stripes_reading_ahead<V: Vector>(
     secret: Secret<'_>,
 ) -> StripeAccumulator
     requires { current_stripe_of from < stripes_of (secret_bytes secret) }
-    ensures exact { result
-        ≡ after_stripes (secret_bytes secret.entry) from bytes.now (length bytes.now / 64) }
-    ensures place { current_stripe_of result < stripes_of (secret_bytes secret.entry) }
+    ensures { AfterStripes (secret_bytes secret.entry) from bytes.now result }
 {
     let n_stripes = secret.n_stripes();
     let (stripes, _) = bp_as_chunks::<u8, 64>(bytes);

@@ -3,18 +3,19 @@
 ghost use Rattle.std.specs.Prelude.{◌≡◌, ◌↔◌, ◌<◌, ◌≤◌, ◌+◌, ◌*◌, ◌/◌, ◌++◌, [], true, false, List, ℕ, length, Err, IfErr, IfOk};
 ghost use Rattle.std.specs.List.{concat};
 ghost use Rattle.std.specs.Int.{div_ceil};
-ghost use Rattle.xxh_program.specs.Pieces.{NoneEmpty};
-ghost use Rattle.xxh_program.specs.Digest.{Writes};
+ghost use Rattle.xxh_io.specs.Pieces.{NoneEmpty};
+ghost use Rattle.xxh_io.specs.Digest.{Writes};
 ghost use Rattle.xxh_program.specs.Blocks.{added_lines, last_lines};
 ghost use Rattle.xxh_program.specs.BlockEnds.{DigestsBlocks};
 ghost use Rattle.xxh_program.specs.Streams.{FollowsDefault};
 
-use crate::program::ends::{Failed, Sink, Source};
-use crate::program::engine::{OFFERED, write_all};
-use crate::program::error::DigestError;
-use crate::program::line_buffer::{LINE, LineBuffer, offset_line};
+use crate::program::engine::OFFERED;
 use twox_hash::xxhash3::{DefaultSecret, SecretBuffer};
 use twox_hash::xxhash3_128::RawHasher;
+use xxh_io::ends::{Failed, Sink, Source};
+use xxh_io::error::DigestError;
+use xxh_io::line_buffer::{LINE, LineBuffer, offset_line};
+use xxh_io::write::write_all;
 
 // The stream of no bytes.
 fn empty_stream() -> RawHasher<DefaultSecret>
@@ -165,8 +166,8 @@ pub(crate) fn digest_blocks_by<R: Source, W: Sink, const READ: usize, const LINE
 /// Reads to the end of the source and writes a line for each block of `block` bytes of what was read, the
 /// last of which may be shorter: where the block begins, or 2^64 - 1 where that is smaller, in 16 lower-case
 /// hexadecimal digits, a space, XXH3 of 128 bits of its bytes, under the seed 0 and the default secret, in
-/// 32 digits, and a line feed. Each read is offered 4,096 bytes, a line is written before the next read, and
-/// no memory is taken. No bytes have no lines.
+/// 32 digits, and a line feed. Each read is offered 4,096 bytes, which is tested and no clause says, a line is
+/// written before the next read, and no memory is taken. No bytes have no lines.
 ///
 /// The caller shows that neither end has failed and that a block has at least one byte.
 ///

@@ -1,18 +1,18 @@
 //! The program `xxh` over any ends: what the words ask for is done, and a fault is told.
 
 ghost use Rattle.std.specs.Prelude.{◌≡◌, ◌≤◌, false, Result, Ok};
-ghost use Rattle.xxh_program.specs.Command.{command_of, NumberFits};
+ghost use Rattle.xxh_io.specs.Command.{command_of, NumberFits};
+ghost use Rattle.xxh_io.specs.declared.fault.Fault.{Fault};
 ghost use Rattle.xxh_program.specs.Run.{DigestsInput, Performs, Tells, status_after};
-ghost use Rattle.xxh_program.specs.declared.program.fault.Fault.{Fault};
 
 use crate::program::blocks::digest_blocks_by;
-use crate::program::command::{Command, parse};
-use crate::program::ends::{Sink, Source};
-use crate::program::engine::{digest_reading, write_all};
-use crate::program::error::DigestError;
-use crate::program::fault::Fault;
+use crate::program::engine::digest_reading;
 use crate::program::states::{MAX_READS, resume_32, resume_64, save_32, save_64};
 use std::alloc::Global;
+use xxh_io::command::{Command, parse};
+use xxh_io::ends::{Sink, Source};
+use xxh_io::error::DigestError;
+use xxh_io::fault::{Fault, conclude};
 
 // How many bytes each read is offered for digests and lines of blocks: more than the buffer of a process's input has,
 // so that they are not copied from there.
@@ -60,38 +60,11 @@ pub fn run<R: Source, W: Sink, E: Sink>(
         × Tells E.takes E.refuses E.has_failed answer err.old err.new
         × (result ≡ status_after answer) }
 {
-    conclude(carry_out(alloc, words, r, out), err)
-}
-
-// Tells the fault, where there is one, and answers the exit status.
-pub(crate) fn conclude<E: Sink>(done: Result<(), Fault>, err: &mut E) -> u8
-    requires { E.has_failed err.old ≡ false }
-    ensures tells { Tells E.takes E.refuses E.has_failed done err.old err.new }
-    ensures status { result ≡ status_after done }
-{
-    match done {
-        Ok(()) => 0,
-        Err(fault) => {
-            // Whether the line could be written does not change the status.
-            let _ = write_all(fault.line(), err);
-            fault.status()
-        }
-    }
-}
-
-fn carry_out<R: Source, W: Sink>(
-    alloc: Global,
-    words: &[&str],
-    r: &mut R,
-    out: &mut W,
-) -> Result<(), Fault>
-    requires reader { R.has_failed r.old ≡ false }
-    requires writer { W.has_failed out.old ≡ false }
-    ensures { Performs R.gives R.fails W.takes W.refuses (command_of words.now)
-        r.old r.new out.old out.new result }
-{
-    let command = parse(words)?;
-    perform(alloc, command, r, out)
+    let answer = match parse(words) {
+        Ok(command) => perform(alloc, command, r, out),
+        Err(fault) => Err(fault),
+    };
+    conclude(answer, err)
 }
 
 // Large reads and writes, so that the system calls of small blocks cost little.

@@ -1,27 +1,24 @@
 //! The digest engine: reads a source to its end through a hasher, and writes the value as a line.
 
-ghost use Rattle.std.specs.Prelude.{◌≡◌, ◌≢◌, ◌↔◌, ◌<◌, ◌≤◌, ◌^◌, ◌⊎◌, ◌++◌, [], true, false, List, ℕ, length, Err, IfErr, IfOk};
+ghost use Rattle.std.specs.Prelude.{◌≡◌, ◌≢◌, ◌↔◌, ◌<◌, ◌≤◌, ◌^◌, ◌⊎◌, ◌++◌, [], true, false, List, ℕ, length, Err, IfOk};
 ghost use Rattle.std.specs.List.{concat};
-ghost use Rattle.xxh_program.specs.Pieces.{NoneEmpty};
+ghost use Rattle.xxh_io.specs.Pieces.{NoneEmpty};
+ghost use Rattle.xxh_io.specs.Digest.{ReadsOn, Writes};
+ghost use Rattle.xxh_io.specs.Hex.{hex_line};
 ghost use Rattle.xxh_program.specs.Feeding.{IsFed};
-ghost use Rattle.xxh_program.specs.Digest.{ReadsOn, Writes};
-ghost use Rattle.xxh_program.specs.Hex.{hex_line};
 ghost use Rattle.xxh_program.specs.Kind.{digits_of, value_of};
 
-use crate::program::ends::{Failed, Sink, Source};
-use crate::program::error::DigestError;
 use crate::program::feed::Feed;
 use crate::program::hasher_3_64::with_seed_64;
 use crate::program::hasher_3_128::with_seed_128;
-use crate::program::hex::write_digits;
-use crate::program::kind::Kind;
 use twox_hash::{XxHash32, XxHash64};
+use xxh_io::ends::{Failed, Sink, Source};
+use xxh_io::error::DigestError;
+use xxh_io::kind::Kind;
+use xxh_io::write::write_line;
 
 // How many bytes each read of the public calls is offered.
 pub(crate) const OFFERED: usize = 4096;
-
-// The most digits that a line has.
-const MOST_DIGITS: usize = 32;
 
 // Feeds the hasher what is read, until a read gives nothing.
 pub(crate) fn read_all<H: Feed, R: Source, const READ: usize>(
@@ -49,36 +46,6 @@ pub(crate) fn read_all<H: Feed, R: Source, const READ: usize>(
         }
     }
     Err(DigestError::TooLong)
-}
-
-// Writes all the bytes, as many at a time as the sink takes.
-pub(crate) fn write_all<W: Sink>(bytes: &[u8], w: &mut W) -> Result<(), DigestError>
-    requires { W.has_failed w.old ≡ false }
-    ensures writes { Writes W.takes W.refuses bytes.now w.old w.new result }
-    ensures write_failed { (result ≡ Err DigestError.WriteFailed) ↔ (W.has_failed w.new ≡ true) }
-    ensures only { IfErr result (λ e. e ≡ DigestError.WriteFailed) }
-{
-    let mut rest = bytes;
-    while !rest.is_empty() {
-        match w.write(rest) {
-            Ok(count) => rest = &rest[count..],
-            Err(Failed) => return Err(DigestError::WriteFailed),
-        }
-    }
-    Ok(())
-}
-
-// Writes the value's digits and a line feed.
-fn write_line<W: Sink>(value: u128, digits: usize, w: &mut W) -> Result<(), DigestError>
-    requires works { W.has_failed w.old ≡ false }
-    requires room { digits ≤ 32 }
-    ensures writes { Writes W.takes W.refuses (hex_line digits value) w.old w.new result }
-    ensures write_failed { (result ≡ Err DigestError.WriteFailed) ↔ (W.has_failed w.new ≡ true) }
-    ensures only { IfErr result (λ e. e ≡ DigestError.WriteFailed) }
-{
-    let mut line = [b'\n'; MOST_DIGITS + 1];
-    write_digits(value, &mut line[..digits]);
-    write_all(&line[..digits + 1], w)
 }
 
 // Feeds the hasher what is read, and writes the line of what it then answers.
@@ -178,7 +145,7 @@ pub(crate) fn digest_reading<R: Source, W: Sink, const READ: usize>(
 
 /// Reads to the end of the source and writes the digest line of what was read: the hash of the kind under
 /// the seed, in lower-case hexadecimal with leading zeros, and a line feed. Each read is offered 4,096
-/// bytes, and no memory is taken.
+/// bytes, which is tested and no clause says, and no memory is taken: there is no allocator to take it from.
 ///
 /// The caller shows that neither end has failed and that the seed of [`Kind::X32`] is below 2^32.
 ///

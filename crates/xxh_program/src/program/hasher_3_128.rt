@@ -4,8 +4,8 @@ ghost use Rattle.std.specs.Prelude.{[]};
 ghost use Rattle.xxh_program.specs.Kind.{seeded_128};
 ghost use Rattle.xxh_program.specs.Streams.{AnySeed, FollowsDerived};
 
+use crate::program::derived_secret::derived_secret_of;
 use crate::program::feed::Feed;
-use crate::program::hasher_3::derived_secret_of;
 use twox_hash::xxhash3::DefaultSecret;
 use twox_hash::xxhash3_128::RawHasher;
 

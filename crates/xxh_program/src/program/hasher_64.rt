@@ -4,15 +4,15 @@ ghost use Rattle.std.specs.Prelude.{◌≡◌, ◌≢◌, ◌↔◌, ◌⊎◌, 
 ghost use Rattle.std.specs.List.{concat};
 ghost use Rattle.twox_hash.specs.Xxh64.{xxh64};
 ghost use Rattle.twox_hash.specs.Record64.{StandsFor};
-ghost use Rattle.xxh_program.specs.Pieces.{NoneEmpty};
-ghost use Rattle.xxh_program.specs.Digest.{ReadsOn, Writes};
-ghost use Rattle.xxh_program.specs.Hex.{hex_line};
+ghost use Rattle.xxh_io.specs.Pieces.{NoneEmpty};
+ghost use Rattle.xxh_io.specs.Digest.{ReadsOn, Writes};
+ghost use Rattle.xxh_io.specs.Hex.{hex_line};
 
-use crate::program::ends::{Sink, Source};
 use crate::program::engine::{OFFERED, digest_on, read_all};
-use crate::program::error::DigestError;
 use crate::program::feed::Feed;
 use twox_hash::XxHash64;
+use xxh_io::ends::{Sink, Source};
+use xxh_io::error::DigestError;
 
 impl Feed for XxHash64 {
     ghost follows = { λ h seed m. (h.seed ≡ seed) × StandsFor h m };

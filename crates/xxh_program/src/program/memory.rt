@@ -1,16 +1,16 @@
 //! The digest line of bytes in memory, with no relation of an end in its contract.
 
 ghost use Rattle.std.specs.Prelude.{◌≡◌, ◌<◌, ◌≤◌, ◌+◌, ◌^◌, ◌++◌, length, false, Ok};
-ghost use Rattle.xxh_program.specs.Hex.{hex_line};
+ghost use Rattle.xxh_io.specs.Hex.{hex_line};
+ghost use Rattle.xxh_io.specs.Script.{sink_bytes, sink_fail_at};
 ghost use Rattle.xxh_program.specs.Kind.{digits_of, value_of};
-ghost use Rattle.xxh_program.specs.Script.{sink_bytes, sink_fail_at};
 
-use crate::program::ends::Sink;
 use crate::program::engine::digest;
-use crate::program::error::DigestError;
-use crate::program::kind::Kind;
-use crate::program::script_sink::ScriptSink;
-use crate::program::script_source::SliceSource;
+use xxh_io::ends::Sink;
+use xxh_io::error::DigestError;
+use xxh_io::kind::Kind;
+use xxh_io::script_sink::ScriptSink;
+use xxh_io::script_source::SliceSource;
 
 /// Writes the digest line of the bytes into the sink, as [`digest`] does from a source that gives them all and
 /// never fails. The caller shows that the sink has not failed, that no write of its script fails, and that

@@ -1,25 +1,27 @@
 //! The program over a process: its arguments, its streams, and the flush at the end.
 
-ghost use Rattle.std.specs.Prelude.{◌≡◌, false, Result, List, ℕ, IfErr, IfOk, map, string_bytes, vec_items};
+ghost use Rattle.std.specs.Prelude.{◌≡◌, true, false, Result, List, ℕ, IfErr, OnErr, map, string_bytes};
+ghost use Rattle.std.specs.Io.KnownBytes.{Keeps};
 ghost use Rattle.std.specs.Borrow.{Bor};
-ghost use Rattle.std.specs.IoError.{error_kind};
-ghost use Rattle.xxh_program.specs.declared.program.fault.Fault.{Fault};
-ghost use Rattle.xxh_program.specs.declared.program.fault.Fault.TheVariants.{Digest};
-ghost use Rattle.xxh_program.specs.declared.program.from_write.FromWrite.{FromWrite};
-ghost use Rattle.xxh_program.specs.Process.{AreWords, Asks, EndsAs, IsArgumentFault, command_asked};
+ghost use Rattle.xxh_io.specs.declared.fault.Fault.{Fault};
+ghost use Rattle.xxh_io.specs.declared.fault.Fault.TheVariants.{Digest};
+ghost use Rattle.xxh_io.specs.declared.from_write.FromWrite.{FromWrite};
+ghost use Rattle.xxh_io.specs.FromWrite.{has_write_failed, writer_of};
+ghost use Rattle.xxh_io.specs.Process.{Asks, EndsAs, command_asked};
 ghost use Rattle.xxh_program.specs.Run.{Performs, Tells, status_after};
 
-use crate::program::buffered::Buffered;
-use crate::program::command_line::{conclude, run};
-use crate::program::ends::{Failed, Sink, Source};
-use crate::program::error::DigestError;
-use crate::program::fault::Fault;
-use crate::program::from_read::FromRead;
-use crate::program::from_write::FromWrite;
+use crate::program::command_line::run;
 use std::alloc::{AllocError, Global};
-use std::io::{ErrorKind, Read, Write};
+use std::env;
+use std::io::{Read, Write};
 use std::rt::Env;
-use std::{env, io};
+use xxh_io::arguments::{argument_fault, words_after_name};
+use xxh_io::buffered::Buffered;
+use xxh_io::ends::{Failed, Sink, Source};
+use xxh_io::error::DigestError;
+use xxh_io::fault::{Fault, conclude};
+use xxh_io::from_read::FromRead;
+use xxh_io::from_write::FromWrite;
 
 // The input is read by this many bytes where a read is offered fewer, as for `save` and `resume`: one system call for
 // each of these would halve the speed.
@@ -30,6 +32,10 @@ const INPUT_BUFFER: usize = 65536;
 /// The words are the arguments after the first, and [`run`] says what they do. The input is read behind a
 /// buffer, and the output is flushed at the end. Where an argument is not UTF-8, the words are no command;
 /// where there is no memory for them, that is the fault. Either is told before anything is read.
+///
+/// Its clause says which statuses there are. What its words do, what is told and what a flush does are proved of the
+/// function that it calls with the arguments; that it calls that once, and with the arguments of this process, is
+/// tested, since no clause can name them.
 ///
 /// It is all that `main` does:
 ///
@@ -44,6 +50,7 @@ where
     R: Read + Drop,
     W: Write + Drop,
     E: Write + Drop,
+    ensures { (answer : Result (Unit {0}) Fault) × (result ≡ status_after answer) }
 {
     let mut r = FromRead::new(Buffered::<&mut R, INPUT_BUFFER>::new(input));
     let mut out = FromWrite::new(output);
@@ -59,16 +66,6 @@ fn arguments<P: Env + AllocGlobal>(process: &P) -> Result<Vec<String>, Fault> {
     match env::args(process) {
         Ok(args) => Ok(args.collect(process.alloc())?),
         Err(error) => Err(argument_fault(error)),
-    }
-}
-
-// Why there are no arguments: one is not UTF-8, or there is no memory.
-fn argument_fault(error: io::Error) -> Fault
-    ensures { IsArgumentFault (error_kind error) result }
-{
-    match error.kind() {
-        ErrorKind::InvalidData => Fault::Usage,
-        _ => Fault::OutOfMemory,
     }
 }
 
@@ -88,6 +85,7 @@ fn run_arguments<R: Source, W: Write, E: Sink>(
         × Performs R.gives R.fails ⟦<FromWrite<W> as Sink>⟧.takes ⟦<FromWrite<W> as Sink>⟧.refuses
         (command_asked asked) r.old r.new out.old written ran
         × EndsAs ran answer
+        × Keeps (W.contents (writer_of written)) (W.contents (writer_of out.new))
         × Tells E.takes E.refuses E.has_failed answer err.old err.new
         × (result ≡ status_after answer)) }
 {
@@ -101,25 +99,12 @@ fn run_arguments<R: Source, W: Write, E: Sink>(
 }
 
 fn flush<W: Write>(out: &mut FromWrite<W>) -> Result<(), Fault>
-    ensures { IfErr result (λ fault. fault ≡ Digest DigestError.WriteFailed) }
+    ensures bytes { Keeps (W.contents (writer_of out.old)) (W.contents (writer_of out.new)) }
+    ensures fault { IfErr result (λ fault. fault ≡ Digest DigestError.WriteFailed) }
+    ensures failed { OnErr result (has_write_failed out.new ≡ true) }
 {
     match out.flush() {
         Ok(()) => Ok(()),
         Err(Failed) => Err(Fault::Digest(DigestError::WriteFailed)),
     }
-}
-
-// The words after the program's name.
-fn words_after_name(alloc: Global, args: &[String]) -> Result<Vec<&str>, AllocError>
-    ensures { IfOk result (λ words. AreWords (map string_bytes args.now) (vec_items words)) }
-{
-    let after_name = match args.split_first() {
-        Some((_, rest)) => rest,
-        None => args,
-    };
-    let mut words = Vec::new(alloc);
-    for word in after_name {
-        words.push(word.as_str())?;
-    }
-    Ok(words)
 }

@@ -1,15 +1,16 @@
 //! Saved texts of the input's hasher, and digests that go on from one.
 
 ghost use Rattle.std.specs.Prelude.{◌≡◌, [], ◌∷◌, ◌++◌, false, string_bytes};
+ghost use Rattle.xxh_program.specs.StateFaults.{form_fault_32, form_fault_64};
 ghost use Rattle.xxh_program.specs.States.{Prints, Restores32, Restores64, Resumes32, Resumes64, Saves32, Saves64};
 
-use crate::program::ends::{Sink, Source};
-use crate::program::engine::write_all;
-use crate::program::fault::Fault;
 use crate::program::hasher_32::{digest_from_32, read_on_32};
 use crate::program::hasher_64::{digest_from_64, read_on_64};
 use std::alloc::Global;
 use twox_hash::{XxHash32, XxHash64, xxhash32, xxhash64};
+use xxh_io::ends::{Sink, Source};
+use xxh_io::fault::Fault;
+use xxh_io::write::write_all;
 
 // How many reads the program makes at most.
 pub(crate) const MAX_READS: u64 = u64::MAX;
@@ -91,13 +92,45 @@ pub(crate) fn resume_64<R: Source, W: Sink>(
 fn restored_32(alloc: Global, json: &str) -> Result<XxHash32, Fault>
     ensures { Restores32 json.now result }
 {
-    let state = xxhash32::SavedState::from_json(alloc, json)?;
-    Ok(XxHash32::from_state(state)?)
+    let state = match xxhash32::SavedState::from_json(alloc, json) {
+        Ok(state) => state,
+        Err(error) => return Err(form_fault_32(error)),
+    };
+    match XxHash32::from_state(state) {
+        Ok(hasher) => Ok(hasher),
+        Err(_) => Err(Fault::BadState),
+    }
 }
 
 fn restored_64(alloc: Global, json: &str) -> Result<XxHash64, Fault>
     ensures { Restores64 json.now result }
 {
-    let state = xxhash64::SavedState::from_json(alloc, json)?;
-    Ok(XxHash64::from_state(state)?)
+    let state = match xxhash64::SavedState::from_json(alloc, json) {
+        Ok(state) => state,
+        Err(error) => return Err(form_fault_64(error)),
+    };
+    match XxHash64::from_state(state) {
+        Ok(hasher) => Ok(hasher),
+        Err(_) => Err(Fault::BadState),
+    }
+}
+
+// What is wrong with a saved text of XXH32.
+fn form_fault_32(error: xxhash32::FormError) -> Fault
+    ensures { result ≡ form_fault_32 error }
+{
+    match error {
+        xxhash32::FormError::Text => Fault::BadState,
+        xxhash32::FormError::Memory => Fault::OutOfMemory,
+    }
+}
+
+// What is wrong with a saved text of XXH64.
+fn form_fault_64(error: xxhash64::FormError) -> Fault
+    ensures { result ≡ form_fault_64 error }
+{
+    match error {
+        xxhash64::FormError::Text => Fault::BadState,
+        xxhash64::FormError::Memory => Fault::OutOfMemory,
+    }
 }

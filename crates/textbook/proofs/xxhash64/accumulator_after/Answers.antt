@@ -1,6 +1,6 @@
 use Rattle.std.proofs.Common.{◌+◌, ◌*◌, refl, sym, ap₂, ◌∙◌}
 use Rattle.std.specs.Int.{w64}
-use Rattle.twox_plain.specs.Word.{word_at}
+use Rattle.twox_words.specs.Word.{word_at}
 use Rattle.twox_plain.specs.Units.{after_units}
 use Rattle.twox_plain.specs.Xxh64.{round}
 use Rattle.twox_plain.proofs.UnitFacts.{after_units_next}

@@ -1,6 +1,6 @@
 use Rattle.std.proofs.Common.{◌≡◌, ◌+◌, ◌*◌}
 use Rattle.std.specs.Int.{w64}
-use Rattle.twox_plain.specs.Word.{word_at}
+use Rattle.twox_words.specs.Word.{word_at}
 use Rattle.twox_plain.specs.Units.{after_units}
 use Rattle.twox_plain.specs.Xxh64.{round}
 use Rattle.textbook.proofs.xxhash64.accumulator_after.Given as goal

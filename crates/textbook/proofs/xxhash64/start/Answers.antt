@@ -1,6 +1,6 @@
 use Rattle.std.proofs.Common.{rules, ◌≡◌, length, nat_lt, true, false, refl, arith}
 use Rattle.std.proofs.lemmas.Bool.Decides.{nat_tests}
-use Rattle.twox_plain.specs.Word.{counted}
+use Rattle.twox_words.specs.Word.{counted}
 use Rattle.twox_plain.specs.Xxh64.{start}
 use Rattle.textbook.proofs.xxhash64.start.Goals as goal
 

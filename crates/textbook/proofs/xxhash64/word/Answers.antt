@@ -1,6 +1,6 @@
 use Rattle.std.proofs.Common.{add-zero, ◌∙◌}
 use Rattle.std.specs.Int.{w64}
-use Rattle.twox_plain.proofs.WordFacts.{word_at_listed}
+use Rattle.twox_words.proofs.WordFacts.{word_at_listed}
 use Rattle.textbook.proofs.xxhash64.word.Goals as goal
 
 pub returns : goal.returns

@@ -4,7 +4,7 @@ ghost use Rattle.std.specs.Prelude.{◌≡◌, List, [], ◌∷◌, ◌+◌, ◌
 ghost use Rattle.twox_core.specs.Steps.{word64};
 ghost use Rattle.twox_core.specs.Kernel.{sum_with_words, scramble_with_word};
 
-use super::scalar::word;
+use super::word::word;
 use crate::xxhash3::Vector;
 use crate::xxhash3::primes::PRIME32_1;
 use std::simd::u64x2;

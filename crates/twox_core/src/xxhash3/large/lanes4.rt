@@ -1,10 +1,9 @@
 //! The kernel that works on four accumulators at a time, by `std::simd`.
 
-ghost use Rattle.std.specs.Prelude.{◌≡◌, List, [], ◌∷◌, ◌+◌, ◌≤◌, ◌*◌, slice_index};
-ghost use Rattle.twox_core.specs.Steps.{word64};
+ghost use Rattle.std.specs.Prelude.{◌≡◌, slice_index};
 ghost use Rattle.twox_core.specs.Kernel.{sum_with_words, scramble_with_word};
 
-use super::scalar::word;
+use super::word::words;
 use crate::xxhash3::Vector;
 use crate::xxhash3::primes::PRIME32_1;
 use std::simd::u64x4;
@@ -67,19 +66,4 @@ fn scramble_four(acc: [u64; 4], keys: [u64; 4]) -> [u64; 4]
     let acc = u64x4::from_array([a0, a1, a2, a3]);
     let keys = u64x4::from_array([k0, k1, k2, k3]);
     ((acc ^ (acc >> u64x4::splat(47)) ^ keys) * u64x4::splat(PRIME32_1)).to_array()
-}
-
-// Four words from word `i` on.
-#[inline]
-fn words(bytes: &[u8; 64], i: usize) -> [u64; 4]
-    requires { i + 4 ≤ 8 }
-    ensures { result ≡ word64 bytes.now (8 * i) ∷ word64 bytes.now (8 * (i + 1))
-        ∷ word64 bytes.now (8 * (i + 2)) ∷ word64 bytes.now (8 * (i + 3)) ∷ [] }
-{
-    [
-        word(bytes, i),
-        word(bytes, i + 1),
-        word(bytes, i + 2),
-        word(bytes, i + 3),
-    ]
 }

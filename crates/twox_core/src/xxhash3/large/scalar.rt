@@ -1,9 +1,9 @@
 //! The kernel that works on one accumulator after another.
 
 ghost use Rattle.std.specs.Prelude.{◌≡◌, ◌*◌, ◌<◌};
-ghost use Rattle.twox_core.specs.Steps.{word64};
 ghost use Rattle.twox_core.specs.Long.{accumulate_one, halves_product, scramble_one};
 
+use super::word::word;
 use crate::xxhash3::Vector;
 use crate::xxhash3::primes::PRIME32_1;
 
@@ -77,14 +77,4 @@ fn scramble_one(accumulator: u64, secret_end: &[u8; 64], i: usize) -> u64
     ensures { result ≡ scramble_one i accumulator secret_end.now 0 }
 {
     (accumulator ^ (accumulator >> 47) ^ word(secret_end, i)).wrapping_mul(PRIME32_1)
-}
-
-// Word `i`, read whole, so that the compiler can load several words at once.
-#[inline(always)]
-pub(super) fn word(bytes: &[u8; 64], i: usize) -> u64
-    requires { i < 8 }
-    ensures { result ≡ word64 bytes.now (8 * i) }
-{
-    let (words, _) = bytes.as_chunks::<8>();
-    u64::from_le_bytes(words[i])
 }

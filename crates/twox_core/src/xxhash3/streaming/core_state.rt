@@ -9,11 +9,14 @@ use super::taken_stripes::TakenStripes;
 use crate::xxhash3::parts::array_at;
 use crate::xxhash3::stripes::MANY_BYTES;
 use crate::xxhash3::{CUTOFF, DEFAULT_SEED, Finalize, Secret, Vector, default_secret};
-use twox_plain::words::IntoU64;
+use twox_words::words::{IntoU64, copy_short};
 
 /// How many bytes a stream keeps for later: whole stripes, and more than the greatest length that is hashed
 /// with no stripes.
 pub const BUFFERED_BYTES: usize = 512;
+
+/// Pieces of up to so many bytes are kept with no call.
+const FEW_BYTES: usize = 16;
 
 const _: () = prove!(BUFFERED_BYTES > CUTOFF);
 
@@ -43,6 +46,7 @@ pub struct CoreState {
 impl CoreState {
     ghost use Rattle.twox_core.specs.AfterWrite.{after_long_piece, after_rest, empty_state, state_after_write, with_buffered, with_empty_buffer};
     ghost use Rattle.twox_core.specs.Finish.{last_bytes, state_finish};
+    ghost use Rattle.twox_core.specs.InRange.{IsInRange};
     ghost use Rattle.twox_core.specs.Value.{short_secret, stream_seed};
 
     /// The state of no bytes yet.
@@ -69,28 +73,22 @@ impl CoreState {
         self.total_bytes = 0;
     }
 
-    // A piece that the buffer has room for is kept, even if it fills the buffer, since the last stripe of a stream
-    // is taken by `finish` alone.
     /// Takes the bytes of `input` after those taken before.
     #[inline(always)]
     pub fn write<V: Vector>(&mut self, v: V, input: &[u8], secret: Secret<'_>)
-        requires place { current_stripe_of self.old.taken.stripes
-            < stripes_of (secret_bytes secret) }
-        requires in_range { self.old.buffer_usage ≤ 512 }
-        requires left { min self.old.total_bytes 1 ≤ self.old.buffer_usage }
+        requires { IsInRange (secret_bytes secret) self.old }
         ensures exact { self.new
             ≡ state_after_write (secret_bytes secret.entry) self.old input.now }
-        ensures place { current_stripe_of self.new.taken.stripes
-            < stripes_of (secret_bytes secret.entry) }
-        ensures in_range { self.new.buffer_usage ≤ 512 }
-        ensures left { min self.new.total_bytes 1 ≤ self.new.buffer_usage }
+        ensures in_range { IsInRange (secret_bytes secret.entry) self.new }
         ensures size { length self.old.buffer ≡ BUFFERED_BYTES }
         ensures in_place { 512 < length input.now
             → (64 ≤ self.new.buffer_usage) × (self.new.buffer_usage ≤ 127) }
     {
+        // A piece that the buffer has room for is kept, even if it fills the buffer, since the last stripe of a stream
+        // is taken by `finish` alone.
         self.total_bytes = self.total_bytes.saturating_add(input.len().into_u64());
         if input.len() <= BUFFERED_BYTES - self.buffer_usage {
-            self.add(input);
+            self.keep(input);
         } else if input.len() < MANY_BYTES {
             self.write_through::<V, false>(v, input, secret);
         } else {
@@ -104,13 +102,10 @@ impl CoreState {
     #[inline(never)]
     fn write_through<V: Vector, const MANY: bool>(&mut self, v: V, input: &[u8], secret: Secret<'_>)
         requires place { self.old.taken.stripes.current_stripe < stripes_of (secret_bytes secret) }
-        requires in_range { self.old.buffer_usage ≤ 512 }
+        requires within { self.old.buffer_usage ≤ 512 }
         requires more { 512 - self.old.buffer_usage < length input.now }
         ensures exact { self.new ≡ after_long_piece (secret_bytes secret.entry) self.old input.now }
-        ensures place { self.new.taken.stripes.current_stripe
-            < stripes_of (secret_bytes secret.entry) }
-        ensures in_range { self.new.buffer_usage ≤ 512 }
-        ensures some { 1 ≤ self.new.buffer_usage }
+        ensures in_range { IsInRange (secret_bytes secret.entry) self.new }
         ensures in_place { 512 < length input.now
             → (64 ≤ self.new.buffer_usage) × (self.new.buffer_usage ≤ 127) }
     {
@@ -129,6 +124,31 @@ impl CoreState {
         let used = self.buffer_usage;
         self.buffer[used..used + input.len()].copy_from_slice(input);
         self.buffer_usage = used + input.len();
+    }
+
+    // The same of a whole piece. A few bytes are moved here, since a call takes longer.
+    #[inline(always)]
+    fn keep(&mut self, input: &[u8])
+        requires { self.old.buffer_usage + length input.now ≤ 512 }
+        ensures { self.new ≡ with_buffered self.old input.now }
+    {
+        if input.len() > FEW_BYTES {
+            self.add(input);
+        } else {
+            self.add_few(input);
+        }
+    }
+
+    #[inline(always)]
+    fn add_few(&mut self, input: &[u8])
+        requires room { self.old.buffer_usage + length input.now ≤ 512 }
+        requires few { length input.now ≤ 16 }
+        ensures { self.new ≡ with_buffered self.old input.now }
+    {
+        let used = self.buffer_usage;
+        let end = used + input.len();
+        copy_short(&mut self.buffer[used..end], input);
+        self.buffer_usage = end;
     }
 
     // Takes the buffered stripes.
@@ -174,10 +194,7 @@ impl CoreState {
         seed: Option<u64>,
         secret: Secret<'_>,
     ) -> F::Output
-        requires place { current_stripe_of self.now.taken.stripes
-            < stripes_of (secret_bytes secret) }
-        requires in_range { self.now.buffer_usage ≤ 512 }
-        requires left { min self.now.total_bytes 1 ≤ self.now.buffer_usage }
+        requires { IsInRange (secret_bytes secret) self.now }
         ensures exact { let s = secret_bytes secret.entry in
             result ≡ state_finish (F.small_of finalize.now) (F.large_of finalize.now) seed s self.now }
         ensures size { length self.now.buffer ≡ BUFFERED_BYTES }

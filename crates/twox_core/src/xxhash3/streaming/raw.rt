@@ -34,7 +34,7 @@ impl<S: FixedBuffer> Model for RawHasherCore<S> {
 
 impl<S: FixedBuffer> RawHasherCore<S> {
     ghost use Rattle.std.specs.Prelude.{◌≡◌, ℕ, Option, List, [], ◌++◌, ◌+◌, ◌*◌, ◌^◌, ◌<◌, ◌≤◌, length};
-    ghost use Rattle.twox_plain.specs.Word.{counted};
+    ghost use Rattle.twox_words.specs.Word.{counted};
     ghost use Rattle.twox_core.specs.Value.{short_secret, stream_seed};
     ghost use Rattle.twox_core.specs.Ending.{stream_accumulators, stream_block, last_stripe};
     ghost use Rattle.twox_core.specs.CoreView.{total_of, done_of, buffered_of};

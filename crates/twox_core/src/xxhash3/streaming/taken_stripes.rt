@@ -6,7 +6,7 @@ ghost use Rattle.twox_core.specs.SecretBytes.{secret_bytes};
 
 use crate::xxhash3::parts::array_at;
 use crate::xxhash3::{Secret, StripeAccumulator, Vector};
-use twox_plain::words::IntoU64;
+use twox_words::words::IntoU64;
 
 /// The stripes that a stream has taken, as what they left.
 #[repr(C)]

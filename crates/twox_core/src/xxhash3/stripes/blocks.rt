@@ -8,11 +8,11 @@ ghost use Rattle.twox_core.specs.SecretBytes.{secret_bytes};
 ghost use Rattle.twox_core.specs.Stripes.{at_start, after_stripes};
 
 use crate::xxhash3::parts::array_at;
-use crate::xxhash3::{Secret, Vector};
-use twox_plain::words::{bp_as_chunks, u64_at};
+use crate::xxhash3::{Algorithm, Secret, Vector};
+use twox_words::words::{bp_as_chunks, u64_at};
 
 /// The stripes of a block.
-pub(super) const STRIPES_IN_BLOCK: usize = 16;
+pub(in crate::xxhash3) const STRIPES_IN_BLOCK: usize = 16;
 
 /// The bytes of a block.
 pub(super) const BYTES_IN_BLOCK: usize = 64 * STRIPES_IN_BLOCK;
@@ -42,6 +42,29 @@ pub(super) fn take_blocks<V: Vector>(
         seen ^= ahead;
     }
     (taken, seen)
+}
+
+// The accumulators after few whole blocks: the loop over a block's stripes has no test for its end, and nothing is read
+// ahead.
+#[inline(always)]
+pub(super) fn take_few_blocks<V: Vector>(
+    acc: [u64; 8],
+    v: V,
+    bytes: &[u8],
+    secret: Secret<'_>,
+) -> [u64; 8]
+    requires { stripes_of (secret_bytes secret) ≡ 16 }
+    ensures { let s = secret_bytes secret.entry in
+        at_start result ≡ after_stripes s (at_start acc) bytes.now (16 * (length bytes.now / 1024)) }
+{
+    let (blocks, _) = bp_as_chunks::<u8, 1024>(bytes);
+    let mut taken = acc;
+    'each: for i in 0..blocks.len() {
+        let mut sums = Algorithm(v).accumulate_block(taken, &blocks[i], STRIPES_IN_BLOCK, secret);
+        v.round_scramble(&mut sums, secret.last_stripe());
+        taken = sums;
+    }
+    taken
 }
 
 // The accumulators with the 16 stripes of a block, and the first words of the next block's stripes, mixed. It has

@@ -1,6 +1,6 @@
 use Rattle.std.proofs.Common.{◌≡◌, ◌+◌, arith, ap, ◌∙◌}
 use Rattle.std.specs.Int.{w64}
-use Rattle.twox_plain.proofs.WordFacts.{word_at-drop}
+use Rattle.twox_words.proofs.WordFacts.{word_at-drop}
 use Rattle.twox_core.specs.Steps.{word64}
 use Rattle.twox_hash.proofs.xxhash3_64.mix_at.Goals as goal
 

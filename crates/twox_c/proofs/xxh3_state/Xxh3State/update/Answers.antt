@@ -19,7 +19,7 @@ returns-clause-message c = λ seed s m given.
       usable = record {
         mark = usable.mark;
         secret_length = usable.secret_length;
-        in_range = record { place = rw c.lent-secret.ensures at c.write.ensures.place; within = c.write.ensures.in_range; left = c.write.ensures.left };
+        in_range = rw c.lent-secret.ensures at c.write.ensures.in_range;
       };
       message = subst (λ h. StandsFor (λ x. x) h seed s (m ++ d)) (sym (returns-clause-exact c usable))
           (stands_written (λ x. x) (stream_of c.args.self.now) seed s m d (omega (arith, usable.in_range.place)) c.write.ensures.size usable.in_range.within given.message);

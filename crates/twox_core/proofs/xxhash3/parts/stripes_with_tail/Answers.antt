@@ -1,6 +1,6 @@
 use Rattle.std.proofs.Common.{ℕ, ◌-◌, ◌/◌, ◌≡◌, ap, ap₂, arith, length, ◌∙◌}
 use Rattle.std.specs.Simd.{first_chunks}
-use Rattle.twox_plain.proofs.WordFacts.{first_chunks_take}
+use Rattle.twox_words.proofs.WordFacts.{first_chunks_take}
 use Rattle.twox_core.proofs.xxhash3.parts.stripes_with_tail.Goals as goal
 
 pub returns-clause-stripes : goal.returns-clause-stripes

@@ -5,8 +5,8 @@ use Rattle.twox_core.proofs.BlockFacts.{place_at_block, at_start-same, by_blocks
 use Rattle.twox_core.proofs.StripeFacts.{after_stripes-take}
 use Rattle.twox_core.proofs.xxhash3.stripes.take_stripes_by_blocks.Goals as goal
 
-pub returns-clause-exact : goal.returns-clause-exact
-returns-clause-exact g c =
+pub returns : goal.returns
+returns g c =
     let s = secret_bytes c.args.secret in
     let m = c.args.bytes.now in
     let from = c.args.from in
@@ -29,4 +29,4 @@ returns-clause-exact g c =
     ∙ after_stripes-take s at_block rest w n (omega arith) in
     let ended : c.take_stripes-2.result ≡ after_stripes s c.starting_with.result (drop w rest) j =
     rw (c.split_at-2.ensures.back, c.split_at.ensures.back) at c.take_stripes-2.ensures.exact in
-    rw all at (ended ∙ by_blocks s m from at_block c.starting_with.result k n j w (omega arith) front (c.starting_with.ensures ∙ blocks))
+    record { exact = rw all at (ended ∙ by_blocks s m from at_block c.starting_with.result k n j w (omega arith) front (c.starting_with.ensures ∙ blocks)); place = c.take_stripes-2.ensures.place }

@@ -1,5 +1,5 @@
 use Rattle.std.proofs.Common.{◌≡◌, ◌+◌, ◌-◌, ◌*◌, ◌/◌, length, drop, ◌∙◌, refl, arith, length-drop}
-use Rattle.twox_plain.proofs.WordFacts.{first_chunks_at}
+use Rattle.twox_words.proofs.WordFacts.{first_chunks_at}
 use Rattle.twox_core.specs.SecretBytes.{secret_bytes}
 use Rattle.twox_core.specs.Stripes.{after_stripes}
 use Rattle.twox_core.proofs.StripeFacts.{after_stripes-next, after_stripes-more}
@@ -22,8 +22,8 @@ stripes-preserved g c =
       place = rw c.n_stripes-n_stripes.ensures at c.process_stripe.ensures.place;
     }
 
-pub returns-clause-exact : goal.returns-clause-exact
-returns-clause-exact g c =
+pub returns : goal.returns
+returns g c =
     let s = secret_bytes c.args.secret in
     let xs = c.args.bytes.now in
     let n = c.stripes.i in
@@ -33,4 +33,4 @@ returns-clause-exact g c =
     let all : n + k ≡ length xs / 64 = omega arith in
     let taken : c.take_stripes-2.result ≡ after_stripes s (after_stripes s c.args.from xs n) (drop (64 * n) xs) k =
     rw (c.split_at.ensures.back, at_end, c.stripes.invariant.exact, left) at c.take_stripes-2.ensures.exact in
-    rw all at (taken ∙ after_stripes-more s c.args.from xs n k)
+    record { exact = rw all at (taken ∙ after_stripes-more s c.args.from xs n k); place = c.take_stripes-2.ensures.place }

@@ -1,6 +1,6 @@
 use Rattle.std.proofs.Common.{◌≡◌, ℕ, ◌+◌, ◌*◌, ◌<◌, refl, sym, ap, ◌∙◌, arith}
 use Rattle.std.specs.Int.{w32}
-use Rattle.twox_plain.specs.Word.{word_at, wrap_mul}
+use Rattle.twox_words.specs.Word.{word_at, wrap_mul}
 use Rattle.twox_plain.specs.Units.{after_units}
 use Rattle.twox_plain.specs.Xxh32.{p2, round}
 use Rattle.twox_plain.specs.Core32.{core_after_stripes}

@@ -1,29 +1,26 @@
-use Rattle.std.proofs.Common.{◌≡◌, ℕ, ◌+◌, ◌-◌, ◌*◌, ◌/◌, length, take, drop, refl, ap, ◌∙◌, arith}
-use Rattle.std.proofs.lemmas.List.{drop-drop}
+use Rattle.std.proofs.Common.{◌≡◌, ℕ, ◌+◌, ◌-◌, ◌/◌, length, take, refl, ap, ◌∙◌, arith}
 use Rattle.twox_plain.specs.Core64.{core_after_stripes}
 use Rattle.twox_plain.specs.Units.{after_units}
 use Rattle.twox_plain.proofs.Core64Facts.{core_after_stripes_next}
+use Rattle.twox_plain.proofs.UnitFacts.{rest_next, rest_whole, taken, taken_next}
 use Rattle.twox_plain.proofs.xxhash64.Core.write_many.Goals as goal
 
 pub stripes-init : goal.stripes-init
 unfolding core_after_stripes after_units
 stripes-init c =
     let none : length c.args.input.now / 32 - length c.args.input.now / 32 ≡ 0 = omega arith in
-    record { shorter = omega arith; rest = rw none refl; accumulators = rw none refl }
+    record { rest = rest_whole 32 c.args.input.now; accumulators = rw none refl }
 
 pub stripes-preserved : goal.stripes-preserved
 stripes-preserved c =
     let m = c.args.input.now in
     let rest = c.stripes.rest.now in
     let after = c.in-Some.after.now in
-    let taken = length m / 32 - length rest / 32 in
-    let next : length m / 32 - length after / 32 ≡ taken + 1 = omega (arith, c.in-Some.ensures.cases.2, c.stripes.invariant.shorter) in
-    let place : taken * 32 + 32 ≡ (taken + 1) * 32 = omega arith in
+    let held = c.stripes.invariant in
+    let unit : length rest ≡ length after + 32 = omega (arith, c.in-Some.ensures.cases.2) in
     record {
-      shorter = omega (arith, c.in-Some.ensures.cases.2, c.stripes.invariant.shorter);
-      rest = rw next
-          (c.in-Some.ensures.cases.1 ∙ ap (drop 32) c.stripes.invariant.rest ∙ drop-drop 32 (taken * 32) m ∙ ap (λ (n : ℕ). drop n m) place);
-      accumulators = rw next
-          (rw c.stripes.invariant.accumulators at c.write.ensures
-          ∙ core_after_stripes_next c.args.self.now m _ taken (c.in-Some.ensures.cases.0 ∙ ap (take 32) c.stripes.invariant.rest));
+      rest = rest_next 32 m rest after (omega arith) c.in-Some.ensures.cases.1 unit held.rest;
+      accumulators = rw (taken_next 32 m rest after (omega arith) unit held.rest.shorter)
+          (rw held.accumulators at c.write.ensures
+          ∙ core_after_stripes_next c.args.self.now m _ (taken 32 m rest) (c.in-Some.ensures.cases.0 ∙ ap (take 32) held.rest.follows));
     }

@@ -1,15 +1,16 @@
 use Rattle.std.proofs.Common.{◌≡◌, inr, ◌<◌, ◌≤◌, [], ◌∷◌, ◌++◌, ◌∙◌, List, ℕ, IfErr, Err, length, take, sym, ap, subst, arith, length-take, length-append, rules}
 use Rattle.std.specs.List.{concat}
 use Rattle.std.specs.declared.result.Result.{Result}
-use Rattle.xxh_program.specs.declared.program.error.DigestError.{DigestError}
-use Rattle.xxh_program.specs.declared.program.error.DigestError.TheVariants.{WriteFailed}
+use Rattle.xxh_io.specs.declared.error.DigestError.{DigestError}
+use Rattle.xxh_io.specs.declared.error.DigestError.TheVariants.{WriteFailed}
 use Rattle.xxh_program.specs.Blocks.{added_lines, last_lines, block_lines, whole_block_lines}
 use Rattle.xxh_program.specs.BlockEnds.{DigestsBlocks}
 use Rattle.xxh_program.specs.BlockState.{HasTaken}
-use Rattle.xxh_program.specs.Digest.{Writes, Took, Refused}
-use Rattle.xxh_program.proofs.PieceFacts.{Pieces-push, NoneEmpty-push, concat-push}
+use Rattle.xxh_io.specs.Digest.{Writes, Took, Refused}
+use Rattle.xxh_io.proofs.PieceFacts.{Pieces-push, NoneEmpty-push, concat-push}
 use Rattle.xxh_program.proofs.BlockFacts.{whole-append, all-split}
-use Rattle.xxh_program.proofs.BlockEndFacts.{Took-join, Refused-join, Writes-join, write-failed, never-too-long, ends-well}
+use Rattle.xxh_io.proofs.WriteFacts.{Took-join, Refused-join, Writes-join, write-failed, never-too-long}
+use Rattle.xxh_program.proofs.BlockEndFacts.{ends-well}
 use Rattle.xxh_program.proofs.program.blocks.digest_blocks_by.Goals as goal
 
 pub loop-turn-preserved : goal.loop-turn-preserved

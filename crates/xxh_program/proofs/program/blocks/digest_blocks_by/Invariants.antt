@@ -1,8 +1,8 @@
 use Rattle.std.proofs.Common.{◌≡◌, ℕ, List, length, false}
 use Rattle.std.specs.List.{concat}
-use Rattle.xxh_program.specs.Pieces.{Pieces, NoneEmpty}
+use Rattle.xxh_io.specs.Pieces.{Pieces, NoneEmpty}
 use Rattle.xxh_program.specs.Blocks.{whole_block_lines}
-use Rattle.xxh_program.specs.Digest.{Took}
+use Rattle.xxh_io.specs.Digest.{Took}
 use Rattle.xxh_program.specs.BlockState.{HasTaken}
 use Rattle.xxh_program.proofs.program.blocks.digest_blocks_by.Given as goal
 

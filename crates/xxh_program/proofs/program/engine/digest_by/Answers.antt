@@ -1,7 +1,7 @@
 use Rattle.std.proofs.Common.{ℕ, List, [], ◌≡◌, ap, ◌∙◌, subst}
 use Rattle.std.specs.List.{concat}
-use Rattle.xxh_program.specs.Digest.{Writes}
-use Rattle.xxh_program.specs.Hex.{hex_line}
+use Rattle.xxh_io.specs.Digest.{Writes}
+use Rattle.xxh_io.specs.Hex.{hex_line}
 use Rattle.xxh_program.specs.Kind.{digits_of, value_of}
 use Rattle.xxh_program.proofs.program.engine.digest_by.Goals as goal
 

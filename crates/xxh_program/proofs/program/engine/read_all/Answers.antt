@@ -1,5 +1,6 @@
 use Rattle.std.proofs.Common.{◌<◌, ◌≤◌, [], ◌∷◌, ◌++◌, length, take, subst, arith, length-take, length-append, rules}
-use Rattle.xxh_program.proofs.PieceFacts.{Pieces-push, NoneEmpty-push, IsFed-push}
+use Rattle.xxh_io.proofs.PieceFacts.{Pieces-push, NoneEmpty-push}
+use Rattle.xxh_program.proofs.FedFacts.{IsFed-push}
 use Rattle.xxh_program.proofs.program.engine.read_all.Goals as goal
 
 pub loop-turn-preserved : goal.loop-turn-preserved

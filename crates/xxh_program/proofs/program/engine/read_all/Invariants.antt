@@ -1,6 +1,6 @@
 use Rattle.std.proofs.Common.{◌≡◌, ℕ, List, length, false}
 use Rattle.std.specs.List.{concat}
-use Rattle.xxh_program.specs.Pieces.{Pieces, NoneEmpty}
+use Rattle.xxh_io.specs.Pieces.{Pieces, NoneEmpty}
 use Rattle.xxh_program.specs.Feeding.{IsFed}
 use Rattle.xxh_program.proofs.program.engine.read_all.Given as goal
 

@@ -1,10 +1,10 @@
 use Rattle.std.proofs.Common.{◌≡◌, ◌<◌, ◌≤◌, ◌+◌, ◌++◌, ℕ, List, length, Ok, ap, ◌∙◌, arith}
 use Rattle.std.specs.List.{concat}
-use Rattle.xxh_program.specs.Hex.{hex_line}
+use Rattle.xxh_io.specs.Hex.{hex_line}
 use Rattle.xxh_program.specs.Kind.{digits_of, value_of}
-use Rattle.xxh_program.specs.Script.{slice_rest, sink_bytes}
-use Rattle.xxh_program.proofs.HexPlace.{length-hex_line}
-use Rattle.xxh_program.proofs.MemoryFacts.{always-ok, read-all, wrote-all}
+use Rattle.xxh_io.specs.Script.{slice_rest, sink_bytes}
+use Rattle.xxh_io.proofs.HexPlace.{length-hex_line}
+use Rattle.xxh_io.proofs.MemoryFacts.{always-ok, read-all, wrote-all}
 use Rattle.xxh_program.proofs.program.memory.digest_of_bytes.Goals as goal
 
 pub returns-clause-answer : goal.returns-clause-answer

@@ -1,10 +1,11 @@
 use Rattle.std.proofs.Common.{◌≡◌, Ok, Err, map, string_bytes, refl, sym, ◌∙◌, subst}
 use Rattle.std.specs.declared.result.Result.{Result}
-use Rattle.xxh_program.specs.declared.program.fault.Fault.{Fault}
-use Rattle.xxh_program.specs.declared.program.fault.Fault.TheVariants.{OutOfMemory}
-use Rattle.xxh_program.specs.Process.{AreWords, EndsAs}
+use Rattle.xxh_io.specs.declared.fault.Fault.{Fault}
+use Rattle.xxh_io.specs.declared.fault.Fault.TheVariants.{OutOfMemory}
+use Rattle.xxh_io.specs.Process.{AreWords, EndsAs}
 use Rattle.xxh_program.specs.Run.{Tells}
-use Rattle.xxh_program.proofs.ProcessFacts.{no-fault, told-nothing, ends-itself}
+use Rattle.std.proofs.KnownBytes.{Keeps-refl}
+use Rattle.xxh_io.proofs.ProcessFacts.{no-fault, told-nothing, ends-itself}
 use Rattle.xxh_program.proofs.program.process.run_arguments.Goals as goal
 
 pub returns-in-0 : goal.returns-in-0
@@ -13,17 +14,17 @@ returns-in-0 g c =
     let words : AreWords (map string_bytes c.args.args.now) c.deref.result.now = rw c.deref.ensures.value c.in-Ok.ensures in
     let none : ran.0 ≡ Ok tt = no-fault ran.0 (sym ran.3 ∙ c.in-0.is) in
     let quiet : c.run.new.err ≡ c.args.err.now = told-nothing g.E.Sink.takes g.E.Sink.refuses g.E.Sink.has_failed ran.0 _ _ none ran.2 in
-    let ends : EndsAs ran.0 c.flush.result = subst (λ (r : Result (Unit {0}) Fault). EndsAs r c.flush.result) (sym none) c.flush.ensures in
+    let ends : EndsAs ran.0 c.flush.result = subst (λ (r : Result (Unit {0}) Fault). EndsAs r c.flush.result) (sym none) c.flush.ensures.fault in
     let tells : Tells g.E.Sink.takes g.E.Sink.refuses g.E.Sink.has_failed c.flush.result c.args.err.now c.conclude.new.err =
     subst (λ e. Tells g.E.Sink.takes g.E.Sink.refuses g.E.Sink.has_failed c.flush.result e c.conclude.new.err) quiet c.conclude.ensures.tells in
-    (Ok c.deref.result.now, words, (ran.0, c.flush.result, c.run.new.out, ran.1, ends, tells, c.conclude.ensures.status))
+    (Ok c.deref.result.now, words, (ran.0, c.flush.result, c.run.new.out, ran.1, ends, c.flush.ensures.bytes, tells, c.conclude.ensures.status))
 
 pub returns-in-Ok : goal.returns-in-Ok
 returns-in-Ok g c =
     let ran = c.run.ensures in
     let words : AreWords (map string_bytes c.args.args.now) c.deref.result.now = rw c.deref.ensures.value c.in-Ok.ensures in
-    (Ok c.deref.result.now, words, (ran.0, ran.0, c.run.new.out, ran.1, ends-itself ran.0, ran.2, ran.3))
+    (Ok c.deref.result.now, words, (ran.0, ran.0, c.run.new.out, ran.1, ends-itself ran.0, Keeps-refl _, ran.2, ran.3))
 
 pub returns : goal.returns
 returns g c =
-    (Err OutOfMemory, refl, (Err OutOfMemory, Err OutOfMemory, c.args.out.now, (refl, refl, refl), refl, c.conclude-in-Err.ensures.tells, c.conclude-in-Err.ensures.status))
+    (Err OutOfMemory, refl, (Err OutOfMemory, Err OutOfMemory, c.args.out.now, (refl, refl, refl), refl, Keeps-refl _, c.conclude-in-Err.ensures.tells, c.conclude-in-Err.ensures.status))

@@ -1,5 +1,5 @@
 use Rattle.std.proofs.Common.{◌≡◌, ◌*◌, ◌/◌, length, ◌∙◌, refl, arith}
-use Rattle.twox_plain.proofs.WordFacts.{first_chunks_at}
+use Rattle.twox_words.proofs.WordFacts.{first_chunks_at}
 use Rattle.twox_core.specs.SecretBytes.{secret_bytes}
 use Rattle.twox_core.specs.Stripes.{after_stripes}
 use Rattle.twox_core.proofs.StripeFacts.{after_stripes-next}

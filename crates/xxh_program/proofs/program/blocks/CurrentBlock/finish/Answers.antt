@@ -2,7 +2,7 @@ use Rattle.std.proofs.Common.{Some, ◌≡◌, ◌<◌, ◌*◌, ◌/◌, ◌%�
 use Rattle.twox_hash.specs.Secret.{default_secret}
 use Rattle.twox_hash.specs.Value.{xxh3_128}
 use Rattle.xxh_program.specs.Blocks.{offset_line, last_lines}
-use Rattle.xxh_program.specs.Digest.{Writes}
+use Rattle.xxh_io.specs.Digest.{Writes}
 use Rattle.xxh_program.proofs.BlockFacts.{last_short, effective-default}
 use Rattle.xxh_program.proofs.program.blocks.CurrentBlock.finish.Goals as goal
 

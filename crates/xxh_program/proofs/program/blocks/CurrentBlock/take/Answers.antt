@@ -1,14 +1,14 @@
 use Rattle.std.proofs.Common.{◌≡◌, ◌<◌, ◌-◌, ◌++◌, ◌∙◌, [], List, ℕ, IfErr, Err, refl, sym, ap, subst, append-nil, append_assoc, take-append-drop, arith, rules}
 use Rattle.std.proofs.lemmas.Grind.{common_steps}
 use Rattle.std.specs.declared.result.Result.{Result}
-use Rattle.xxh_program.specs.declared.program.error.DigestError.{DigestError}
-use Rattle.xxh_program.specs.declared.program.error.DigestError.TheVariants.{WriteFailed}
+use Rattle.xxh_io.specs.declared.error.DigestError.{DigestError}
+use Rattle.xxh_io.specs.declared.error.DigestError.TheVariants.{WriteFailed}
 use Rattle.xxh_program.specs.Blocks.{added_lines}
 use Rattle.xxh_program.specs.BlockState.{HasTaken}
-use Rattle.xxh_program.specs.Digest.{Writes, Refused}
-use Rattle.xxh_program.specs.LineBuffer.{Gathers, waiting_bytes}
+use Rattle.xxh_io.specs.Digest.{Writes, Refused}
+use Rattle.xxh_io.specs.LineBuffer.{Gathers, waiting_bytes}
 use Rattle.xxh_program.proofs.BlockFacts.{added-nil, added-append}
-use Rattle.xxh_program.proofs.BlockEndFacts.{Gathers-push, Gathers-flush, Gathers-refused, Writes-refused, write-failed}
+use Rattle.xxh_io.proofs.WriteFacts.{Gathers-push, Gathers-flush, Gathers-refused, Writes-refused, write-failed}
 use Rattle.xxh_program.proofs.program.blocks.CurrentBlock.take.Goals as goal
 
 pub loop-rest-init : goal.loop-rest-init

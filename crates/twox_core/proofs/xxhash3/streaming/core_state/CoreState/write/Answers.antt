@@ -7,7 +7,7 @@ pub returns-then-input-self-clause-exact : goal.returns-then-input-self-clause-e
 unfolding state_after_write
 returns-then-input-self-clause-exact g c =
     let test : nat_le (length c.args.input.now) (512 - c.args.self.now.buffer_usage) ≡ true = grind (arith, nat_tests) in
-    rw (test, c.add.ensures, c.saturating_add-self.ensures, c.into_u64.ensures) refl
+    rw (test, c.keep.ensures, c.saturating_add-self.ensures, c.into_u64.ensures) refl
 
 pub returns-then-input-lt-MANY_BYTES-clause-exact : goal.returns-then-input-lt-MANY_BYTES-clause-exact
 unfolding state_after_write

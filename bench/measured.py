@@ -1,0 +1,54 @@
+"""The data that docs/SPEED.md is drawn from: bench/data/measured.tsv. Its first lines, from `# `, say when and where it
+was measured. Each other line is a row: the part, the form, the hash, the size in bytes, our GB/s, our spread in percent,
+and for each peer `name=ratio`, a peer's time over ours, then our spread of that ratio in percent and the ratio of the
+best times, as `c_gcc=1.03/12/0.98`. What an older page didn't say is left out: the best times of most rows, and some speeds."""
+import os
+
+FILE = os.path.join(os.path.dirname(os.path.abspath(__file__)), "data", "measured.tsv")
+
+
+class Ratio:
+    def __init__(self, median, spread=None, best=None):
+        self.median, self.spread, self.best = median, spread, best
+
+    def __str__(self):
+        return f"{self.median:.2f}" + ("" if self.best is None else f"/{self.spread:.0f}/{self.best:.2f}")
+
+
+class Row:
+    def __init__(self, part, form, name, size, speed, spread, peers):
+        self.part, self.form, self.name, self.size = part, form, name, size
+        self.speed, self.spread, self.peers = speed, spread, peers
+
+    def best_peer(self, among=None):
+        """The peer that is the fastest beside ours, and its ratio."""
+        peers = {name: it for name, it in self.peers.items() if not among or name in among}
+        name = min(peers, key=lambda it: peers[it].median)
+        return name, peers[name]
+
+    def __str__(self):
+        peers = [f"{name}={ratio}" for name, ratio in self.peers.items()]
+        ours = ["", ""] if self.speed is None else [f"{self.speed:.2f}", f"{self.spread:.0f}"]
+        return "\t".join([self.part, self.form, self.name, str(self.size), *ours, *peers])
+
+
+def read(file=FILE):
+    """What the first lines say, and the rows."""
+    said, rows = [], []
+    with open(file) as lines:
+        for line in lines:
+            if line.startswith("# "):
+                said.append(line[2:].strip())
+            else:
+                part, form, name, size, speed, spread, *peers = line.rstrip("\n").split("\t")
+                pairs = [it.partition("=") for it in peers]
+                ratios = {peer: Ratio(*map(float, values.split("/"))) for peer, _, values in pairs}
+                ours = map(float, (speed, spread)) if speed else (None, None)
+                rows.append(Row(part, form, name, int(size), *ours, ratios))
+    return said, rows
+
+
+def write(said, rows, file=FILE):
+    with open(file, "w") as out:
+        out.writelines(f"# {it}\n" for it in said)
+        out.writelines(f"{it}\n" for it in rows)

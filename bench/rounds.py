@@ -1,0 +1,75 @@
+"""Writes measured.tsv from what the drivers and the programs measured in their rounds:
+rounds.py ROOM DATA FILE_SIZE LOAD_BEFORE LOAD_AFTER"""
+import datetime
+import glob
+import os
+import statistics
+import subprocess
+import sys
+
+import figures
+import measured
+
+MIB = 1 << 20
+
+
+def row(part, key, cell):
+    form, name, size = key
+    peers = {}
+    for peer in cell:
+        if peer != "ours":
+            ratios = figures.ratios(cell, peer, "ours")
+            best = figures.ratio_of_best(cell, peer, "ours")
+            peers[peer] = measured.Ratio(statistics.median(ratios), 100 * figures.spread(ratios), best)
+    # A stream is timed for 1 MiB.
+    speed = (size if form in ("oneshot", "kernel") else MIB) / statistics.median(cell["ours"])
+    return measured.Row(part, form, name, size, speed, 100 * figures.spread(cell["ours"]), peers)
+
+
+def rows_of(room, folder, part):
+    return [row(part, *it) for it in figures.rows(sorted(glob.glob(os.path.join(room, folder, "round_*")))).items()]
+
+
+def programs(room, file_size):
+    """`xxh` beside `xxhsum`: their seconds for a file, and for a pipe."""
+    times = {}
+    with open(os.path.join(room, "programs.txt")) as lines:
+        for line in lines:
+            way, kind, ours, theirs = line.split()
+            times.setdefault((kind, way), []).append((float(ours), float(theirs)))
+    for (kind, way), pairs in times.items():
+        ours, theirs = zip(*pairs)
+        ratios = [b / a for a, b in pairs]
+        peer = measured.Ratio(statistics.median(ratios), 100 * figures.spread(ratios), min(theirs) / min(ours))
+        speed = file_size / statistics.median(ours) / 1e9
+        yield measured.Row("program", way, kind, file_size, speed, 100 * figures.spread(ours), {"xxhsum": peer})
+
+
+def command(*words):
+    done = subprocess.run(words, capture_output=True, text=True)
+    return (done.stdout.strip() or done.stderr.strip()).split("\n")[0]
+
+
+def processor():
+    with open("/proc/cpuinfo") as lines:
+        return next((it.split(":", 1)[1].strip() for it in lines if it.startswith("model name")), "an unknown processor")
+
+
+def origin(before, after):
+    """The date, the machine and what built the peers."""
+    rust = os.path.basename(glob.glob("/usr/share/cargo/registry/xxhash-rust-*")[0])
+    return [f"Measured on {datetime.date.today().isoformat()}, on {processor()} with {os.cpu_count()} virtual cores "
+            f"({command('uname', '-sr')}).",
+            f"Compilers: {command('gcc', '--version')}; {command('clang', '--version')}; {command('rustc', '--version')}.",
+            f"Peers: {command('xxhsum', '--version')}; {rust}.",
+            f"Load average {before} before the run and {after} after it, of which the run itself is 1."]
+
+
+def main(room, data, file_size, before, after):
+    rows = [it for name in ("x86-64-v2", "x86-64-v3") for it in rows_of(room, name, name)]
+    rows += rows_of(room, "shared", "c")
+    _, web = measured.read(os.path.join(room, "web.tsv"))
+    measured.write(origin(before, after), [*rows, *web, *programs(room, int(file_size))], os.path.join(data, "measured.tsv"))
+
+
+main(*sys.argv[1:])

@@ -1,0 +1,123 @@
+"""Checks the library for C of 64-bit ARM on a machine of another processor, under qemu-aarch64."""
+import os
+import subprocess
+import tempfile
+
+import clients
+import headers
+import package
+import values
+from report import Fault, want
+from sides import EmulatedSide, run
+from tools import C, QUIET, TOP, Built, install_packages, must
+
+TOOLS = 'aarch64-linux-gnu-'
+HEADER = '/usr/include/xxhash.h'
+PACKAGES = {TOOLS + 'gcc': 'gcc-aarch64-linux-gnu', TOOLS + 'objcopy': 'binutils-aarch64-linux-gnu',
+            '/usr/aarch64-linux-gnu/include/stdio.h': 'libc6-dev-arm64-cross', 'nm': 'binutils',
+            'qemu-aarch64': 'qemu-user', HEADER: 'libxxhash-dev'}
+# Debian's library in the folder of its packages.
+THEIRS = '/usr/lib/aarch64-linux-gnu/libxxhash.so.0'
+# A constant of the reference, and a wrong one.
+RIGHT, WRONG = '#define XXH_PRIME32_1  0x9E3779B1U', '#define XXH_PRIME32_1  0x9E3779B3U'
+
+
+def debian_root(folder, *packages):
+    """Debian's packages for arm64 and all that they need, unpacked below a folder. apt works on lists and a cache of
+    its own there, so that the machine's own packages stay as they are."""
+    for part in ('state/lists/partial', 'cache/archives/partial', 'root'):
+        os.makedirs(os.path.join(folder, part))
+    status = os.path.join(folder, 'status')
+    open(status, 'w').close()
+    settings = {'APT::Architecture': 'arm64', 'APT::Architectures::': 'arm64', 'APT::Sandbox::User': 'root',
+                'Debug::NoLocking': '1', 'Dir::State': os.path.join(folder, 'state'), 'Dir::State::status': status,
+                'Dir::Cache': os.path.join(folder, 'cache')}
+    apt = ['apt-get', '-qq', *(word for name, value in settings.items() for word in ('-o', f'{name}={value}'))]
+    must([*apt, 'update'], env=QUIET)
+    must([*apt, 'install', '-y', '--no-install-recommends', '--download-only', *packages], env=QUIET)
+    archives, root = os.path.join(folder, 'cache', 'archives'), os.path.join(folder, 'root')
+    for name in os.listdir(archives):
+        if name.endswith('.deb'):
+            must(['dpkg-deb', '-x', os.path.join(archives, name), root])
+    return root
+
+
+def reference(built, name, change=('', ''), flags=('-O2',)):
+    """The reference's header alone as a shared library, with a text of it changed."""
+    folder = os.path.join(built.room, name)
+    os.mkdir(folder)
+    with open(HEADER) as file:
+        text = file.read()
+    if change[0] and text.count(change[0]) != 1:
+        raise Fault(f'{HEADER} does not have {change[0]} once')
+    with open(os.path.join(folder, 'xxhash.h'), 'w') as file:
+        file.write(text.replace(*change) if change[0] else text)
+    source, path = os.path.join(folder, 'reference.c'), os.path.join(folder, 'reference.so')
+    with open(source, 'w') as file:
+        file.write('#define XXH_STATIC_LINKING_ONLY\n#define XXH_IMPLEMENTATION\n#include "xxhash.h"\n')
+    built.tool('gcc', *flags, '-shared', '-fPIC', '-Wl,-Bsymbolic-functions', source, '-o', path)
+    return path
+
+
+def wrong_reference_differs(built, qemu, program, count):
+    """Each hash of a reference with a wrong constant is another."""
+    wrong = reference(built, 'wrong-reference', (RIGHT, WRONG))
+    return values.calls_notice([*qemu, program], wrong, built.plain, count)
+
+
+def table_agrees(built, qemu):
+    """The oracle's table, written by our static library."""
+    program = built.program('table', os.path.join(TOP, 'oracle', 'vectors.c'), built.archive, '-static')
+    done = subprocess.run([*qemu, program], stdout=subprocess.PIPE, timeout=300)
+    with open(os.path.join(TOP, 'oracle', 'vectors.txt'), 'rb') as file:
+        table = file.read()
+    want(done.returncode == 0 and done.stdout == table, 'the table is another')
+    return f'{len(table.splitlines()) - 1} rows'
+
+
+def loads(side):
+    run(side, [clients.PYTHON, '-c', 'import xxhash; print(xxhash.xxh3_128_hexdigest(b""))'])
+    return side.file
+
+
+def package_serves(built, sides, root):
+    """Debian's python3-xxhash runs on the library of the package for arm64, where it is told to."""
+    folder = os.path.join(built.room, 'package')
+    os.mkdir(folder)
+    must([os.path.join(C, 'package'), '--target', 'aarch64', folder])
+    file, = os.listdir(folder)
+    file = os.path.join(folder, file)
+    want(must(['dpkg-deb', '-f', file, 'Architecture']) == 'arm64\n', 'it is for another processor')
+    must(['dpkg-deb', '-x', file, root])
+    ours = EmulatedSide('the package', package.FOLDER, package.PLAIN, root)
+    return clients.python_hashes(clients.Sides(sides.theirs, ours, sides.wrong, sides.stopping))
+
+
+def check_all(report, quick):
+    install_packages(PACKAGES)
+    with tempfile.TemporaryDirectory() as room:
+        built = Built(room, 'aarch64', TOOLS)
+        root = debian_root(os.path.join(room, 'debian'), 'libc6', 'python3-xxhash')
+        qemu, count = ['qemu-aarch64', '-L', root], 10000 if quick else 100000
+        program = values.calls_program(built, 'calls')
+        report.attempt('names', values.names_are_theirs, built.plain, root + THEIRS)
+        report.attempt("calls beside the reference's header", values.calls_agree, [*qemu, program],
+                       reference(built, 'reference'), built.plain, count)
+        report.attempt("calls beside Debian's library", values.calls_agree, [*qemu, program], root + THEIRS,
+                       built.plain, count // 10)
+        report.attempt('states after freeState', values.freed_states_are_refused, [*qemu, program], root + THEIRS,
+                       built.plain, 1000)
+        report.attempt('calls of a reference with a wrong constant differ', wrong_reference_differs, built, qemu,
+                       program, count // 100)
+        report.attempt("the oracle's table, with the static library", table_agrees, built, qemu)
+        report.attempt('xxh_x86dispatch.h is refused',
+                       lambda: headers.dispatch_header_is_refused(built, word='include xxhash.h'))
+        wrong, stopping = built.wrong('wrong'), built.wrong('stopping', '-DSTOPS')
+        sides = clients.Sides(EmulatedSide('theirs', None, THEIRS, root),
+                              EmulatedSide('ours', built.folder, built.plain, root),
+                              EmulatedSide('wrong', os.path.dirname(wrong), wrong, root),
+                              EmulatedSide('stopping', os.path.dirname(stopping), stopping, root))
+        for side in (sides.theirs, sides.ours):
+            report.attempt(f'the loader takes {side.name}', loads, side)
+        report.attempt("Debian's python3-xxhash", clients.python_hashes, sides)
+        report.attempt("Debian's python3-xxhash on the Debian package", package_serves, built, sides, root)

@@ -1,0 +1,57 @@
+/* Calls one function of a library so many times, for a count of the instructions:
+ *
+ *     caller LIBRARY CALL BYTES TIMES
+ *
+ * CALL is the name of a hash, XXH3_64bits_update, whose stream goes on from call to call, or nothing: an empty function,
+ * which costs what stands around a call. */
+#include <dlfcn.h>
+#include <stdint.h>
+#include <stdio.h>
+#include <stdlib.h>
+#include <string.h>
+#include "xxhash.h"
+
+static unsigned char input[1 << 20];
+static void *library;
+
+static void fail(const char *what)
+{
+    fprintf(stderr, "caller: %s\n", what);
+    exit(2);
+}
+
+static void *named(const char *name)
+{
+    void *found = dlsym(library, name);
+    if (!found) fail(name);
+    return found;
+}
+
+/* The empty function takes and gives what a hash does, so that the same stands around its call. */
+__attribute__((noinline)) static XXH64_hash_t nothing(const void *p, size_t n, XXH64_hash_t seed)
+{
+    __asm__ volatile("" : : "r"(p), "r"(n));
+    return seed;
+}
+
+/* A call of any of these has three arguments at most, in the registers of these. */
+typedef XXH64_hash_t call_of_hash(const void *, size_t, XXH64_hash_t);
+typedef XXH_errorcode call_of_update(XXH3_state_t *, const void *, size_t);
+
+int main(int count, char **words)
+{
+    if (count != 5) fail("usage: caller LIBRARY CALL BYTES TIMES");
+    size_t bytes = strtoul(words[3], NULL, 10), times = strtoul(words[4], NULL, 10);
+    if (bytes > sizeof input) fail("too many bytes");
+    if (!(library = dlopen(words[1], RTLD_NOW | RTLD_LOCAL))) fail(dlerror());
+    if (strstr(words[2], "_update")) {
+        XXH3_state_t *state = ((__typeof__(&XXH3_createState))named("XXH3_createState"))();
+        call_of_update *update = (call_of_update *)named(words[2]);
+        ((__typeof__(&XXH3_64bits_reset))named("XXH3_64bits_reset"))(state);
+        while (times--) update(state, input, bytes);
+        return 0;
+    }
+    call_of_hash *hash = strcmp(words[2], "nothing") ? (call_of_hash *)named(words[2]) : nothing;
+    while (times--) hash(input, bytes, 1234);
+    return 0;
+}

@@ -1,0 +1,84 @@
+"""How the installed files serve programs that are built with them: the headers, pkg-config with -static, CMake."""
+import os
+import subprocess
+
+from report import want
+from tools import TOP, must
+
+STATE_ON_THE_STACK = '#include <xxhash.h>\nint main(void) { XXH3_state_t s; return XXH3_64bits_reset(&s); }\n'
+DISPATCHED = ('#include <xxh_x86dispatch.h>\n'
+              'int main(void) { return XXH3_64bits_dispatch("", 0) != XXH3_64bits("", 0); }\n')
+EXAMPLE_C = os.path.join(TOP, 'examples', 'c', 'hash-file.c')
+# A name inside twox_c that stands in each program which holds its code.
+MARK = 'twox_c'
+
+
+def package_path(built):
+    return {**os.environ, 'PKG_CONFIG_PATH': os.path.join(built.folder, 'pkgconfig')}
+
+
+def compiled(built, text, compiler, *flags):
+    """Compiles a text, and answers the status, the lines with an error, and all that the compiler says."""
+    language = 'c++' if compiler == 'g++' else 'c'
+    words = [built.tools + compiler, *flags, '-I', built.include, '-fsyntax-only', '-x', language, '-']
+    done = subprocess.run(words, input=text, stdout=subprocess.PIPE, stderr=subprocess.STDOUT, text=True)
+    return done.returncode, [line for line in done.stdout.splitlines() if 'error: ' in line], done.stdout
+
+
+def refuses(built, text, word, compiler, *flags):
+    """The compiler refuses a text with one error, and what it says has the word."""
+    status, errors, said = compiled(built, text, compiler, *flags)
+    want(status != 0, 'it is compiled')
+    want(len(errors) == 1, f'{len(errors)} errors')
+    want(word in said, f'without {word}: {errors[0]}')
+    return next(line for line in said.splitlines() if word in line).split(': ', 1)[-1]
+
+
+def dispatch_header_serves(built):
+    path = os.path.join(built.room, 'dispatched')
+    must([built.tools + 'gcc', '-x', 'c', '-', '-I', built.include, '-x', 'none', built.archive, '-o', path],
+         input=DISPATCHED)
+    must([path])
+
+
+def dispatch_header_is_refused(built, *flags, word):
+    return refuses(built, DISPATCHED.split('\n')[0], word, 'gcc', *flags)
+
+
+def stack_is_refused(built, compiler):
+    return refuses(built, STATE_ON_THE_STACK, 'createState', compiler, '-DXXH_STATIC_LINKING_ONLY')
+
+
+def holds(built, program):
+    return MARK in must([built.tools + 'nm', program])
+
+
+def static_by_pkg_config(built):
+    """A program that is linked with -static by pkg-config holds our code, also where Debian's archive is installed. With
+    Debian's own pkg-config file it doesn't."""
+    flags = must(['pkg-config', '--cflags', '--libs', '--static', 'libxxhash'], env=package_path(built)).split()
+    path = os.path.join(built.room, 'hash-file-static')
+    must(['gcc', '-static', EXAMPLE_C, *flags, '-o', path])
+    want(holds(built, path), "it holds another library's code")
+    theirs = os.path.join(built.room, 'hash-file-theirs')
+    must(['gcc', '-static', EXAMPLE_C, '-lxxhash', '-o', theirs])
+    want(not holds(built, theirs), "Debian's archive isn't told from ours")
+    return [path]
+
+
+def by_cmake(built):
+    """examples/cmake, which finds the package xxHash. Answers its two programs."""
+    folder = os.path.join(built.room, 'example-cmake')
+    must(['cmake', '-S', os.path.join(TOP, 'examples', 'cmake'), '-B', folder, f'-DCMAKE_PREFIX_PATH={built.prefix}'])
+    must(['cmake', '--build', folder])
+    path = os.path.join(folder, 'hash-file-static')
+    want(holds(built, path), "it holds another library's code")
+    return [os.path.join(folder, 'hash-file')], [path]
+
+
+def check_all(report, built):
+    report.attempt('xxh_x86dispatch.h', dispatch_header_serves, built)
+    report.attempt('xxh_x86dispatch.h with XXH_INLINE_ALL is refused',
+                   lambda: dispatch_header_is_refused(built, '-DXXH_INLINE_ALL', word='library to link'))
+    for compiler in ('gcc', 'g++'):
+        report.attempt(f'a state on the stack is refused by {compiler}', stack_is_refused, built, compiler)

@@ -1,0 +1,194 @@
+"""The Debian package of c/package: made, judged by lintian, installed on this machine, used, and removed again."""
+import glob
+import hashlib
+import os
+import re
+import shutil
+import subprocess
+
+import clients
+from report import Fault, tail, want
+from sides import THEIRS, Side, others, run
+from tools import C, TOP, must
+
+NAME = 'twox-hash'
+PREFIX = '/usr/lib/twox-hash'
+FOLDER = os.path.join(PREFIX, 'lib')
+PLAIN, V3 = (os.path.join(FOLDER, part, 'libxxhash.so.0') for part in ('', 'glibc-hwcaps/x86-64-v3'))
+# What of lintian is left: the second `lib` of the folder is meant, as in those of LLVM; xxh is no C, whose calls gcc
+# could fortify; and a word that it takes for a misspelled one is code.
+LEFT = ('repeated-path-segment', 'hardening-no-fortify-functions', 'spelling-error-in-binary')
+EXAMPLE = os.path.join(TOP, 'examples', 'c', 'hash-file.c')
+
+
+class Package:
+    """The package file, and what the machine's own library was before."""
+
+    def __init__(self, room, v3):
+        self.room, self.ours = room, V3 if v3 else PLAIN
+        self.said = must([os.path.join(C, 'package'), room]).splitlines()[-1]
+        self.file, = glob.glob(os.path.join(room, '*.deb'))
+        self.theirs_before = their_state()
+
+    def side(self):
+        return Side('the installed package', FOLDER, self.ours)
+
+
+def their_state():
+    """Debian's library: its bytes, what dpkg finds changed in its package, and what the loader knows by its name."""
+    with open(THEIRS, 'rb') as file:
+        digest = hashlib.sha256(file.read()).hexdigest()
+    known = [line for line in must(['ldconfig', '-p']).splitlines() if 'libxxhash' in line]
+    return digest, must(['dpkg', '-V', 'libxxhash0']), known
+
+
+def is_installed():
+    done = subprocess.run(['dpkg-query', '-W', '-f', '${db:Status-Status}', NAME], stdout=subprocess.PIPE,
+                          stderr=subprocess.DEVNULL, text=True)
+    return done.returncode == 0
+
+
+def lintian_is_silent(package):
+    """But for three hints: see LEFT."""
+    said = must(['lintian', '--fail-on', 'none', '--display-info', '--pedantic', '--suppress-tags', ','.join(LEFT),
+                 package.file])
+    tags = [line for line in said.splitlines() if re.match('[EWIP]: ', line)]
+    want(not tags, ' / '.join(tags))
+    return f'no error, warning or hint but {", ".join(LEFT)}'
+
+
+def installs(package):
+    """dpkg installs it. It lists what the package file has, and finds nothing changed."""
+    must(['dpkg', '-i', package.file])
+    want(not must(['dpkg', '-V', NAME]), 'dpkg -V finds a change')
+    listed = {path for path in must(['dpkg', '-L', NAME]).splitlines() if path != '/.'}
+    packed = {line.split(' -> ')[0].split(' ./', 1)[1] for line in
+              must(['dpkg-deb', '-c', package.file]).splitlines() if not line.endswith(' ./')}
+    want(listed == {'/' + path.rstrip('/') for path in packed}, 'dpkg -L lists other files')
+    files = [path for path in listed if os.path.isfile(path)]
+    for path in (PLAIN, V3, '/usr/bin/xxh', '/usr/share/man/man1/xxh.1.gz', f'/usr/share/doc/{NAME}/copyright'):
+        want(path in files, f'without {path}')
+    want(their_state() == package.theirs_before, "Debian's library is another")
+    return package.said.split(': ', 1)[1] + f'; {len(files)} files and links'
+
+
+def hashes_file(side, words):
+    """A program of examples/c hashes a file on this library, as xxhsum does."""
+    done = run(side, [*words, EXAMPLE])
+    want(done.status == 0, tail(done.out))
+    digest = must(['xxhsum', '-H2', EXAMPLE]).split()[0]
+    want(f'3-128 {digest}' in done.out.splitlines(), 'the hash differs')
+
+
+def builds_by_pkg_config(package):
+    """With the folder of pkg-config named, and a place for the loader in the program."""
+    flags = must(['pkg-config', '--cflags', '--libs', 'libxxhash'],
+                 env={**os.environ, 'PKG_CONFIG_PATH': os.path.join(FOLDER, 'pkgconfig')}).split()
+    want('-I' + PREFIX + '/include' in flags, f'the header of another library: {flags}')
+    path = os.path.join(package.room, 'by-pkg-config')
+    must(['gcc', EXAMPLE, *flags, '-Wl,-rpath,' + FOLDER, '-o', path])
+    hashes_file(Side('the installed package', None, package.ours), [path])
+
+
+def builds_by_cmake(package):
+    folder = os.path.join(package.room, 'by-cmake')
+    must(['cmake', '-S', os.path.join(TOP, 'examples', 'cmake'), '-B', folder, '-DCMAKE_PREFIX_PATH=' + PREFIX])
+    must(['cmake', '--build', folder])
+    hashes_file(Side('the installed package', None, package.ours), [os.path.join(folder, 'hash-file')])
+
+
+def runs_where_told(package, sides):
+    """Debian's python3-xxhash runs on Debian's library, and on ours where LD_LIBRARY_PATH names its folder."""
+    return clients.python_hashes(clients.Sides(sides.theirs, package.side(), sides.wrong, sides.stopping))
+
+
+def copied_root(package):
+    """A folder with rsync and the files that it loads, as a root."""
+    root = os.path.join(package.room, 'root')
+    for part in ('lib', 'lib64', 'bin'):
+        os.makedirs(os.path.join(root, 'usr', part))
+        os.symlink('usr/' + part, os.path.join(root, part))
+    needed = re.findall(r'/\S+\.so\S*', must(['ldd', '/usr/bin/rsync']))
+    for path in ['/usr/bin/rsync', *needed]:
+        os.makedirs(os.path.dirname(root + path), exist_ok=True)
+        shutil.copy(path, root + path)
+    os.mkdir(os.path.join(root, 'etc'))
+    shutil.copy('/etc/ld.so.conf', os.path.join(root, 'etc'))
+    shutil.copytree('/etc/ld.so.conf.d', os.path.join(root, 'etc', 'ld.so.conf.d'))
+    return root
+
+
+def library_in(root):
+    """The libxxhash that rsync loads in this root."""
+    done = subprocess.run(['chroot', root, '/usr/bin/rsync', '--version'], stdout=subprocess.PIPE,
+                          stderr=subprocess.STDOUT, text=True, env={**others(), 'LD_DEBUG': 'libs'})
+    want(done.returncode == 0, tail(done.stdout))
+    return os.path.normpath(' '.join(re.findall(r'calling init: (\S*libxxhash\S*)', done.stdout)) or 'none')
+
+
+def serves_a_machine(package):
+    """A line for the loader, written by hand, makes the library that of a whole machine: in a root of the check's own.
+    Without the package the line does no harm."""
+    root = copied_root(package)
+    must(['dpkg-deb', '-x', package.file, root])
+    must(['ldconfig', '-r', root])
+    theirs = library_in(root)
+    want(not theirs.startswith(PREFIX), f'the package alone changes what is loaded: {theirs}')
+    with open(os.path.join(root, 'etc/ld.so.conf.d/00-twox-hash.conf'), 'w') as file:
+        file.write(FOLDER + '\n')
+    must(['ldconfig', '-r', root])
+    want(library_in(root) == package.ours, f'{library_in(root)} is loaded')
+    shutil.rmtree(root + PREFIX)
+    want(library_in(root) == theirs, f'{library_in(root)} is loaded without the package')
+    return 'by 00-twox-hash.conf and ldconfig, in a folder as root'
+
+
+def commands_are_there(package):
+    """xxh answers as xxhsum does, and its manual page can be read."""
+    with open(EXAMPLE, 'rb') as file:
+        printed = must(['/usr/bin/xxh', 'hash', '3-128'], stdin=file).strip()
+    want(printed == must(['xxhsum', '-H2', EXAMPLE]).split()[0], 'the hash differs')
+    want('xxh blocks' in must(['zcat', '/usr/share/man/man1/xxh.1.gz']), 'the manual page is another')
+
+
+def change_is_told(package):
+    """dpkg -V names a file that somebody changed."""
+    path = os.path.join(PREFIX, 'include', 'xxhash.h')
+    with open(path, 'a') as file:
+        file.write('\n')
+    done = subprocess.run(['dpkg', '-V', NAME], stdout=subprocess.PIPE, text=True)
+    want(done.stdout.split() == ['??5??????', path], f'dpkg -V says {done.stdout or "nothing"}')
+
+
+def leaves_nothing(package):
+    """After the removal no path of the package is there but folders that others have, and Debian's library is as it
+    was."""
+    listed = [path for path in must(['dpkg', '-L', NAME]).splitlines() if NAME in path or not os.path.isdir(path)]
+    must(['dpkg', '-r', NAME])
+    left = [path for path in listed if os.path.lexists(path)] + glob.glob(f'/var/lib/dpkg/info/{NAME}.*')
+    want(not left, f'left: {", ".join(left)}')
+    want(not is_installed(), 'dpkg still knows it')
+    want(their_state() == package.theirs_before, "Debian's library is another")
+    return f"{len(listed)} paths are gone; Debian's library has the bytes and the place that it had"
+
+
+def check_all(report, room, sides, v3):
+    if is_installed():
+        report.row('the Debian package', f'{NAME} is installed here, and this check would remove it: do so by hand')
+        return
+    folder = os.path.join(room, 'package')
+    os.mkdir(folder)
+    package = Package(folder, v3)
+    report.attempt('the Debian package: lintian', lintian_is_silent, package)
+    try:
+        report.attempt('the Debian package: installed', installs, package)
+        report.attempt('the Debian package: a program by pkg-config', builds_by_pkg_config, package)
+        report.attempt('the Debian package: a program by CMake', builds_by_cmake, package)
+        report.attempt('the Debian package: python3-xxhash where it is told to', runs_where_told, package, sides)
+        report.attempt('the Debian package: a whole machine', serves_a_machine, package)
+        report.attempt('the Debian package: xxh', commands_are_there, package)
+        report.attempt('the Debian package: a changed file is told', change_is_told, package)
+        report.attempt('the Debian package: removed', leaves_nothing, package)
+    finally:
+        if is_installed():
+            must(['dpkg', '-P', NAME])

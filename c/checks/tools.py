@@ -1,0 +1,79 @@
+"""What the checks of the library for C work with: packages, tools, and the library itself as c/install puts it."""
+import os
+import shutil
+import subprocess
+import sys
+
+TOP = os.path.dirname(os.path.dirname(os.path.dirname(os.path.abspath(__file__))))
+C = os.path.join(TOP, 'c')
+QUIET = {**os.environ, 'DEBIAN_FRONTEND': 'noninteractive'}
+
+
+def must(words, **more):
+    """Runs a tool of the check itself, which has to work."""
+    done = subprocess.run(words, stdout=subprocess.PIPE, stderr=subprocess.STDOUT, text=True, **more)
+    if done.returncode:
+        sys.exit(f'c/check: {" ".join(words)}:\n{done.stdout[-2000:]}')
+    return done.stdout
+
+
+def install_packages(packages):
+    """Installs the packages whose command or file is missing."""
+    missing = {package for name, package in packages.items() if not (shutil.which(name) or os.path.exists(name))}
+    if missing:
+        must(['apt-get', 'update', '-qq'], env=QUIET)
+        must(['apt-get', 'install', '-y', '-qq', '--no-install-recommends', *sorted(missing)], env=QUIET)
+
+
+class Built:
+    """What is checked: the installed library of a processor, and copies of it that are wrong."""
+
+    def __init__(self, room, target='x86-64', tools=''):
+        self.room, self.prefix, self.tools = room, os.path.join(room, 'prefix'), tools
+        must([os.path.join(C, 'install'), '--target', target, self.prefix])
+        self.folder = os.path.join(self.prefix, 'lib')
+        self.include = os.path.join(self.prefix, 'include')
+        self.archive = os.path.join(self.folder, 'libtwox_hash.a')
+        self.plain = os.path.join(self.folder, 'libxxhash.so.0')
+        self.v3 = os.path.join(self.folder, 'glibc-hwcaps/x86-64-v3/libxxhash.so.0')
+
+    def tool(self, name, *words):
+        return must([self.tools + name, *words])
+
+    def program(self, name, *words):
+        """A program in C, with the installed header."""
+        path = os.path.join(self.room, name)
+        self.tool('gcc', '-O2', '-g', '-Wall', '-Wextra', '-Werror', '-I', self.include, *words, '-o', path)
+        return path
+
+    def object(self, name, source, *flags):
+        path = os.path.join(self.room, name + '.o')
+        self.tool('gcc', '-O1', '-g', '-fPIC', '-Wall', '-Wextra', '-I', self.include, *flags, '-c', source, '-o', path)
+        return path
+
+    def link(self, name, archive, *words):
+        """A shared library of the archive and other objects, in a folder of its own."""
+        os.makedirs(os.path.join(self.room, name), exist_ok=True)
+        path = os.path.join(self.room, name, 'libxxhash.so.0')
+        names = '-Wl,--version-script=' + os.path.join(C, 'libxxhash.map')
+        self.tool('gcc', '-shared', *words, '-Wl,--whole-archive', archive, '-Wl,--no-whole-archive', names,
+                  '-Wl,-soname,libxxhash.so.0', '-o', path)
+        return path
+
+    def wrong(self, name, *flags):
+        """The library with each hash changed, as checks/wrong.c has it."""
+        changed = self.object(name, os.path.join(C, 'checks', 'wrong.c'), *flags)
+        names = [line.split()[-1] for line in self.tool('nm', '-u', changed).splitlines() if ' right_' in line]
+        archive = os.path.join(self.room, name + '.a')
+        renamed = [word for right in names for word in ('--redefine-sym', f'{right.removeprefix("right_")}={right}')]
+        self.tool('objcopy', *renamed, self.archive, archive)
+        return self.link(name, archive, changed)
+
+    def sanitized(self):
+        """The library with its C built for AddressSanitizer."""
+        archive = os.path.join(self.room, 'proved.a')
+        shutil.copy(self.archive, archive)
+        self.tool('ar', 'd', archive, 'states.o')
+        states = self.object('sanitized', os.path.join(C, 'states.c'), '-fsanitize=address',
+                             '-I', os.path.join(C, 'out'))
+        return self.link('sanitized', archive, '-fsanitize=address', states)

@@ -1,0 +1,47 @@
+"""The library's names and values beside those of another: Debian's, or the reference's header."""
+import os
+import subprocess
+
+from report import want
+from tools import C, must
+
+def exported(path):
+    return {line.split()[-1] for line in must(['nm', '-D', '--defined-only', path]).splitlines()}
+
+
+def names_are_theirs(path, their_path):
+    ours, theirs = exported(path), exported(their_path)
+    want(not theirs - ours, f'without {", ".join(sorted(theirs - ours))}')
+    want(not ours - theirs, f'with {", ".join(sorted(ours - theirs))}')
+    return f'all {len(ours)}'
+
+
+def calls_program(built, name, *flags):
+    """checks/calls.c, which compares two libraries."""
+    return built.program(name, os.path.join(C, 'checks', 'calls.c'), '-pthread', *flags)
+
+
+def calls(program, their_path, path, count, *words, **variables):
+    done = subprocess.run([*program, their_path, path, str(count), *words], stdout=subprocess.PIPE,
+                          stderr=subprocess.STDOUT, text=True, timeout=1200, env={**os.environ, **variables})
+    return done.returncode, done.stdout
+
+
+def calls_agree(program, their_path, path, count, *words, **variables):
+    status, out = calls(program, their_path, path, count, *words, **variables)
+    faults = [line.strip() for line in out.splitlines() if ' 0 differ' not in line]
+    want(status == 0, ' / '.join(faults)[:400] or f'status {status}')
+    groups = [line.strip().split(': ') for line in out.splitlines() if ' 0 differ' in line]
+    return '; '.join(f'{name} {found.split()[0]}' for name, found in groups)
+
+
+def freed_states_are_refused(program, their_path, path, count):
+    """Memory that held a state and was freed is no state, as free leaves it and as it overwrites it."""
+    return '; '.join(calls_agree(program, their_path, path, count, '--freed', **variables)
+                     for variables in ({}, {'MALLOC_PERTURB_': '170'}))
+
+
+def calls_notice(program, their_path, path, count):
+    status, out = calls(program, their_path, path, count)
+    want(status == 1, f'status {status}')
+    return '; '.join(line.strip() for line in out.splitlines() if 'compared' in line)

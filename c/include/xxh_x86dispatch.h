@@ -1,0 +1,30 @@
+/* Other names of the calls of XXH3, which the C library has for a choice of the processor's instructions at run time.
+ * Here the dynamic loader chooses, and each of these is the call without _dispatch. They are there on x86-64 alone. */
+#ifndef XXH_X86DISPATCH_H_TWOX_HASH
+#define XXH_X86DISPATCH_H_TWOX_HASH
+
+#ifndef __x86_64__
+#error "xxh_x86dispatch.h is for x86-64 alone: include xxhash.h, and call without _dispatch"
+#endif
+
+#include "xxhash.h"
+
+#ifdef __cplusplus
+extern "C" {
+#endif
+
+XXH64_hash_t XXH3_64bits_dispatch(const void *input, size_t length);
+XXH64_hash_t XXH3_64bits_withSeed_dispatch(const void *input, size_t length, XXH64_hash_t seed);
+XXH64_hash_t XXH3_64bits_withSecret_dispatch(const void *input, size_t length, const void *secret,
+                                             size_t secret_length);
+XXH_errorcode XXH3_64bits_update_dispatch(XXH3_state_t *state, const void *input, size_t length);
+XXH128_hash_t XXH3_128bits_dispatch(const void *input, size_t length);
+XXH128_hash_t XXH3_128bits_withSeed_dispatch(const void *input, size_t length, XXH64_hash_t seed);
+XXH128_hash_t XXH3_128bits_withSecret_dispatch(const void *input, size_t length, const void *secret,
+                                               size_t secret_length);
+XXH_errorcode XXH3_128bits_update_dispatch(XXH3_state_t *state, const void *input, size_t length);
+
+#ifdef __cplusplus
+}
+#endif
+#endif

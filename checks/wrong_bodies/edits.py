@@ -1,0 +1,48 @@
+"""An edit: what stands where in the source, and the one function whose body alone it changes, if there is one."""
+import glob
+import os
+import re
+
+from . import kit, source
+
+
+class Edit:
+    def __init__(self, file, crate, names):
+        self.file, self.name, self.function, self.spots = file, os.path.basename(file), None, []
+        self.path, pairs = parsed(kit.read(file))
+        if kit.rt.read_edit(file, crate.folder)[1] or not self.path or not self.path.startswith("src/"):
+            return
+        text = kit.read(f"{crate.folder}/{self.path}")
+        if any(text.count(old) != 1 for old, _ in pairs):
+            return
+        self.spots = [(text.index(old), old, new) for old, new in pairs]
+        changed = [text[:at].count("\n") for at, _, _ in self.spots]
+        around = [it for it in source.functions(self.path, text.split("\n")) if all(map(it.has_inside, changed))]
+        if around:
+            self.body, self.function = around[-1], around[-1].checked_name(names)
+
+    def proof_folder(self):
+        return f"proofs/{'/'.join(self.function.split('::')[1:])}/"
+
+
+def parsed(text):
+    """The one file that an edit names, or None, and its pairs of old and new texts."""
+    lines = text.split("\n")
+    paths = {it[len("file: "):].strip() for it in lines if it.startswith("file: ")}
+    olds = [it[len("old: "):] for it in lines if it.startswith("old: ")]
+    news = [re.sub(r"\A ", "", it[len("new:"):]) for it in lines if it.startswith("new:")]
+    return (paths.pop() if len(paths) == 1 and len(olds) == len(news) else None), list(zip(olds, news))
+
+
+def files_of(crate, folders):
+    return sorted(file for it in folders for file in glob.glob(f"{crate.folder}/{it}/*.edit"))
+
+
+def texts_with(crate, edits):
+    """The texts of the changed files with all these edits, each of a function of its own."""
+    texts = {it.path: kit.read(f"{crate.folder}/{it.path}") for it in edits}
+    spots = sorted(((*spot, it.path) for it in edits for spot in it.spots), reverse=True)
+    # From the end of each file on, so that each place is still where it was.
+    for at, old, new, path in spots:
+        texts[path] = texts[path][:at] + new + texts[path][at + len(old):]
+    return texts

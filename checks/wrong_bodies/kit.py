@@ -1,0 +1,88 @@
+"""The toolchain's program `rt` as a module: it knows how a crate is checked, and how an edit is tried alone."""
+import importlib.machinery
+import importlib.util
+import os
+import re
+import shutil
+import sys
+
+TOP = os.path.dirname(os.path.dirname(os.path.dirname(os.path.abspath(__file__))))
+# What this program calls of rt. A new kit may name these otherwise.
+USED = ("checked", "must_fail", "read_edit", "unread", "rtlib")
+
+
+def load():
+    path = shutil.which("rt") or sys.exit("wrong-bodies: there is no rt")
+    loader = importlib.machinery.SourceFileLoader("rt", os.path.realpath(path))
+    module = importlib.util.module_from_spec(importlib.util.spec_from_loader("rt", loader))
+    loader.exec_module(module)
+    lost = [name for name in USED if not hasattr(module, name)]
+    if lost:
+        sys.exit(f"wrong-bodies: this kit's rt has no {', '.join(lost)}")
+    # Its first call sets a signal's handler, which only the main thread may.
+    module.rtlib.guarded()
+    return module
+
+
+rt = load()
+
+
+def one_job():
+    return ["--jobs", "1"]
+
+
+def crates():
+    """The repository's crates by name, lowest first."""
+    return {it.name: it for it in rt.rtlib.crates_below(TOP)}
+
+
+def read(path):
+    with open(path, encoding="utf-8", errors="replace") as file:
+        return file.read()
+
+
+def check(crate, texts, kept, only=()):
+    """Checks the crate with these texts in place of its own, over the kept work: its status and its lines."""
+    words = [*one_job(), *(word for name in only for word in ("--only", name))]
+    ran = rt.checked(crate, texts, words, kept)
+    return ran.returncode, ran.stdout.rstrip("\n").split("\n")
+
+
+def try_alone(crate, edit_file, kept):
+    """Whether the prover refuses the edit, and what to say: over the kept work, and what passes there from nothing."""
+    refused, said = rt.must_fail(crate, edit_file, one_job(), kept)
+    if not refused:
+        refused, said = rt.must_fail(crate, edit_file, one_job())
+    return refused, said.partition(": ")[2]
+
+
+def is_built(crate):
+    """Whether the library's build is of what its files say now. A library is built only if it is proved."""
+    # `rt ci` leaves a library with no stamp, so its time says whether it is up to date.
+    made, stamp = f"{crate.rlib}/format", f"{os.path.dirname(crate.rlib)}/stamp"
+    if not os.path.exists(made) or os.path.exists(stamp):
+        return crate.is_built()
+    files = [file for it in [crate, *crate.below()] for file in rt.rtlib.files_of(it.folder)]
+    return os.path.getmtime(made) > max(map(os.path.getmtime, files))
+
+
+def build_library(crate):
+    """Has a library built, unless `rt ci` or an earlier run has built it."""
+    if not is_built(crate) and crate.build_rlib(one_job(), anew=False):
+        sys.exit(f"wrong-bodies: {crate.name} is not proved")
+
+
+def names_in_build(crate):
+    """The functions that a built library has, named as a check names them."""
+    proofs = f"Rattle-{crate.name}-proofs"
+    modules = re.findall(rf'^\["{proofs}\.([^"]*)\.Met"', read(f"{crate.rlib}/toolchain/checked.json"), re.M)
+    return {"::".join([crate.name, *it.split(".")]) for it in modules}
+
+
+def is_front_end_error(line, texts):
+    return rt.unread(line, texts)
+
+
+LINE = re.compile(r"(fn|impl|closure|struct|enum|trait) (\S+): (.*)")
+PLACE = re.compile(r"(?:\./)?(\S+?):(\d+):\d+: error(.*)")
+OPEN_GOAL = re.compile(r"note: (?:\./)?(\S+?):(\d+):\d+: it is not proved (.*)")

@@ -1,0 +1,110 @@
+"""Tries the edits of the crates side by side, and tells what became of them."""
+import concurrent.futures
+import functools
+import os
+import resource
+import subprocess
+import sys
+import tempfile
+
+from . import edits, kit, source
+from .trial import Trial
+
+
+def main(given):
+    os.chdir(kit.TOP)
+    folders = ["wrong-bodies"] if given.without_must_fail else ["must-fail", "wrong-bodies"]
+    crates = kit.crates()
+    unknown = [it for it in given.crates if it not in crates]
+    if unknown:
+        sys.exit(f"wrong-bodies: crates.txt has no {unknown[0]}")
+    chosen = [it for name, it in crates.items() if not given.crates or name in given.crates]
+    if given.since:
+        chosen = [it for it in chosen if has_changed(it, given.since)]
+    files = {it: found for it in chosen if (found := edits.files_of(it, folders))}
+    trials = try_all(files, given.jobs, lambda it: tell(it, given.v))
+    verdicts = [well for trial in trials for well, _ in trial.said.values()]
+    used = resource.getrusage(resource.RUSAGE_CHILDREN)
+    print(f"{used.ru_utime + used.ru_stime:.0f} seconds of processor time")
+    print(f"{verdicts.count(True)} passed, {verdicts.count(False)} failed")
+    return 0 if all(verdicts) else 1
+
+
+def tell(trial, is_told_all):
+    """Says what became of a crate's edits."""
+    told = sorted(trial.said.items(), key=lambda of: of[0].name)
+    for edit, (well, said) in told:
+        if is_told_all or not well:
+            print(f"{trial.crate.name}/{edit.name}: {'refused' if well else 'FAILED'}: {said[:300]}")
+    refused = [well for _, (well, _) in told].count(True)
+    print(f"{trial.crate.name}: {refused} of {len(told)} refused, in {trial.checks} checks", flush=True)
+
+
+def try_all(files, jobs, tell_end):
+    """Tries the edits of each crate, as many checks at a time as there are jobs."""
+    for it in dict.fromkeys(below for crate in files for below in crate.below()):
+        kit.build_library(it)
+    with tempfile.TemporaryDirectory(prefix="wrong-bodies-") as room, concurrent.futures.ThreadPoolExecutor(jobs) as pool:
+        # The largest first, so that none is left for the end.
+        trials = [Trial(it, f"{room}/{it.name}", files[it]) for it in sorted(files, key=lambda it: -it.count(rb"\n"))]
+        running = {pool.submit(it.begin): it for it in trials}
+        while running:
+            done, _ = concurrent.futures.wait(running, return_when=concurrent.futures.FIRST_COMPLETED)
+            for future in done:
+                trial = running.pop(future)
+                future.result()
+                checks = next_checks(trial, [*running.values()].count(trial))
+                running.update({pool.submit(it): trial for it in checks})
+                if trial.is_ended:
+                    tell_end(trial)
+            tell_progress(trials)
+    return trials
+
+
+def next_checks(trial, at_work):
+    """The trial's next checks: batches, then the edits that go alone, since a batch may still judge what waits, and
+    at last the controls. The first batch goes by itself, since it keeps the lemmas that the others need too."""
+    started = []
+    while (trial.has_kept or not at_work and not started) and (batch := trial.batch()):
+        started.append(functools.partial(trial.try_batch, batch))
+    if not started and not at_work and trial.alone:
+        todo, trial.alone = trial.alone, []
+        started = [functools.partial(trial.try_alone, *it) for it in todo]
+    if not started and not at_work and not trial.is_ended:
+        started = [trial.end]
+    return started
+
+
+def tell_progress(trials):
+    if sys.stderr.isatty():
+        said = [well for it in trials for well, _ in it.said.values()]
+        whole = sum(len(it.files) for it in trials)
+        print(f"\r{len(said)} of {whole} tried, {said.count(False)} not refused ", end="", file=sys.stderr, flush=True)
+
+
+def has_changed(crate, since):
+    """Whether the crate's own files, or what it may rest on of its libraries, have changed since the revision."""
+    own = os.path.relpath(crate.folder, kit.TOP)
+    if git("diff", "--name-only", since, "--", own) or git("ls-files", "-o", "--exclude-standard", "--", own):
+        return True
+    return any(has_other_contracts(it, since) for it in crate.below())
+
+
+def has_other_contracts(library, since):
+    folder = os.path.relpath(library.folder, kit.TOP)
+    if git("diff", "--name-only", since, "--", f"{folder}/specs"):
+        return True
+    for path in git("diff", "--name-only", since, "--", f"{folder}/src").split():
+        inside = os.path.relpath(path, folder)
+        old = git("show", f"{since}:{path}", is_needed=False)
+        new = kit.read(path) if os.path.exists(path) else ""
+        if source.without_bodies(inside, old) != source.without_bodies(inside, new):
+            return True
+    return False
+
+
+def git(*words, is_needed=True):
+    ran = subprocess.run(["git", *words], cwd=kit.TOP, capture_output=True, text=True)
+    if ran.returncode and is_needed:
+        sys.exit(f"wrong-bodies: git {words[0]}: {ran.stderr.strip()}")
+    return ran.stdout if not ran.returncode else ""

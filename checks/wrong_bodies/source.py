@@ -1,0 +1,107 @@
+"""The functions of a source file: where their bodies stand, how a check names them, and what they mention.
+
+It reads files as `rt fmt` lays them out, where an item ends with the brace in the column in which it starts."""
+import re
+
+HEAD = re.compile(r'( *)(?:pub(?:\([^)]*\))? |const |unsafe |extern "C" )*(fn|impl|mod|trait)\b(.*)')
+
+
+class Function:
+    """A function with a body, from its brace's line to its brace's line, both counted from 0."""
+
+    def __init__(self, module, owner, name, first, last):
+        self.module, self.owner, self.name, self.first, self.last = module, owner, name, first, last
+
+    def has_inside(self, line):
+        return self.first < line < self.last
+
+    def checked_name(self, names):
+        """Its name in a check, if one alone of `names` fits. A method stands in the module of its type, maybe above."""
+        shortest = len(self.module) if not self.owner else 0
+        for end in range(len(self.module), shortest - 1, -1):
+            path = "::".join([*self.module[:end], self.owner])
+            start = re.escape(path) + ("" if not path or path.endswith("::") else r"\w*::")
+            # `Hasher+A::finish` is a method of `Hasher<A>`.
+            found = [it for it in names if re.fullmatch(rf"\w+::{start}{self.name}", re.sub(r"\+.*(?=::)", "", it))]
+            if found:
+                return found[0] if len(found) == 1 else None
+        return None
+
+
+def name_of_type(type_, variables, has_arguments=True):
+    """A type as a check names its methods: `&mut [u8; N]` is RefMutArrayU8, and `RawHasher<DefaultSecret>` with
+    its arguments RawHasherDefaultSecret, where variables of the impl are left out."""
+    type_ = re.sub(r"'\w+\s*", "", type_).strip()
+    for start, word in (("&mut ", "RefMut"), ("&", "Ref")):
+        if type_.startswith(start):
+            return word + name_of_type(type_[len(start):], variables)
+    if type_.startswith("["):
+        element, is_array, _ = type_[1:-1].partition(";")
+        return ("Array" if is_array else "Slice") + name_of_type(element, variables)
+    name, _, inner = type_.partition("<")
+    name = name.split("::")[-1].strip()
+    arguments = [it.strip() for it in inner.rpartition(">")[0].split(",")] if has_arguments else []
+    return name[:1].upper() + name[1:] + "".join(name_of_type(it, variables) for it in arguments if it and it not in variables)
+
+
+def owner_of_impl(text):
+    """What stands before a method's name: `SavedState::`, or with a trait `SavedStateDebug::`."""
+    generics = re.match(r"<((?:[^<>]|<[^<>]*>)*)>", text)
+    variables = re.findall(r"(?:^|,)\s*(?:const )?(\w+)", re.sub(r"<[^<>]*>", "", generics[1])) if generics else []
+    text = text[generics.end():] if generics else text
+    trait, _, type_ = re.split(r" where\b|\{", text)[0].strip().rpartition(" for ")
+    return name_of_type(type_, variables, bool(trait)) + (name_of_type(trait, variables, False) if trait else "") + "::"
+
+
+def functions(path, lines):
+    """The functions of the file that have a body."""
+    module = [it for it in path[len("src/"):-len(".rt")].split("/") if it not in ("lib", "main", "mod")]
+    owners = []
+    for at, line in enumerate(lines):
+        head = HEAD.match(line)
+        last = next((i for i in range(at + 1, len(lines)) if head and lines[i] == head[1] + "}"), None)
+        if last is None or line.endswith((";", "}")):
+            continue
+        owners = [it for it in owners if it[1] > at]
+        word = re.match(r"\s*(\w*)", head[3])[1]
+        if head[2] == "fn":
+            opening = [i for i in range(at, last) if lines[i] == head[1] + "{"] or [i for i in range(at, last) if lines[i].endswith("{")]
+            yield Function(module, "".join(it[0] for it in owners), word, opening[0], last)
+        elif head[2] == "impl":
+            owners.append((owner_of_impl(" ".join([head[3], *lines[at + 1:at + 9]])), last))
+        else:
+            owners.append((word + "::", last))
+
+
+def without_bodies(path, text):
+    """The text with no function's body: what other crates may rest on."""
+    lines = text.split("\n")
+    hidden = {i for it in functions(path, lines) for i in range(it.first + 1, it.last)}
+    return "\n".join(it for i, it in enumerate(lines) if i not in hidden)
+
+
+def calls(files, names):
+    """For each checked name, the checked names that its body may call: those whose last part it mentions."""
+    by_last = {}
+    for name in names:
+        by_last.setdefault(name.rpartition("::")[2], set()).add(name)
+    found = {}
+    for path, text in files.items():
+        lines = text.split("\n")
+        for it in functions(path, lines):
+            name = it.checked_name(names)
+            if name:
+                words = set(re.findall(r"\w+", "\n".join(lines[it.first:it.last])))
+                found[name] = {other for word in words for other in by_last.get(word, ())} - {name}
+    return found
+
+
+def reach(calls_of):
+    """The same through any number of calls."""
+    found = {}
+    for name in calls_of:
+        seen, left = set(), [name]
+        while left:
+            left += [it for it in calls_of.get(left.pop(), ()) if it not in seen and not seen.add(it)]
+        found[name] = seen
+    return found

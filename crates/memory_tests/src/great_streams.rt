@@ -1,0 +1,71 @@
+//! Streams of many bytes: copies succeed, have the value so far, and go on by themselves.
+
+use crate::copies::{boxed, boxed_wide, core};
+use crate::streams::Stream;
+use std::alloc::AllocError;
+use std::test::Fail;
+use twox_hash::{XxHash3_64, XxHash3_128};
+
+// The stream after so many times the piece.
+fn after_many<S: Stream>(mut stream: S, count: u32, piece: &[u8]) -> S {
+    for _ in 0..count {
+        stream.take(piece);
+    }
+    stream
+}
+
+// Whether a copy has the value so far, and with a byte more another one, which the stream has with that byte too.
+fn copy_goes_on<S: Stream + Drop>(mut stream: S) -> Result<bool, AllocError> {
+    let mut copy = stream.copy()?;
+    let before = stream.value();
+    let same = copy.value() == before;
+    copy.take(&[1]);
+    let kept = stream.value() == before;
+    stream.take(&[1]);
+    Ok(same && kept && copy.value() != before && copy.value() == stream.value())
+}
+
+#[test]
+fn copies_after_a_mebibyte(rt: HostRuntime) -> Result<(), Fail> {
+    let piece = [7; 65_536];
+    assert!(rt; copy_goes_on(after_many(boxed(rt.alloc())?, 16, &piece))?);
+    assert!(rt; copy_goes_on(after_many(boxed_wide(rt.alloc())?, 16, &piece))?);
+    assert!(rt; copy_goes_on(after_many(core(), 16, &piece))?);
+    Ok(())
+}
+
+#[test]
+fn copies_after_five_million_bytes(rt: HostRuntime) -> Result<(), Fail> {
+    let piece = [7; 50_000];
+    assert!(rt; copy_goes_on(after_many(boxed(rt.alloc())?, 100, &piece))?);
+    assert!(rt; copy_goes_on(after_many(boxed_wide(rt.alloc())?, 100, &piece))?);
+    assert!(rt; copy_goes_on(after_many(core(), 100, &piece))?);
+    Ok(())
+}
+
+// The same under the greatest seed.
+#[test]
+fn copies_after_five_million_bytes_under_the_greatest_seed(rt: HostRuntime) -> Result<(), Fail> {
+    let piece = [7; 50_000];
+    let narrow = XxHash3_64::with_seed(rt.alloc(), u64::MAX)?;
+    assert!(rt; copy_goes_on(after_many(narrow, 100, &piece))?);
+    let wide = XxHash3_128::with_seed(rt.alloc(), u64::MAX)?;
+    assert!(rt; copy_goes_on(after_many(wide, 100, &piece))?);
+    Ok(())
+}
+
+// 65,537 pieces of 64 KiB: more bytes than 32 bits count.
+#[test]
+fn copies_of_a_stream_past_four_gibibytes(rt: HostRuntime) -> Result<(), Fail> {
+    let stream = XxHash3_64::with_seed(rt.alloc(), u64::MAX)?;
+    assert!(rt; copy_goes_on(after_many(stream, 65_537, &[7; 65_536]))?);
+    Ok(())
+}
+
+#[test]
+fn copies_of_a_core_past_four_gibibytes(rt: HostRuntime) -> Result<(), Fail> {
+    let core = after_many(core(), 65_537, &[7; 65_536]);
+    assert!(rt; core.total_len() == 4_295_032_832);
+    assert!(rt; copy_goes_on(core)?);
+    Ok(())
+}

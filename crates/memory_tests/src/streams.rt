@@ -1,0 +1,106 @@
+//! Every kind of stream under one trait without contracts, so that a test over it has none to carry along.
+
+use std::alloc::{AllocError, Allocator};
+use twox_hash::xxhash3::{ClonedBuffer, RawHasherCore};
+use twox_hash::{XxHash3_64, XxHash3_128, xxhash3_64, xxhash3_128};
+
+pub(crate) trait Stream {
+    fn take(&mut self, piece: &[u8]);
+
+    // One of 64 bits stands in the low half.
+    fn value(&self) -> u128;
+
+    fn copy(&self) -> Result<Self, AllocError>;
+}
+
+impl<A: Allocator + Clone> Stream for XxHash3_64<A> {
+    fn take(&mut self, piece: &[u8]) {
+        self.write(piece);
+    }
+
+    fn value(&self) -> u128 {
+        u128::from(self.finish())
+    }
+
+    fn copy(&self) -> Result<XxHash3_64<A>, AllocError> {
+        self.clone()
+    }
+}
+
+impl<A: Allocator + Clone> Stream for XxHash3_128<A> {
+    fn take(&mut self, piece: &[u8]) {
+        self.write(piece);
+    }
+
+    fn value(&self) -> u128 {
+        self.finish_128()
+    }
+
+    fn copy(&self) -> Result<XxHash3_128<A>, AllocError> {
+        self.clone()
+    }
+}
+
+impl<S: ClonedBuffer> Stream for xxhash3_64::RawHasher<S> {
+    fn take(&mut self, piece: &[u8]) {
+        self.write(piece);
+    }
+
+    fn value(&self) -> u128 {
+        u128::from(self.finish())
+    }
+
+    fn copy(&self) -> Result<xxhash3_64::RawHasher<S>, AllocError> {
+        self.clone()
+    }
+}
+
+impl<S: ClonedBuffer> Stream for xxhash3_128::RawHasher<S> {
+    fn take(&mut self, piece: &[u8]) {
+        self.write(piece);
+    }
+
+    fn value(&self) -> u128 {
+        self.finish_128()
+    }
+
+    fn copy(&self) -> Result<xxhash3_128::RawHasher<S>, AllocError> {
+        self.clone()
+    }
+}
+
+// Asked for 64 bits.
+impl<S: ClonedBuffer> Stream for RawHasherCore<S> {
+    fn take(&mut self, piece: &[u8]) {
+        self.write(piece);
+    }
+
+    fn value(&self) -> u128 {
+        u128::from(self.finish(xxhash3_64::Finalize64))
+    }
+
+    fn copy(&self) -> Result<RawHasherCore<S>, AllocError> {
+        self.clone()
+    }
+}
+
+pub(crate) fn after<S: Stream>(mut stream: S, piece: &[u8]) -> S {
+    stream.take(piece);
+    stream
+}
+
+// The value of a copy after a further piece.
+pub(crate) fn copy_after<S: Stream + Drop>(stream: &S, piece: &[u8]) -> Result<u128, AllocError> {
+    let mut copy = stream.copy()?;
+    copy.take(piece);
+    Ok(copy.value())
+}
+
+// The one-shots as numbers of 128 bits.
+pub(crate) fn seeded_64(seed: u64, input: &[u8]) -> u128 {
+    u128::from(XxHash3_64::oneshot_with_seed(seed, input))
+}
+
+pub(crate) fn seeded_128(seed: u64, input: &[u8]) -> u128 {
+    XxHash3_128::oneshot_with_seed(seed, input)
+}

@@ -1,0 +1,28 @@
+//! Tests of XXH32, XXH64 and the words that every hash reads, through the public calls of `twox_plain` alone.
+//!
+//! A test states nothing, so its proof has little to find as long as each function is small: a call and what is
+//! asked of its answer stand in a function of their own, which callers see without the call's contract.
+#![tactic(auto)]
+
+#[cfg(test)]
+mod copies;
+#[cfg(test)]
+mod fast_and_slow;
+#[cfg(test)]
+mod forged;
+#[cfg(test)]
+mod laws;
+#[cfg(test)]
+mod maps;
+#[cfg(test)]
+mod records;
+#[cfg(test)]
+mod refusals;
+#[cfg(test)]
+mod saved;
+#[cfg(test)]
+mod text_lengths;
+#[cfg(test)]
+mod values;
+#[cfg(test)]
+mod words;

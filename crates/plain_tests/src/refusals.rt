@@ -1,0 +1,37 @@
+//! The texts of refusals.
+
+use std::alloc::Global;
+use std::fmt;
+use std::test::Fail;
+use twox_plain::xxhash32::{FormError as FormError32, RestoreError as RestoreError32};
+use twox_plain::xxhash64::{FormError as FormError64, RestoreError as RestoreError64};
+
+const USAGE: &str = "The buffer usage does not match the total length";
+
+const CORE: &str = "The core does not match the seed";
+
+const TEXT: &str = "The text is not a saved state";
+
+const MEMORY: &str = "out of memory";
+
+fn reads<E: fmt::Display + Drop>(alloc: Global, error: E, wanted: &str) -> Result<bool, Fail> {
+    Ok(format!(in alloc; "{error}")?.as_str() == wanted)
+}
+
+#[test]
+fn refused_records(rt: HostRuntime) -> Result<(), Fail> {
+    assert!(rt; reads(rt.alloc(), RestoreError32::BufferUsage, USAGE)?);
+    assert!(rt; reads(rt.alloc(), RestoreError32::Core, CORE)?);
+    assert!(rt; reads(rt.alloc(), RestoreError64::BufferUsage, USAGE)?);
+    assert!(rt; reads(rt.alloc(), RestoreError64::Core, CORE)?);
+    Ok(())
+}
+
+#[test]
+fn refused_texts(rt: HostRuntime) -> Result<(), Fail> {
+    assert!(rt; reads(rt.alloc(), FormError32::Text, TEXT)?);
+    assert!(rt; reads(rt.alloc(), FormError32::Memory, MEMORY)?);
+    assert!(rt; reads(rt.alloc(), FormError64::Text, TEXT)?);
+    assert!(rt; reads(rt.alloc(), FormError64::Memory, MEMORY)?);
+    Ok(())
+}

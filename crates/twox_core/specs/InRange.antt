@@ -1,0 +1,11 @@
+-- Where the calls of a stream of XXH3 leave it.
+use Rattle.std.specs.Prelude.{◌<◌, ◌≤◌, min, ℕ, List}
+use Rattle.twox_core.specs.Long.{stripes_of}
+use Rattle.twox_core.specs.Stripes.{current_stripe_of}
+use Rattle.twox_core.specs.declared.xxhash3.streaming.core_state.CoreState.{CoreState}
+
+-- the state's place lies in the secret s, its buffer has at most 512 bytes, and of bytes taken one is left there
+pub record IsInRange (s : List ℕ) (c : CoreState) : Type 0 where
+  pub place : current_stripe_of c.taken.stripes < stripes_of s
+  pub within : c.buffer_usage ≤ 512
+  pub left : min c.total_bytes 1 ≤ c.buffer_usage

@@ -1,0 +1,14 @@
+use Rattle.std.proofs.Common.{arith, refl}
+use Rattle.twox_exports.proofs.StreamFacts.{follows_in_range, follows_written}
+use Rattle.twox_exports.proofs.stream_3.write.Goals as goal
+
+-- What follows a list lies in range, and is not refused.
+pub returns-then-not-is_in_range-clause-message : goal.returns-then-not-is_in_range-clause-message
+returns-then-not-is_in_range-clause-message g c = λ m held enough.
+    let in_range = follows_in_range c.args.secret.now m c.args.core.now enough c.is_in_range.ensures.size held in
+    absurd (grind (arith, c.if-not-is_in_range.true, c.is_in_range.ensures.in_range.1 (rw c.in-Ok.ensures.1 in_range)))
+
+pub returns-clause-message : goal.returns-clause-message
+returns-clause-message g c = λ m held enough.
+    let exact = rw c.in-Ok.ensures.1 at c.write.ensures.exact in
+    (refl, rw exact (follows_written c.args.secret.now m c.args.input.now c.args.core.now enough c.is_in_range.ensures.size held))

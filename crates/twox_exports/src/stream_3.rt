@@ -1,0 +1,125 @@
+//! Streams of XXH3 in a caller's memory. One stream answers both widths.
+//!
+//! A stream's secret lies beside it, and each call is handed it again. So a secret may have any length, and the
+//! clauses speak of the stream and that secret together.
+
+ghost use Rattle.std.specs.Prelude.{◌≡◌, ◌↔◌, ◌<◌, ◌≤◌, ℕ, List, [], ◌++◌, length, IsTrue};
+ghost use Rattle.twox_hash.specs.SecretBytes.{secret_bytes};
+ghost use Rattle.twox_hash.specs.Value.{stream_64, stream_128};
+ghost use Rattle.twox_core.specs.AfterWrite.{state_after_write};
+ghost use Rattle.twox_core.specs.StandsFor.{Follows};
+ghost use Rattle.twox_exports.specs.Number.{number_of};
+ghost use Rattle.twox_core.specs.InRange.{IsInRange};
+
+use crate::{DONE, NOT_A_STREAM, SECRET_TOO_SHORT, Wide, halves};
+use twox_hash::words::IntoU64;
+use twox_hash::xxhash3::{BUFFERED_BYTES, CoreState, Secret, Vector};
+use twox_hash::xxhash3_64::Finalize64;
+use twox_hash::xxhash3_128::Finalize128;
+
+/// The state of no bytes yet, over whatever secret.
+#[inline(always)]
+pub fn start() -> CoreState
+    ensures { (s : List ℕ) → Follows s result [] }
+{
+    CoreState::new()
+}
+
+// Whether calls go on from the state.
+#[inline(always)]
+fn is_in_range(core: &CoreState, secret: Secret<'_>) -> bool
+    ensures in_range { IsTrue result ↔ IsInRange (secret_bytes secret.entry) core.now }
+    ensures size { length core.now.buffer ≡ BUFFERED_BYTES }
+{
+    let room = core.buffer[..].len();
+    core.taken.stripes.current_stripe() < secret.n_stripes()
+        && core.buffer_usage <= room
+        && core.total_bytes.min(1) <= core.buffer_usage.into_u64()
+}
+
+/// Takes the bytes of a piece after those taken before, over the stream's secret.
+///
+/// - `SECRET_TOO_SHORT`: it has fewer than 136 bytes.
+/// - `NOT_A_STREAM`: the state's place and number of bytes are none that calls leave.
+///
+/// Where it refuses, the state stays as it was.
+#[inline(always)]
+pub fn write<V: Vector>(core: &mut CoreState, v: V, secret: &[u8], input: &[u8]) -> u32
+    ensures done { result ≡ DONE ↔ ((136 ≤ length secret.now) × IsInRange secret.now core.old) }
+    ensures short { result ≡ SECRET_TOO_SHORT ↔ (length secret.now < 136) }
+    ensures refused { result ≡ NOT_A_STREAM
+        ↔ ((136 ≤ length secret.now) × (¬ IsInRange secret.now core.old)) }
+    ensures message { (m : List ℕ) → Follows secret.now core.old m → 136 ≤ length secret.now
+        → (result ≡ DONE) × Follows secret.now core.new (m ++ input.now) }
+    ensures exact { result ≡ DONE → core.new ≡ state_after_write secret.now core.old input.now }
+    ensures kept { (¬ (result ≡ DONE)) → core.new ≡ core.old }
+{
+    let Ok(secret) = Secret::new(secret) else {
+        return SECRET_TOO_SHORT;
+    };
+    if !is_in_range(core, secret) {
+        return NOT_A_STREAM;
+    }
+    core.write(v, input, secret);
+    DONE
+}
+
+/// Writes the hash of 64 bits of the bytes taken so far, with the stream's seed, if it has one, and over its secret.
+/// More may be taken afterwards.
+///
+/// - `SECRET_TOO_SHORT`: the secret has fewer than 136 bytes.
+/// - `NOT_A_STREAM`: the state's place and number of bytes are none that calls leave.
+///
+/// Where it refuses, nothing is written.
+#[inline(always)]
+pub fn finish_64<V: Vector>(
+    core: &CoreState,
+    v: V,
+    seed: Option<u64>,
+    secret: &[u8],
+    value: &mut u64,
+) -> u32
+    ensures done { result ≡ DONE ↔ ((136 ≤ length secret.now) × IsInRange secret.now core.now) }
+    ensures short { result ≡ SECRET_TOO_SHORT ↔ (length secret.now < 136) }
+    ensures refused { result ≡ NOT_A_STREAM
+        ↔ ((136 ≤ length secret.now) × (¬ IsInRange secret.now core.now)) }
+    ensures message { (m : List ℕ) → Follows secret.now core.now m → 136 ≤ length secret.now
+        → (result ≡ DONE) × (value.new ≡ stream_64 seed secret.now m) }
+    ensures kept { (¬ (result ≡ DONE)) → value.new ≡ value.old }
+{
+    let Ok(secret) = Secret::new(secret) else {
+        return SECRET_TOO_SHORT;
+    };
+    if !is_in_range(core, secret) {
+        return NOT_A_STREAM;
+    }
+    *value = core.finish(v, &Finalize64, seed, secret);
+    DONE
+}
+
+/// The same with the hash of 128 bits.
+#[inline(always)]
+pub fn finish_128<V: Vector>(
+    core: &CoreState,
+    v: V,
+    seed: Option<u64>,
+    secret: &[u8],
+    value: &mut Wide,
+) -> u32
+    ensures done { result ≡ DONE ↔ ((136 ≤ length secret.now) × IsInRange secret.now core.now) }
+    ensures short { result ≡ SECRET_TOO_SHORT ↔ (length secret.now < 136) }
+    ensures refused { result ≡ NOT_A_STREAM
+        ↔ ((136 ≤ length secret.now) × (¬ IsInRange secret.now core.now)) }
+    ensures message { (m : List ℕ) → Follows secret.now core.now m → 136 ≤ length secret.now
+        → (result ≡ DONE) × (number_of value.new ≡ stream_128 seed secret.now m) }
+    ensures kept { (¬ (result ≡ DONE)) → value.new ≡ value.old }
+{
+    let Ok(secret) = Secret::new(secret) else {
+        return SECRET_TOO_SHORT;
+    };
+    if !is_in_range(core, secret) {
+        return NOT_A_STREAM;
+    }
+    *value = halves(core.finish(v, &Finalize128, seed, secret));
+    DONE
+}

@@ -1,0 +1,8 @@
+-- XXH3's text of the step that it shares with XXH64 says the same as XXH64's own.
+use Rattle.std.proofs.Common.{◌≡◌, ℕ, refl}
+use Rattle.twox_plain.specs.Xxh64.{avalanche}
+use Rattle.twox_core.specs.Steps.{avalanche_xxh64}
+
+pub avalanche_xxh64-avalanche : (x : ℕ) → avalanche_xxh64 x ≡ avalanche x
+unfolding avalanche_xxh64
+avalanche_xxh64-avalanche x = refl

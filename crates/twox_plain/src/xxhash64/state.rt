@@ -1,0 +1,152 @@
+//! A stream of XXH64: its accumulators, the bytes that wait for a stripe, and the length.
+
+ghost use Rattle.std.specs.Prelude.{◌≡◌, ℕ, ◌+◌, ◌<◌, ◌≤◌, List, ◌++◌, drop, length};
+ghost use Rattle.twox_plain.specs.Xxh64.{xxh64};
+ghost use Rattle.twox_plain.specs.StateInMemory64.{record_of};
+
+use super::rounds::{BYTES_IN_STRIPE, finish_with};
+use super::{Core, SavedState, StateInMemory};
+use crate::words::{IntoU64, copy_short};
+
+// Lays the bytes over the front of the buffer, with no call where there are none.
+#[inline(always)]
+fn put_front(buffer: &mut [u8; BYTES_IN_STRIPE], bytes: &[u8])
+    requires { length bytes.now ≤ 32 }
+    ensures { buffer.new ≡ bytes.now ++ drop (length bytes.now) buffer.old }
+{
+    if !bytes.is_empty() {
+        copy_short(&mut buffer[..bytes.len()], bytes);
+    }
+}
+
+impl StateInMemory {
+    ghost use Rattle.twox_plain.specs.Record64.{StandsFor, after_write, finish_value};
+
+    /// The record's fields in their places.
+    #[inline(always)]
+    pub fn of_record(state: SavedState) -> StateInMemory
+        ensures { record_of result ≡ state }
+    {
+        let buffer = state.buffer;
+        StateInMemory {
+            v1: state.core.v1,
+            seed: state.seed,
+            v2: state.core.v2,
+            total_len: state.total_len,
+            v3: state.core.v3,
+            buffer_usage: state.buffer_usage,
+            v4: state.core.v4,
+            buffer,
+        }
+    }
+
+    // The record.
+    #[inline(always)]
+    pub(super) fn record(&self) -> SavedState
+        ensures { result ≡ record_of self.now }
+    {
+        let buffer = self.buffer;
+        SavedState {
+            total_len: self.total_len,
+            seed: self.seed,
+            core: self.core(),
+            buffer,
+            buffer_usage: self.buffer_usage,
+        }
+    }
+
+    // The accumulators.
+    #[inline(always)]
+    pub(super) fn core(&self) -> Core
+        ensures { result ≡ (record_of self.now).core }
+    {
+        Core {
+            v1: self.v1,
+            v2: self.v2,
+            v3: self.v3,
+            v4: self.v4,
+        }
+    }
+
+    // Puts the accumulators back.
+    #[inline(always)]
+    fn set_core(&mut self, core: Core)
+        ensures { self.new ≡
+            record self.old { v1 = core.v1; v2 = core.v2; v3 = core.v3; v4 = core.v4 } }
+    {
+        self.v1 = core.v1;
+        self.v2 = core.v2;
+        self.v3 = core.v3;
+        self.v4 = core.v4;
+    }
+
+    /// Adds a piece to the bytes that are hashed.
+    ///
+    /// The caller shows that less than a stripe waits.
+    #[inline(always)]
+    pub fn add_piece(&mut self, input: &[u8])
+        requires { self.old.buffer_usage < 32 }
+        ensures exact { record_of self.new ≡ after_write (record_of self.old) input.now }
+        ensures message { (m : List ℕ)
+            → StandsFor (record_of self.old) m → StandsFor (record_of self.new) (m ++ input.now) }
+        ensures seed { self.new.seed ≡ self.old.seed }
+        ensures in_range { self.new.buffer_usage < 32 }
+    {
+        // A piece that only is kept comes first, with one test.
+        let used = self.buffer_usage;
+        if input.len() < BYTES_IN_STRIPE - used {
+            self.total_len = self.total_len.saturating_add(input.len().into_u64());
+            self.buffer_usage = used + input.len();
+            copy_short(&mut self.buffer[used..used + input.len()], input);
+            return;
+        }
+        self.add_stripes(input);
+    }
+
+    // Adds a piece that fills a stripe.
+    #[inline(always)]
+    fn add_stripes(&mut self, input: &[u8])
+        requires less { self.old.buffer_usage < 32 }
+        requires fills { 32 ≤ self.old.buffer_usage + length input.now }
+        ensures exact { record_of self.new ≡ after_write (record_of self.old) input.now }
+        ensures message { (m : List ℕ)
+            → StandsFor (record_of self.old) m → StandsFor (record_of self.new) (m ++ input.now) }
+        ensures seed { self.new.seed ≡ self.old.seed }
+        ensures in_range { self.new.buffer_usage < 32 }
+    {
+        self.total_len = self.total_len.saturating_add(input.len().into_u64());
+        let before = self.buffer_usage;
+        let mut taken = 0;
+        if before > 0 {
+            let room = BYTES_IN_STRIPE - before;
+            copy_short(&mut self.buffer[before..], &input[..room]);
+            let mut core = self.core();
+            core.write(&self.buffer);
+            self.set_core(core);
+            taken = room;
+        }
+        let mut core = self.core();
+        let rest = core.write_many(&input[taken..]);
+        self.set_core(core);
+        put_front(&mut self.buffer, rest);
+        self.buffer_usage = rest.len();
+    }
+
+    /// The hash of the bytes so far.
+    ///
+    /// The caller shows that less than a stripe waits.
+    #[inline(always)]
+    pub fn finish(&self) -> u64
+        requires { self.now.buffer_usage < 32 }
+        ensures message { (m : List ℕ) → StandsFor (record_of self.now) m
+            → result ≡ xxh64 self.now.seed m }
+        ensures exact { result ≡ finish_value (record_of self.now) }
+    {
+        finish_with(
+            self.seed,
+            self.total_len,
+            &self.core(),
+            &self.buffer[..self.buffer_usage],
+        )
+    }
+}

@@ -1,0 +1,121 @@
+//! Secrets of XXH3 streams: those that are refused and handed back, and what a held one does.
+//! Expected values are the one-shots', which other tests hold against outside vectors, or computed from the formulas.
+
+use crate::rows::{SEED, first, gen_10240};
+use std::alloc::{AllocError, Global};
+use std::boxed::BoxedSlice;
+use std::test::Fail;
+use twox_hash::xxhash3::{AllocRawHasher, RawHasherCore};
+use twox_hash::xxhash3_64::{self, Finalize64, SecretBuffer};
+use twox_hash::{XxHash3_64, XxHash3_128};
+
+type Own = BoxedSlice<u8, Global>;
+
+fn own(alloc: Global, secret: &[u8]) -> Result<Own, AllocError> {
+    BoxedSlice::from_slice(alloc, secret)
+}
+
+fn is(secret: Own, bytes: &[u8]) -> bool {
+    secret.as_slice() == bytes
+}
+
+// The value of a stream of this seed and a secret of zeros, and the secret back.
+fn beside_zeros(seed: u64, input: &[u8]) -> Result<(u64, [u8; 136]), Fail> {
+    let secret = SecretBuffer::new(seed, [0; 136]).ok().ok_or("136 bytes")?;
+    let mut hasher = xxhash3_64::RawHasher::new(secret);
+    hasher.write(input);
+    Ok((hasher.finish(), hasher.into_secret()))
+}
+
+// Up to 240 bytes the held secret isn't used, and it is handed back.
+#[test]
+fn short_inputs_use_the_default_secret(rt: HostRuntime) -> Result<(), Fail> {
+    let bytes = gen_10240();
+    let (value, _) = beside_zeros(0, first(&bytes, 33))?;
+    assert!(rt; value == 0xe68c_56ba_8899_1e58);
+    let (value, secret) = beside_zeros(SEED, first(&bytes, 17))?;
+    assert!(rt; value == 0x49ca_0fff_0950_1622);
+    assert!(rt; secret == [0; 136]);
+    Ok(())
+}
+
+// The secret that each constructor refuses and gives back.
+fn from_buffer_with_seed_and_secret(secret: Own) -> Result<Own, Fail> {
+    match SecretBuffer::allocate_with_seed_and_secret(1, secret) {
+        Ok(_) => Err("not refused".into()),
+        Err(e) => Ok(e.into_secret()),
+    }
+}
+
+fn from_buffer_with_secret(secret: Own) -> Result<Own, Fail> {
+    match SecretBuffer::allocate_with_secret(secret) {
+        Ok(_) => Err("not refused".into()),
+        Err(e) => Ok(e.into_secret()),
+    }
+}
+
+fn from_core(secret: Own) -> Result<Own, Fail> {
+    match AllocRawHasher::allocate_with_secret(secret) {
+        Ok(_) => Err("not refused".into()),
+        Err(e) => Ok(e.into_secret()),
+    }
+}
+
+fn from_stream(secret: Own) -> Result<Own, Fail> {
+    match XxHash3_64::with_secret(secret) {
+        Ok(_) => Err("not refused".into()),
+        Err(e) => Ok(e.into_secret()),
+    }
+}
+
+fn from_wide_stream(secret: Own) -> Result<Own, Fail> {
+    match XxHash3_128::with_secret(secret) {
+        Ok(_) => Err("not refused".into()),
+        Err(e) => Ok(e.into_secret()),
+    }
+}
+
+#[test]
+fn refused_secrets_are_handed_back(rt: HostRuntime) -> Result<(), Fail> {
+    let secret = from_buffer_with_seed_and_secret(own(rt.alloc(), &[7; 135])?)?;
+    let secret = from_buffer_with_secret(secret)?;
+    let secret = from_core(secret)?;
+    let secret = from_stream(secret)?;
+    let secret = from_wide_stream(secret)?;
+    assert!(rt; is(secret, &[7; 135]));
+    Ok(())
+}
+
+fn keyed_core(alloc: Global, secret: &[u8], input: &[u8]) -> Result<AllocRawHasher<Global>, Fail> {
+    let mut core = AllocRawHasher::allocate_with_secret(own(alloc, secret)?)
+        .ok()
+        .ok_or("136 bytes")?;
+    core.write(input);
+    Ok(core)
+}
+
+fn counts(core: &RawHasherCore<Own>, total_len: u64, stripes: u64, buffered: usize) -> bool {
+    core.total_len() == total_len && core.stripes_done() == stripes && core.buffered() == buffered
+}
+
+fn value(core: &RawHasherCore<Own>) -> u64 {
+    core.finish(Finalize64)
+}
+
+// Whether a copy has the value, the counts and the secret.
+fn copy_keeps(core: &RawHasherCore<Own>, secret: &[u8], wanted: u64) -> Result<bool, AllocError> {
+    let copy = core.clone()?;
+    Ok(value(&copy) == wanted && counts(&copy, 5, 0, 5) && is(copy.into_secret(), secret))
+}
+
+// How a stream was made stays with its copies, its counts and the secret that it gives back.
+#[test]
+fn copies_keep_how_they_were_made(rt: HostRuntime) -> Result<(), Fail> {
+    let bytes = gen_10240();
+    let (secret, input) = (first(&bytes, 136), first(&bytes, 5));
+    let wanted = XxHash3_64::oneshot_with_secret(secret, input)?;
+    let core = keyed_core(rt.alloc(), secret, input)?;
+    assert!(rt; value(&core) == wanted);
+    assert!(rt; copy_keeps(&core, secret, wanted)?);
+    Ok(())
+}

@@ -1,0 +1,38 @@
+//! Copies of short slices of bytes.
+
+ghost use Rattle.std.specs.Prelude.{◌≡◌, ◌+◌, ◌≤◌, length};
+
+/// Copies a slice of at most 32 bytes over another of its length.
+///
+/// It does what `copy_from_slice` does, which makes a call: that takes longer than the few moves here.
+#[inline(always)]
+pub fn copy_short(to: &mut [u8], from: &[u8])
+    requires same { length to.old ≡ length from.now }
+    requires short { length from.now ≤ 32 }
+    ensures { to.new ≡ from.now }
+{
+    let n = from.len();
+    if n > 16 {
+        copy_ends::<16>(to, from);
+    } else if n >= 8 {
+        copy_ends::<8>(to, from);
+    } else if n >= 4 {
+        copy_ends::<4>(to, from);
+    } else if n >= 2 {
+        copy_ends::<2>(to, from);
+    } else if n == 1 {
+        to[0] = from[0];
+    }
+}
+
+// Copies the first N bytes, then the last N, which may overlap them.
+#[inline(always)]
+fn copy_ends<const N: usize>(to: &mut [u8], from: &[u8])
+    requires same { length to.old ≡ length from.now }
+    requires long_enough { N ≤ length from.now }
+    requires covered { length from.now ≤ N + N }
+    ensures { to.new ≡ from.now }
+{
+    *to.first_chunk_mut::<N>().unwrap() = *from.first_chunk().unwrap();
+    *to.last_chunk_mut::<N>().unwrap() = *from.last_chunk().unwrap();
+}

@@ -1,0 +1,34 @@
+-- The line that tells each fault, and the exit status.
+use Rattle.std.specs.Prelude.{ℕ, List, [], ◌∷◌, ◌++◌, codes}
+use Rattle.xxh_io.specs.declared.error.DigestError.{DigestError}
+use Rattle.xxh_io.specs.declared.error.DigestError.TheVariants.{ReadFailed, WriteFailed, TooLong}
+use Rattle.xxh_io.specs.declared.fault.Fault.{Fault}
+use Rattle.xxh_io.specs.declared.fault.Fault.TheVariants.{Usage, BadSeed, BadSize, BadState, OutOfMemory, Digest}
+
+-- the text of each error of a digest
+abbrev pub digest_text : DigestError → List ℕ
+digest_text ReadFailed = codes "read failed"
+digest_text WriteFailed = codes "write failed"
+digest_text TooLong = codes "too long"
+
+-- what is wrong
+abbrev pub text_of : Fault → List ℕ
+text_of Usage = codes "usage: xxh hash|save|resume 32|64|3-64|3-128 [SEED|JSON] or xxh blocks SIZE"
+text_of BadSeed = codes "bad seed"
+text_of BadSize = codes "bad size"
+text_of BadState = codes "bad state"
+text_of OutOfMemory = codes "out of memory"
+text_of (Digest e) = digest_text e
+
+-- the program's name, the text and a line feed
+abbrev pub line_of : Fault → List ℕ
+line_of fault = codes "xxh: " ++ (text_of fault ++ 10 ∷ [])
+
+-- 1 where reading or writing is at fault, 2 where the words are, 3 where memory is
+abbrev pub status_of : Fault → ℕ
+status_of Usage = 2
+status_of BadSeed = 2
+status_of BadSize = 2
+status_of BadState = 2
+status_of OutOfMemory = 3
+status_of (Digest e) = 1

@@ -1,0 +1,13 @@
+pub mod Buffered
+pub mod Command
+pub mod Digest
+pub mod Fault
+pub mod FromRead
+pub mod FromWrite
+pub mod Hex
+pub mod Kind
+pub mod LineBuffer
+pub mod Pieces
+pub mod Process
+pub mod Script
+pub mod Tells

@@ -1,0 +1,70 @@
+//! Standard readers as sources.
+
+ghost use Rattle.std.specs.Prelude.{◌≡◌, false, List, ℕ};
+ghost use Rattle.std.specs.List.{concat};
+ghost use Rattle.std.specs.Io.KnownBytes.{Consumes, Keeps};
+ghost use Rattle.xxh_io.specs.Pieces.{Pieces};
+ghost use Rattle.xxh_io.specs.FromRead.{ReadsPiece, has_read_failed, reader_of};
+ghost use Rattle.xxh_io.specs.declared.from_read.FromRead.{FromRead};
+
+use crate::ends::{Failed, Source};
+use std::io::Read;
+
+/// A standard reader as a source. Every error of a read is a failure, an interruption too.
+#[derive(Drop)]
+pub struct FromRead<R> {
+    inner: R,
+    failed: bool,
+}
+
+impl<R: Read> FromRead<R> {
+    /// A source that has not failed.
+    pub fn new(inner: R) -> FromRead<R>
+        ensures inner { reader_of result ≡ inner }
+        ensures works { ⟦<FromRead<R> as Source>⟧.has_failed result ≡ false }
+    {
+        FromRead {
+            inner,
+            failed: false,
+        }
+    }
+
+    /// The reader.
+    pub fn into_inner(self) -> R
+        ensures { result ≡ reader_of self }
+    {
+        let FromRead { inner, failed: _ } = self;
+        inner
+    }
+}
+
+impl<R: Read> Source for FromRead<R> {
+    ghost has_failed = { has_read_failed };
+
+    ghost gives = { λ s piece t.
+        ReadsPiece (R.remaining (reader_of s)) piece (R.remaining (reader_of t)) };
+
+    ghost fails = { λ s t. Keeps (R.remaining (reader_of s)) (R.remaining (reader_of t)) };
+
+    fn failed(&self) -> bool {
+        self.failed
+    }
+
+    fn read(&mut self, buf: &mut [u8]) -> Result<usize, Failed> {
+        match self.inner.read(buf) {
+            Ok(count) => Ok(count),
+            Err(_) => {
+                self.failed = true;
+                Err(Failed)
+            }
+        }
+    }
+}
+
+/// A law, with nothing to run: where a reader tells the bytes that it has left, the pieces that are read,
+/// joined, and then those that are left afterwards are those that were left before.
+pub fn reader_pieces<R: Read>()
+    ensures { (old new : FromRead R) (pieces : List (List ℕ))
+        → Pieces ⟦<FromRead<R> as Source>⟧.gives old pieces new
+        → Consumes (R.remaining (reader_of old)) (R.remaining (reader_of new)) (concat pieces) }
+{}

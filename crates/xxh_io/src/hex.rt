@@ -1,0 +1,25 @@
+//! Numbers in hexadecimal.
+
+ghost use Rattle.std.specs.Prelude.{◌≡◌, ◌<◌, ◌^◌, length};
+ghost use Rattle.xxh_io.specs.Hex.{hex_digit, hex_digits, hex_value};
+
+// The lower-case digit of a number below 16.
+fn digit(n: u8) -> u8
+    requires { n < 16 }
+    ensures { result ≡ hex_digit n }
+{
+    if n < 10 { b'0' + n } else { b'a' - 10 + n }
+}
+
+/// Fills the slice with the value's lowest digits, the lowest of them last.
+#[tactic(auto, using(crate::proofs::HexValue::hex_laws))]
+pub fn write_digits(value: u128, out: &mut [u8])
+    ensures digits { out.new ≡ hex_digits (length out.old) value }
+    ensures value { value < 16 ^ length out.old → hex_value out.new ≡ value }
+{
+    let mut rest = value;
+    for i in (0..out.len()).rev() {
+        out[i] = digit((rest % 16) as u8);
+        rest /= 16;
+    }
+}

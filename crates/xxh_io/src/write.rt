@@ -1,0 +1,42 @@
+//! Bytes and digest lines, written to a sink.
+
+ghost use Rattle.std.specs.Prelude.{◌≡◌, ◌↔◌, ◌≤◌, true, false, Err, IfErr};
+ghost use Rattle.xxh_io.specs.Digest.{Writes};
+ghost use Rattle.xxh_io.specs.Hex.{hex_line};
+
+use crate::ends::{Failed, Sink};
+use crate::error::DigestError;
+use crate::hex::write_digits;
+
+// The most digits that a line has.
+const MOST_DIGITS: usize = 32;
+
+/// Writes all the bytes, as many at a time as the sink takes.
+pub fn write_all<W: Sink>(bytes: &[u8], w: &mut W) -> Result<(), DigestError>
+    requires { W.has_failed w.old ≡ false }
+    ensures writes { Writes W.takes W.refuses bytes.now w.old w.new result }
+    ensures write_failed { (result ≡ Err DigestError.WriteFailed) ↔ (W.has_failed w.new ≡ true) }
+    ensures only { IfErr result (λ e. e ≡ DigestError.WriteFailed) }
+{
+    let mut rest = bytes;
+    while !rest.is_empty() {
+        match w.write(rest) {
+            Ok(count) => rest = &rest[count..],
+            Err(Failed) => return Err(DigestError::WriteFailed),
+        }
+    }
+    Ok(())
+}
+
+/// Writes the value's lowest digits, up to 32 of them, and a line feed.
+pub fn write_line<W: Sink>(value: u128, digits: usize, w: &mut W) -> Result<(), DigestError>
+    requires works { W.has_failed w.old ≡ false }
+    requires room { digits ≤ 32 }
+    ensures writes { Writes W.takes W.refuses (hex_line digits value) w.old w.new result }
+    ensures write_failed { (result ≡ Err DigestError.WriteFailed) ↔ (W.has_failed w.new ≡ true) }
+    ensures only { IfErr result (λ e. e ≡ DigestError.WriteFailed) }
+{
+    let mut line = [b'\n'; MOST_DIGITS + 1];
+    write_digits(value, &mut line[..digits]);
+    write_all(&line[..digits + 1], w)
+}

@@ -1,7 +1,0 @@
-use Rattle.std.proofs.Common.{◌≡◌, ◌++◌, length, drop}
-use Rattle.xxh_program.specs.Hex.{hex_digits}
-use Rattle.xxh_program.proofs.program.hex.write_digits.Given as goal
-
--- the digits to come, and those that are written
-abbrev pub invariant-loop-i : goal.invariant-loop-i
-invariant-loop-i l = hex_digits l.i l.rest ++ drop l.i l.out ≡ hex_digits (length l.fn.out) l.fn.value

@@ -1,0 +1,257 @@
+//! Times calls of the crate beside `xxhash-rust` and, with the feature `original`, the crate whose names these are.
+//! It prints a line a row: the row's name, and the nanoseconds a call of each peer, the best of many turns.
+//!
+//! ```text
+//! speed TURNS
+//! ```
+
+use std::hash::{BuildHasher, Hasher};
+use std::hint::black_box;
+use std::time::{Duration, Instant};
+
+const SEED: u64 = 0x1234_5678_9abc_def0;
+const LENGTHS: [usize; 9] = [4, 16, 32, 64, 128, 240, 1024, 16 << 10, 1 << 20];
+const PIECES: [usize; 4] = [8, 40, 64, 1024];
+// A turn takes some 20 microseconds, so that a turn that nothing interrupts is among a few hundred.
+const TURN: Duration = Duration::from_micros(20);
+
+/// A call on bytes, of which a row has one a peer.
+type Call<'a> = Box<dyn Fn(&[u8]) -> u64 + 'a>;
+
+/// The least time of a call in nanoseconds, over many turns.
+struct Least<'a> {
+    call: Call<'a>,
+    calls_a_turn: u32,
+    nanoseconds: f64,
+}
+
+impl<'a> Least<'a> {
+    fn new(call: Call<'a>, input: &[u8]) -> Self {
+        let mut calls_a_turn = 1;
+        while time(&call, input, calls_a_turn) < TURN {
+            calls_a_turn *= 2;
+        }
+        Least {
+            call,
+            calls_a_turn,
+            nanoseconds: f64::INFINITY,
+        }
+    }
+
+    fn turn(&mut self, input: &[u8]) {
+        let took = time(&self.call, input, self.calls_a_turn).as_nanos() as f64;
+        self.nanoseconds = self.nanoseconds.min(took / f64::from(self.calls_a_turn));
+    }
+}
+
+fn time(call: &Call<'_>, input: &[u8], calls: u32) -> Duration {
+    let start = Instant::now();
+    for _ in 0..calls {
+        black_box(call(black_box(input)));
+    }
+    start.elapsed()
+}
+
+// The peers take turns, so that what disturbs the machine disturbs each.
+fn row(name: &str, turns: u32, input: &[u8], calls: Vec<Call<'_>>) {
+    let mut peers: Vec<Least<'_>> = calls
+        .into_iter()
+        .map(|call| Least::new(call, input))
+        .collect();
+    for _ in 0..turns {
+        peers.iter_mut().for_each(|peer| peer.turn(input));
+    }
+    let times: Vec<String> = peers
+        .iter()
+        .map(|peer| format!("{:.1}", peer.nanoseconds))
+        .collect();
+    println!("{name}\t{}", times.join("\t"));
+}
+
+fn streamed<H: Hasher>(mut hasher: H, input: &[u8], piece: usize) -> u64 {
+    for bytes in input.chunks(piece) {
+        hasher.write(bytes);
+    }
+    hasher.finish()
+}
+
+fn key<S: BuildHasher>(state: &S, input: &[u8]) -> u64 {
+    state.hash_one(u64::from_ne_bytes([input[0]; 8]))
+}
+
+/// The calls of a crate with the names of `twox-hash`, in the order of [`names`].
+macro_rules! calls_of {
+    ($module:ident, $of:ident) => {
+        mod $module {
+            use super::*;
+            use std::hash::BuildHasherDefault;
+            use $of::xxhash3_64::{RawHasher, SecretBuffer};
+            use $of::{xxhash64, XxHash32, XxHash3_128, XxHash3_64, XxHash64};
+
+            pub fn oneshots(secret: &[u8]) -> Vec<Call<'_>> {
+                vec![
+                    Box::new(|input| XxHash32::oneshot(SEED as u32, input).into()),
+                    Box::new(|input| XxHash64::oneshot(SEED, input)),
+                    Box::new(XxHash3_64::oneshot),
+                    Box::new(|input| XxHash3_64::oneshot_with_seed(SEED, input)),
+                    Box::new(|input| XxHash3_64::oneshot_with_secret(secret, input).unwrap()),
+                    Box::new(|input| XxHash3_128::oneshot(input) as u64),
+                    Box::new(|input| XxHash3_128::oneshot_with_seed(SEED, input) as u64),
+                    Box::new(|input| {
+                        XxHash3_128::oneshot_with_secret(secret, input).unwrap() as u64
+                    }),
+                ]
+            }
+
+            pub fn streams<'a>(piece: usize) -> Vec<Call<'a>> {
+                vec![
+                    Box::new(move |input| streamed(XxHash32::with_seed(7), input, piece)),
+                    Box::new(move |input| streamed(XxHash64::with_seed(7), input, piece)),
+                    Box::new(move |input| streamed(XxHash3_64::new(), input, piece)),
+                    Box::new(move |input| {
+                        streamed(RawHasher::new(SecretBuffer::default()), input, piece)
+                    }),
+                ]
+            }
+
+            pub fn others<'a>() -> Vec<Call<'a>> {
+                let of_xxh64 = xxhash64::State::with_seed(7);
+                let of_xxh3 = BuildHasherDefault::<XxHash3_64>::default();
+                vec![
+                    Box::new(move |input| key(&of_xxh64, input)),
+                    Box::new(move |input| key(&of_xxh3, input)),
+                    Box::new(|input| {
+                        streamed(XxHash3_64::with_seed(input[0].into()), &input[..8], 8)
+                    }),
+                ]
+            }
+        }
+    };
+}
+
+calls_of!(ours, twox_hash);
+#[cfg(feature = "original")]
+calls_of!(theirs, original);
+
+mod peer {
+    use super::*;
+    use xxhash_rust::xxh3::{self, Xxh3};
+    use xxhash_rust::{xxh32, xxh64};
+
+    pub fn oneshots(secret: &[u8]) -> Vec<Call<'_>> {
+        vec![
+            Box::new(|input| xxh32::xxh32(input, SEED as u32).into()),
+            Box::new(|input| xxh64::xxh64(input, SEED)),
+            Box::new(xxh3::xxh3_64),
+            Box::new(|input| xxh3::xxh3_64_with_seed(input, SEED)),
+            Box::new(|input| xxh3::xxh3_64_with_secret(input, secret)),
+            Box::new(|input| xxh3::xxh3_128(input) as u64),
+            Box::new(|input| xxh3::xxh3_128_with_seed(input, SEED) as u64),
+            Box::new(|input| xxh3::xxh3_128_with_secret(input, secret) as u64),
+        ]
+    }
+
+    pub fn streams<'a>(piece: usize) -> Vec<Call<'a>> {
+        vec![
+            Box::new(move |input| {
+                let mut hasher = xxh32::Xxh32::new(7);
+                input.chunks(piece).for_each(|bytes| hasher.update(bytes));
+                hasher.digest().into()
+            }),
+            Box::new(move |input| streamed(xxh64::Xxh64::new(7), input, piece)),
+            Box::new(move |input| streamed(Xxh3::new(), input, piece)),
+            Box::new(move |input| streamed(Xxh3::new(), input, piece)),
+        ]
+    }
+
+    pub fn others<'a>() -> Vec<Call<'a>> {
+        let of_xxh64 = xxh64::Xxh64Builder::new(7);
+        let of_xxh3 = xxh3::Xxh3Builder::new();
+        vec![
+            Box::new(move |input| key(&of_xxh64, input)),
+            Box::new(move |input| key(&of_xxh3, input)),
+            Box::new(|input| streamed(Xxh3::with_seed(input[0].into()), &input[..8], 8)),
+        ]
+    }
+}
+
+// One row for each call, with that call of each peer.
+fn rows(names: &[&str], of: &str, turns: u32, input: &[u8], mut peers: Vec<Vec<Call<'_>>>) {
+    for name in names.iter().rev() {
+        let calls = peers.iter_mut().filter_map(Vec::pop).collect();
+        row(&format!("{name}\t{of}"), turns, input, calls);
+    }
+}
+
+fn peers<'a>(
+    of_ours: Vec<Call<'a>>,
+    of_peer: Vec<Call<'a>>,
+    _of_theirs: impl Fn() -> Vec<Call<'a>>,
+) -> Vec<Vec<Call<'a>>> {
+    #[cfg(feature = "original")]
+    return vec![of_ours, of_peer, _of_theirs()];
+    #[cfg(not(feature = "original"))]
+    vec![of_ours, of_peer]
+}
+
+#[cfg(not(feature = "original"))]
+use peer as theirs;
+
+extern "C" {
+    fn twox_rust_interface_1() -> u32;
+}
+
+fn main() {
+    let turns = std::env::args().nth(1).and_then(|word| word.parse().ok());
+    let Some(turns) = turns else {
+        eprintln!("usage: speed TURNS");
+        std::process::exit(2);
+    };
+    let bytes: Vec<u8> = (0..1 << 20)
+        .map(|i: u32| (i.wrapping_mul(0x9e37_79b1) >> 24) as u8)
+        .collect();
+    let secret: Vec<u8> = bytes.iter().rev().copied().take(192).collect();
+    // SAFETY: it takes nothing, and answers a number.
+    row(
+        "an empty call\t",
+        turns,
+        &bytes,
+        vec![Box::new(|_| unsafe { twox_rust_interface_1() }.into())],
+    );
+    for length in LENGTHS {
+        let names = [
+            "XXH32",
+            "XXH64",
+            "XXH3 64",
+            "XXH3 64, seed",
+            "XXH3 64, secret",
+            "XXH3 128",
+            "XXH3 128, seed",
+            "XXH3 128, secret",
+        ];
+        let peers = peers(ours::oneshots(&secret), peer::oneshots(&secret), || {
+            theirs::oneshots(&secret)
+        });
+        rows(&names, &length.to_string(), turns, &bytes[..length], peers);
+    }
+    for piece in PIECES {
+        let names = ["XXH32", "XXH64", "XXH3 64", "XXH3 64, raw"];
+        let peers = peers(ours::streams(piece), peer::streams(piece), || {
+            theirs::streams(piece)
+        });
+        rows(
+            &names,
+            &format!("8192 by {piece}"),
+            turns,
+            &bytes[..8192],
+            peers,
+        );
+    }
+    let names = [
+        "a map's key by XXH64",
+        "a map's key by XXH3",
+        "XXH3 64 with_seed, 8 bytes, finish",
+    ];
+    let peers = peers(ours::others(), peer::others(), || theirs::others());
+    rows(&names, "", turns, &bytes[..8], peers);
+}

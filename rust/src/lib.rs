@@ -1,0 +1,40 @@
+#![doc = include_str!("../README.md")]
+#![cfg_attr(not(feature = "std"), no_std)]
+#![deny(missing_docs, rust_2018_idioms, unsafe_op_in_unsafe_fn)]
+
+#[cfg(not(all(
+    target_arch = "x86_64",
+    target_os = "linux",
+    target_pointer_width = "64"
+)))]
+compile_error!("the proved library is for x86-64 Linux alone: x86_64-unknown-linux-gnu or -musl");
+
+#[cfg(feature = "alloc")]
+extern crate alloc;
+
+mod library;
+
+#[cfg(any(feature = "xxhash32", feature = "xxhash64"))]
+#[macro_use]
+mod plain;
+#[cfg(any(feature = "xxhash3_64", feature = "xxhash3_128"))]
+#[macro_use]
+mod xxhash3;
+
+#[cfg(feature = "xxhash32")]
+pub mod xxhash32;
+#[cfg(feature = "xxhash3_128")]
+pub mod xxhash3_128;
+#[cfg(feature = "xxhash3_64")]
+pub mod xxhash3_64;
+#[cfg(feature = "xxhash64")]
+pub mod xxhash64;
+
+#[cfg(feature = "xxhash32")]
+pub use xxhash32::Hasher as XxHash32;
+#[cfg(feature = "xxhash3_128")]
+pub use xxhash3_128::Hasher as XxHash3_128;
+#[cfg(feature = "xxhash3_64")]
+pub use xxhash3_64::Hasher as XxHash3_64;
+#[cfg(feature = "xxhash64")]
+pub use xxhash64::Hasher as XxHash64;

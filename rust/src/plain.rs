@@ -1,0 +1,310 @@
+//! What XXH32 and XXH64 share: their hashers differ in the width of a word and the length of a stripe.
+
+/// Defines the module of a plain hash.
+macro_rules! plain_hash {
+    (
+        $name:literal, $alias:ident, $module:ident, $word:ty, $stripe:literal, $record:ident,
+        $oneshot:ident, $start:ident, $write:ident, $finish:ident, $test:ident,
+        $initial:expr,
+        $($example:literal)*
+    ) => {
+        use core::fmt;
+        use core::hash::{self, BuildHasher};
+
+        use crate::library::{self, $record};
+
+        #[doc = concat!($name, " of all bytes at once, or of bytes that come in pieces.")]
+        ///
+        /// ```
+        /// use std::hash::Hasher as _;
+        #[doc = concat!("use twox_hash::", stringify!($alias), ";")]
+        ///
+        $(#[doc = $example])*
+        /// ```
+        ///
+        /// Two hashers are equal if they were made with one seed and were given the same bytes; bytes that were
+        /// hashed and stay in memory are compared too.
+        #[derive(Clone, PartialEq)]
+        pub struct Hasher($record);
+
+        impl Hasher {
+            /// The hash of all bytes at once.
+            ///
+            /// ```
+            #[doc = concat!("use twox_hash::", stringify!($alias), ";")]
+            ///
+            #[doc = concat!("let hash = ", stringify!($alias), "::oneshot(1234, b\"some bytes\");")]
+            #[doc = concat!("assert_ne!(hash, ", stringify!($alias), "::oneshot(1234, b\"some other bytes\"));")]
+            /// ```
+            #[must_use]
+            #[inline]
+            pub fn oneshot(seed: $word, data: &[u8]) -> $word {
+                library::$oneshot(data.into(), seed)
+            }
+
+            /// A hasher of no bytes yet, also for a `static`.
+            ///
+            /// ```
+            #[doc = concat!("static EMPTY: twox_hash::", stringify!($alias), " = twox_hash::", stringify!($alias), "::with_seed(7);")]
+            ///
+            /// let hasher = EMPTY.clone();
+            /// assert_eq!(hasher.seed(), 7);
+            /// ```
+            #[must_use]
+            pub const fn with_seed(seed: $word) -> Self {
+                // Constants, since no call can be made here. rust/check compares them with the library's own start.
+                let [v1, v2, v3, v4] = $initial(seed);
+                Self($record {
+                    v1,
+                    seed,
+                    v2,
+                    total_len: 0,
+                    v3,
+                    buffer_usage: 0,
+                    v4,
+                    buffer: [0; $stripe],
+                })
+            }
+
+            /// The seed that the hasher was made with.
+            ///
+            /// ```
+            #[doc = concat!("assert_eq!(twox_hash::", stringify!($alias), "::with_seed(7).seed(), 7);")]
+            /// ```
+            pub const fn seed(&self) -> $word {
+                self.0.seed
+            }
+
+            /// How many bytes were hashed. The count stays at `u64::MAX` once it is there.
+            ///
+            /// ```
+            /// use std::hash::Hasher as _;
+            ///
+            #[doc = concat!("let mut hasher = twox_hash::", stringify!($alias), "::default();")]
+            /// hasher.write(b"some bytes");
+            /// assert_eq!(hasher.total_len(), 10);
+            /// ```
+            pub const fn total_len(&self) -> u64 {
+                self.0.total_len
+            }
+        }
+
+        /// A hasher with the seed 0.
+        impl Default for Hasher {
+            fn default() -> Self {
+                Self::with_seed(0)
+            }
+        }
+
+        impl hash::Hasher for Hasher {
+            #[inline]
+            fn write(&mut self, data: &[u8]) {
+                library::expect_done(library::$write(&mut self.0, data.into()));
+            }
+
+            #[inline]
+            fn finish(&self) -> u64 {
+                let answer = library::$finish(&self.0);
+                library::expect_done(answer.code);
+                answer.value
+            }
+        }
+
+        impl fmt::Debug for Hasher {
+            fn fmt(&self, f: &mut fmt::Formatter<'_>) -> fmt::Result {
+                let Self(record) = self;
+                let accumulators = Accumulators {
+                    acc1: record.v1,
+                    acc2: record.v2,
+                    acc3: record.v3,
+                    acc4: record.v4,
+                };
+                let buffer = Buffer {
+                    offset: record.buffer_usage,
+                    data: words(&record.buffer),
+                };
+                f.debug_struct("Hasher")
+                    .field("seed", &record.seed)
+                    .field("accumulators", &accumulators)
+                    .field("buffer", &buffer)
+                    .field("length", &record.total_len)
+                    .finish()
+            }
+        }
+
+        #[derive(Debug)]
+        #[allow(dead_code, reason = "they are printed")]
+        struct Accumulators {
+            acc1: $word,
+            acc2: $word,
+            acc3: $word,
+            acc4: $word,
+        }
+
+        #[derive(Debug)]
+        #[allow(dead_code, reason = "they are printed")]
+        struct Buffer {
+            offset: usize,
+            data: [$word; 4],
+        }
+
+        // The buffer as words of the processor.
+        fn words(buffer: &[u8; $stripe]) -> [$word; 4] {
+            const BYTES: usize = $stripe / 4;
+            core::array::from_fn(|i| {
+                let mut word = [0; BYTES];
+                word.copy_from_slice(&buffer[i * BYTES..][..BYTES]);
+                <$word>::from_ne_bytes(word)
+            })
+        }
+
+        /// Makes hashers of one seed, as a map wants them.
+        ///
+        /// ```
+        /// use std::collections::HashMap;
+        #[doc = concat!("use twox_hash::", stringify!($module), "::State;")]
+        ///
+        /// let mut colours = HashMap::with_hasher(State::with_seed(7));
+        /// colours.insert("sky", "blue");
+        /// assert_eq!(colours["sky"], "blue");
+        /// ```
+        #[derive(Clone)]
+        pub struct State($word);
+
+        impl State {
+            /// Hashers of this seed.
+            pub fn with_seed(seed: $word) -> Self {
+                Self(seed)
+            }
+        }
+
+        impl BuildHasher for State {
+            type Hasher = Hasher;
+
+            fn build_hasher(&self) -> Hasher {
+                Hasher::with_seed(self.0)
+            }
+        }
+
+        /// Makes hashers of one seed that was drawn at random.
+        ///
+        /// ```
+        /// use std::collections::HashMap;
+        #[doc = concat!("use twox_hash::", stringify!($module), "::RandomState;")]
+        ///
+        /// let mut colours = HashMap::<_, _, RandomState>::default();
+        /// colours.insert("sky", "blue");
+        /// assert_eq!(colours["sky"], "blue");
+        /// ```
+        #[cfg(feature = "random")]
+        #[derive(Clone)]
+        pub struct RandomState(State);
+
+        #[cfg(feature = "random")]
+        impl Default for RandomState {
+            fn default() -> Self {
+                // The seed is the low bits of what the standard library draws for its maps.
+                Self(State::with_seed(crate::plain::drawn() as $word))
+            }
+        }
+
+        #[cfg(feature = "random")]
+        impl BuildHasher for RandomState {
+            type Hasher = Hasher;
+
+            fn build_hasher(&self) -> Hasher {
+                self.0.build_hasher()
+            }
+        }
+
+        // What is saved of a hasher, under the names that texts of all versions have.
+        #[cfg(feature = "serialize")]
+        #[derive(serde::Serialize, serde::Deserialize)]
+        #[serde(rename = "Shim")]
+        struct Saved {
+            total_len: u64,
+            seed: $word,
+            core: Core,
+            buffer: [u8; $stripe],
+            buffer_usage: usize,
+        }
+
+        #[cfg(feature = "serialize")]
+        #[derive(serde::Serialize, serde::Deserialize)]
+        struct Core {
+            v1: $word,
+            v2: $word,
+            v3: $word,
+            v4: $word,
+        }
+
+        #[cfg(feature = "serialize")]
+        impl serde::Serialize for Hasher {
+            fn serialize<S: serde::Serializer>(&self, serializer: S) -> Result<S::Ok, S::Error> {
+                let Self(record) = self;
+                let saved = Saved {
+                    total_len: record.total_len,
+                    seed: record.seed,
+                    core: Core {
+                        v1: record.v1,
+                        v2: record.v2,
+                        v3: record.v3,
+                        v4: record.v4,
+                    },
+                    buffer: record.buffer,
+                    buffer_usage: record.buffer_usage,
+                };
+                saved.serialize(serializer)
+            }
+        }
+
+        /// Takes a record only if hashing some bytes gives it.
+        #[cfg(feature = "serialize")]
+        impl<'de> serde::Deserialize<'de> for Hasher {
+            fn deserialize<D: serde::Deserializer<'de>>(deserializer: D) -> Result<Self, D::Error> {
+                let saved = Saved::deserialize(deserializer)?;
+                let record = $record {
+                    v1: saved.core.v1,
+                    seed: saved.seed,
+                    v2: saved.core.v2,
+                    total_len: saved.total_len,
+                    v3: saved.core.v3,
+                    buffer_usage: saved.buffer_usage,
+                    v4: saved.core.v4,
+                    buffer: saved.buffer,
+                };
+                if library::$test(&record) == library::DONE {
+                    Ok(Self(record))
+                } else {
+                    Err(serde::de::Error::custom(concat!(
+                        "no bytes lead to this record of ",
+                        $name
+                    )))
+                }
+            }
+        }
+
+        #[cfg(test)]
+        mod tests {
+            use super::*;
+
+            #[test]
+            fn with_seed_is_what_the_library_starts_with() {
+                let turns = (0..1000).map(|i| (0x9e37_79b9_7f4a_7c15_u64.wrapping_mul(i)) as $word);
+                for seed in turns.chain([<$word>::MAX, <$word>::MAX / 2]) {
+                    let started = Hasher(library::started(library::$start, seed));
+                    assert_eq!(Hasher::with_seed(seed), started);
+                }
+            }
+        }
+    };
+}
+
+// A word that the standard library draws: its maps' keys come from the system.
+#[cfg(feature = "random")]
+pub(crate) fn drawn() -> u64 {
+    use std::hash::{BuildHasher as _, Hasher as _};
+    std::collections::hash_map::RandomState::new()
+        .build_hasher()
+        .finish()
+}

@@ -1,0 +1,44 @@
+//! XXH32, of 32 bits.
+
+plain_hash! {
+    "XXH32", XxHash32, xxhash32, u32, 16, Record32,
+    xxh32, xxh32_start, xxh32_write, xxh32_finish, xxh32_test,
+    initial_accumulators,
+    "let mut hasher = XxHash32::with_seed(1234);"
+    "hasher.write(b\"some\");"
+    "hasher.write(b\" bytes\");"
+    "assert_eq!(hasher.finish_32(), XxHash32::oneshot(1234, b\"some bytes\"));"
+}
+
+const fn initial_accumulators(seed: u32) -> [u32; 4] {
+    [
+        seed.wrapping_add(0x2423_4428),
+        seed.wrapping_add(0x85eb_ca77),
+        seed,
+        seed.wrapping_add(0x61c8_864f),
+    ]
+}
+
+impl Hasher {
+    /// The hash of the bytes so far. More may be written afterwards. What [`finish`](hash::Hasher::finish) answers is
+    /// the same number as 64 bits, of which the high half is 0.
+    ///
+    /// ```
+    /// let hasher = twox_hash::XxHash32::with_seed(0);
+    /// assert_eq!(hasher.finish_32(), 0x02cc_5d05);
+    /// ```
+    #[must_use]
+    #[inline]
+    pub fn finish_32(&self) -> u32 {
+        hash::Hasher::finish(self) as u32
+    }
+
+    /// The low 32 bits of [`total_len`](Self::total_len), as the hash takes them in.
+    ///
+    /// ```
+    /// assert_eq!(twox_hash::XxHash32::with_seed(7).total_len_32(), 0);
+    /// ```
+    pub const fn total_len_32(&self) -> u32 {
+        self.total_len() as u32
+    }
+}

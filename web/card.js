@@ -1,0 +1,151 @@
+/** A file or a text in the list. */
+import { lineOf } from "./lines.js";
+import { NAMES, copy, copyOf, keyInWords, sizeInWords } from "./words.js";
+
+export class Card {
+  /**
+   * `list` is asked to `start` and to `stop` a card, is told by `changed` what may matter to others, and says by
+   * `shownKinds(card)` which digests are shown. `name` is the file's path as far as the page knows it.
+   */
+  constructor(list, name, blob) {
+    this.list = list;
+    this.name = name;
+    this.hold(blob);
+    this.state = "waiting";
+    this.item = copyOf("card");
+    this.part(".name").textContent = name;
+    this.part("progress").setAttribute("aria-label", `Progress of ${name}`);
+    this.part(".remove").setAttribute("aria-label", `Remove ${name}`);
+    this.part(".act").addEventListener("click", () => this.act());
+    this.part(".more").addEventListener("click", () => this.open(!this.isOpen));
+    this.part(".remove").addEventListener("click", () => list.remove(this));
+    this.show("Waiting");
+  }
+
+  /** Keeps the blob and its size, since a browser may say 0 of a file that has vanished meanwhile. */
+  hold(blob) {
+    this.blob = blob;
+    this.size = blob.size;
+  }
+
+  part(selector) {
+    return this.item.querySelector(selector);
+  }
+
+  /** What the card's button does now: it stops what runs or waits, and starts again what doesn't. */
+  act() {
+    if (this.isBusy()) this.stop();
+    else this.wait();
+  }
+
+  isBusy() {
+    return this.state === "waiting" || this.state === "running";
+  }
+
+  wait() {
+    this.state = "waiting";
+    this.show("Waiting");
+    this.list.startNext();
+  }
+
+  start(key) {
+    this.state = "running";
+    this.started = performance.now();
+    this.used = keyInWords(key.seed, key.secret);
+    this.job = this.list.start(this, key);
+    this.show(sizeInWords(this.size));
+  }
+
+  stop() {
+    if (this.state === "running") this.list.stop(this);
+    else this.end("stopped", "Stopped. There is no digest.");
+  }
+
+  progress(done) {
+    this.part("progress").value = done / this.size;
+    const seconds = (performance.now() - this.started) / 1000;
+    this.tell(`${sizeInWords(done)} of ${sizeInWords(this.size)}, ${sizeInWords(done / seconds)}/s`);
+  }
+
+  finish(digests, milliseconds) {
+    this.digests = digests;
+    const speed = milliseconds >= 1 && this.size > 1e6 ? `, ${sizeInWords(this.size / milliseconds * 1000)}/s` : "";
+    this.end("done", `${sizeInWords(this.size)}${speed}${this.used}`);
+  }
+
+  end(state, words) {
+    this.list.forget(this);
+    this.state = state;
+    this.show(words);
+    this.list.startNext();
+  }
+
+  show(words) {
+    if (this.state !== "done") this.digests = undefined;
+    this.item.classList.toggle("failed", this.state === "failed");
+    this.part("progress").hidden = this.state !== "running";
+    if (this.state !== "running") this.part("progress").value = 0;
+    this.showDigests();
+    this.showButton();
+    this.tell(words);
+    this.list.changed();
+  }
+
+  showDigests() {
+    const kinds = this.digests ? this.list.shownKinds(this) : [];
+    this.part("dl").hidden = kinds.length === 0;
+    this.part("dl").replaceChildren(...kinds.map((kind) => this.digest(kind)));
+    this.part(".more").hidden = !this.digests || !this.list.isCompact;
+  }
+
+  /** Shows all digests, or the one of the list's choice, where the list is compact. */
+  open(isOpen) {
+    this.isOpen = isOpen;
+    this.part(".more").setAttribute("aria-expanded", String(isOpen));
+    this.item.classList.toggle("open", isOpen);
+    this.showDigests();
+  }
+
+  digest(kind) {
+    const row = copyOf("digest");
+    const value = this.digests[kind];
+    const button = row.querySelector("button");
+    row.querySelector("dt").textContent = NAMES[kind];
+    row.querySelector("code").textContent = value ?? "none: the seed has more than 32 bits";
+    row.classList.toggle("none", !value);
+    row.dataset.kind = kind;
+    button.hidden = !value;
+    button.setAttribute("aria-label", `Copy ${NAMES[kind]} of ${this.name}`);
+    button.addEventListener("click", () => copy(value, button, NAMES[kind]));
+    return row;
+  }
+
+  /** The line that xxhsum prints of it; empty where there is no such digest. */
+  line(kind) {
+    return this.digests?.[kind] ? lineOf(kind, this.digests[kind], this.name) : "";
+  }
+
+  showButton() {
+    const word = this.isBusy() ? "Stop" : this.state === "done" ? "" : "Start again";
+    this.part(".act").hidden = !word;
+    this.part(".act").textContent = word;
+    this.part(".act").setAttribute("aria-label", `${word}: ${this.name}`);
+  }
+
+  tell(words) {
+    this.part(".state").textContent = words;
+  }
+
+  /** Shows how it compares: each verdict says whether it is the same, and in words what. */
+  judge(verdicts) {
+    const words = verdicts.map((verdict) => verdict.words).join("\n");
+    if (words === this.judged) return;
+    this.judged = words;
+    this.part(".verdicts").replaceChildren(...verdicts.map(({ isSame, words }) => {
+      const item = document.createElement("li");
+      item.className = isSame ? "same" : "different";
+      item.textContent = words;
+      return item;
+    }));
+  }
+}

@@ -1,0 +1,136 @@
+/** Digests that are expected: the one in the field, and those of checksum files. */
+import { readField } from "./key.js";
+import { readExpected, readList, sameKind } from "./lines.js";
+import { $, NAMES, copyOf, counted } from "./words.js";
+
+/** The digest in the field: shows how the cards compare with it, and gives each card's verdict. */
+export function compareWithField(cards) {
+  const { value: wanted } = readField("expected", () => ($("expected").value.trim() ? readExpected($("expected").value) : undefined));
+  const done = wanted ? cards.filter((card) => card.digests) : [];
+  const verdicts = new Map(done.map((card) => [card, verdictOf(wanted, card, "")]));
+  const same = done.filter((card) => verdicts.get(card).isSame);
+  $("verdict").textContent = wanted ? fieldInWords(wanted, done, same, cards.length) : "";
+  $("verdict").className = same.length ? "same" : done.length ? "different" : "quiet";
+  return verdicts;
+}
+
+function fieldInWords(wanted, done, same, all) {
+  if (all === 0) return "There is nothing to compare it with yet.";
+  if (done.length === 0) return "There is no digest to compare it with yet.";
+  const left = done.length < all ? ` ${all - done.length} more have no digest.` : "";
+  if (same.length === 0) return `Different: ${done.length === 1 ? `no digest of ${done[0].name}` : `none of the ${done.length}`} is this one.${left}`;
+  const others = done.length > same.length ? ` Different from ${counted(done.length - same.length, "other")}.` : "";
+  return `Same: ${NAMES[sameKind(wanted, same[0].digests)]} of ${same.map(({ name }) => name).join(", ")}.${others}${left}`;
+}
+
+function verdictOf(wanted, card, where) {
+  const kind = sameKind(wanted, card.digests);
+  return kind ? { isSame: true, words: `Same${where}: ${NAMES[kind]}` } : { isSame: false, words: `Different${where || " from the expected digest"}` };
+}
+
+/** What a row of a checksum file says, by its card's state. */
+const WITHOUT_DIGEST = { failed: "can't be read", stopped: "stopped", waiting: "waiting", running: "waiting" };
+
+/** The order in which the kinds of rows are counted. */
+const COUNTED = ["same", "different", "can't be read", "not here", "stopped", "waiting"];
+
+/** A checksum file: a row for each of its lines, and the counts at the end. */
+export class Checklist {
+  constructor(list, name, { entries, others }) {
+    this.name = name;
+    this.entries = entries;
+    this.others = others;
+    this.item = copyOf("checklist");
+    this.item.querySelector(".name").textContent = name;
+    this.item.querySelector(".hash").addEventListener("click", () => list.hashInstead(this));
+    this.item.querySelector(".hash").setAttribute("aria-label", `Hash ${name} as a file`);
+    this.item.querySelector(".remove").addEventListener("click", () => list.remove(this));
+    this.item.querySelector(".remove").setAttribute("aria-label", `Remove ${name}`);
+    this.rows = entries.map((entry) => {
+      const row = copyOf("checkrow");
+      row.querySelector(".file").textContent = entry.name;
+      return row;
+    });
+    this.item.querySelector("ol").append(...this.rows);
+  }
+
+  /** Shows how each line compares, and gives the verdicts by their cards. */
+  compare(cards) {
+    const verdicts = new Map();
+    const counts = {};
+    matched(this.entries, cards, this.name).forEach((card, i) => {
+      const verdict = card?.digests && verdictOf(this.entries[i], card, ` as in ${this.name}`);
+      const word = verdict ? (verdict.isSame ? "same" : "different") : card ? WITHOUT_DIGEST[card.state] : "not here";
+      if (verdict) verdicts.set(card, verdict.isSame ? verdict : { ...verdict, words: `Different from ${this.name}` });
+      counts[word] = (counts[word] ?? 0) + 1;
+      this.showRow(this.rows[i].querySelector(".word"), word);
+    });
+    this.showCounts(counts);
+    return verdicts;
+  }
+
+  showRow(place, word) {
+    if (place.textContent === word) return;
+    place.textContent = word;
+    place.className = `word ${word === "same" ? "same" : word === "waiting" ? "quiet" : "different"}`;
+  }
+
+  showCounts(counts) {
+    const words = COUNTED.filter((word) => counts[word]).map((word) => `${counts[word]} ${word}`);
+    if (this.others) words.push(`${counted(this.others, "line")} not understood`);
+    const place = this.item.querySelector(".counts");
+    const isGood = counts.same === this.entries.length && !this.others;
+    place.className = `counts ${isGood ? "same" : counts.waiting ? "quiet" : "different"}`;
+    const text = `${counted(this.entries.length + this.others, "line")}: ${words.join(", ")}.`;
+    if (place.textContent !== text) place.textContent = text;
+    this.item.querySelector(".hint").hidden = !counts["not here"];
+  }
+}
+
+/** For each entry its card, or undefined. A path beside the checksum file comes first, then one that ends alike. */
+function matched(entries, cards, listName) {
+  const byPath = new Map(cards.map((card) => [plain(card.name), card]));
+  const folder = plain(listName).replace(/[^/]*$/, "");
+  const found = entries.map(({ name }) => byPath.get(folder + plain(name)) ?? byPath.get(plain(name)));
+  const taken = new Set(found);
+  const byLast = grouped(cards.filter((card) => !taken.has(card)), ({ name }) => lastOf(name));
+  const left = grouped(entries.filter((_, i) => !found[i]), ({ name }) => lastOf(name));
+  return found.map((card, i) => {
+    const last = lastOf(entries[i].name);
+    // Where two files or two lines of other paths have one name, none is guessed.
+    const isClear = byLast.get(last)?.length === 1 && new Set(left.get(last)?.map(({ name }) => plain(name))).size === 1;
+    return card ?? (isClear && endAlike(entries[i].name, byLast.get(last)[0].name) ? byLast.get(last)[0] : undefined);
+  });
+}
+
+function grouped(items, keyOf) {
+  const groups = new Map();
+  for (const item of items) {
+    const key = keyOf(item);
+    if (groups.has(key)) groups.get(key).push(item);
+    else groups.set(key, [item]);
+  }
+  return groups;
+}
+
+function endAlike(left, right) {
+  const [one, other] = [`/${plain(left)}`, `/${plain(right)}`];
+  return one.endsWith(other) || other.endsWith(one);
+}
+
+function plain(path) {
+  return path.replace(/\\/g, "/").replace(/^(\.\/)+/, "");
+}
+
+function lastOf(path) {
+  return plain(path).split("/").at(-1);
+}
+
+/** The lines of the text, where it is a checksum file's; null where it is none, or no text at all. */
+export async function readChecklist(blob) {
+  try {
+    return readList(new TextDecoder("utf-8", { fatal: true }).decode(await blob.arrayBuffer()));
+  } catch {
+    return null;
+  }
+}

@@ -1,0 +1,40 @@
+/** The files that a user chose or dropped, those in folders among them, as `{ path, file }` in the order of their paths. */
+
+/** Files of an input, whose folder they have in front of their name where a folder was chosen. */
+export function filesOfInput(input) {
+  return byPath([...input.files].map((file) => ({ path: file.webkitRelativePath || file.name, file })));
+}
+
+/** A browser gives those of a folder in any order. */
+function byPath(found) {
+  return found.sort((left, right) => (left.path < right.path ? -1 : 1));
+}
+
+/** Files of a drop. What can't be read has an `error` in place of a file. */
+export async function filesOfDrop({ items }) {
+  // What was dropped is gone after the event, so all entries are asked for before the first wait.
+  const entries = [...items].filter(({ kind }) => kind === "file").map((item) => item.webkitGetAsEntry?.() ?? item.getAsFile());
+  const found = await Promise.all(entries.map((entry) => (entry instanceof File ? [{ path: entry.name, file: entry }] : filesIn(entry))));
+  return byPath(found.flat());
+}
+
+async function filesIn(entry) {
+  const path = entry.fullPath.replace(/^\//, "");
+  try {
+    if (entry.isFile) return [{ path, file: await new Promise((resolve, reject) => entry.file(resolve, reject)) }];
+    return (await Promise.all((await childrenOf(entry)).map(filesIn))).flat();
+  } catch (error) {
+    return [{ path, error }];
+  }
+}
+
+/** A reader gives some at a time, and none at the end. */
+async function childrenOf(folder) {
+  const reader = folder.createReader();
+  const all = [];
+  for (;;) {
+    const some = await new Promise((resolve, reject) => reader.readEntries(resolve, reject));
+    if (some.length === 0) return all;
+    all.push(...some);
+  }
+}

@@ -1,0 +1,55 @@
+/** The fields of the seed and the secret. */
+import { SECRET_MINIMUM_LENGTH } from "./twox_hash.js";
+import { $ } from "./words.js";
+
+/** The seed that is written, undefined where there is none; an error where it is no seed. */
+function readSeed() {
+  const words = $("seed").value.trim();
+  if (words === "") return undefined;
+  if (!/^(0x[0-9a-f]+|[0-9]+)$/i.test(words) || BigInt(words) >= 2n ** 64n) {
+    throw new Error("This is no whole number from 0 to 18446744073709551615, nor one in hexadecimal after 0x.");
+  }
+  return BigInt(words);
+}
+
+/** The secret that is written, undefined where there is none; an error where it is no secret. */
+function readSecret() {
+  const words = $("secret").value;
+  if (words === "") return undefined;
+  const isHex = document.querySelector("[name=form]:checked").value === "hex";
+  const bytes = isHex ? bytesOfHex(words) : new TextEncoder().encode(words);
+  if (bytes.length < SECRET_MINIMUM_LENGTH) {
+    throw new Error(`This secret has ${bytes.length} bytes, and ${SECRET_MINIMUM_LENGTH} are needed.`);
+  }
+  return bytes;
+}
+
+function bytesOfHex(words) {
+  const digits = words.replace(/[\s:]/g, "");
+  const wrong = digits.match(/[^0-9a-f]/i);
+  if (wrong) throw new Error(`"${wrong[0]}" is no hexadecimal digit.`);
+  if (digits.length % 2) throw new Error(`These are ${digits.length} hexadecimal digits, and a byte has two.`);
+  return Uint8Array.from(digits.match(/../g) ?? [], (pair) => parseInt(pair, 16));
+}
+
+/** What a field says, with its error shown: `error` is empty where there is none. */
+export function readField(field, read) {
+  let error = "";
+  let value;
+  try {
+    value = read();
+  } catch (thrown) {
+    error = thrown.message;
+  }
+  if ($(`${field}-error`).textContent !== error) $(`${field}-error`).textContent = error;
+  $(field).setAttribute("aria-invalid", String(error !== ""));
+  return { value, error };
+}
+
+/** The seed and the secret; `wrong` names the fields that are wrong, and is empty where none is. */
+export function readKey() {
+  const seed = readField("seed", readSeed);
+  const secret = readField("secret", readSecret);
+  const wrong = [seed.error && "the seed", secret.error && "the secret"].filter(Boolean).join(" and ");
+  return { seed: seed.value, secret: secret.value, wrong };
+}

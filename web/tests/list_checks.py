@@ -1,0 +1,215 @@
+"""The page with digests that are expected, with many files, and on a small screen."""
+import os
+import subprocess
+import time
+
+from module_checks import WEB
+from report import want
+from values import SOME_BYTES, XXHSUM, line_of, reference
+
+ENDINGS = {"xxh32": "xxh32", "xxh64": "xxh64", "xxh3_64": "xxh3", "xxh3_128": "xxh128"}
+# The rows of the first checksum file that is shown, and its counts.
+ROWS = """const item = document.querySelector(".checklist"); if (!item) return null;
+return { rows: [...item.querySelectorAll("ol li")].map((it) => [it.children[0].textContent, it.children[1].textContent]),
+    counts: item.querySelector(".counts").textContent, hint: !item.querySelector(".hint").hidden };"""
+
+
+def expected(page):
+    """Every way to write a digest that is right, and the same with its last digit changed."""
+    page.set_key("1234")
+    page.choose(page.file("some.txt", b"some bytes"))
+    page.digests("some.txt")
+    short, plain, narrow, wide = (SOME_BYTES[kind] for kind in ("xxh32", "xxh64", "xxh3_64", "xxh3_128"))
+    rows = [(short, "XXH32"), (plain.upper(), "XXH64"), (narrow, "XXH3, 64 bits"), (wide, "XXH3, 128 bits"), ("  0x" + plain, "XXH64"),
+            (plain + "  some.txt", "XXH64"), (wide + " *some.txt", "XXH3, 128 bits"), (f"XXH3 (a (b).txt) = {narrow}", "XXH3, 64 bits"),
+            ("XXH3_" + narrow + "  x", "XXH3, 64 bits"), ("xxh128: " + wide.upper(), "XXH3, 128 bits"),
+            ("XXH3, 64 bits " + narrow, "XXH3, 64 bits"), (f"XXH64_LE (x) = {bytes.fromhex(plain)[::-1].hex()}", "XXH64")]
+    for words, name in rows:
+        page.set_field("expected", words)
+        page.browser.wait("return document.getElementById('verdict').textContent === arguments[0]", f"Same: {name} of some.txt.", seconds=5)
+        want(page.text_of(".card .verdicts") == f"Same: {name}", f"{words}: {page.text_of('.card .verdicts')}")
+    for digits in SOME_BYTES.values():
+        other = digits[:-1] + ("0" if digits[-1] != "0" else "1")
+        page.set_field("expected", other)
+        page.browser.wait("return document.getElementById('verdict').textContent === 'Different: no digest of some.txt is this one.'", seconds=5)
+        want(page.text_of(".card .verdicts") == "Different from the expected digest", page.text_of(".card .verdicts"))
+    page.set_field("expected", f"XXH64 {narrow}")
+    page.browser.wait("return document.getElementById('verdict').textContent.startsWith('Different')", seconds=5)
+    return f"{len(rows)} ways to write one"
+
+
+def no_digest(page):
+    for words in ("hello", "582ee33d9ad8c6e", "582ee33d9ad8c6eg", "582ee33d9ad8c6e99"):
+        page.set_field("expected", words)
+        want("8, 16 or 32" in page.error_of("expected")[0] and page.error_of("expected")[1] == "true", page.error_of("expected"))
+    page.set_field("expected", "XXH64: " + SOME_BYTES["xxh32"])
+    want(page.error_of("expected")[0].startswith("XXH64 has another number of digits"), page.error_of("expected"))
+    page.set_field("expected", "")
+    want(page.error_of("expected") == ["", "false"] and page.text_of("#verdict") == "", page.error_of("expected"))
+
+
+def among_many(page):
+    """Which of several files it is, and how many are others."""
+    paths = [page.file(f"many{i}.bin", bytes([i])) for i in range(5)]
+    page.choose(*paths)
+    page.set_field("expected", reference(paths[3])["xxh3_128"])
+    page.browser.wait("""return document.getElementById('verdict').textContent
+        === 'Same: XXH3, 128 bits of many3.bin. Different from 4 others.'""", seconds=10)
+
+
+def checked(page, rows, counts):
+    """Waits until the checksum file says so."""
+    said = None
+    for _ in range(100):
+        said = page.browser.run(ROWS)
+        if said and said["rows"] == rows and said["counts"] == counts:
+            return said
+        time.sleep(0.05)
+    raise AssertionError(str(said))
+
+
+def checksum_file(page):
+    """Lines of xxhsum in each of its forms: of a file as it is, of one that changed, and of one that is not chosen."""
+    for number, (kind, words) in enumerate([(kind, words) for kind in XXHSUM for words in ([], ["--tag"], ["--tag", "--little-endian"])]):
+        names = [f"right{number}.bin", f"changed{number}.bin", f"absent (1) {number}.bin"]
+        paths = [page.file(name, name.encode() * 100) for name in names]
+        lines = "".join(line_of(name, kind, *words, folder=page.room) for name in names)
+        page.file(names[1], b"other bytes")
+        page.open()
+        page.choose(page.file(f"sums{number}.txt", lines.encode()), *paths[:2])
+        rows = [[names[0], "same"], [names[1], "different"], [names[2], "not here"]]
+        want(checked(page, rows, "3 lines: 1 same, 1 different, 1 not here.")["hint"], "there is no hint")
+        want(page.text_of("#list").count("Same as in sums") == 1, page.text_of("#list"))
+        page.choose(paths[2])
+        checked(page, [*rows[:2], [names[2], "same"]], "3 lines: 2 same, 1 different.")
+    return f"{number + 1} forms"
+
+
+def improper_lines(page):
+    """Lines that are none are counted; a file with more of them is no checksum file, and one may be hashed as a file."""
+    path = page.file("one.bin", b"one")
+    line = line_of("one.bin", "xxh64", folder=page.room)
+    sums = page.file("sums.xxh64", f"# made by hand\r\n\r\n{line.strip()}\r\n{line.strip().upper().replace('ONE.BIN', './one.bin')}\nwhat is this\n".encode())
+    page.choose(path, sums, page.file("prose.txt", f"{line}is what I\nwrote\ndown\n".encode()))
+    checked(page, [["one.bin", "same"], ["./one.bin", "same"]], "3 lines: 2 same, 1 line not understood.")
+    want(page.digests("prose.txt") == reference(os.path.join(page.room, "prose.txt")), "the text isn't hashed as a file")
+    page.browser.click(".checklist .hash")
+    want(page.digests("sums.xxh64") == reference(sums), "it isn't hashed as a file")
+
+
+def folder_of(page, name, files):
+    for path, content in files.items():
+        path = os.path.join(page.room, name, path)
+        os.makedirs(os.path.dirname(path), exist_ok=True)
+        with open(path, "wb") as file:
+            file.write(content)
+    return os.path.join(page.room, name)
+
+
+def folder_chosen(page):
+    """A folder with files of one name in two places, and its own checksum file."""
+    files = {"a/x.bin": b"first", "b/x.bin": b"second", "top.bin": b"third"}
+    folder = folder_of(page, "chosen", files)
+    lines = [line_of(name, "xxh3_128", folder=folder) for name in sorted(files)]
+    folder_of(page, "chosen", {"all.xxh128": "".join(lines).encode()})
+    page.browser.type("#folder", folder)
+    checked(page, [[name, "same"] for name in sorted(files)], "3 lines: 3 same.")
+    for name in files:
+        want(page.digests(f"chosen/{name}") == reference(os.path.join(folder, name)), name)
+
+
+def folder_dropped(page):
+    files = {f"deep/er/{i:03}.bin": bytes([i]) for i in range(120)}
+    folder = folder_of(page, "dropped", files)
+    place = {"x": 200, "y": 200, "data": {"items": [], "files": [folder], "dragOperationsMask": 1}}
+    for kind in ("dragEnter", "dragOver", "drop"):
+        page.browser.devtools("Input.dispatchDragEvent", type=kind, **place)
+    page.browser.wait("return document.querySelectorAll('.card code').length === 120")
+    want(page.digests("dropped/deep/er/077.bin") == reference(os.path.join(folder, "deep/er/077.bin")), "077.bin")
+    return "120 files"
+
+
+def lines_saved(page):
+    """What is saved passes xxhsum -c, in each hash; what is copied is the same."""
+    page.browser.devtools("Browser.grantPermissions", permissions=["clipboardReadWrite", "clipboardSanitizedWrite"], origin=page.address.split("/web")[0])
+    page.browser.devtools("Browser.setDownloadBehavior", behavior="allow", downloadPath=page.room)
+    names = ["a (b).bin", "c d.bin", "e\u00e9\\.bin", "f.bin", "g.bin"]
+    page.choose(*[page.file(name, name.encode() * 1000) for name in names])
+    page.wait_for("g.bin", "'xxh64' in card.digests")
+    for kind in XXHSUM:
+        page.browser.run("""const it = document.getElementById("kind"); it.value = arguments[0]; it.dispatchEvent(new Event("change"));""", kind)
+        want(list(page.card("f.bin")["digests"]) == [kind], page.card("f.bin"))
+        saved = os.path.join(page.room, f"checksums.{ENDINGS[kind]}")
+        page.browser.click("#save")
+        end = time.monotonic() + 10
+        while not os.path.exists(saved) and time.monotonic() < end:
+            time.sleep(0.05)
+        ran = subprocess.run(["xxhsum", "-c", saved], cwd=page.room, capture_output=True, text=True)
+        want(ran.returncode == 0 and ran.stdout.count(": OK") == len(names), ran.stdout + ran.stderr)
+        page.browser.click("#copy-all")
+        page.browser.wait("return document.getElementById('status').textContent === 'all lines copied'", seconds=10)
+        with open(saved, encoding="utf-8") as file:
+            want(page.browser.run("return navigator.clipboard.readText()") == file.read(), "other lines were copied")
+        page.browser.run("document.getElementById('status').textContent = ''")
+    page.set_key("7")
+    page.browser.click("#again")
+    page.browser.wait("return !document.getElementById('lines-note').hidden", seconds=10)
+
+
+def removed(page):
+    """A row that is done, one that runs, and one that waits."""
+    paths = [page.file("short.bin", b"x"), page.file("long.bin", b"x", 3000 << 20), page.file("next.bin", b"some bytes")]
+    page.set_key("1234")
+    page.choose(*paths)
+    page.wait_for("long.bin", "card.isRunning && card.words.includes(' of ')")
+    page.browser.click("[aria-label='Remove short.bin']")
+    want(page.card("short.bin") is None and page.card("long.bin")["isRunning"], "another row was removed")
+    page.browser.click("[aria-label='Remove long.bin']")
+    want(page.digests("next.bin", 20) == SOME_BYTES, page.card("next.bin"))
+    want(page.browser.run("return document.activeElement.ariaLabel") == "Remove next.bin", "the focus is lost")
+    page.browser.click("[aria-label='Remove next.bin']")
+    page.browser.wait("return document.getElementById('results').hidden", seconds=5)
+    os.remove(paths[1])
+
+
+def small_screen(page):
+    """The results come into view, nothing is wider than the screen, and all that is pressed is high enough."""
+    page.browser.devtools("Emulation.setDeviceMetricsOverride", width=390, height=844, deviceScaleFactor=1, mobile=True)
+    try:
+        page.open()
+        page.browser.run("document.getElementById('key').open = true")
+        names = [f"photograph with a long name {i}.jpeg" for i in range(6)]
+        page.choose(*[page.file(name, name.encode()) for name in names])
+        page.digests(names[5])
+        page.browser.wait("const { top } = document.getElementById('results').getBoundingClientRect(); return top >= -1 && top < 300;", seconds=5)
+        low = page.browser.run("""return [...document.querySelectorAll("button, select, summary, .pick label, fieldset label, #expected, #seed, footer a")]
+            .filter((it) => it.checkVisibility() && it.getBoundingClientRect().height < 44).map((it) => it.outerHTML.slice(0, 80))""")
+        want(not low, str(low))
+        wide = page.browser.run("return document.documentElement.scrollWidth")
+        want(wide <= 390, f"{wide} pixels wide")
+    finally:
+        page.browser.devtools("Emulation.clearDeviceMetricsOverride")
+
+
+def opened_as_file(page):
+    """The words that say what to do are seen there, and never on a page that is served."""
+    seen = "const it = document.getElementById('asleep'); return Boolean(it?.checkVisibility({ visibilityProperty: true }) && it.offsetHeight > 20);"
+    want(page.browser.run("return document.getElementById('asleep') === null"), "they stay on the page that is served")
+    page.browser.go("file://" + os.path.join(WEB, "index.html"))
+    page.browser.wait(seen, seconds=10)
+    want("web/open" in page.text_of("#asleep"), page.text_of("#asleep"))
+
+
+LIST_CHECKS = {
+    "an expected digest, in words": expected,
+    "what is no digest is told": no_digest,
+    "an expected digest among many": among_many,
+    "a checksum file with its files": checksum_file,
+    "improper lines of a checksum file": improper_lines,
+    "a folder that is chosen": folder_chosen,
+    "a folder that is dropped": folder_dropped,
+    "lines saved and copied, for xxhsum -c": lines_saved,
+    "one file is removed": removed,
+    "a small screen": small_screen,
+    "opened as a file": opened_as_file,
+}

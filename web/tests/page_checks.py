@@ -1,0 +1,293 @@
+"""The page as a user uses it."""
+import os
+
+import table
+from module_checks import WEB
+from page import Requests
+from report import want
+from values import SOME_BYTES, reference
+
+MIB = 1 << 20
+
+
+def labels(page):
+    lacking = page.browser.run("""return [...document.querySelectorAll("input, textarea, button, progress")]
+        .filter((it) => !(it.labels?.length || it.ariaLabel || it.textContent.trim())).map((it) => it.outerHTML)""")
+    want(not lacking, str(lacking))
+
+
+def text(page):
+    page.set_key("1234")
+    page.browser.type("#text", "some bytes")
+    want(page.digests("Text") == SOME_BYTES, page.card("Text"))
+    page.browser.fill("#text", "")
+    page.browser.run("document.getElementById('text').dispatchEvent(new Event('input', { bubbles: true }))")
+    page.browser.wait("return !document.querySelector('.card')")
+
+
+def large_file(page):
+    block = bytes((i * 167 + (i >> 8) * 13 + (i >> 16)) % 256 for i in range(MIB))
+    path = page.file("hundred.bin", b"".join(bytes([i]) + block for i in range(100)))
+    page.set_key()
+    page.choose(path)
+    want(page.digests("hundred.bin") == reference(path), page.card("hundred.bin"))
+    want(page.browser.run("return document.getElementById('status').textContent") == "hundred.bin: done", "nothing is said")
+    return page.card("hundred.bin")["words"]
+
+
+def small_files(page):
+    names = [f"{length}.bin" for length in (0, 1, 3, 16, 240, 241, 1000, 4 * MIB, 4 * MIB + 1)]
+    paths = [page.file(name, bytes(i % 251 for i in range(int(name[:-4])))) for name in names]
+    page.choose(*paths)
+    for name, path in zip(names, paths):
+        want(page.digests(name) == reference(path), f"{name}: {page.card(name)}")
+    return f"{len(names)} files"
+
+
+def seed_and_secret(page):
+    rows = [table.Row(line) for line in table.lines()]
+    rows = [row for row in rows if not row.is_plain() and row.secret and row.length in (100, 1000, 5000)]
+    tried = [(row, f"row{i}.bin") for i, row in enumerate(rows[:: max(1, len(rows) // 12)])]
+    for row, name in tried:
+        secret = bytes(table.drawn(row.secret[1], row.secret[0]))
+        page.set_key("" if row.seed is None else hex(row.seed), secret.hex(" "))
+        page.choose(page.file(name, bytes(table.drawn(row.start, row.length))))
+        digest = page.digests(name)[row.entry]
+        want(int(digest, 16) == row.answer, f"{row.line}: {digest}")
+    want(len(tried) >= 10, "too few rows")
+    return f"{len(tried)} rows of the reference library"
+
+
+def wide_seed(page):
+    page.set_key(hex(2 ** 32))
+    page.choose(page.file("wide.bin", b"abc"))
+    digests = page.digests("wide.bin")
+    want(digests["xxh32"].startswith("none"), digests["xxh32"])
+    want(len(digests["xxh64"]) == 16, digests["xxh64"])
+
+
+def wrong_seed(page):
+    page.set_key("12x")
+    page.choose(page.file("seed.bin", b"some bytes"))
+    page.browser.wait("return document.getElementById('seed-error').textContent")
+    card, error = page.card("seed.bin"), page.error_of("seed")
+    want("18446744073709551615" in error[0] and error[1] == "true", error)
+    want(not card["digests"] and not card["isRunning"], card)
+    page.set_key(str(2 ** 64))
+    page.browser.wait("return document.getElementById('seed').getAttribute('aria-invalid') === 'true'")
+    page.set_key("1234")
+    want(page.digests("seed.bin") == SOME_BYTES, "the file isn't hashed once the seed is right")
+
+
+def wrong_secret(page):
+    for secret, form, said in (("ab" * 135, "hex", "135 bytes"), ("short", "text", "5 bytes"), ("abc", "hex", "3 hexadecimal digits"),
+                               ("xy", "hex", '"x" is no hexadecimal digit')):
+        page.set_key("", secret, form)
+        page.browser.wait("return document.getElementById('secret-error').textContent.includes(arguments[0])", said, seconds=10)
+        want(page.error_of("secret")[1] == "true", "aria-invalid isn't set")
+    page.set_key("", "short", "text")
+    page.browser.type("#text", "some bytes")
+    page.browser.wait("return document.getElementById('text-error').textContent === 'Not hashed: the secret must be right first.'")
+    card = page.card("Text")
+    want(card["words"] == "Waiting for the secret to be right" and not card["digests"], card)
+    page.set_key("", "\u00e9" * 68, "text")
+    page.browser.wait("return document.getElementById('secret').getAttribute('aria-invalid') === 'false'")
+    page.digests("Text")
+    want(page.text_of("#text-error") == "", page.text_of("#text-error"))
+
+
+def stop_and_start(page):
+    page.set_key()
+    path = page.file("sparse.bin", b"zeros after this", 1500 * MIB)
+    page.choose(path)
+    page.wait_for("sparse.bin", "card.isRunning && card.words.includes(' of ')")
+    page.browser.click(".act")
+    card = page.wait_for("sparse.bin", "card.button === 'Start again'")
+    want(card["words"] == "Stopped. There is no digest." and not card["digests"], card)
+    page.browser.click(".act")
+    want(page.digests("sparse.bin", 300) == reference(path), "other digests after a start again")
+    os.remove(path)
+    return "1,500 MiB"
+
+
+def stop_all(page):
+    """One file runs and one waits: neither has a digest afterwards."""
+    paths = [page.file(name, b"x", 1500 * MIB) for name in ("first.bin", "second.bin")]
+    page.choose(*paths)
+    page.wait_for("first.bin", "card.isRunning && card.words.includes(' of ')")
+    page.browser.click("#stop-all")
+    for name, path in zip(("first.bin", "second.bin"), paths):
+        card = page.wait_for(name, "card.button === 'Start again'")
+        want(card["words"] == "Stopped. There is no digest." and not card["digests"], card)
+        os.remove(path)
+
+
+def dropped(page):
+    page.set_key("1234")
+    page.browser.run("""const carried = new DataTransfer();
+        carried.items.add(new File(["some bytes"], "dropped.txt"));
+        document.body.dispatchEvent(new DragEvent("drop", { bubbles: true, cancelable: true, dataTransfer: carried }));""")
+    want(page.digests("dropped.txt") == SOME_BYTES, page.card("dropped.txt"))
+
+
+def alive(page):
+    """The longest time between two turns of the page's own thread while a file is hashed."""
+    page.browser.run("""window.gap = 0; let last = performance.now();
+        window.turns = setInterval(() => { const now = performance.now(); window.gap = Math.max(window.gap, now - last); last = now; }, 10);""")
+    path = page.file("alive.bin", b"x", 400 * MIB)
+    page.choose(path)
+    page.digests("alive.bin")
+    gap = page.browser.run("clearInterval(window.turns); return window.gap;")
+    os.remove(path)
+    want(gap < 1000, f"{gap:.0f} ms")
+    return f"the longest wait was {gap:.0f} ms"
+
+
+def vanished(page):
+    """Files wait for a seed that is right; meanwhile one vanishes and another changes. The last one is hashed."""
+    page.set_key("wrong")
+    gone, changed, kept = (page.file(name, b"some bytes") for name in ("gone.bin", "changed.bin", "kept.bin"))
+    page.choose(gone, changed, kept)
+    page.wait_for("kept.bin", "true")
+    os.remove(gone)
+    with open(changed, "ab") as file:
+        file.write(b" and more")
+    os.utime(changed, (0, 0))
+    page.set_key("1234")
+    want(page.digests("kept.bin") == SOME_BYTES, "the next file isn't hashed")
+    for name in ("gone.bin", "changed.bin"):
+        card = page.wait_for(name, "card.failed")
+        want("can't be read" in card["words"] and not card["digests"] and card["button"] == "Start again", card)
+
+
+def vanished_while_hashed(page):
+    page.set_key()
+    path, after = page.file("going.bin", b"x", 3000 * MIB), page.file("after.bin", b"some bytes")
+    page.choose(path, after)
+    page.wait_for("going.bin", "card.isRunning && card.words.includes(' of ')")
+    os.remove(path)
+    card = page.wait_for("going.bin", "card.failed")
+    want("can't be read" in card["words"] and not card["digests"], card)
+    want(page.digests("after.bin") == reference(after), "the next file isn't hashed")
+
+
+def focused(page):
+    return page.browser.run("const it = document.activeElement; return it.id || it.ariaLabel || it.textContent.trim() || it.tagName")
+
+
+def keyboard(page):
+    """From the top by Tab alone: every control in the order of the page, the key opened, a digest copied."""
+    page.browser.devtools("Browser.grantPermissions", permissions=["clipboardReadWrite", "clipboardSanitizedWrite"], origin=page.address.split("/web")[0])
+    seen = []
+    for _ in range(5):
+        page.browser.press("Tab")
+        seen.append(focused(page))
+    want(seen == ["files", "folder", "text", "expected", "Seed and secret"], seen)
+    page.browser.press("Enter", "Tab")
+    want(focused(page) == "seed", focused(page))
+    page.browser.command("POST", f"/element/{page.browser.find('#seed')}/value", {"text": "1234"})
+    page.browser.run("document.getElementById('text').focus()")
+    page.browser.type("#text", "some bytes")
+    page.digests("Text")
+    for _ in range(30):
+        page.browser.press("Tab")
+        if focused(page).startswith("Copy XXH64"):
+            break
+    want(focused(page) == "Copy XXH64 of Text", focused(page))
+    want(page.browser.run("return getComputedStyle(document.activeElement).outlineStyle") == "solid", "no focus is shown")
+    page.browser.press("Enter")
+    page.browser.wait("return document.getElementById('status').textContent === 'XXH64 copied'", seconds=10)
+    want(page.browser.run("return navigator.clipboard.readText()") == SOME_BYTES["xxh64"], "another text was copied")
+
+
+def clear(page):
+    page.choose(page.file("one.bin", b"1"))
+    page.digests("one.bin")
+    page.browser.click("#clear")
+    want(page.browser.run("return !document.querySelector('.card') && document.getElementById('results').hidden"), "the list stays")
+    want(focused(page) == "files", "the focus is lost")
+
+
+def again(page):
+    page.set_key()
+    page.choose(page.file("again.bin", b"some bytes"))
+    page.digests("again.bin")
+    page.set_key("1234")
+    page.browser.click("#again")
+    page.wait_for("again.bin", "card.words.includes('seed 1234') && 'xxh64' in card.digests")
+    want(page.digests("again.bin") == SOME_BYTES, page.card("again.bin"))
+
+
+def no_network(page):
+    before = len(Requests.asked)
+    page.choose(page.file("quiet.bin", b"1" * 100000))
+    page.digests("quiet.bin")
+    want(len(Requests.asked) == before, Requests.asked[before:])
+
+
+def links(page):
+    wrong = page.browser.run("""const answers = await Promise.all([...document.links].map(async (it) => [it.href, (await fetch(it.href)).status]));
+        return answers.filter(([, status]) => status !== 200)""")
+    want(not wrong, str(wrong))
+
+
+def schemes(page):
+    grounds = set()
+    for scheme in ("light", "dark"):
+        page.browser.devtools("Emulation.setEmulatedMedia", features=[{"name": "prefers-color-scheme", "value": scheme}])
+        grounds.add(page.browser.run("return getComputedStyle(document.documentElement).backgroundColor"))
+    page.browser.devtools("Emulation.setEmulatedMedia", features=[{"name": "prefers-color-scheme", "value": "light"}])
+    want(len(grounds) == 2, grounds)
+
+
+def no_memory64(page):
+    Requests.lacks_memory64 = True
+    try:
+        page.open()
+        shown = page.browser.run("const it = document.getElementById('unsupported'); return [it.hidden, it.textContent, document.getElementById('files').disabled]")
+    finally:
+        Requests.lacks_memory64 = False
+    want(shown[0] is False and "64-bit WebAssembly memory" in shown[1] and shown[2] is True, shown)
+
+
+PAGE_CHECKS = {
+    "every control has a name": labels,
+    "typed text is hashed, with the seed": text,
+    "100 MB in pieces, as xxhsum": large_file,
+    "files of all ranges of lengths, as xxhsum": small_files,
+    "seeds and secrets": seed_and_secret,
+    "a seed of more than 32 bits gives no XXH32, and the others": wide_seed,
+    "a wrong seed is told, and the file waits for a right one": wrong_seed,
+    "a wrong secret is told, as text and as hexadecimal, and beside the text": wrong_secret,
+    "stopped there is no digest, and started again the right ones": stop_and_start,
+    "stop all": stop_all,
+    "a dropped file": dropped,
+    "the page stays alive": alive,
+    "a file that vanished or changed is told, and the next one hashed": vanished,
+    "the same while it is hashed": vanished_while_hashed,
+    "the keyboard alone": keyboard,
+    "hash again, with another seed": again,
+    "clear": clear,
+    "no request while hashing": no_network,
+    "each link leads to a page": links,
+    "light and dark": schemes,
+    "a browser without 64-bit memory is told so": no_memory64,
+}
+
+
+def take_picture(page):
+    page.open()
+    page.set_key("1234")
+    page.browser.run("document.getElementById('key').open = false")
+    page.browser.type("#text", "some bytes")
+    page.digests("Text")
+    page.choose(page.file("recording.flac", bytes(i % 251 for i in range(MIB)), 96 * MIB))
+    page.digests("recording.flac")
+    page.set_field("expected", SOME_BYTES["xxh64"] + "  some.txt")
+    page.browser.wait("return document.getElementById('verdict').textContent")
+    page.browser.run("document.activeElement.blur(); scrollTo(0, 0)")
+    with open(os.path.join(os.path.dirname(WEB), "docs", "page.png"), "wb") as file:
+        file.write(page.browser.picture("results"))
+    return f"docs/page.png, {os.path.getsize(file.name)} bytes"
+
+

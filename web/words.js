@@ -1,0 +1,54 @@
+/** What the page says, in words. */
+
+/** The names of the digests, in the order in which they are shown. */
+export const NAMES = { xxh32: "XXH32", xxh64: "XXH64", xxh3_64: "XXH3, 64 bits", xxh3_128: "XXH3, 128 bits" };
+
+export const $ = (id) => document.getElementById(id);
+
+/** A copy of what the template holds. */
+export function copyOf(template) {
+  return $(template).content.firstElementChild.cloneNode(true);
+}
+
+export function sizeInWords(bytes) {
+  if (bytes < 1000) return bytes === 1 ? "1 byte" : `${Math.round(bytes)} bytes`;
+  const units = ["kB", "MB", "GB", "TB"];
+  let value = bytes / 1000;
+  let unit = 0;
+  while (value >= 999.5 && unit < units.length - 1) {
+    value /= 1000;
+    unit += 1;
+  }
+  return `${value.toPrecision(3)} ${units[unit]}`;
+}
+
+export function keyInWords(seed, secret) {
+  const words = [];
+  if (seed !== undefined) words.push(`seed ${seed}`);
+  if (secret !== undefined) words.push(`a secret of ${secret.length} bytes`);
+  return words.length ? `, with ${words.join(" and ")}` : "";
+}
+
+/** "1 file" or "2 files". */
+export function counted(number, word) {
+  return `${number} ${word}${number === 1 ? "" : "s"}`;
+}
+
+/** Has a screen reader say it. */
+export function say(words) {
+  $("status").textContent = words;
+}
+
+/** Puts a text into the clipboard, and says on the button that it is there. */
+export async function copy(text, button, what) {
+  const word = button.dataset.word ??= button.textContent;
+  try {
+    await navigator.clipboard.writeText(text);
+    button.textContent = "Copied";
+    say(`${what} copied`);
+  } catch {
+    button.textContent = "Not allowed";
+    say(`This browser doesn't let the page copy ${what}`);
+  }
+  setTimeout(() => { button.textContent = word; }, 1500);
+}
