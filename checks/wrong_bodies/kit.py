@@ -74,8 +74,8 @@ def build_library(crate):
 
 def names_in_build(crate):
     """The functions that a built library has, named as a check names them."""
-    proofs = f"Rattle-{crate.name}-proofs"
-    modules = re.findall(rf'^\["{proofs}\.([^"]*)\.Met"', read(f"{crate.rlib}/toolchain/checked.json"), re.M)
+    start = rf'^\["(?:part/)?Rattle-{crate.name}-proofs\.'
+    modules = re.findall(rf'{start}([^"]*)\.Met"', read(f"{crate.rlib}/toolchain/checked.json"), re.M)
     return {"::".join([crate.name, *it.split(".")]) for it in modules}
 
 

@@ -24,9 +24,9 @@ class Trial:
 
     def begin(self):
         """Sorts the edits of the crate, which has to be proved as it stands."""
-        if kit.is_built(self.crate):
-            names = kit.names_in_build(self.crate)
-        else:
+        names = kit.names_in_build(self.crate) if kit.is_built(self.crate) else set()
+        # A kit may write its build in another form, and then a check says the names.
+        if not names:
             names, self.has_kept = self.check_as_it_stands(), True
         texts = {os.path.relpath(it, self.crate.folder): kit.read(it)
                  for it in kit.rt.rtlib.files_of(self.crate.folder) if it.endswith(".rt")}
