@@ -1,6 +1,7 @@
 """The toolchain's program `rt` as a module: it knows how a crate is checked, and how an edit is tried alone."""
 import importlib.machinery
 import importlib.util
+import json
 import os
 import re
 import shutil
@@ -72,11 +73,19 @@ def build_library(crate):
         sys.exit(f"wrong-bodies: {crate.name} is not proved")
 
 
-def names_in_build(crate):
-    """The functions that a built library has, named as a check names them."""
-    start = rf'^\["(?:part/)?Rattle-{crate.name}-proofs\.'
-    modules = re.findall(rf'{start}([^"]*)\.Met"', read(f"{crate.rlib}/toolchain/checked.json"), re.M)
-    return {"::".join([crate.name, *it.split(".")]) for it in modules}
+def calls_in_build(crate):
+    """What each function of a built library calls, all named as a check names them: the functions that its compiled
+    body names, and the methods of each impl of a trait that it names."""
+    compiled = json.loads(read(f"{crate.rlib}/toolchain/mir.json"))
+    bodies = {name: json.dumps(body) for name, body in compiled if not name.endswith("+decl")}
+    methods = {}
+    for name in bodies:
+        methods.setdefault(name.rpartition("::")[0], set()).add(name)
+    calls = {}
+    for name, body in bodies.items():
+        of_impls = [methods.get(it, set()) for it in re.findall(r'"Impl": \["([^"]*)"', body)]
+        calls[name] = (bodies.keys() & set(re.findall(r'"([^"]*)"', body))).union(*of_impls) - {name}
+    return calls
 
 
 def is_front_end_error(line, texts):

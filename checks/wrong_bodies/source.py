@@ -1,4 +1,4 @@
-"""The functions of a source file: where their bodies stand, how a check names them, and what they mention.
+"""The functions of a source file: where their bodies stand, and how a check names them.
 
 It reads files as `rt fmt` lays them out, where an item ends with the brace in the column in which it starts."""
 import re
@@ -80,24 +80,8 @@ def without_bodies(path, text):
     return "\n".join(it for i, it in enumerate(lines) if i not in hidden)
 
 
-def calls(files, names):
-    """For each checked name, the checked names that its body may call: those whose last part it mentions."""
-    by_last = {}
-    for name in names:
-        by_last.setdefault(name.rpartition("::")[2], set()).add(name)
-    found = {}
-    for path, text in files.items():
-        lines = text.split("\n")
-        for it in functions(path, lines):
-            name = it.checked_name(names)
-            if name:
-                words = set(re.findall(r"\w+", "\n".join(lines[it.first:it.last])))
-                found[name] = {other for word in words for other in by_last.get(word, ())} - {name}
-    return found
-
-
 def reach(calls_of):
-    """The same through any number of calls."""
+    """What each function reaches through any number of calls."""
     found = {}
     for name in calls_of:
         seen, left = set(), [name]

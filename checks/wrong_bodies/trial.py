@@ -1,4 +1,4 @@
-"""A crate's edits while they are tried: what waits, what was said of each, and which function may call which."""
+"""A crate's edits while they are tried: what waits, what was said of each, and which function calls which."""
 import os
 import re
 import sys
@@ -6,9 +6,10 @@ import threading
 
 from . import edits, kit, source
 
-# How many edits share a check. A long batch fills one processor while others idle, and a short one pays as much as a
-# long one for what a check reads before it looks at anything.
-MOST, LEAST = 24, 8
+# The most edits that share a check: a long batch fills one processor while others idle.
+MOST = 24
+# How many functions with an edit are proved without one at the end.
+CONTROLS = 8
 # An error of a proof file that names what the edit took away, which says little of the contract.
 GONE = re.compile(r"has no field|is not in scope|has no `|was not admitted")
 
@@ -19,29 +20,22 @@ class Trial:
         self.lock = threading.Lock()
         self.waiting, self.alone, self.said, self.checks, self.is_ended = [], [], {}, 0, False
         self.controls, self.has_kept = [], False
-        # What each function may call, by the words of its body, and what a check said that it calls.
-        self.may_reach, self.calls = {}, {}
+        # What each function calls, as far as that is known: from the build, and from what checks say.
+        self.calls = {}
 
     def begin(self):
         """Sorts the edits of the crate, which has to be proved as it stands."""
-        names = kit.names_in_build(self.crate) if kit.is_built(self.crate) else set()
-        # A kit may write its build in another form, and then a check says the names.
-        if not names:
+        if kit.is_built(self.crate):
+            self.calls = kit.calls_in_build(self.crate)
+            names = [*self.calls]
+        else:
             names, self.has_kept = self.check_as_it_stands(), True
-        texts = {os.path.relpath(it, self.crate.folder): kit.read(it)
-                 for it in kit.rt.rtlib.files_of(self.crate.folder) if it.endswith(".rt")}
-        self.may_reach = source.reach(source.calls(texts, names))
         for it in (edits.Edit(file, self.crate, names) for file in self.files):
             if it.function:
                 self.waiting.append(it)
             else:
                 self.alone.append((it, "it changes no body, or more than one"))
-        count = {}
-        for it in self.waiting:
-            count[it.function] = count.get(it.function, 0) + 1
-        # A function with many edits needs as many checks, so it is in each batch from the first on.
-        self.waiting.sort(key=lambda it: -count[it.function])
-        self.controls = [*dict.fromkeys(it.function for it in self.waiting)][:LEAST]
+        self.controls = [*dict.fromkeys(it.function for it in self.waiting)][:CONTROLS]
 
     def check_as_it_stands(self, only=()):
         """The functions that are proved so."""
@@ -57,27 +51,25 @@ class Trial:
         self.is_ended = True
 
     def batch(self):
-        """The next edits to try together: one a function. A function with proof files of its own shows its own errors
-        there, whatever it calls; any other isn't tried beside a function that it may call. Where few are left so,
-        only known calls count: what they hide is tried again."""
+        """The next edits to try together, first those that fit beside the fewest others."""
         with self.lock:
-            chosen = self.apart(self.may_reach)
-            if len(chosen) < LEAST and len(chosen) < len(self.waiting):
-                chosen = self.apart(source.reach(self.calls))
+            reach = source.reach(self.calls)
+            unfit = {it: [other for other in self.waiting if self.are_apart(it, other, reach)] for it in self.waiting}
+            chosen = []
+            for it in sorted(self.waiting, key=lambda it: -len(unfit[it])):
+                if len(chosen) < MOST and not any(other in chosen for other in unfit[it]):
+                    chosen.append(it)
             self.waiting = [it for it in self.waiting if it not in chosen]
             return chosen
 
-    def apart(self, reach):
-        chosen = {}
-        for it in self.waiting:
-            hides = [other for other in chosen.values() if self.may_hide(it, other, reach) or self.may_hide(other, it, reach)]
-            if len(chosen) < MOST and it.function not in chosen and not hides:
-                chosen[it.function] = it
-        return [*chosen.values()]
+    def are_apart(self, one, other, reach):
+        """Whether a check with both says nothing of one: they change one function, or one hides the other."""
+        return one.function == other.function or self.hides(one, other, reach) or self.hides(other, one, reach)
 
-    def may_hide(self, one, other, reach):
-        has_files = os.path.isdir(f"{self.crate.folder}/{one.proof_folder()}")
-        return not has_files and other.function in reach.get(one.function, ())
+    def hides(self, one, other, reach):
+        """Whether the other's function calls that of the one. With proof files of its own it shows its own errors."""
+        has_files = os.path.isdir(f"{self.crate.folder}/{other.proof_folder()}")
+        return not has_files and one.function in reach.get(other.function, ())
 
     def try_batch(self, batch):
         """Tries these edits in one check. What it can't judge waits again, or waits to be tried alone."""
