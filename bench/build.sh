@@ -4,6 +4,8 @@ room=$(mktemp -d)
 trap 'rm -rf "$room"' EXIT
 sets=(x86-64-v2 x86-64-v3)
 libraries=
+# Each function begins at a multiple of 64 bytes: the speed of a short call moves with the code before it.
+aligned=-falign-functions=64
 debian_library=/usr/lib/x86_64-linux-gnu/libxxhash.so.0
 
 # Stops with a message.
@@ -43,13 +45,15 @@ our_library() {
         [ -f "${libraries[-1]}" ] || fail "rt lib made no library of $crate in $tree"
     done
     ld -r --whole-archive "${libraries[@]}" -o "$file"
+    # As c/build places them, and as the peers are compiled ($aligned).
+    objcopy --set-section-alignment '.text.*=64' "$file"
 }
 
-# link_layouts SET PEERS OBJECT..: links $room/SET/driver_1 to driver_5, the same objects in five layouts: a short
-# call moves by a tenth with the place where its code lies, so each round runs another layout. PEERS are the
-# names of the peers in the objects, and $libraries are linked beside them.
+# link_layouts SET PEERS OBJECT..: links $room/SET/driver_1 to driver_5, the same objects in five orders, since a
+# short call moves with the place where its code lies: each round runs another. PEERS are the names of the peers in
+# the objects, and $libraries are linked beside them.
 link_layouts() {
-    local set=$1 peers=$2 objects=("${@:3}") reversed=() object place pads=(0 16 32 48 0)
+    local set=$1 peers=$2 objects=("${@:3}") place
     {
         echo '#include "peer.h"'
         for peer in $peers; do echo "extern const struct peer $peer;"; done
@@ -58,14 +62,10 @@ link_layouts() {
     } > "$room/$set/peers.c"
     gcc -O3 -I. -c "$room/$set/peers.c" -o "$room/$set/peers.o"
     gcc -O3 -Wall -Wextra -c driver.c -o "$room/$set/driver.o"
-    for object in "${objects[@]}"; do reversed=("$object" "${reversed[@]}"); done
     for place in 1 2 3 4 5; do
-        echo ".text; .balign 64; .fill ${pads[place - 1]}, 1, 0x90; .section .note.GNU-stack,\"\",@progbits" \
-            | gcc -c -x assembler - -o "$room/$set/pad.o"
-        [ $((place % 2)) = 1 ] || objects=("${reversed[@]}")
-        gcc "$room/$set/pad.o" "${objects[@]}" "$room/$set/driver.o" "$room/$set/peers.o" $libraries \
-            -o "$room/$set/driver_$place" || fail "the driver was not linked"
-        objects=("${@:3}")
+        gcc "${objects[@]}" "$room/$set/driver.o" "$room/$set/peers.o" $libraries -o "$room/$set/driver_$place" \
+            || fail "the driver was not linked"
+        objects=("${objects[@]:1}" "${objects[0]}")
     done
 }
 

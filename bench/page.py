@@ -74,10 +74,20 @@ def chosen(rows, forms, low, high, names=None):
     return [it for it in rows if it.form in forms and low <= it.size <= high and (not names or it.name in names)]
 
 
-def summary(parts):
-    lines = [[name, *(ranged([best(it) for it in chosen(parts[s], forms, low, high)]) for s in SETS)]
+def summary(parts, ratio):
+    lines = [[name, *(ranged([ratio(it) for it in chosen(parts[s], forms, low, high)]) for s in SETS)]
              for name, forms, low, high in SUMMARY]
     return markdown(["what", "x86-64-v2, the default", "x86-64-v3"], lines)
+
+
+def twox_hash(parts):
+    """The same lines beside the Rust crate whose names ours has, where bench/run was given its sources."""
+    rows = {s: [it for it in parts[s] if "twox_hash" in it.peers] for s in SETS}
+    if not all(rows.values()):
+        return []
+    return ["## Beside the Rust crate `twox-hash`", "",
+            "The crate's sources, 2.1.5, built for the same set. It takes AVX2 at run time where the processor has it, at x86-64-v2 too.", "",
+            *summary(rows, lambda it: it.peers["twox_hash"].median)]
 
 
 def lowest(parts):
@@ -197,6 +207,7 @@ A peer's time over ours: 1 is level, more is faster. A cell is the median over h
 What is known of them stands in [TUNING.md](TUNING.md).
 
 #GOALS
+#TWOX_HASH
 ## The library for C, by C's names
 
 The time of Debian's `libxxhash.so.0` over that of ours at x86-64-v3, both in one process.
@@ -223,12 +234,12 @@ Instructions of the reference's header, by gcc 12 -O3, over ours for one call, c
 
 #SAID
 - One process measures all peers in turns, by processor time. A figure is the median of five rounds apart in time, and a round the best of eleven turns.
-- In each round the code lies in another place, since a call of a few nanoseconds moves by a tenth with it.
+- Each function begins at a multiple of 64 bytes, as in our library for C; Debian's library is as Debian made it. In each round they are linked in another order: a call of a few nanoseconds moves with the place where its code lies.
 - *By best times* is a peer's best of all rounds over our best: a virtual machine slows for minutes, and a median mixes both. *Spread* is how far the rounds of a ratio lie apart.
 - Each peer is called through a pointer to one function of the same signature. The header's code is compiled into it, with the seed 0 and the default secret; Debian's library is one call further away, and built for plain x86-64.
 - Ours takes an address in a room of 64 MiB and a length, and compares it with the room. The peers' one-shots make that comparison too: of 16 to 32 bytes it is a tenth of a call.
 """
-    drawn = {"SUMMARY": summary(parts), "LOWEST": lowest(parts), "GOALS": goals(parts), "SHARED": shared(parts["c"]),
+    drawn = {"SUMMARY": summary(parts, best), "TWOX_HASH": twox_hash(parts), "LOWEST": lowest(parts), "GOALS": goals(parts), "SHARED": shared(parts["c"]),
              "DISPATCH": dispatch(), "WASM": wasm(parts["wasm"]), "PROGRAMS": programs(parts["program"]),
              "KERNELS": kernels(parts), "ARM": arm(), "SAID": [f"- {it}" for it in said]}
     return "\n".join(line for it in text.rstrip("\n").split("\n") for line in drawn.get(it[1:], [it])) + "\n"

@@ -55,21 +55,22 @@ def processor():
         return next((it.split(":", 1)[1].strip() for it in lines if it.startswith("model name")), "an unknown processor")
 
 
-def origin(before, after):
+def origin(before, after, peers):
     """The date, the machine and what built the peers."""
     rust = os.path.basename(glob.glob("/usr/share/cargo/registry/xxhash-rust-*")[0])
     return [f"Measured on {datetime.date.today().isoformat()}, on {processor()} with {os.cpu_count()} virtual cores "
             f"({command('uname', '-sr')}).",
             f"Compilers: {command('gcc', '--version')}; {command('clang', '--version')}; {command('rustc', '--version')}.",
-            f"Peers: {command('xxhsum', '--version')}; {rust}.",
+            f"Peers: {command('xxhsum', '--version')}; {rust}{'; twox-hash 2.1.5' if 'twox_hash' in peers else ''}.",
             f"Load average {before} before the run and {after} after it, of which the run itself is 1."]
 
 
 def main(room, data, file_size, before, after):
     rows = [it for name in ("x86-64-v2", "x86-64-v3") for it in rows_of(room, name, name)]
+    said = origin(before, after, rows[0].peers)
     rows += rows_of(room, "shared", "c")
     _, web = measured.read(os.path.join(room, "web.tsv"))
-    measured.write(origin(before, after), [*rows, *web, *programs(room, int(file_size))], os.path.join(data, "measured.tsv"))
+    measured.write(said, [*rows, *web, *programs(room, int(file_size))], os.path.join(data, "measured.tsv"))
 
 
 main(*sys.argv[1:])

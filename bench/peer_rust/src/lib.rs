@@ -88,6 +88,9 @@ macro_rules! stream {
     };
 }
 
+#[cfg(feature = "twox_hash")]
+mod of_twox_hash;
+
 fn digest_128(hasher: &xxh3::Xxh3) -> Halves {
     halves(hasher.digest128())
 }
