@@ -1,0 +1,28 @@
+-- What a table of names leads to.
+use Rattle.std.specs.Prelude.{◌≡◌, ℕ, List, Bool, true, false, Option, Some, option_map, find, bytes_eq, unwrap_or, MatchOption, pos}
+use Rattle.xxhsum_files.specs.declared.memory.MemoryEntry.{MemoryEntry}
+use Rattle.xxhsum_files.specs.declared.memory.MemoryFiles.{MemoryFiles}
+use Rattle.xxhsum_files.specs.declared.store.Refusal.{Refusal}
+
+-- the table
+abbrev pub entries_of : {S : Type 0} → MemoryFiles S → List (MemoryEntry S)
+entries_of files = files.entries.now
+
+-- the first entry of this name
+abbrev pub entry_named : {S : Type 0} → MemoryFiles S → List ℕ → Option (MemoryEntry S)
+entry_named files name = find (λ entry. bytes_eq entry.name.now name) (entries_of files)
+
+-- the file is the source of the name's first entry, as the table has it
+abbrev pub LeadsTo : {S : Type 0} → MemoryFiles S → List ℕ → S → Type 0
+LeadsTo files name file = option_map (λ entry. entry.source) (entry_named files name) ≡ Some file
+
+-- 2, as for a missing file, where there is no such name; 5, as for a failed read, where its source has failed
+abbrev pub RefusedFor : {S : Type 0} → (S → Bool) → MemoryFiles S → List ℕ → Refusal → Type 0
+RefusedFor has_failed files name why =
+    MatchOption (entry_named files name) (why.code ≡ pos 2)
+    (λ entry. (has_failed entry.source ≡ true) × (why.code ≡ pos 5))
+
+-- the name's first entry is a directory's
+abbrev pub is_directory_named : {S : Type 0} → MemoryFiles S → List ℕ → Bool
+is_directory_named files name =
+    unwrap_or (option_map (λ entry. entry.is_directory) (entry_named files name)) false

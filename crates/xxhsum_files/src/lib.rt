@@ -1,0 +1,6 @@
+//! Files by names that are bytes: what `xxhsum` opens, from the system or from a table in memory.
+#![tactic(auto)]
+
+pub mod memory;
+pub mod store;
+pub mod system;

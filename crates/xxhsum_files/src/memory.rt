@@ -1,0 +1,72 @@
+//! Files in memory, for tests: a table of names and of the sources that they lead to.
+
+ghost use Rattle.std.specs.Prelude.{◌≡◌};
+ghost use Rattle.std.specs.Option.{option_copied};
+ghost use Rattle.xxhsum_files.specs.Memory.{entries_of, entry_named, is_directory_named, LeadsTo, RefusedFor};
+
+use crate::store::{Refusal, Store};
+use xxh_io::ends::Source;
+
+const NO_SUCH_FILE: Refusal = Refusal { code: libc::ENOENT };
+
+const READ_FAILED: Refusal = Refusal { code: libc::EIO };
+
+/// A name, and what it leads to.
+#[derive(Clone, Copy)]
+pub struct MemoryEntry<'a, S> {
+    pub name: &'a [u8],
+    /// What each file that is opened by this name gives, from its start.
+    pub source: S,
+    pub is_directory: bool,
+}
+
+/// A table of names as a store. Where a name stands twice, the first entry counts.
+///
+/// Over `SliceSource` a name gives just the bytes of the slice; over `ScriptSource` a read may fail too.
+#[derive(Clone, Copy)]
+pub struct MemoryFiles<'a, S> {
+    entries: &'a [MemoryEntry<'a, S>],
+}
+
+impl<'a, S: Copy> MemoryFiles<'a, S> {
+    /// The store of this table.
+    pub fn new(entries: &'a [MemoryEntry<'a, S>]) -> MemoryFiles<'a, S>
+        ensures { entries_of result ≡ entries.now }
+    {
+        MemoryFiles { entries }
+    }
+
+    // The first entry of this name.
+    fn find(&self, name: &[u8]) -> Option<&MemoryEntry<'a, S>>
+        ensures { option_copied result ≡ entry_named self.now name.now }
+    {
+        self.entries.iter().find(|entry| entry.name == name)
+    }
+}
+
+impl<S: Source + Copy> Store for MemoryFiles<'_, S> {
+    type File = S;
+
+    ghost opens = { LeadsTo };
+
+    ghost refuses = { RefusedFor S.has_failed };
+
+    ghost holds_directory = { λ store name answer. answer ≡ is_directory_named store name };
+
+    fn is_directory(&self, name: &[u8]) -> bool {
+        match self.find(name) {
+            Some(entry) => entry.is_directory,
+            None => false,
+        }
+    }
+
+    fn open(&self, name: &[u8]) -> Result<S, Refusal> {
+        let Some(entry) = self.find(name) else {
+            return Err(NO_SUCH_FILE);
+        };
+        if entry.source.failed() {
+            return Err(READ_FAILED);
+        }
+        Ok(entry.source)
+    }
+}

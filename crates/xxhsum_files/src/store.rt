@@ -1,0 +1,37 @@
+//! What files are opened from.
+
+ghost use Rattle.std.specs.Prelude.{◌≡◌, false, List, ℕ, Bool, IfOk, IfErr};
+ghost use Rattle.xxhsum_files.specs.declared.store.Refusal.{Refusal};
+
+use xxh_io::ends::Source;
+
+/// Why a name gave no file.
+#[derive(Clone, Copy, Debug, PartialEq, Eq)]
+pub struct Refusal {
+    /// The system's number of the error, as `ENOENT`.
+    pub code: i32,
+}
+
+/// Files by name. A name is bytes, as the system has it: no UTF-8 is asked for.
+pub trait Store {
+    type File: Source + Drop;
+
+    // The name leads to this file, as it is before anything is read.
+    ghost opens: { Self → List ℕ → Self.File → Type 0 };
+
+    // The name leads to no file, for this reason.
+    ghost refuses: { Self → List ℕ → Refusal → Type 0 };
+
+    // Whether the name is a directory's, as far as the store can say.
+    ghost holds_directory: { Self → List ℕ → Bool → Type 0 };
+
+    /// Whether the name is a directory's.
+    fn is_directory(&self, name: &[u8]) -> bool
+        ensures { holds_directory self.now name.now result };
+
+    /// Opens the file of this name for reading. Its first read may still fail, as a directory's does.
+    fn open(&self, name: &[u8]) -> Result<Self::File, Refusal>
+        ensures opens { IfOk result (λ file. opens self.now name.now file) }
+        ensures works { IfOk result (λ file. Self.File.has_failed file ≡ false) }
+        ensures refuses { IfErr result (λ why. refuses self.now name.now why) };
+}
