@@ -3,7 +3,5 @@
 #![tactic(auto)]
 
 pub mod digits;
-
-
-
-
+pub mod parts;
+pub mod tags;
