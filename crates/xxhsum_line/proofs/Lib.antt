@@ -1,2 +1,4 @@
 pub mod NumberFacts
 pub mod TurnFacts
+pub mod LackFacts
+pub mod PartFacts
