@@ -2,3 +2,5 @@ pub mod NumberFacts
 pub mod TurnFacts
 pub mod LackFacts
 pub mod PartFacts
+pub mod EntryFacts
+pub mod ShownFacts

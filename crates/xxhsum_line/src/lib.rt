@@ -3,5 +3,7 @@
 #![tactic(auto)]
 
 pub mod digits;
+pub mod entry;
 pub mod parts;
+pub mod printed;
 pub mod tags;
