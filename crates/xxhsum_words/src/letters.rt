@@ -9,16 +9,15 @@ use xxh_io::kind::Kind;
 
 /// A letter that was read: the options after it, and how many of the letters that follow belong to it.
 #[derive(Clone, Copy, Debug, PartialEq, Eq)]
-pub struct Letter {
+pub(crate) struct Letter {
     pub options: Options,
     pub taken: usize,
 }
 
 /// What the letters of a word do, one after another.
-pub fn letters(word: &[u8], options: Options) -> Step
+pub(crate) fn letters(word: &[u8], mut options: Options) -> Step
     ensures { result ≡ letters_step 0 options word.now }
 {
-    let mut options = options;
     let mut rest = word;
     while let Some((letter, after)) = rest.split_first() {
         match letter_at(*letter, after, options) {
@@ -33,30 +32,21 @@ pub fn letters(word: &[u8], options: Options) -> Step
 }
 
 // What a letter does that stands before these others. An error is what it asks for, whatever follows.
-fn letter_at(letter: u8, after: &[u8], options: Options) -> Result<Letter, Asked>
+fn letter_at(letter: u8, after: &[u8], mut options: Options) -> Result<Letter, Asked>
     ensures letter { result ≡ letter_of options letter after.now }
     ensures within { IfOk result (λ read. read.taken ≤ length after.now) }
 {
-    let options = match letter {
+    match letter {
         b'V' => return Err(Asked::Version),
         b'h' => return Err(Asked::Help),
         b'b' => return Err(Asked::Benchmark),
         b'H' => return kind_letter(after, options),
         b'i' | b'B' => return skipped_letter(after, options),
-        b'c' => Options {
-            checks: true,
-            ..options
-        },
-        b'q' => Options {
-            is_quiet: true,
-            ..options
-        },
-        b'w' => Options {
-            warns: true,
-            ..options
-        },
+        b'c' => options.checks = true,
+        b'q' => options.is_quiet = true,
+        b'w' => options.warns = true,
         _ => return Err(Asked::BadUsage),
-    };
+    }
     Ok(Letter { options, taken: 0 })
 }
 

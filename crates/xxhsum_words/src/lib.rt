@@ -1,7 +1,7 @@
 //! What the words of `xxhsum`'s command line ask for.
 #![tactic(auto)]
 
-pub mod letters;
+mod letters;
 pub mod name;
-pub mod number;
+mod number;
 pub mod options;

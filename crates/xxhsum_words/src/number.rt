@@ -6,7 +6,7 @@ ghost use Rattle.xxhsum_words.specs.Number.{digits_of, number_of, suffix_letters
 
 /// A number at the start of letters.
 #[derive(Clone, Copy, Debug, PartialEq, Eq)]
-pub struct Number {
+pub(crate) struct Number {
     pub value: u32,
     /// How many letters write it, its unit among them.
     pub letters: usize,
@@ -14,7 +14,7 @@ pub struct Number {
 
 /// A unit at the start of letters.
 #[derive(Clone, Copy, Debug, PartialEq, Eq)]
-pub struct Unit {
+pub(crate) struct Unit {
     pub factor: u32,
     /// How many letters write it.
     pub letters: usize,
@@ -24,7 +24,7 @@ pub struct Unit {
 const MOST_BEFORE_A_DIGIT: u32 = 429_496_728;
 
 /// The number at the start of the letters, 0 where they begin with no digit; `None` where it is too large.
-pub fn number_at(letters: &[u8]) -> Option<Number>
+pub(crate) fn number_at(letters: &[u8]) -> Option<Number>
     ensures number { result ≡ number_of letters.now }
     ensures within { IfSome result (λ number. number.letters ≤ length letters.now) }
 {

@@ -48,7 +48,7 @@ pub enum Asked {
 
 /// What one word does.
 #[derive(Clone, Copy, Debug, PartialEq, Eq)]
-pub enum Step {
+pub(crate) enum Step {
     /// It is an option. After it these options hold.
     Takes(Options),
     /// It is a name, so the options have ended before it.
@@ -112,47 +112,27 @@ fn word_step(word: &[u8], options: Options) -> Step
 }
 
 // What `--` and this name do.
-fn long_step(name: &[u8], options: Options) -> Step
+fn long_step(name: &[u8], mut options: Options) -> Step
     ensures { result ≡ long_step options name.now }
 {
-    Step::Takes(if is(name, "check") {
-        Options {
-            checks: true,
-            ..options
-        }
+    if is(name, "check") {
+        options.checks = true;
     } else if is(name, "quiet") {
-        Options {
-            is_quiet: true,
-            ..options
-        }
+        options.is_quiet = true;
     } else if is(name, "status") {
-        Options {
-            is_status_only: true,
-            ..options
-        }
+        options.is_status_only = true;
     } else if is(name, "strict") {
-        Options {
-            is_strict: true,
-            ..options
-        }
+        options.is_strict = true;
     } else if is(name, "warn") {
-        Options {
-            warns: true,
-            ..options
-        }
+        options.warns = true;
     } else if is(name, "tag") {
-        Options {
-            is_tagged: true,
-            ..options
-        }
+        options.is_tagged = true;
     } else if is(name, "little-endian") {
-        Options {
-            is_little_endian: true,
-            ..options
-        }
+        options.is_little_endian = true;
     } else {
         return long_end(name);
-    })
+    }
+    Step::Takes(options)
 }
 
 // What `--` and this name do, where it is the last option that is read.
