@@ -1,0 +1,4 @@
+pub mod LetterFacts
+pub mod ListFacts
+pub mod NameFacts
+pub mod NumberFacts

@@ -1,0 +1,10 @@
+use Rattle.std.proofs.Common.{◌≡◌, length}
+use Rattle.xxhsum_words.specs.Letters.{letters_step}
+use Rattle.xxhsum_words.proofs.letters.letters.Given as goal
+
+-- the letters that are left decide, after the options so far
+abbrev pub invariant-loop-letter : goal.invariant-loop-letter
+invariant-loop-letter l = letters_step 0 l.fn.options l.fn.word ≡ letters_step 0 l.options l.rest
+
+abbrev pub decreases-loop-letter : goal.decreases-loop-letter
+decreases-loop-letter l = length l.rest

@@ -1,0 +1,77 @@
+-- What a word of letters does, each an option.
+use Rattle.std.proofs.Common.{zero, suc}
+use Rattle.std.specs.Prelude.{ℕ, List, [], ◌∷◌, true, ◌==◌, ◌||◌, Option, Some, None, if◌then◌else◌}
+use Rattle.std.specs.declared.result.Result.{Result}
+use Rattle.std.specs.declared.result.Result.TheVariants.{Ok, Err}
+use Rattle.xxh_io.specs.declared.kind.Kind.{Kind}
+use Rattle.xxh_io.specs.declared.kind.Kind.TheVariants.{X32, X64, X3_64, X3_128}
+use Rattle.xxhsum_words.specs.declared.letters.Letter.{Letter}
+use Rattle.xxhsum_words.specs.declared.number.Number.{Number}
+use Rattle.xxhsum_words.specs.declared.options.Asked.{Asked}
+use Rattle.xxhsum_words.specs.declared.options.Asked.TheVariants.{Benchmark, Version, Help, BadUsage, NumberTooLarge}
+use Rattle.xxhsum_words.specs.declared.options.Options.{Options}
+use Rattle.xxhsum_words.specs.declared.options.Step.{Step}
+use Rattle.xxhsum_words.specs.declared.options.Step.TheVariants.{Takes, Settles}
+use Rattle.xxhsum_words.specs.Number.{number_of}
+
+-- the kind of this number of -H
+abbrev pub numbered_kind : ℕ → Option Kind
+numbered_kind number =
+    if number == 0 || number == 32 then Some X32
+    else if number == 1 || number == 64 then Some X64
+    else if number == 2 || number == 128 then Some X3_128
+    else if number == 3 then Some X3_64
+    else None
+
+-- a letter with no others that belong to it
+abbrev pub alone : Options → Result Letter Asked
+alone options = Ok (record { options = options; taken = 0 })
+
+-- H: its number names the kind
+abbrev pub with_kind : Options → ℕ → Option Kind → Result Letter Asked
+with_kind options taken (Some kind) = Ok (record { options = record options { kind = kind }; taken = taken })
+with_kind options taken None = Err BadUsage
+
+abbrev pub with_number : Options → Option Number → Result Letter Asked
+with_number options (Some number) = with_kind options number.letters (numbered_kind number.value)
+with_number options None = Err NumberTooLarge
+
+abbrev pub kind_step : Options → List ℕ → Result Letter Asked
+kind_step options after = with_number options (number_of after)
+
+-- i and B: their number changes nothing
+abbrev pub past_number : Options → Option Number → Result Letter Asked
+past_number options (Some number) = Ok (record { options = options; taken = number.letters })
+past_number options None = Err NumberTooLarge
+
+abbrev pub skipped_number : Options → List ℕ → Result Letter Asked
+skipped_number options after = past_number options (number_of after)
+
+-- what a letter does that stands before these others
+abbrev pub letter_of : Options → ℕ → List ℕ → Result Letter Asked
+letter_of options letter after =
+    -- V, h, b
+    if letter == 86 then Err Version
+    else if letter == 104 then Err Help
+    else if letter == 98 then Err Benchmark
+    -- H
+    else if letter == 72 then kind_step options after
+    -- i, B
+    else if letter == 105 || letter == 66 then skipped_number options after
+    -- c, q, w
+    else if letter == 99 then alone (record options { checks = true })
+    else if letter == 113 then alone (record options { is_quiet = true })
+    else if letter == 119 then alone (record options { warns = true })
+    else Err BadUsage
+
+-- the letters that belong to this one are passed over
+abbrev pub after_letter : Result Letter Asked → (ℕ → Options → Step) → Step
+after_letter (Ok read) go_on = go_on read.taken read.options
+after_letter (Err asked) go_on = Settles asked
+
+-- what the letters do, but for this many of them, which belong to the letter before
+abbrev pub letters_step : ℕ → Options → List ℕ → Step
+letters_step passed options [] = Takes options
+letters_step (suc passed) options (letter ∷ after) = letters_step passed options after
+letters_step zero options (letter ∷ after) =
+    after_letter (letter_of options letter after) (λ taken next. letters_step taken next after)

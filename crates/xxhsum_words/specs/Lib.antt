@@ -1,0 +1,4 @@
+pub mod Letters
+pub mod Name
+pub mod Number
+pub mod Options

@@ -1,0 +1,71 @@
+-- What the words of the command line ask for.
+use Rattle.std.specs.Prelude.{ℕ, ◌+◌, List, [], ◌∷◌, drop, true, false, bytes_eq, codes, if◌then◌else◌}
+use Rattle.xxh_io.specs.declared.kind.Kind.{Kind}
+use Rattle.xxhsum_words.specs.declared.options.Asked.{Asked}
+use Rattle.xxhsum_words.specs.declared.options.Asked.TheVariants.{Run, Benchmark, Version, Help, BadUsage}
+use Rattle.xxhsum_words.specs.declared.options.Options.{Options}
+use Rattle.xxhsum_words.specs.declared.options.Step.{Step}
+use Rattle.xxhsum_words.specs.declared.options.Step.TheVariants.{Takes, EndsBefore, EndsAfter, Settles}
+use Rattle.xxhsum_words.specs.Letters.{letters_step}
+use Rattle.xxhsum_words.specs.Number.{begins_with}
+
+-- no option was read
+abbrev pub no_options : Kind → Options
+no_options kind = record {
+  kind = kind;
+  checks = false;
+  is_quiet = false;
+  is_status_only = false;
+  is_strict = false;
+  warns = false;
+  is_tagged = false;
+  is_little_endian = false;
+  takes_terminal = false;
+}
+
+-- what `--` and this name do, where it is the last option that is read
+abbrev pub long_end : List ℕ → Step
+long_end name =
+    if bytes_eq name (codes "") then EndsAfter
+    else if bytes_eq name (codes "help") then Settles Help
+    else if bytes_eq name (codes "version") then Settles Version
+    else if bytes_eq name (codes "bench-all") then Settles Benchmark
+    else Settles BadUsage
+
+-- what `--` and this name do
+abbrev pub long_step : Options → List ℕ → Step
+long_step options name =
+    if bytes_eq name (codes "check") then Takes (record options { checks = true })
+    else if bytes_eq name (codes "quiet") then Takes (record options { is_quiet = true })
+    else if bytes_eq name (codes "status") then Takes (record options { is_status_only = true })
+    else if bytes_eq name (codes "strict") then Takes (record options { is_strict = true })
+    else if bytes_eq name (codes "warn") then Takes (record options { warns = true })
+    else if bytes_eq name (codes "tag") then Takes (record options { is_tagged = true })
+    else if bytes_eq name (codes "little-endian")
+    then Takes (record options { is_little_endian = true })
+    else long_end name
+
+-- what the word does after words that made these options
+abbrev pub word_step : Options → List ℕ → Step
+word_step options word =
+    if begins_with (codes "--") word then long_step options (drop 2 word)
+    else if bytes_eq word (codes "-") then Takes (record options { takes_terminal = true })
+    else if begins_with (codes "-") word then letters_step 0 options (drop 1 word)
+    else EndsBefore
+
+-- a word that is no option ends them
+abbrev pub after_word : Step → ℕ → Options → (Options → Asked) → Asked
+after_word (Takes next) at options go_on = go_on next
+after_word EndsBefore at options go_on = Run options at
+after_word EndsAfter at options go_on = Run options (at + 1)
+after_word (Settles asked) at options go_on = asked
+
+-- what the words ask for that stand after this many others, which made these options
+abbrev pub asked_after : ℕ → Options → List (List ℕ) → Asked
+asked_after at options [] = Run options at
+asked_after at options (word ∷ words) =
+    after_word (word_step options word) at options (λ next. asked_after (at + 1) next words)
+
+-- what the words after the program's name ask for
+abbrev pub asked_of : Kind → List (List ℕ) → Asked
+asked_of kind words = asked_after 0 (no_options kind) words

@@ -1,0 +1,89 @@
+//! A word of letters, each an option, after a single `-`.
+
+ghost use Rattle.std.specs.Prelude.{◌≡◌, ◌≤◌, length, IfOk};
+ghost use Rattle.xxhsum_words.specs.Letters.{kind_step, letter_of, letters_step, numbered_kind, skipped_number};
+
+use crate::number::number_at;
+use crate::options::{Asked, Options, Step};
+use xxh_io::kind::Kind;
+
+/// A letter that was read: the options after it, and how many of the letters that follow belong to it.
+#[derive(Clone, Copy, Debug, PartialEq, Eq)]
+pub(crate) struct Letter {
+    pub options: Options,
+    pub taken: usize,
+}
+
+/// What the letters of a word do, one after another.
+pub(crate) fn letters(word: &[u8], mut options: Options) -> Step
+    ensures { result ≡ letters_step 0 options word.now }
+{
+    let mut rest = word;
+    while let Some((letter, after)) = rest.split_first() {
+        match letter_at(*letter, after, options) {
+            Ok(read) => {
+                options = read.options;
+                rest = &after[read.taken..];
+            }
+            Err(asked) => return Step::Settles(asked),
+        }
+    }
+    Step::Takes(options)
+}
+
+// What a letter does that stands before these others. An error is what it asks for, whatever follows.
+fn letter_at(letter: u8, after: &[u8], mut options: Options) -> Result<Letter, Asked>
+    ensures letter { result ≡ letter_of options letter after.now }
+    ensures within { IfOk result (λ read. read.taken ≤ length after.now) }
+{
+    match letter {
+        b'V' => return Err(Asked::Version),
+        b'h' => return Err(Asked::Help),
+        b'b' => return Err(Asked::Benchmark),
+        b'H' => return kind_letter(after, options),
+        b'i' | b'B' => return skipped_letter(after, options),
+        b'c' => options.checks = true,
+        b'q' => options.is_quiet = true,
+        b'w' => options.warns = true,
+        _ => return Err(Asked::BadUsage),
+    }
+    Ok(Letter { options, taken: 0 })
+}
+
+// `H`: the number after it names the kind.
+fn kind_letter(after: &[u8], options: Options) -> Result<Letter, Asked>
+    ensures letter { result ≡ kind_step options after.now }
+    ensures within { IfOk result (λ read. read.taken ≤ length after.now) }
+{
+    let number = number_at(after).ok_or(Asked::NumberTooLarge)?;
+    let kind = numbered_kind(number.value).ok_or(Asked::BadUsage)?;
+    Ok(Letter {
+        options: Options { kind, ..options },
+        taken: number.letters,
+    })
+}
+
+// `i` and `B`: the number after it belongs to benchmarks, and changes nothing.
+fn skipped_letter(after: &[u8], options: Options) -> Result<Letter, Asked>
+    ensures letter { result ≡ skipped_number options after.now }
+    ensures within { IfOk result (λ read. read.taken ≤ length after.now) }
+{
+    let number = number_at(after).ok_or(Asked::NumberTooLarge)?;
+    Ok(Letter {
+        options,
+        taken: number.letters,
+    })
+}
+
+// The kind of this number of `-H`.
+fn numbered_kind(number: u32) -> Option<Kind>
+    ensures { result ≡ numbered_kind number }
+{
+    match number {
+        0 | 32 => Some(Kind::X32),
+        1 | 64 => Some(Kind::X64),
+        2 | 128 => Some(Kind::X3_128),
+        3 => Some(Kind::X3_64),
+        _ => None,
+    }
+}
