@@ -1,0 +1,4 @@
+pub mod HashNames
+pub mod Lines
+pub mod Outcomes
+pub mod Told
