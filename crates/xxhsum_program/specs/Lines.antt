@@ -1,7 +1,8 @@
 -- The lines of the names, and what was written of them.
-use Rattle.std.specs.Prelude.{◌≡◌, ℕ, List, [], ◌∷◌, ◌++◌, codes}
+use Rattle.std.specs.Prelude.{◌≡◌, ℕ, List, [], ◌∷◌, ◌++◌, codes, IfErr}
 use Rattle.std.specs.declared.result.Result.{Result}
 use Rattle.std.specs.declared.result.Result.TheVariants.{Ok, Err}
+use Rattle.xxh_io.specs.declared.error.DigestError.{DigestError}
 use Rattle.xxh_io.specs.declared.error.DigestError.TheVariants.{ReadFailed, WriteFailed, TooLong}
 use Rattle.xxh_io.specs.declared.kind.Kind.{Kind}
 use Rattle.xxh_io.specs.Pieces.{Step, Failing}
@@ -53,3 +54,11 @@ PrintsLines takes refuses lines old new (Err (Digest WriteFailed)) = Refused tak
 PrintsLines takes refuses lines old new (Err (Digest ReadFailed)) = Took takes lines old new
 PrintsLines takes refuses lines old new (Err (Digest TooLong)) = Took takes lines old new
 PrintsLines takes refuses lines old new (Err OutOfMemory) = Took takes lines old new
+
+-- Where the reading came to its end, the line was written, as far as the answer says; where it didn't, nothing was, and
+-- the answer says why.
+abbrev pub PrintsInput : {W T V : Type 0} → Step W → Failing W → List ℕ → Result V DigestError → W → W
+    → Result T Stop → Type 0
+PrintsInput takes refuses line (Ok value) old new result =
+    PrintsLine takes refuses line old new result × IfErr result IsOfWriting
+PrintsInput takes refuses line (Err e) old new result = (result ≡ Err (Digest e)) × (new ≡ old)

@@ -1,17 +1,25 @@
 //! Digest lines of named files.
 
-ghost use Rattle.std.specs.Prelude.{◌≡◌, ◌++◌, [], false, List, ℕ, map, IfOk, IfErr};
+ghost use Rattle.std.specs.Prelude.{◌≡◌, ◌++◌, [], false, List, ℕ, Result, map, IfOk, IfErr};
+ghost use Rattle.std.specs.List.{concat};
+ghost use Rattle.xxh_io.specs.Digest.{ReadsOn};
+ghost use Rattle.xxh_io.specs.Pieces.{NoneEmpty};
+ghost use Rattle.xxh_io.specs.declared.error.DigestError.{DigestError};
+ghost use Rattle.xxh_program.specs.Kind.{value_of};
+ghost use Rattle.xxh_program.specs.States.{most_reads};
+ghost use Rattle.xxhsum_line.specs.Printed.{line_of};
 ghost use Rattle.xxhsum_program.specs.HashNames.{HashesNames};
-ghost use Rattle.xxhsum_program.specs.Lines.{IsOfWriting, PrintsLine, PrintsLines, lines_of, printed_line, told_line};
+ghost use Rattle.xxhsum_program.specs.Lines.{IsOfWriting, PrintsInput, PrintsLine, PrintsLines, lines_of, printed_line, told_line};
 ghost use Rattle.xxhsum_program.specs.Told.{Told};
 
-use crate::outcome::{Outcome, outcome_of};
+use crate::outcome::{MAX_READS, Outcome, outcome_of};
 use crate::stop::Stop;
 use crate::tell::tell;
 use std::alloc::Global;
-use xxh_io::ends::Sink;
+use xxh_io::ends::{Sink, Source};
 use xxh_io::kind::Kind;
 use xxh_io::write::write_all;
+use xxh_program::program::value_of_source;
 use xxhsum_files::store::Store;
 use xxhsum_line::printed::{Shape, digest_line};
 
@@ -56,6 +64,33 @@ pub fn hash_names<S: Store, W: Sink, E: Sink>(
         all = all && outcome.is_digested();
     }
     Ok(all)
+}
+
+/// Writes the digest line of what the source gives, under this name.
+///
+/// The caller shows that neither end has failed.
+///
+/// # Errors
+///
+/// [`Stop::Digest`] where a read or a write fails, and [`Stop::OutOfMemory`] where there is no memory for the line.
+pub fn hash_input<R: Source, W: Sink>(
+    alloc: Global,
+    kind: Kind,
+    shape: Shape,
+    name: &[u8],
+    input: &mut R,
+    out: &mut W,
+) -> Result<(), Stop>
+    requires reader { R.has_failed input.old ≡ false }
+    requires writer { W.has_failed out.old ≡ false }
+    ensures { (pieces : List (List ℕ)) × (read : Result ℕ DigestError) × NoneEmpty pieces
+        × ReadsOn R.gives R.fails most_reads pieces input.old input.new read
+        × PrintsInput W.takes W.refuses (line_of kind shape (value_of kind 0 (concat pieces)) name.now) read
+        out.old out.new result }
+{
+    let value = value_of_source(kind, 0, MAX_READS, input, &mut [0; OFFERED])?;
+    let line = digest_line(alloc, kind, shape, value, name)?;
+    Ok(write_all(&line, out)?)
 }
 
 // Writes the digest line of a name that has a value.

@@ -11,7 +11,7 @@ use xxhsum_files::refusal::Refusal;
 use xxhsum_files::store::Store;
 
 // How many reads a file has at most.
-const MAX_READS: u64 = u64::MAX;
+pub(crate) const MAX_READS: u64 = u64::MAX;
 
 /// What became of a name.
 #[derive(Clone, Copy, Debug, PartialEq, Eq)]

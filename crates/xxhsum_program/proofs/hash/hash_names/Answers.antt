@@ -1,9 +1,8 @@
-use Rattle.std.proofs.Common.{◌≡◌, ◌+◌, ◌∷◌, ◌++◌, [], List, ℕ, Ok, Err, map, take, drop, refl, sym, subst, ◌∙◌, ap, rules}
+use Rattle.std.proofs.Common.{◌≡◌, ◌+◌, ◌∷◌, ◌++◌, [], Ok, Err, map, take, drop, refl, sym, subst, ap, rules}
 use Rattle.std.proofs.lemmas.List.{take_more, map-append}
 use Rattle.xxh_io.proofs.WriteFacts.{Took-join}
-use Rattle.xxhsum_program.specs.HashNames.{EachComes}
 use Rattle.xxhsum_program.specs.Outcomes.{Comes, FailsOn}
-use Rattle.xxhsum_program.specs.Lines.{PrintsLine, lines_of, printed_line, told_line}
+use Rattle.xxhsum_program.specs.Lines.{PrintsLine, printed_line, told_line}
 use Rattle.xxhsum_program.proofs.HashFacts.{is-err, map-split, ends-reading, prints-reading, stops-printing}
 use Rattle.xxhsum_program.proofs.OutcomeFacts.{EachComes-push, lines-push, are_digested-push, never-writing}
 use Rattle.xxhsum_program.proofs.hash.hash_names.Goals as goal

@@ -1,4 +1,4 @@
-use Rattle.std.proofs.Common.{◌≡◌, ℕ, List, take, map, false}
+use Rattle.std.proofs.Common.{◌≡◌, List, take, map, false}
 use Rattle.xxh_io.specs.Digest.{Took}
 use Rattle.xxhsum_program.specs.declared.outcome.Outcome.{Outcome}
 use Rattle.xxhsum_program.specs.Outcomes.{Comes, are_digested}

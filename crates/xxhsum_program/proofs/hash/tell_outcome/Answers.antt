@@ -1,5 +1,4 @@
 use Rattle.std.proofs.Common.{◌++◌, sym, subst}
-use Rattle.xxhsum_files.specs.Refusal.{refusal_text}
 use Rattle.xxhsum_program.specs.Told.{Told}
 use Rattle.xxhsum_program.specs.Lines.{told_line}
 use Rattle.xxhsum_program.proofs.ToldFacts.{Told-three, Told-five}
