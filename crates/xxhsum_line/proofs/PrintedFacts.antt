@@ -1,5 +1,5 @@
 -- Printed lines are accepted.
-use Rattle.std.proofs.Common.{◌≡◌, ◌≢◌, ℕ, ◌<◌, ◌^◌, Bool, true, false, not, List, [], ◌∷◌, ◌++◌, length, Some, inl, inr, refl, sym, ap, subst, ◌∙◌, arith, ◌==◌, ◌&&◌, if◌then◌else◌}
+use Rattle.std.proofs.Common.{◌≡◌, ◌≢◌, ℕ, ◌<◌, ◌^◌, Bool, true, false, List, [], ◌∷◌, ◌++◌, length, Some, inl, inr, refl, sym, ap, subst, ◌∙◌, arith, ◌≤◌, nat_lt, ◌&&◌, if◌then◌else◌}
 use Rattle.std.proofs.lemmas.Bool.{and_parts}
 use Rattle.std.proofs.lemmas.List.{same_from_push}
 use Rattle.std.proofs.lemmas.Bool.Decides.{nat_tests}
@@ -16,49 +16,31 @@ use Rattle.xxhsum_line.specs.Tags.{kind_of_count, kind_of_tag, is_little_tag}
 use Rattle.xxhsum_line.proofs.LackFacts.{lacks_both, up_to_nul_whole}
 use Rattle.xxhsum_line.proofs.ShownFacts.{lacks_shown, length-shown, value_shown-shown}
 
--- a test of literals
-abbrev lacks_test : ℕ → List ℕ → Bool
-lacks_test b [] = true
-lacks_test b (c ∷ cs) = not (c == b) && lacks_test b cs
+-- a test of literals: each byte is above the space
+abbrev above_space : List ℕ → Bool
+above_space [] = true
+above_space (c ∷ cs) = nat_lt 32 c && above_space cs
 
-lacks_by_test : (b : ℕ) (l : List ℕ) → lacks_test b l ≡ true → Lacks b l
-lacks_by_test b [] h = tt
-lacks_by_test b (c ∷ l) h =
-    let parts = and_parts (not (c == b)) (lacks_test b l) h in
-    let here : not (c == b) ≡ true = parts.0 in
+lacks_up_to_space : (b : ℕ) (l : List ℕ) → b ≤ 32 → above_space l ≡ true → Lacks b l
+lacks_up_to_space b [] low h = tt
+lacks_up_to_space b (c ∷ l) low h =
+    let parts = and_parts (nat_lt 32 c) (above_space l) h in
+    let here : nat_lt 32 c ≡ true = parts.0 in
     let differs : c ≢ b = λ e. grind (arith, nat_tests) in
-    (differs, lacks_by_test b l parts.1)
+    (differs, lacks_up_to_space b l low parts.1)
 
--- the tags lack what is no part of a line, and spaces
-tag_has_no_space : (kind : Kind) (is_little : Bool) → lacks_test 32 (full_tag kind is_little) ≡ true
-tag_has_no_space X32 true = refl
-tag_has_no_space X32 false = refl
-tag_has_no_space X64 true = refl
-tag_has_no_space X64 false = refl
-tag_has_no_space X3_64 true = refl
-tag_has_no_space X3_64 false = refl
-tag_has_no_space X3_128 true = refl
-tag_has_no_space X3_128 false = refl
+tag_is_above_space : (kind : Kind) (is_little : Bool) → above_space (full_tag kind is_little) ≡ true
+tag_is_above_space X32 true = refl
+tag_is_above_space X32 false = refl
+tag_is_above_space X64 true = refl
+tag_is_above_space X64 false = refl
+tag_is_above_space X3_64 true = refl
+tag_is_above_space X3_64 false = refl
+tag_is_above_space X3_128 true = refl
+tag_is_above_space X3_128 false = refl
 
-tag_has_no_nul : (kind : Kind) (is_little : Bool) → lacks_test 0 (full_tag kind is_little) ≡ true
-tag_has_no_nul X32 true = refl
-tag_has_no_nul X32 false = refl
-tag_has_no_nul X64 true = refl
-tag_has_no_nul X64 false = refl
-tag_has_no_nul X3_64 true = refl
-tag_has_no_nul X3_64 false = refl
-tag_has_no_nul X3_128 true = refl
-tag_has_no_nul X3_128 false = refl
-
-tag_has_no_line_feed : (kind : Kind) (is_little : Bool) → lacks_test 10 (full_tag kind is_little) ≡ true
-tag_has_no_line_feed X32 true = refl
-tag_has_no_line_feed X32 false = refl
-tag_has_no_line_feed X64 true = refl
-tag_has_no_line_feed X64 false = refl
-tag_has_no_line_feed X3_64 true = refl
-tag_has_no_line_feed X3_64 false = refl
-tag_has_no_line_feed X3_128 true = refl
-tag_has_no_line_feed X3_128 false = refl
+tag_lacks : (b : ℕ) (kind : Kind) (is_little : Bool) → b ≤ 32 → Lacks b (full_tag kind is_little)
+tag_lacks b kind is_little low = lacks_up_to_space b (full_tag kind is_little) low (tag_is_above_space kind is_little)
 
 -- a tag names its kind, and the order of bytes
 tag_names_kind : (kind : Kind) (is_little : Bool) → kind_of_tag (full_tag kind is_little) ≡ kind
@@ -90,8 +72,9 @@ lacks_plain b kind is_little value name low h =
     lacks_both b (shown kind is_little value) (32 ∷ 32 ∷ name) (lacks_shown b kind is_little value digit) (space, (space, h))
 
 lacks_tagged : (b : ℕ) (kind : Kind) (is_little : Bool) (value : ℕ) (name : List ℕ) → b < 32 → Lacks b name
-    → Lacks b (full_tag kind is_little) → Lacks b (tagged_text kind is_little value name)
-lacks_tagged b kind is_little value name low h tag =
+    → Lacks b (tagged_text kind is_little value name)
+lacks_tagged b kind is_little value name low h =
+    let small : b ≤ 32 = omega arith in
     let digit : b < 48 = omega arith in
     let space : 32 ≢ b = λ e. omega arith in
     let opening : 40 ≢ b = λ e. omega arith in
@@ -100,7 +83,7 @@ lacks_tagged b kind is_little value name low h tag =
     let digits : Lacks b (shown kind is_little value) = lacks_shown b kind is_little value digit in
     let end : Lacks b (name ++ 41 ∷ 32 ∷ 61 ∷ 32 ∷ shown kind is_little value) =
         lacks_both b name (41 ∷ 32 ∷ 61 ∷ 32 ∷ shown kind is_little value) h (closing, (space, (equals, (space, digits)))) in
-    lacks_both b (full_tag kind is_little) (32 ∷ 40 ∷ (name ++ 41 ∷ 32 ∷ 61 ∷ 32 ∷ shown kind is_little value)) tag (space, (opening, end))
+    lacks_both b (full_tag kind is_little) (32 ∷ 40 ∷ (name ++ 41 ∷ 32 ∷ 61 ∷ 32 ∷ shown kind is_little value)) (tag_lacks b kind is_little small) (space, (opening, end))
 
 plain_says : (kind : Kind) (is_little : Bool) (value : ℕ) (name : List ℕ) → kind_of_count (digits_of kind) ≡ Some kind
     → value < 16 ^ digits_of kind → Lacks 0 name → Says is_little (plain_text kind is_little value name) kind value name
@@ -125,10 +108,9 @@ tagged_says kind is_little value name fits h =
         ap (λ b. value_shown kind b (shown kind is_little value)) (tag_names_order kind is_little) ∙ value_shown-shown kind is_little value fits in
     let says : TextSays is_little text kind value name =
         inr (tag, shown kind is_little value,
-             (refl, lacks_by_test 32 tag (tag_has_no_space kind is_little), lacks_shown 32 kind is_little value below),
+             (refl, tag_lacks 32 kind is_little (omega arith), lacks_shown 32 kind is_little value below),
              tag_names_kind kind is_little, shows) in
-    let no_nul = lacks_tagged 0 kind is_little value name low h (lacks_by_test 0 tag (tag_has_no_nul kind is_little)) in
-    subst (λ t. TextSays is_little t kind value name) (sym (up_to_nul_whole text no_nul)) says
+    subst (λ t. TextSays is_little t kind value name) (sym (up_to_nul_whole text (lacks_tagged 0 kind is_little value name low h))) says
 
 either_says : (kind : Kind) (is_little is_tagged : Bool) (value : ℕ) (name : List ℕ) → kind_of_count (digits_of kind) ≡ Some kind
     → value < 16 ^ digits_of kind → Lacks 0 name
@@ -146,7 +128,7 @@ either_is_one_line : (kind : Kind) (is_little is_tagged : Bool) (value : ℕ) (n
     → Lacks 10 (if is_tagged then tagged_text kind is_little value name else plain_text kind is_little value name)
 either_is_one_line kind is_little true value name h =
     let low : 10 < 32 = omega arith in
-    lacks_tagged 10 kind is_little value name low h (lacks_by_test 10 (full_tag kind is_little) (tag_has_no_line_feed kind is_little))
+    lacks_tagged 10 kind is_little value name low h
 either_is_one_line kind is_little false value name h =
     let low : 10 < 32 = omega arith in
     lacks_plain 10 kind is_little value name low h

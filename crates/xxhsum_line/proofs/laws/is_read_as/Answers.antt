@@ -7,5 +7,8 @@ pub returns-in-Some : goal.returns-in-Some
 returns-in-Some c =
     let entry = c.in-Some.entry in
     let same = says_same c.args.is_little (up_to_nul c.args.text.now) entry.kind entry.value entry.name.now
-        c.args.kind c.args.value c.args.name.now c.in-Some.ensures c.requires in
+        c.args.kind c.args.value c.args.name.now c.in-Some.ensures.entry c.requires in
     c.is_same.ensures same.0 same.1 same.2
+
+pub returns-in-None : goal.returns-in-None
+returns-in-None c = absurd (c.in-None.ensures.entry c.args.kind c.args.value c.args.name.now c.requires)
