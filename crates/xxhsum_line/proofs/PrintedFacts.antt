@@ -9,7 +9,7 @@ use Rattle.xxh_io.specs.declared.kind.Kind.TheVariants.{X32, X64, X3_64, X3_128}
 use Rattle.xxhsum_line.specs.Digits.{value_shown}
 use Rattle.xxhsum_line.specs.Entry.{Says, TextSays}
 use Rattle.xxhsum_line.specs.Laws.{PrintedIsAccepted, PrintedIsOneLine}
-use Rattle.xxhsum_line.specs.Parts.{Lacks, up_to_nul}
+use Rattle.xxhsum_line.specs.Parts.{Lacks}
 use Rattle.xxhsum_line.specs.Printed.{shown, plain_text, full_tag, tagged_text, text_of, line_of}
 use Rattle.xxhsum_line.specs.declared.printed.Shape.{Shape}
 use Rattle.xxhsum_line.specs.Tags.{kind_of_count, kind_of_tag, is_little_tag}
@@ -82,7 +82,7 @@ lacks_tagged b kind is_little value name low h =
     let equals : 61 ≢ b = λ e. omega arith in
     let digits : Lacks b (shown kind is_little value) = lacks_shown b kind is_little value digit in
     let end : Lacks b (name ++ 41 ∷ 32 ∷ 61 ∷ 32 ∷ shown kind is_little value) =
-        lacks_both b name (41 ∷ 32 ∷ 61 ∷ 32 ∷ shown kind is_little value) h (closing, (space, (equals, (space, digits)))) in
+    lacks_both b name (41 ∷ 32 ∷ 61 ∷ 32 ∷ shown kind is_little value) h (closing, (space, (equals, (space, digits)))) in
     lacks_both b (full_tag kind is_little) (32 ∷ 40 ∷ (name ++ 41 ∷ 32 ∷ 61 ∷ 32 ∷ shown kind is_little value)) (tag_lacks b kind is_little small) (space, (opening, end))
 
 plain_says : (kind : Kind) (is_little : Bool) (value : ℕ) (name : List ℕ) → kind_of_count (digits_of kind) ≡ Some kind
@@ -94,7 +94,7 @@ plain_says kind is_little value name is_plain fits h =
     let mark : ◌≢◌ {A = ℕ} 32 40 = λ (e : ◌≡◌ {A = ℕ} 32 40). omega arith in
     let counted : kind_of_count (length (shown kind is_little value)) ≡ Some kind = ap kind_of_count (length-shown kind is_little value) ∙ is_plain in
     let says : TextSays is_little text kind value name =
-        inl (shown kind is_little value, (32, refl, lacks_shown 32 kind is_little value below, mark), counted, value_shown-shown kind is_little value fits) in
+    inl (shown kind is_little value, (32, refl, lacks_shown 32 kind is_little value below, mark), counted, value_shown-shown kind is_little value fits) in
     subst (λ t. TextSays is_little t kind value name) (sym (up_to_nul_whole text (lacks_plain 0 kind is_little value name low h))) says
 
 tagged_says : (kind : Kind) (is_little : Bool) (value : ℕ) (name : List ℕ)
@@ -105,11 +105,15 @@ tagged_says kind is_little value name fits h =
     let low : 0 < 32 = omega arith in
     let below : 32 < 48 = omega arith in
     let shows : value_shown kind (is_little_tag tag) (shown kind is_little value) ≡ Some value =
-        ap (λ b. value_shown kind b (shown kind is_little value)) (tag_names_order kind is_little) ∙ value_shown-shown kind is_little value fits in
+    ap (λ b. value_shown kind b (shown kind is_little value)) (tag_names_order kind is_little) ∙ value_shown-shown kind is_little value fits in
     let says : TextSays is_little text kind value name =
-        inr (tag, shown kind is_little value,
-             (refl, tag_lacks 32 kind is_little (omega arith), lacks_shown 32 kind is_little value below),
-             tag_names_kind kind is_little, shows) in
+    inr (
+      tag,
+      shown kind is_little value,
+      (refl, tag_lacks 32 kind is_little (omega arith), lacks_shown 32 kind is_little value below),
+      tag_names_kind kind is_little,
+      shows,
+    ) in
     subst (λ t. TextSays is_little t kind value name) (sym (up_to_nul_whole text (lacks_tagged 0 kind is_little value name low h))) says
 
 either_says : (kind : Kind) (is_little is_tagged : Bool) (value : ℕ) (name : List ℕ) → kind_of_count (digits_of kind) ≡ Some kind

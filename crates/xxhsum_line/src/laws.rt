@@ -20,8 +20,7 @@ pub fn laws_of_lines()
     ensures plain_parts_are_one { PlainPartsAreOne }
     ensures tagged_parts_are_one { TaggedPartsAreOne }
     ensures not_both_forms { NotBothForms }
-{
-}
+{}
 
 /// Whether the line that is printed, without its line feed, is read as the very kind, value and name. It is, for
 /// each name with no NUL and each value of the kind. `AllocError` where memory runs out.

@@ -50,9 +50,9 @@ returns-in_err-value-in-Tagged-clause-entry c =
     let name = c.in-Tagged.name.now in
     let here : IsTagged text tag name digits = search rules in
     let none : value_shown (kind_of_tag tag) (is_little_tag tag) digits ≡ None =
-        ap (λ k. value_shown k (is_little_tag tag) digits) (sym c.kind_of_tag-kind.ensures)
-        ∙ ap (λ b. value_shown c.kind_of_tag-kind.result b digits) (sym c.is_little_tag.ensures)
-        ∙ sym c.in_err-value-in-Tagged.ensures.value in
+    ap (λ k. value_shown k (is_little_tag tag) digits) (sym c.kind_of_tag-kind.ensures)
+    ∙ ap (λ b. value_shown c.kind_of_tag-kind.result b digits) (sym c.is_little_tag.ensures)
+    ∙ sym c.in_err-value-in-Tagged.ensures.value in
     rw c.from_residual-in_err-value-in-Tagged.ensures
     (subst (λ t. (kind : Kind) (value : ℕ) (name : List ℕ) → TextSays little t kind value name → ⊥) c.up_to_nul.ensures
     (nothing_of_tagged little text tag name digits here none))

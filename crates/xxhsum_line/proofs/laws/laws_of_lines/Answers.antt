@@ -11,5 +11,5 @@ returns c = record {
   says_one_thing = λ is_little line kind kind' value value' name name' p q. says_same is_little (up_to_nul line) kind value name kind' value' name' p q;
   plain_parts_are_one = λ line digits digits' name name' p q. plain_same line digits name digits' name' p q;
   tagged_parts_are_one = λ line tag tag' name name' digits digits' p q. tagged_same line tag name digits tag' name' digits' p q;
-  not_both_forms = not_both
+  not_both_forms = not_both;
 }
