@@ -1,10 +1,10 @@
 -- What a line says is one thing.
-use Rattle.std.proofs.Common.{◌≡◌, ℕ, List, length, ◌⊎◌, inl, inr, refl, sym, ap, subst, ◌∙◌, Bool, Some, None}
+use Rattle.std.proofs.Common.{◌≡◌, ℕ, List, length, inl, inr, sym, ap, ◌∙◌, Bool, Some, None}
 use Rattle.std.proofs.lemmas.Option.{none-some, same_Some}
 use Rattle.xxh_io.specs.declared.kind.Kind.{Kind}
 use Rattle.xxhsum_line.proofs.PartFacts.{not_both, plain_same, tagged_same}
 use Rattle.xxhsum_line.specs.Digits.{value_shown}
-use Rattle.xxhsum_line.specs.Entry.{SaysPlain, SaysTagged, TextSays}
+use Rattle.xxhsum_line.specs.Entry.{TextSays}
 use Rattle.xxhsum_line.specs.Parts.{IsPlain, IsTagged, HasNoParts}
 use Rattle.xxhsum_line.specs.Tags.{kind_of_count, kind_of_tag, is_little_tag}
 
@@ -44,7 +44,7 @@ nothing_of_tagged is_little text tag name digits here none kind value name' (inr
     let same = tagged_same text tag name digits p.0 name' p.1 here p.2 in
     let kinds : kind_of_tag tag ≡ kind = ap kind_of_tag same.0 ∙ p.3 in
     none-some value (sym none ∙ ap (λ k. value_shown k (is_little_tag tag) digits) kinds
-      ∙ ap (λ t. value_shown kind (is_little_tag t) digits) same.0 ∙ ap (value_shown kind (is_little_tag p.0)) same.2 ∙ p.4)
+    ∙ ap (λ t. value_shown kind (is_little_tag t) digits) same.0 ∙ ap (value_shown kind (is_little_tag p.0)) same.2 ∙ p.4)
 
 -- two entries of one text are the same
 pub says_same : (is_little : Bool) (text : List ℕ) (kind : Kind) (value : ℕ) (name : List ℕ) (kind' : Kind) (value' : ℕ) (name' : List ℕ)
@@ -52,16 +52,18 @@ pub says_same : (is_little : Bool) (text : List ℕ) (kind : Kind) (value : ℕ)
     → (kind ≡ kind') × (value ≡ value') × (name ≡ name')
 says_same is_little text kind value name kind' value' name' (inl p) (inl q) =
     let same = plain_same text p.0 name q.0 name' p.1 q.1 in
-    let kinds : kind ≡ kind' = same_Some kind kind' (sym p.2 ∙ ap (λ d. kind_of_count (length d)) same.0 ∙ q.2) in
-    (kinds,
-     same_Some value value' (sym p.3 ∙ ap (λ k. value_shown k is_little p.0) kinds ∙ ap (value_shown kind' is_little) same.0 ∙ q.3),
-     same.1)
+    let kinds : kind ≡ kind' = same_Some kind kind' (sym p.2 ∙ ap (λ d. kind_of_count (length d)) same.0 ∙ q.2) in (
+      kinds,
+      same_Some value value' (sym p.3 ∙ ap (λ k. value_shown k is_little p.0) kinds ∙ ap (value_shown kind' is_little) same.0 ∙ q.3),
+      same.1,
+    )
 says_same is_little text kind value name kind' value' name' (inl p) (inr q) = absurd (not_both text p.0 name q.0 name' q.1 p.1 q.2)
 says_same is_little text kind value name kind' value' name' (inr p) (inl q) = absurd (not_both text q.0 name' p.0 name p.1 q.1 p.2)
 says_same is_little text kind value name kind' value' name' (inr p) (inr q) =
     let same = tagged_same text p.0 name p.1 q.0 name' q.1 p.2 q.2 in
-    let kinds : kind ≡ kind' = sym p.3 ∙ ap kind_of_tag same.0 ∙ q.3 in
-    (kinds,
-     same_Some value value' (sym p.4 ∙ ap (λ k. value_shown k (is_little_tag p.0) p.1) kinds
-       ∙ ap (λ t. value_shown kind' (is_little_tag t) p.1) same.0 ∙ ap (value_shown kind' (is_little_tag q.0)) same.2 ∙ q.4),
-     same.1)
+    let kinds : kind ≡ kind' = sym p.3 ∙ ap kind_of_tag same.0 ∙ q.3 in (
+      kinds,
+      same_Some value value' (sym p.4 ∙ ap (λ k. value_shown k (is_little_tag p.0) p.1) kinds
+          ∙ ap (λ t. value_shown kind' (is_little_tag t) p.1) same.0 ∙ ap (value_shown kind' (is_little_tag q.0)) same.2 ∙ q.4),
+      same.1,
+    )

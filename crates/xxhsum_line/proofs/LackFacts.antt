@@ -1,5 +1,5 @@
 -- Lists that lack a byte, and where a byte stands first or last.
-use Rattle.std.proofs.Common.{◌≡◌, ◌≢◌, ℕ, zero, suc, ◌+◌, ◌-◌, ◌<◌, ◌≤◌, List, [], ◌∷◌, ◌++◌, length, take, drop, get_or, reverse, refl, sym, ap, subst, ◌∙◌, ◌⊎◌, inl, inr, arith, eqb, true, false}
+use Rattle.std.proofs.Common.{◌≡◌, ℕ, suc, ◌+◌, ◌-◌, ◌<◌, ◌≤◌, List, [], ◌∷◌, ◌++◌, length, take, drop, get_or, refl, sym, ap, subst, ◌∙◌, inl, inr, arith}
 use Rattle.std.proofs.lemmas.List.{drop_more, take-append-drop, length-take-le, length-drop, get_or-take, get_or-drop}
 use Rattle.std.proofs.lemmas.Bool.Decides.{eqb_tells}
 use Rattle.xxhsum_line.specs.Parts.{Lacks, up_to_nul}
@@ -54,16 +54,16 @@ pub lacks_before : (b : ℕ) (l : List ℕ) (n : ℕ) → n ≤ length l
 lacks_before b l n le h =
     let len : length (take n l) ≡ n = length-take-le n l le in
     lacks_by_place b (take n l) (λ k lt e.
-        let below : k < n = omega (arith, len, lt) in
-        h k below (sym (get_or-take n l k 0 below) ∙ e))
+    let below : k < n = omega (arith, len, lt) in
+    h k below (sym (get_or-take n l k 0 below) ∙ e))
 
 pub lacks_from : (b : ℕ) (l : List ℕ) (n : ℕ)
     → ((k : ℕ) → n ≤ k → k < length l → get_or l k 0 ≡ b → ⊥) → Lacks b (drop n l)
 lacks_from b l n h =
     let len : length (drop n l) ≡ length l - n = length-drop n l in
     lacks_by_place b (drop n l) (λ k lt e.
-        let within : n + k < length l = omega (arith, len, lt) in
-        h (n + k) (omega arith) within (sym (get_or-drop n l k 0) ∙ e))
+    let within : n + k < length l = omega (arith, len, lt) in
+    h (n + k) (omega arith) within (sym (get_or-drop n l k 0) ∙ e))
 
 -- a list is what comes before a place, the element there and what comes behind it
 pub at_place : (l : List ℕ) (i b : ℕ) → i < length l → get_or l i 0 ≡ b → l ≡ take i l ++ b ∷ drop (i + 1) l
@@ -76,7 +76,7 @@ pub up_to_nul_whole : (l : List ℕ) → Lacks 0 l → up_to_nul l ≡ l
 up_to_nul_whole [] h = refl
 up_to_nul_whole (c ∷ l) h =
     elim (eqb_tells c 0) [
-        inl w ↦ absurd (h.0 w.1)
+      | inl w ↦ absurd (h.0 w.1)
       | inr w ↦ rw (w.0) (ap (λ r. c ∷ r) (up_to_nul_whole l h.1))
     ]
 
@@ -84,6 +84,6 @@ pub up_to_nul_cut : (p r : List ℕ) → Lacks 0 p → up_to_nul (p ++ 0 ∷ r) 
 up_to_nul_cut [] r h = refl
 up_to_nul_cut (c ∷ p) r h =
     elim (eqb_tells c 0) [
-        inl w ↦ absurd (h.0 w.1)
+      | inl w ↦ absurd (h.0 w.1)
       | inr w ↦ rw (w.0) (ap (λ x. c ∷ x) (up_to_nul_cut p r h.1))
     ]

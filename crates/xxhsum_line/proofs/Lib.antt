@@ -4,3 +4,4 @@ pub mod LackFacts
 pub mod PartFacts
 pub mod EntryFacts
 pub mod ShownFacts
+pub mod PrintedFacts

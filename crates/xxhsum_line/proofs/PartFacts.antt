@@ -1,5 +1,5 @@
 -- Which parts a line has: at most one choice of them.
-use Rattle.std.proofs.Common.{◌≡◌, ◌≢◌, ℕ, List, [], ◌∷◌, ◌++◌, refl, sym, ap, subst, ◌∙◌, append_assoc, MatchOption, Option, Some, None}
+use Rattle.std.proofs.Common.{◌≡◌, ℕ, List, [], ◌∷◌, ◌++◌, sym, ap, subst, ◌∙◌, append_assoc, MatchOption, Option, Some, None}
 use Rattle.std.proofs.lemmas.List.{append_cancel_right}
 use Rattle.xxhsum_line.proofs.LackFacts.{lacks_not, first_same, last_same}
 use Rattle.xxhsum_line.specs.Parts.{Lacks, IsPlain, IsTagged, EndsTagged, HasParts, HasNoParts, HasNoTaggedParts, IsTaggedWith}
@@ -8,46 +8,50 @@ use Rattle.xxhsum_line.specs.declared.parts.Parts.TheVariants.{Plain, Tagged}
 
 -- the line has no space
 pub no_parts_without_space : (line : List ℕ) → Lacks 32 line → HasNoParts line
-no_parts_without_space line h =
-    ((λ digits name p. lacks_not 32 digits (p.0 ∷ name) (subst (Lacks 32) p.1 h)),
-     (λ tag name digits p. lacks_not 32 tag (40 ∷ (name ++ 41 ∷ 32 ∷ 61 ∷ 32 ∷ digits)) (subst (Lacks 32) p.0 h)))
+no_parts_without_space line h = (
+  (λ digits name p. lacks_not 32 digits (p.0 ∷ name) (subst (Lacks 32) p.1 h)),
+  (λ tag name digits p. lacks_not 32 tag (40 ∷ (name ++ 41 ∷ 32 ∷ 61 ∷ 32 ∷ digits)) (subst (Lacks 32) p.0 h)),
+)
 
 -- nothing stands behind the first space
 pub no_parts_at_end : (line first : List ℕ) → line ≡ first ++ 32 ∷ [] → Lacks 32 first → HasNoParts line
-no_parts_at_end line first e h =
-    ((λ digits name p.
-        let same = first_same 32 first [] digits (p.0 ∷ name) (sym e ∙ p.1) h p.2 in
-        let rest : ◌≡◌ {A = List ℕ} [] (p.0 ∷ name) = same.1 in
-        cc),
-     (λ tag name digits p.
-        let same = first_same 32 first [] tag (40 ∷ (name ++ 41 ∷ 32 ∷ 61 ∷ 32 ∷ digits)) (sym e ∙ p.0) h p.1 in
-        let rest : ◌≡◌ {A = List ℕ} [] (40 ∷ (name ++ 41 ∷ 32 ∷ 61 ∷ 32 ∷ digits)) = same.1 in
-        cc))
+no_parts_at_end line first e h = (
+  (λ digits name p.
+      let same = first_same 32 first [] digits (p.0 ∷ name) (sym e ∙ p.1) h p.2 in
+      let rest : ◌≡◌ {A = List ℕ} [] (p.0 ∷ name) = same.1 in
+      cc),
+  (λ tag name digits p.
+      let same = first_same 32 first [] tag (40 ∷ (name ++ 41 ∷ 32 ∷ 61 ∷ 32 ∷ digits)) (sym e ∙ p.0) h p.1 in
+      let rest : ◌≡◌ {A = List ℕ} [] (40 ∷ (name ++ 41 ∷ 32 ∷ 61 ∷ 32 ∷ digits)) = same.1 in
+      cc),
+)
 
 -- an opening bracket stands behind the first space, and no end of a tagged line behind the bracket
 pub no_parts_in_brackets : (line first inside : List ℕ) → line ≡ first ++ 32 ∷ 40 ∷ inside → Lacks 32 first
     → HasNoTaggedParts inside → HasNoParts line
-no_parts_in_brackets line first inside e h none =
-    ((λ digits name p.
-        let same = first_same 32 first (40 ∷ inside) digits (p.0 ∷ name) (sym e ∙ p.1) h p.2 in
-        let rest : 40 ∷ inside ≡ p.0 ∷ name = same.1 in
-        let mark : p.0 ≡ 40 = cc in
-        p.3 mark),
-     (λ tag name digits p.
-        let same = first_same 32 first (40 ∷ inside) tag (40 ∷ (name ++ 41 ∷ 32 ∷ 61 ∷ 32 ∷ digits)) (sym e ∙ p.0) h p.1 in
-        let rest : 40 ∷ inside ≡ 40 ∷ (name ++ 41 ∷ 32 ∷ 61 ∷ 32 ∷ digits) = same.1 in
-        let ends : inside ≡ name ++ 41 ∷ 32 ∷ 61 ∷ 32 ∷ digits = cc in
-        none name digits (ends, p.2)))
+no_parts_in_brackets line first inside e h none = (
+  (λ digits name p.
+      let same = first_same 32 first (40 ∷ inside) digits (p.0 ∷ name) (sym e ∙ p.1) h p.2 in
+      let rest : 40 ∷ inside ≡ p.0 ∷ name = same.1 in
+      let mark : p.0 ≡ 40 = cc in
+      p.3 mark),
+  (λ tag name digits p.
+      let same = first_same 32 first (40 ∷ inside) tag (40 ∷ (name ++ 41 ∷ 32 ∷ 61 ∷ 32 ∷ digits)) (sym e ∙ p.0) h p.1 in
+      let rest : 40 ∷ inside ≡ 40 ∷ (name ++ 41 ∷ 32 ∷ 61 ∷ 32 ∷ digits) = same.1 in
+      let ends : inside ≡ name ++ 41 ∷ 32 ∷ 61 ∷ 32 ∷ digits = cc in
+      none name digits (ends, p.2)),
+)
 
 -- the parts that are found behind the bracket are the line's
 pub parts_in_brackets : (line first inside : List ℕ) (found : Option Parts) → line ≡ first ++ 32 ∷ 40 ∷ inside → Lacks 32 first
     → MatchOption found (HasNoTaggedParts inside) (IsTaggedWith first inside) → MatchOption found (HasNoParts line) (HasParts line)
 parts_in_brackets line first inside None e h none = no_parts_in_brackets line first inside e h none
 parts_in_brackets line first inside (Some (Plain digits name)) e h p = absurd p
-parts_in_brackets line first inside (Some (Tagged tag name digits)) e h p =
-    (e ∙ ap (λ t. t ++ 32 ∷ 40 ∷ inside) (sym p.0) ∙ ap (λ r. tag.now ++ 32 ∷ 40 ∷ r) p.1.0,
-     subst (Lacks 32) (sym p.0) h,
-     p.1.1)
+parts_in_brackets line first inside (Some (Tagged tag name digits)) e h p = (
+  e ∙ ap (λ t. t ++ 32 ∷ 40 ∷ inside) (sym p.0) ∙ ap (λ r. tag.now ++ 32 ∷ 40 ∷ r) p.1.0,
+  subst (Lacks 32) (sym p.0) h,
+  p.1.1,
+)
 
 -- behind the bracket there is no space
 pub no_end_without_space : (inside : List ℕ) → Lacks 32 inside → HasNoTaggedParts inside

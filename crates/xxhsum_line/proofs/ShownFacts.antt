@@ -9,7 +9,7 @@ use Rattle.xxh_io.specs.Hex.{hex_digit, hex_digits}
 use Rattle.xxh_io.specs.Kind.{digits_of}
 use Rattle.xxh_io.specs.declared.kind.Kind.{Kind}
 use Rattle.xxh_io.specs.declared.kind.Kind.TheVariants.{X32, X64, X3_64, X3_128}
-use Rattle.xxhsum_line.specs.Digits.{digit_of, number_after, number_of, pairs_swapped, turned, turned_if, value_shown}
+use Rattle.xxhsum_line.specs.Digits.{digit_of, number_after, number_of, pairs_swapped, turned_if, value_shown}
 use Rattle.xxhsum_line.specs.Parts.{Lacks}
 use Rattle.xxhsum_line.specs.Printed.{shown}
 use Rattle.xxhsum_line.proofs.LackFacts.{lacks_both}
@@ -21,8 +21,8 @@ number_after-push before [] c n e =
     ap (λ m. option_and_then (λ digit. Some (m * 16 + digit)) (digit_of c)) (same_Some before n e)
 number_after-push before (x ∷ xs) c n e =
     option_and_then_some (λ digit. number_after (before * 16 + digit) xs) (digit_of x) n e (λ d is_d rest.
-        ap (option_and_then (λ digit. number_after (before * 16 + digit) (xs ++ c ∷ []))) is_d
-        ∙ number_after-push (before * 16 + d) xs c n rest)
+    ap (option_and_then (λ digit. number_after (before * 16 + digit) (xs ++ c ∷ []))) is_d
+    ∙ number_after-push (before * 16 + d) xs c n rest)
 
 digit_of-hex_digit : (n : ℕ) → n < 16 → digit_of (hex_digit n) ≡ Some n
 digit_of-hex_digit n small = grind (arith, nat_tests)

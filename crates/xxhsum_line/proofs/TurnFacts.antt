@@ -1,9 +1,9 @@
 -- Pairs of digits that change places, and bytes in the opposite order.
-use Rattle.std.proofs.Common.{◌≡◌, ℕ, zero, suc, ◌+◌, ◌-◌, ◌*◌, ◌/◌, ◌%◌, ◌<◌, ◌≤◌, List, [], ◌∷◌, ◌++◌, length, take, drop, set, get_or, reverse, refl, sym, ap, ◌∙◌, arith, length-append, append_assoc}
+use Rattle.std.proofs.Common.{◌≡◌, ℕ, ◌+◌, ◌<◌, ◌≤◌, List, [], ◌∷◌, ◌++◌, length, take, drop, set, get_or, refl, sym, ap, ◌∙◌, arith, length-append, append_assoc}
 use Rattle.std.specs.List.{swap}
-use Rattle.std.proofs.lemmas.List.{drop_more, take-append-drop, length-take-le, length-drop, set_at, take_at, drop_at, length-reverse, reverse-append, reverse-reverse}
+use Rattle.std.proofs.lemmas.List.{drop_more, take-append-drop, length-take-le, length-drop, set_at, take_at, drop_at}
 use Rattle.std.proofs.lemmas.List.Edits.{swap_is}
-use Rattle.xxhsum_line.specs.Digits.{pairs_swapped, turned}
+use Rattle.xxhsum_line.specs.Digits.{pairs_swapped}
 
 -- a list is what comes before a place, the two elements there and what comes after them
 at_pair : (l : List ℕ) (i : ℕ) → i + 1 < length l
@@ -48,7 +48,7 @@ pair_step l i h =
     let tail : drop i l ≡ a ∷ b ∷ q = at_pair l i h in
     let whole : l ≡ p ++ a ∷ b ∷ q = sym (take-append-drop i l) ∙ ap (λ r. p ++ r) tail in
     let after : swap l i (i + 1) ≡ p ++ b ∷ a ∷ q =
-        sym (swap_is l i (i + 1) 0 here h) ∙ ap (λ x. set (set x i b) (i + 1) a) whole ∙ swap_pair p q a b i len in
+    sym (swap_is l i (i + 1) 0 here h) ∙ ap (λ x. set (set x i b) (i + 1) a) whole ∙ swap_pair p q a b i len in
     ap (λ x. take (i + 2) x ++ pairs_swapped (drop (i + 2) x)) after
     ∙ behind_pair p q a b i len
     ∙ ap (λ r. p ++ pairs_swapped r) (sym tail)

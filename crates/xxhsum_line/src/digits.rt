@@ -1,6 +1,7 @@
 //! Hexadecimal digits of either case, and the numbers that they write.
 
-ghost use Rattle.std.specs.Prelude.{◌≡◌, ◌<◌, ◌≤◌, length, IfSome};
+ghost use Rattle.std.specs.Prelude.{◌≡◌, ◌<◌, ◌≤◌, ◌^◌, length, IfSome};
+ghost use Rattle.xxh_io.specs.Kind.{digits_of};
 ghost use Rattle.xxhsum_line.specs.Digits.{digit_of, number_of, turned, value_shown};
 
 use xxh_io::kind::Kind;
@@ -24,7 +25,8 @@ pub fn digit_of(byte: u8) -> Option<u8>
 /// The number that at most 32 digits write, the highest of them first. `None` where a byte is no digit.
 pub fn number_of(digits: &[u8]) -> Option<u128>
     requires { length digits.now ≤ 32 }
-    ensures { result ≡ number_of digits.now }
+    ensures value { result ≡ number_of digits.now }
+    ensures in_range { IfSome result (λ number. number < 16 ^ length digits.now) }
 {
     let mut number: u128 = 0;
     for byte in digits {
@@ -47,7 +49,8 @@ pub fn turn(digits: &mut [u8])
 /// The value of this kind that the digits show, their bytes turned round where it is little-endian. `None` where
 /// they are too few or too many for the kind, or a byte is no digit.
 pub fn value_shown(kind: Kind, digits: &[u8], is_little: bool) -> Option<u128>
-    ensures { result ≡ value_shown kind is_little digits.now }
+    ensures value { result ≡ value_shown kind is_little digits.now }
+    ensures in_range { IfSome result (λ value. value < 16 ^ digits_of kind) }
 {
     if digits.len() != kind.digits() {
         return None;

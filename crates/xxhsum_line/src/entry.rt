@@ -1,6 +1,7 @@
 //! What a line says.
 
-ghost use Rattle.std.specs.Prelude.{MatchOption};
+ghost use Rattle.std.specs.Prelude.{◌<◌, ◌^◌, IfSome, MatchOption};
+ghost use Rattle.xxh_io.specs.Kind.{digits_of};
 ghost use Rattle.xxhsum_line.specs.Entry.{Says, SaysNothing};
 
 use crate::digits::value_shown;
@@ -13,7 +14,7 @@ use xxh_io::kind::Kind;
 pub struct Entry<'a> {
     /// Which hash it is.
     pub kind: Kind,
-    /// The value, of at most as many bits as the kind has.
+    /// The value, of no more bits than the kind has.
     pub value: u128,
     /// The name of the file, in bytes.
     pub name: &'a [u8],
@@ -23,8 +24,9 @@ pub struct Entry<'a> {
 /// are little-endian where `is_little` says so, and those of a tagged line where its tag does. `None` where the
 /// line is malformed: it has neither form, or too few or too many digits for its kind, or a byte that is no digit.
 pub fn entry_of(line: &[u8], is_little: bool) -> Option<Entry<'_>>
-    ensures { MatchOption result (SaysNothing is_little line.now)
+    ensures entry { MatchOption result (SaysNothing is_little line.now)
         (λ entry. Says is_little line.now entry.kind entry.value entry.name.now) }
+    ensures in_range { IfSome result (λ entry. entry.value < 16 ^ digits_of entry.kind) }
 {
     match parts_of(up_to_nul(line))? {
         Parts::Plain { digits, name } => {

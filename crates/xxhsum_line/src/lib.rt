@@ -4,6 +4,7 @@
 
 pub mod digits;
 pub mod entry;
+pub mod laws;
 pub mod parts;
 pub mod printed;
 pub mod tags;

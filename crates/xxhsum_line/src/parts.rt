@@ -9,7 +9,10 @@ use memchr::{memchr, memrchr};
 #[derive(Clone, Copy, Debug, PartialEq, Eq)]
 pub enum Parts<'a> {
     /// Digits, a space, a byte that is no opening bracket, and the name of a file.
-    Plain { digits: &'a [u8], name: &'a [u8] },
+    Plain {
+        digits: &'a [u8],
+        name: &'a [u8],
+    },
     /// A tag, the name of a file in brackets, an equals sign and digits.
     Tagged {
         tag: &'a [u8],

@@ -6,5 +6,5 @@ use Rattle.xxhsum_line.proofs.digits.number_of.Given as goal
 abbrev pub invariant-loop-byte : goal.invariant-loop-byte
 invariant-loop-byte l = record {
   fits : l.number < 16 ^ l.byte-index;
-  rest : number_after l.number (drop l.byte-index l.digits) ≡ number_of l.digits
+  rest : number_after l.number (drop l.byte-index l.digits) ≡ number_of l.digits;
 }

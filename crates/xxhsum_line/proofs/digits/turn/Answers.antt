@@ -1,6 +1,5 @@
-use Rattle.std.proofs.Common.{rules, ◌≡◌, ◌<◌, ◌≤◌, length, ◌+◌, ◌*◌, ◌/◌, ◌++◌, take, drop, sym, ap, ◌∙◌, arith}
+use Rattle.std.proofs.Common.{◌≡◌, ◌<◌, ◌≤◌, length, ◌+◌, ◌*◌, sym, ◌∙◌, arith}
 use Rattle.std.specs.List.{swap}
-use Rattle.xxhsum_line.specs.Digits.{pairs_swapped, turned}
 use Rattle.xxhsum_line.proofs.TurnFacts.{pair_step, no_pair_left}
 use Rattle.xxhsum_line.proofs.digits.turn.Goals as goal
 

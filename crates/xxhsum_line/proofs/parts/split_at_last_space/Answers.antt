@@ -1,4 +1,4 @@
-use Rattle.std.proofs.Common.{rules, ◌≡◌, ◌++◌, ◌∷◌, ◌+◌, ◌<◌, ◌≤◌, length, take, slice_index, sym, ap, subst, ◌∙◌, arith}
+use Rattle.std.proofs.Common.{rules, ◌≡◌, ◌++◌, ◌∷◌, ◌+◌, ◌<◌, length, take, slice_index, sym, ap, subst, ◌∙◌, arith}
 use Rattle.std.proofs.lemmas.List.{take_rest}
 use Rattle.memchr.specs.Find.{is_byte}
 use Rattle.xxhsum_line.specs.Parts.{Lacks}
@@ -15,7 +15,8 @@ returns c =
     let l = c.args.line.now in
     let f = c.in_ok-place.place in
     let inside : f < length l = c.in_ok-place.ensures.0.high in
-    let space : slice_index l f ≡ 32 = search rules in
-    (at_place l f 32 inside space ∙ ap (λ r. take f l ++ 32 ∷ r) (sym (take_rest l (f + 1))),
-     subst (Lacks 32) (sym (take_rest l (f + 1)))
-     (lacks_from 32 l (f + 1) (λ k low lt e. c.in_ok-place.ensures.0.after k low lt (ap (λ x. is_byte 32 x) e))))
+    let space : slice_index l f ≡ 32 = search rules in (
+      at_place l f 32 inside space ∙ ap (λ r. take f l ++ 32 ∷ r) (sym (take_rest l (f + 1))),
+      subst (Lacks 32) (sym (take_rest l (f + 1)))
+          (lacks_from 32 l (f + 1) (λ k low lt e. c.in_ok-place.ensures.0.after k low lt (ap (λ x. is_byte 32 x) e))),
+    )
