@@ -43,7 +43,11 @@ fn a_table_gives_the_source_of_the_first_entry(rt: HostRuntime) {
     }
 }
 
-fn entry<'a>(name: &'a [u8], source: ScriptSource<'a>, is_directory: bool) -> MemoryEntry<'a, ScriptSource<'a>> {
+fn entry<'a>(
+    name: &'a [u8],
+    source: ScriptSource<'a>,
+    is_directory: bool,
+) -> MemoryEntry<'a, ScriptSource<'a>> {
     MemoryEntry {
         name,
         source,

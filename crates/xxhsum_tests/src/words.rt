@@ -19,7 +19,10 @@ const TABLE: &[(&str, &str)] = &[
     ("-H0BK a", "32 1"),
     ("-i3H0 a", "32 1"),
     ("-B64KiBq a", "64 quiet 1"),
-    ("-c --strict --status --warn a", "64 checks status strict warns 4"),
+    (
+        "-c --strict --status --warn a",
+        "64 checks status strict warns 4",
+    ),
     ("--check --quiet a", "64 checks quiet 2"),
     ("--tag --little-endian", "64 tagged little 2"),
     ("- a -", "64 terminal 1"),
@@ -49,19 +52,25 @@ const TABLE: &[(&str, &str)] = &[
 // The answer in words of the table.
 fn told(alloc: Global, asked: Asked) -> Result<String, Fail> {
     let (options, names_from) = match asked {
-        Asked::Run { options, names_from } => (options, names_from),
+        Asked::Run {
+            options,
+            names_from,
+        } => (options, names_from),
         Asked::Benchmark => return Ok(String::from_str(alloc, "benchmark")?),
         Asked::Version => return Ok(String::from_str(alloc, "version")?),
         Asked::Help => return Ok(String::from_str(alloc, "help")?),
         Asked::BadUsage => return Ok(String::from_str(alloc, "bad")?),
         Asked::NumberTooLarge => return Ok(String::from_str(alloc, "large")?),
     };
-    let mut text = String::from_str(alloc, match options.kind {
-        Kind::X32 => "32 ",
-        Kind::X64 => "64 ",
-        Kind::X3_64 => "3-64 ",
-        Kind::X3_128 => "3-128 ",
-    })?;
+    let mut text = String::from_str(
+        alloc,
+        match options.kind {
+            Kind::X32 => "32 ",
+            Kind::X64 => "64 ",
+            Kind::X3_64 => "3-64 ",
+            Kind::X3_128 => "3-128 ",
+        },
+    )?;
     for (is_on, word) in [
         (options.checks, "checks "),
         (options.is_quiet, "quiet "),
