@@ -1,0 +1,352 @@
+"""The cases of checks/xxhsum: the words, the files that lie where it runs, and what standard input holds.
+
+Debian's `xxhsum` 0.8.1 decides what is right, so a case has no expected text. The digests that stand in lists are those
+of the files below, as that program printed them."""
+from typing import NamedTuple
+
+# What of two runs has to be equal. Help and version carry their maker's name, so of those the text is not compared.
+ALL = ('out', 'err', 'status')
+NO_ERROR_TEXT = ('out', 'status')
+
+
+class Case(NamedTuple):
+    name: str
+    words: tuple = ()
+    given: bytes = b''
+    files: dict = {}
+    compared: tuple = ALL
+    # By which name the program is called.
+    called: str = 'xxhsum'
+    # A line of sh to run in place of the words. It finds the program as "$X".
+    shell: str = ''
+    # Ours differs on purpose: the original is not run, and ours has to end with this status and print nothing.
+    refused: int = 0
+
+
+HELLO = b'hello'
+X32, X64 = b'fb0077f9', b'26c7827d889f6da3'
+X3, X128 = b'9555e8555c62dcfd', b'b5e9c1ad071b3e7fc779cfaa5e523818'
+X32_LE, X64_LE = b'f97700fb', b'a36d9f887d82c726'
+X3_LE, X128_LE = b'fddc625c55e85595', b'1838525eaacf79c77f3e1b07adc1e9b5'
+# XXH64 of no bytes, and one digit off that of `hello`.
+EMPTY, WRONG = b'ef46db3751d8e999', b'26c7827d889f6da4'
+GOOD = X64 + b'  a\n'
+
+
+def gen(count):
+    """Bytes that repeat after 251."""
+    return bytes(i * 7 % 251 for i in range(count))
+
+
+# Lengths at which some hash takes another way, or a buffer is full.
+LENGTHS = (1, 3, 4, 8, 9, 15, 16, 17, 31, 32, 33, 63, 64, 65, 128, 129, 240, 241, 255, 256, 257, 511, 512, 513, 1023,
+           1024, 1025, 1088, 4095, 4096, 4097, 65535, 65536, 65537, 131071, 131072, 131073, 262144, 300001)
+SIZED = {f'length-{count:06}': gen(count) for count in LENGTHS}
+
+# The files that every case finds, besides the folder d and the links of `lay_out` in checks/xxhsum.
+FILES = {
+    'a': HELLO,
+    'b c': b'world',
+    'e': b'',
+    'back\\slash': HELLO,
+    'line\nfeed': HELLO,
+    'return\r': HELLO,
+    b'\xff\xfe': HELLO,
+    'é': HELLO,
+    '(p)': HELLO,
+    '*star': HELLO,
+    ' space': HELLO,
+    '-x': HELLO,
+    'n' * 255: HELLO,
+    'd/inner': HELLO,
+    'good': GOOD,
+    'wrong': WRONG + b'  a\n',
+    'junk': b'junk\n',
+    'empty': b'',
+}
+
+
+def names():
+    """Files by their names on the command line."""
+    return [
+        Case('one file', ('a',)),
+        Case('three files, one with a space', ('a', 'b c', 'e')),
+        Case('an empty file', ('e',)),
+        Case('one file twice', ('a', 'a')),
+        Case('paths with folders', ('./a', 'd/inner', 'd/../a', './/a')),
+        Case('a missing file', ('gone',)),
+        Case('a missing file among others', ('a', 'gone', 'e')),
+        Case('missing files alone', ('gone', 'away')),
+        Case('a missing folder', ('gone/a',)),
+        Case('a folder', ('d',)),
+        Case('a folder with a slash', ('d/',)),
+        Case('the folder itself, and the root', ('.', '..', '/')),
+        Case('a folder among others', ('d', 'a', 'd')),
+        Case('links: to a file, to a folder, to nothing', ('link', 'linked-folder', 'broken')),
+        Case('a link to itself', ('loop',)),
+        Case('a file as a folder', ('a/b', 'a/')),
+        Case('no name at all', ('',)),
+        Case('no name among others', ('a', '', 'e')),
+        Case('a name longer than the system allows', ('x' * 300,)),
+        Case('a path longer than the system allows', ('x/' * 3000,)),
+        Case('a path of just the longest length', ('./' * 2046 + 'a',)),
+        Case('a path one byte too long', ('./' * 2047 + 'ab',)),
+        Case('a name of 255 bytes', ('n' * 255,)),
+        Case('a backslash in a name', ('back\\slash',)),
+        Case('a line feed in a name', ('line\nfeed',)),
+        Case('a carriage return in a name', ('return\r',)),
+        Case('a space first in a name', (' space',)),
+        Case('brackets and a star in names', ('(p)', '*star')),
+        Case('a name that is not UTF-8', (b'\xff\xfe',)),
+        Case('a missing name that is not UTF-8', (b'\xfe\xff', 'a')),
+        Case('a name beyond ASCII', ('é',)),
+        Case('devices', ('/dev/null', '/proc/self/gone')),
+        Case('a file named stdin', ('stdin',), given=b'world', files={'stdin': HELLO}),
+        Case('no file named stdin', ('stdin',), given=b'world'),
+        Case('many names', ('a', 'e') * 200),
+        Case('a pipe with a name', shell='mkfifo p; printf hello >p & "$X" p'),
+        Case('the device of standard input', shell='"$X" /dev/stdin <a'),
+    ]
+
+
+def kinds():
+    """Which digest is computed."""
+    cases = [Case(f'-H{number}', (f'-H{number}', 'a', 'e')) for number in ('0', '1', '2', '3', '32', '64', '128')]
+    cases += [Case(f'every length, -H{number}', (f'-H{number}', *SIZED), files=SIZED) for number in '0123']
+    cases += [Case(f'-H{number}, a number that is none', (f'-H{number}', 'a'))
+              for number in ('4', '5', '31', '129', 'x', '-1', '+1', ' 1', '0x1', '1K', '4294967289', '4194303K', '4095M')]
+    cases += [Case(f'-H{number}, a number too large', (f'-H{number}', 'a'))
+              for number in ('99999999999', '4294967290', '0004294967290', '4194304K', '4096M', '18446744073709551616')]
+    cases += [Case(f'-H{number}, a number with more', (f'-H{number}', 'a'))
+              for number in ('', '064', '0K', '0Ki', '0KiB', '0KB', '0MiB', '0iB', '0BK', '2q', '2H0', '0qw')]
+    return cases + [
+        Case('the last -H counts', ('-H0', '-H2', 'a')),
+        Case('the last -H counts in one word', ('-H0H1', 'a')),
+        Case('-H and a number apart', ('-H', '0', 'a')),
+        Case('an unknown kind before the version', ('-H9', '-V'), compared=NO_ERROR_TEXT),
+    ]
+
+
+def lines():
+    """How a line is printed."""
+    cases = [Case(f'a tagged line, -H{number}', ('--tag', f'-H{number}', 'a', 'e')) for number in '0123']
+    cases += [Case(f'little endian, -H{number}', ('--little-endian', f'-H{number}', 'a', 'e')) for number in '0123']
+    cases += [Case(f'little endian and tagged, -H{number}', ('--tag', '--little-endian', f'-H{number}', 'a'))
+              for number in '0123']
+    return cases + [
+        Case('tagged lines of odd names', ('--tag', 'line\nfeed', '(p)', 'back\\slash', b'\xff\xfe', 'gone', 'd')),
+        Case('XXH3 of odd names', ('-H3', 'line\nfeed', '(p)', ' space')),
+    ]
+
+
+def options():
+    """The words before the names."""
+    bad = ('-x', '-l', '-t', '-v', '-Q', '-C', '-q-', '-q,', '-c=1', '-é', '--', '--nope', '--tag=1', '--Tag', '--ta',
+           '--warning', '--checks', '--chec', '--little', '--ignore-missing', '--zero', '--binary', '---', '-- ', '--q')
+    cases = [Case(f'the word {word}', (word, 'a')) for word in bad]
+    silent = ('-q', '--quiet', '-w', '--warn', '--status', '--strict', '-i5', '-i', '-B64KiB', '-B', '-i5B5', '-i3H0')
+    cases += [Case(f'the word {word}, which changes no digest', (word, 'a', 'gone')) for word in silent]
+    told = ('-V', '--version', '-h', '--help', '-qV', '-Vx', '-hx', '-cV', '-H0h')
+    cases += [Case(f'the word {word}, which only tells', (word, 'a'), compared=NO_ERROR_TEXT) for word in told]
+    return cases + [
+        Case('options after a name are names', ('a', '-H0', '--tag')),
+        Case('names after --', ('--', '-x', '-H0')),
+        Case('-- and nothing more', ('--',), given=HELLO),
+        Case('names after --, one of them --', ('--', 'a', '--')),
+        Case('options before --', ('-H0', '--tag', '--', '-x')),
+        Case('letters together', ('-qH0w', 'a')),
+        Case('quiet twice', ('-q', '--quiet', 'd', 'a')),
+        Case('a bad option before the version', ('-Z', '-V'), compared=NO_ERROR_TEXT),
+        Case('the version before a bad option', ('-V', '-Z'), compared=NO_ERROR_TEXT),
+        Case('a number too large before a bad option', ('-i99999999999', '-Z')),
+        Case('a bad option after a file', ('a', '--nope')),
+        Case('an option that is not UTF-8', (b'-\xff', 'a')),
+        Case('the benchmark', ('-b', 'a'), refused=1),
+        Case('the benchmark of all', ('--bench-all', 'a'), refused=1),
+    ]
+
+
+def input_alone():
+    """Standard input in place of names."""
+    return [
+        Case('input', given=HELLO),
+        Case('input with no bytes'),
+        Case('input by -', ('-',), given=HELLO),
+        Case('input by - twice', ('-', '-'), given=HELLO),
+        Case('options after -', ('-', '-H0', '--tag'), given=HELLO),
+        Case('a name after -', ('-', 'a'), given=b'world'),
+        Case('- after a name', ('a', '-'), given=b'world'),
+        Case('- after --', ('--', '-'), given=b'world'),
+        Case('input, tagged', ('--tag',), given=HELLO),
+        Case('input, little endian', ('--little-endian', '-H0'), given=HELLO),
+        Case('input, quiet', ('-q',), given=HELLO),
+        Case('input, XXH3', ('-H3',), given=HELLO),
+        Case('a megabyte of input', ('-H2',), given=b'0123456789abcdef' * 65536),
+        Case('input that comes in pieces', shell='(printf hel; sleep 0.1; printf lo) | "$X" -H0'),
+        Case('a folder as input', shell='"$X" <d'),
+        Case('closed input', shell='"$X" <&-'),
+        Case('a file while input is closed', shell='"$X" a <&-'),
+        Case('a folder as input, and a file', shell='"$X" a <d'),
+    ]
+
+
+def program_names():
+    """The program by its other names."""
+    names = ('xxh32sum', 'xxh64sum', 'xxh128sum', 'xxh3sum', 'my-xxh32sum', 'xxh32sum.real', 'XXH32SUM',
+             'xxh128sumxxh32sum')
+    return [Case(f'called {name}', ('a', 'gone'), called=name) for name in names] + [
+        Case('called xxh32sum, another kind', ('-H2', 'a'), called='xxh32sum'),
+        Case('called xxh32sum, a list', ('-c', 'good', 'd'), called='xxh32sum'),
+        Case('called xxh128sum, a bad option', ('--nope',), called='xxh128sum', compared=NO_ERROR_TEXT),
+        Case('called xxh128sum, tagged', ('--tag', 'a'), called='xxh128sum'),
+    ]
+
+
+def of_list(name, text, *options, given=b''):
+    """A case that checks the list L of this text."""
+    return Case(name, (*(options or ('-c',)), 'L'), given=given, files={'L': text})
+
+
+def verdicts():
+    """What is said of a list, by its options."""
+    mixed = b'junk\n' + WRONG + b'  a\n' + X64 + b'  gone\n' + GOOD
+    two_of_each = b'x\ny\n' + (WRONG + b'  a\n') * 2 + X64 + b'  gone\n' + X64 + b'  away\n' + GOOD * 2
+    cases = []
+    for words in (('-c',), ('-cw',), ('-cq',), ('-c', '--status'), ('-c', '--strict'), ('-cqw', '--strict'),
+                  ('-c', '--status', '-w', '--strict'), ('-c', '--little-endian'), ('-H0', '--tag', '-c')):
+        told = ' '.join(words)
+        cases += [of_list(f'a good list, {told}', GOOD + X32 + b'  a\n', *words),
+                  of_list(f'a list of all kinds, {told}', mixed, *words)]
+    return cases + [
+        of_list('two of each', two_of_each, '-cw'),
+        of_list('--check in full', GOOD, '--check'),
+        of_list('one wrong line', WRONG + b'  a\n'),
+        of_list('two wrong lines', (WRONG + b'  a\n') * 2),
+        of_list('a missing file alone', X64 + b'  gone\n'),
+        of_list('a missing file, quiet', X64 + b'  gone\n', '-cq'),
+        of_list('a missing file, status', X64 + b'  gone\n', '-c', '--status'),
+        of_list('a folder in a list', GOOD + X64 + b'  d\n' + GOOD),
+        of_list('a folder in a list, status', X64 + b'  d\n' + GOOD, '-c', '--status'),
+        of_list('an empty list', b''),
+        of_list('an empty list, status', b'', '-c', '--status'),
+        of_list('blank lines alone', b'\n\n'),
+        of_list('improper lines alone', b'x\ny\n', '-cw'),
+        of_list('improper lines alone, status', b'x\ny\n', '-c', '--status'),
+        of_list('a blank line among others', b'\n' + GOOD, '-cw', '--strict'),
+        of_list('a comment', b'# made today\n' + GOOD, '-cw'),
+    ]
+
+
+def plain_lines():
+    """Lines of a list as xxhsum prints them by itself, and near them."""
+    return [
+        of_list('three lengths of digits', X32 + b'  a\n' + GOOD + X128 + b'  a\n'),
+        of_list('no line feed at the end', X64 + b'  a'),
+        of_list('carriage returns', X64 + b'  a\r\n' + EMPTY + b'  e\r\n', '-cw'),
+        of_list('capital digits', X64.upper() + b'  a\n' + X64[:8].upper() + X64[8:] + b'  a\n'),
+        of_list('a star, a letter, a NUL before the name', X64 + b' *a\n' + X64 + b' xa\n' + X64 + b' \0a\n', '-cw'),
+        of_list('one space before the name', X64 + b' a\n', '-cw'),
+        of_list('three spaces before the name', X64 + b'   a\n' + X64 + b'   space\n', '-cw'),
+        of_list('no name', X64 + b'\n' + X64 + b' \n' + X64 + b'  \n', '-cw'),
+        of_list('a tab in place of a space', X64 + b'\ta\n' + X64 + b' \ta\n', '-cw'),
+        of_list('a space or a tab first', b' ' + GOOD + b'\t' + GOOD, '-cw'),
+        of_list('digits of other lengths', X64[1:] + b'  a\n' + X64 + b'0  a\n' + X32 + b'0  a\n' + X128 + b'00  a\n', '-cw'),
+        of_list('no digits', b'  a\n   a\n', '-cw'),
+        of_list('letters that are no digits', b'g' + X64[1:] + b'  a\n' + X64[:-1] + b'g  a\n' + b':' + GOOD[1:], '-cw'),
+        of_list('digits of another kind', X3 + b'  a\n' + X64_LE + b'  a\n', '-cw'),
+        of_list('little endian digits', X64_LE + b'  a\n' + X32_LE + b'  a\n' + X128_LE + b'  a\n' + GOOD,
+                '-c', '--little-endian'),
+        of_list('a NUL after the digits', X64 + b'\0  a\n', '-cw'),
+        of_list('a NUL in the name', X64 + b'  a\0b\n' + GOOD, '-cw'),
+        of_list('odd names', b''.join(X64 + b'  ' + name + b'\n' for name in (
+            b'back\\slash', b'\xff\xfe', b'(p)', b'*star', b'-x', b'b c', b'link', b'linked-folder/inner', b'broken'))),
+        of_list('a bracket after one space', X64 + b' (p)\n' + X64 + b' (a) = ' + X64 + b'\n', '-cw'),
+        of_list('a bracket after two spaces', X64 + b'  (p)\n', '-cw'),
+        of_list('a name of 255 bytes, and one that is too long', X64 + b'  ' + b'n' * 255 + b'\n' + X64 + b'  ' + b'x' * 5000 + b'\n'),
+        of_list('the prefix of later versions', b'XXH3_' + X3 + b'  a\n' + b'xxh3_' + X3 + b'  a\n', '-cw'),
+        of_list('a byte order mark', b'\xef\xbb\xbf' + GOOD, '-cw'),
+        of_list('a line of 32766 bytes', X64 + b'  ' + b'x' * 32748 + b'\n' + GOOD),
+        of_list('a line of 32767 bytes', GOOD + X64 + b'  ' + b'x' * 32749 + b'\n' + GOOD),
+        of_list('a line of 40000 bytes, status', GOOD + b'x' * 40000 + b'\n' + GOOD, '-c', '--status'),
+        of_list('a last line of 32767 bytes', GOOD + X64 + b'  ' + b'x' * 32749),
+        of_list('a thousand lines', GOOD * 1000),
+    ]
+
+
+def tagged_lines():
+    """Lines of a list as --tag prints them, and near them."""
+    tags = ((b'XXH32', X32), (b'XXH64', X64), (b'XXH128', X128), (b'XXH3', X3))
+    turned = ((b'XXH32_LE', X32_LE), (b'XXH64_LE', X64_LE), (b'XXH128_LE', X128_LE), (b'XXH3_LE', X3_LE))
+
+    def tagged(*rows):
+        return b''.join(tag + b' (a) = ' + digits + b'\n' for tag, digits in rows)
+
+    return [
+        of_list('tagged lines', tagged(*tags)),
+        of_list('tagged lines, turned', tagged(*turned)),
+        of_list('tagged lines, --little-endian', tagged(*tags, *turned), '-c', '--little-endian'),
+        of_list('wrong tagged lines', tagged((b'XXH64', X64_LE), (b'XXH3', X64), (b'XXH3_LE', X3), (b'XXH64', X3))),
+        of_list('tags with digits of another length',
+                tagged((b'XXH32', X64), (b'XXH64', X32), (b'XXH128', X64), (b'XXH3', X128)), '-cw'),
+        of_list('other tags', tagged((b'FOO', X64), (b'FOO', X32), (b'xXXH3', X64), (b'XXH', X64), (b'xxh3', X64)), '-cw'),
+        of_list('tags that go on', tagged((b'XXH3x', X3), (b'XXH32x', X32), (b'XXH128x', X128), (b'x_LEx', X64_LE)), '-cw'),
+        of_list('tags whose _LE stands elsewhere', tagged((b'_LEXXH32', X64_LE), (b'XXH32_L', X32), (b'XXH64__LE', X64_LE))),
+        of_list('capital digits after a tag', tagged((b'XXH64', X64.upper()), (b'XXH3', X3.upper()))),
+        of_list('spaces elsewhere', b''.join(line % X64 for line in (
+            b'XXH64  (a) = %s\n', b'XXH64 (a)  = %s\n', b'XXH64 (a)= %s\n', b'XXH64 (a) =%s\n', b'XXH64(a) = %s\n',
+            b'XXH64 (a) = %s \n', b'XXH64 (a) =  %s\n', b' XXH64 (a) = %s\n')), '-cw'),
+        of_list('names with brackets and spaces', b''.join(line % X64 for line in (
+            b'XXH64 ((p)) = %s\n', b'XXH64 (b c) = %s\n', b'XXH64 () = %s\n', b'XXH64 (a) (b) = %s\n',
+            b'XXH64 (a) = b) = %s\n'))),
+        of_list('tagged lines cut short', b'X (\nX ()\nX () =\nX () = \n (a) = %s\n(a) = %s\nXXH64 (a = %s\n' % (X64, X64, X64), '-cw'),
+        of_list('tagged lines with carriage returns', b'XXH64 (a) = ' + X64 + b'\r\n', '-cw'),
+        of_list('a tagged line and no line feed', b'XXH64 (a) = ' + X64),
+        of_list('both shapes', tagged(*tags) + GOOD),
+    ]
+
+
+def several_lists():
+    """Lists by names, from standard input, and missing."""
+    return [
+        Case('several lists', ('-c', 'good', 'wrong', 'junk', 'good')),
+        Case('several lists, status', ('-c', '--status', 'wrong', 'good')),
+        Case('several lists, quiet and warned', ('-cqw', 'junk', 'good', 'empty')),
+        Case('a missing list', ('-c', 'gone', 'good')),
+        Case('a missing list alone', ('-c', 'gone')),
+        Case('a missing list, status', ('-c', '--status', 'gone')),
+        Case('a folder as a list', ('-c', 'd', 'good')),
+        Case('options after a list are lists', ('-c', 'good', '-q')),
+        Case('lists after --', ('-c', '--', 'good', '-x')),
+        Case('the last of two options', ('-q', '-c', 'wrong')),
+        Case('a list from input', ('-c',), given=GOOD + WRONG + b'  a\n'),
+        Case('a list from input by -', ('-c', '-'), given=WRONG + b'  a\n' + X64 + b'  gone\n' + b'junk\n'),
+        Case('a warned list from input', ('-cw',), given=b'junk\n' + GOOD),
+        Case('an empty list from input', ('-c',)),
+        Case('a list named -', ('-c', 'good', '-'), given=GOOD),
+        Case('a list named stdin', ('-c', 'stdin'), given=WRONG + b'  a\n', files={'stdin': GOOD}),
+        Case('- in a list is a file', ('-c',), given=X64 + b'  -\n', files={'-': HELLO}),
+        Case('stdin in a list from input', ('-c',), given=GOOD + X64 + b'  stdin\n' + GOOD),
+        of_list('stdin in a list', X64 + b'  stdin\n', given=HELLO),
+        of_list('stdin in a list, twice', X64 + b'  stdin\n' + EMPTY + b'  stdin\n', given=HELLO),
+        of_list('stdin in a list, tagged', b'XXH3 (stdin) = ' + X3 + b'\n', given=HELLO),
+        Case('a folder as input of lists', shell='"$X" -c <d'),
+        Case('closed input of lists', shell='"$X" -c <&-'),
+        Case('a pipe as a list', shell=f'mkfifo p; printf "{X64.decode()}  a\\n" >p & "$X" -c p'),
+    ]
+
+
+def ends():
+    """A full disk and closed ends. The original tells nobody that its output is lost; ours has to."""
+    return [
+        Case('a full disk', shell='"$X" a >/dev/full', refused=1),
+        Case('a full disk, many lines', ('a',) * 3, shell='"$X" a a a >/dev/full', refused=1),
+        Case('a full disk, a list', shell='"$X" -c good >/dev/full', refused=1),
+        Case('closed output', shell='"$X" a >&-', refused=1),
+        Case('closed output, a list', shell='"$X" -c good >&-', refused=1),
+        Case('closed error', shell='"$X" a gone 2>&-', compared=NO_ERROR_TEXT),
+        Case('a full disk for errors', shell='"$X" a gone 2>/dev/full', compared=NO_ERROR_TEXT),
+    ]
+
+
+CASES = (names() + kinds() + lines() + options() + input_alone() + program_names() + verdicts() + plain_lines()
+         + tagged_lines() + several_lists() + ends())

@@ -1,0 +1,93 @@
+//! Files by name, in memory and of the system.
+
+use std::test::Fail;
+use xxh_io::ends::Source;
+use xxh_io::script_source::{ScriptSource, SliceSource};
+use xxhsum_files::memory::{MemoryEntry, MemoryFiles};
+use xxhsum_files::store::{Refusal, Store};
+use xxhsum_files::system::{SystemFiles, refusal_text};
+
+// What the first read of the file of this name gives, and a word where there is none.
+fn first_read<'a, S: Store>(store: &S, name: &[u8], room: &'a mut [u8; 16]) -> &'a [u8] {
+    let Ok(mut file) = store.open(name) else {
+        return b"refused";
+    };
+    if file.failed() {
+        return b"failed";
+    }
+    match file.read(room) {
+        Ok(count) => &room[..count],
+        Err(_) => b"fails",
+    }
+}
+
+// The first of two entries of one name counts; a read may fail as the script has it.
+#[test]
+fn a_table_gives_the_source_of_the_first_entry(rt: HostRuntime) {
+    let entries = [
+        entry(b"a", ScriptSource::new(b"hello", &[16], 0), false),
+        entry(b"a", ScriptSource::new(b"world", &[16], 0), false),
+        entry(b"\xff", ScriptSource::new(b"bytes", &[3, 16], 0), false),
+        entry(b"d", ScriptSource::new(b"", &[], 1), true),
+    ];
+    let store = MemoryFiles::new(&entries);
+    for (name, want, is_directory) in [
+        (b"a".as_slice(), b"hello".as_slice(), false),
+        (b"\xff", b"byt", false),
+        (b"d", b"fails", true),
+        (b"gone", b"refused", false),
+        (b"", b"refused", false),
+    ] {
+        assert!(rt; first_read(&store, name, &mut [0; 16]) == want);
+        assert!(rt; store.is_directory(name) == is_directory);
+    }
+}
+
+fn entry<'a>(
+    name: &'a [u8],
+    source: ScriptSource<'a>,
+    is_directory: bool,
+) -> MemoryEntry<'a, ScriptSource<'a>> {
+    MemoryEntry {
+        name,
+        source,
+        is_directory,
+    }
+}
+
+#[test]
+fn a_slice_is_given_whole(rt: HostRuntime) {
+    let entries = [MemoryEntry {
+        name: b"a".as_slice(),
+        source: SliceSource::new(b"hello"),
+        is_directory: false,
+    }];
+    assert!(rt; first_read(&MemoryFiles::new(&entries), b"a", &mut [0; 16]) == b"hello".as_slice());
+}
+
+// Files that every Linux has: the second is a link to a directory.
+#[test]
+fn the_system_says_what_a_name_is(rt: HostRuntime) {
+    for (name, want, is_directory) in [
+        (b"/dev/null".as_slice(), b"".as_slice(), false),
+        (b"/proc/self", b"fails", true),
+        (b"/", b"fails", true),
+        (b"/dev/null/", b"refused", false),
+        (b"", b"refused", false),
+        (b"/gone\xff", b"refused", false),
+    ] {
+        assert!(rt; first_read(&SystemFiles, name, &mut [0; 16]) == want);
+        assert!(rt; SystemFiles.is_directory(name) == is_directory);
+    }
+}
+
+#[test]
+fn the_system_has_words_for_a_refusal(rt: HostRuntime) -> Result<(), Fail> {
+    let Err(why) = SystemFiles.open(b"/gone") else {
+        return Err(Fail::from("it is there"));
+    };
+    assert!(rt; why == Refusal { code: libc::ENOENT });
+    let text = refusal_text(rt.alloc(), why)?;
+    assert!(rt; text.as_slice() == b"No such file or directory".as_slice());
+    Ok(())
+}

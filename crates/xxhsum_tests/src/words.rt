@@ -1,0 +1,120 @@
+//! What the words ask for.
+
+use std::alloc::Global;
+use std::test::Fail;
+use xxh_io::kind::Kind;
+use xxhsum_words::name::default_kind;
+use xxhsum_words::options::{Asked, asked_by};
+
+// Words that a space parts, as `xxhsum` was given them, and what it took them for.
+const TABLE: &[(&str, &str)] = &[
+    ("a", "64 0"),
+    ("a -H0", "64 0"),
+    ("-H0 a", "32 1"),
+    ("-H a", "32 1"),
+    ("-H064 a", "64 1"),
+    ("-H2 -H3 a", "3-64 2"),
+    ("-qH128w a", "3-128 quiet warns 1"),
+    ("-H0KiB a", "32 1"),
+    ("-H0BK a", "32 1"),
+    ("-i3H0 a", "32 1"),
+    ("-B64KiBq a", "64 quiet 1"),
+    (
+        "-c --strict --status --warn a",
+        "64 checks status strict warns 4",
+    ),
+    ("--check --quiet a", "64 checks quiet 2"),
+    ("--tag --little-endian", "64 tagged little 2"),
+    ("- a -", "64 terminal 1"),
+    ("-- -q", "64 1"),
+    ("-q -- --", "64 quiet 2"),
+    ("-V -Z", "version"),
+    ("--version", "version"),
+    ("-qh", "help"),
+    ("--help -Z", "help"),
+    ("-b", "benchmark"),
+    ("--bench-all", "benchmark"),
+    ("-Z -V", "bad"),
+    ("--warning", "bad"),
+    ("--tag=1", "bad"),
+    ("-q-", "bad"),
+    ("-H4", "bad"),
+    ("-H1K", "bad"),
+    ("-Hx", "bad"),
+    ("-H4294967289", "bad"),
+    ("-H4095M", "bad"),
+    ("-H4294967290", "large"),
+    ("-H4096M", "large"),
+    ("-H4194304K", "large"),
+    ("-i99999999999", "large"),
+];
+
+// The answer in words of the table.
+fn told(alloc: Global, asked: Asked) -> Result<String, Fail> {
+    let (options, names_from) = match asked {
+        Asked::Run {
+            options,
+            names_from,
+        } => (options, names_from),
+        Asked::Benchmark => return Ok(String::from_str(alloc, "benchmark")?),
+        Asked::Version => return Ok(String::from_str(alloc, "version")?),
+        Asked::Help => return Ok(String::from_str(alloc, "help")?),
+        Asked::BadUsage => return Ok(String::from_str(alloc, "bad")?),
+        Asked::NumberTooLarge => return Ok(String::from_str(alloc, "large")?),
+    };
+    let mut text = String::from_str(
+        alloc,
+        match options.kind {
+            Kind::X32 => "32 ",
+            Kind::X64 => "64 ",
+            Kind::X3_64 => "3-64 ",
+            Kind::X3_128 => "3-128 ",
+        },
+    )?;
+    for (is_on, word) in [
+        (options.checks, "checks "),
+        (options.is_quiet, "quiet "),
+        (options.is_status_only, "status "),
+        (options.is_strict, "strict "),
+        (options.warns, "warns "),
+        (options.is_tagged, "tagged "),
+        (options.is_little_endian, "little "),
+        (options.takes_terminal, "terminal "),
+    ] {
+        if is_on {
+            text.push_str(word)?;
+        }
+    }
+    write!(text, "{names_from}")?;
+    Ok(text)
+}
+
+#[test]
+fn words_ask_for_what_xxhsum_takes_them_for(rt: HostRuntime) -> Result<(), Fail> {
+    for (line, want) in TABLE {
+        let mut words = Vec::new(rt.alloc());
+        for word in line.split(' ') {
+            words.push(word.as_bytes().to_vec(rt.alloc())?)?;
+        }
+        let found = told(rt.alloc(), asked_by(Kind::X64, words.as_slice()))?;
+        assert_eq!(rt; found.as_str(), *want, "at {line}");
+    }
+    Ok(())
+}
+
+#[test]
+fn a_programs_name_chooses_its_kind(rt: HostRuntime) {
+    for (name, want) in [
+        ("xxhsum", Kind::X64),
+        ("xxh32sum", Kind::X32),
+        ("xxh64sum", Kind::X64),
+        ("xxh128sum", Kind::X3_128),
+        ("xxh3sum", Kind::X64),
+        ("my-xxh32sum", Kind::X32),
+        ("xxh32sum.real", Kind::X32),
+        ("xxh128sumxxh32sum", Kind::X3_128),
+        ("", Kind::X64),
+    ] {
+        assert!(rt; default_kind(name.as_bytes()) == want, "of {name}");
+    }
+}
