@@ -10,7 +10,6 @@ use crate::stop::Stop;
 use crate::tell::tell;
 use std::alloc::{AllocError, Global};
 use xxh_io::ends::{Sink, Source};
-use xxh_io::error::DigestError;
 use xxhsum_files::store::Store;
 use xxhsum_line::entry::entry_of;
 use xxhsum_words::options::Options;
@@ -29,7 +28,7 @@ pub struct Report {
     pub unread: u64,
     /// Proper lines whose file has another value.
     pub different: u64,
-    /// The list ends with a line that is too long.
+    /// The list ends with a line that is too long, or a read of it failed.
     pub is_broken: bool,
 }
 
@@ -45,7 +44,7 @@ impl Report {
         }
     }
 
-    /// Whether the list is good: it has a proper line, each file was read and has its value, no line is too long, and,
+    /// Whether the list is good: it has a proper line, each file was read and has its value, no line is too long, no read of the list failed, and,
     /// where the check is strict, none is improper.
     pub fn is_good(&self, is_strict: bool) -> bool
         ensures { result ≡ is_good is_strict self.now }
@@ -123,6 +122,14 @@ impl<S: Store> List<'_, S> {
         Ok(())
     }
 
+    // Tells that the list could not be read on. Where it has no proper line so far, that is told at its end.
+    fn tell_of_failure<E: Sink>(&self, number: u64, report: &Report, err: &mut E) -> Result<(), AllocError> {
+        if report.proper == 0 {
+            return Ok(());
+        }
+        self.tell_of_line(number, b"A failure occurred reading the list", err)
+    }
+
     // Says how many lines are not as they should be.
     fn sum_up<W: Sink, E: Sink>(
         &self,
@@ -187,7 +194,8 @@ fn say_count<W: Sink>(
 ///
 /// # Errors
 ///
-/// [`Stop`] where a read of the list or of a file, or a write, fails, or memory runs out: at once.
+/// [`Stop`] where a read of a file or a write fails, or memory runs out: at once. Where a read of the list fails, the list
+/// ends there, and isn't good.
 pub fn check_list<S: Store, R: Source + Drop, W: Sink, E: Sink>(
     alloc: Global,
     store: &S,
@@ -209,7 +217,11 @@ pub fn check_list<S: Store, R: Source + Drop, W: Sink, E: Sink>(
     for number in 1..u64::MAX {
         match lines.next() {
             Next::End => break,
-            Next::Failed => return Err(Stop::Digest(DigestError::ReadFailed)),
+            Next::Failed => {
+                list.tell_of_failure(number, &report, err)?;
+                report.is_broken = true;
+                break;
+            }
             Next::TooLong => {
                 list.tell_of_line(number, b"Line too long", err)?;
                 report.is_broken = true;

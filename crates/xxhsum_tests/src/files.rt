@@ -4,8 +4,9 @@ use std::test::Fail;
 use xxh_io::ends::Source;
 use xxh_io::script_source::{ScriptSource, SliceSource};
 use xxhsum_files::memory::{MemoryEntry, MemoryFiles};
-use xxhsum_files::store::{Refusal, Store};
-use xxhsum_files::system::{SystemFiles, refusal_text};
+use xxhsum_files::refusal::Refusal;
+use xxhsum_files::store::Store;
+use xxhsum_files::system::SystemFiles;
 
 // What the first read of the file of this name gives, and a word where there is none.
 fn first_read<'a, S: Store>(store: &S, name: &[u8], room: &'a mut [u8; 16]) -> &'a [u8] {
@@ -86,8 +87,7 @@ fn the_system_has_words_for_a_refusal(rt: HostRuntime) -> Result<(), Fail> {
     let Err(why) = SystemFiles.open(b"/gone") else {
         return Err(Fail::from("it is there"));
     };
-    assert!(rt; why == Refusal { code: libc::ENOENT });
-    let text = refusal_text(rt.alloc(), why)?;
-    assert!(rt; text.as_slice() == b"No such file or directory".as_slice());
+    assert!(rt; why == Refusal::of_code(libc::ENOENT));
+    assert!(rt; why.text() == b"No such file or directory".as_slice());
     Ok(())
 }

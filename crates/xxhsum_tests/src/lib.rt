@@ -1,7 +1,9 @@
-//! Tests of the words and the files of `xxhsum`. What the words ask for was found by running Debian's `xxhsum` 0.8.1.
+//! Tests of the lines, the words and the files of `xxhsum`. Lines and answers are those of Debian's `xxhsum` 0.8.1.
 #![tactic(auto)]
 
 #[cfg(test)]
 mod files;
+#[cfg(test)]
+mod lines;
 #[cfg(test)]
 mod words;
