@@ -12,6 +12,7 @@ mod hasher_64;
 mod memory;
 mod process;
 mod states;
+mod value;
 
 pub use blocks::{block_counts, digest_blocks};
 pub use command_line::run;
@@ -20,6 +21,7 @@ pub use hasher_32::{digest_from_32, read_on_32};
 pub use hasher_64::{digest_from_64, read_on_64};
 pub use memory::digest_of_bytes;
 pub use process::run_process;
+pub use value::value_of_source;
 pub use xxh_io::buffered::Buffered;
 pub use xxh_io::ends::{Failed, Sink, Source};
 pub use xxh_io::error::DigestError;

@@ -7,7 +7,9 @@ use crate::calls::{Way, digest_by};
 use crate::ends::{Offered, Taken};
 use std::alloc::{AllocError, Global};
 use std::test::Fail;
-use xxh_program::program::{DigestError, Kind, ScriptSink, ScriptSource, Sink, digest_of_bytes};
+use xxh_program::program::{
+    DigestError, Kind, ScriptSink, ScriptSource, Sink, SliceSource, digest_of_bytes, value_of_source,
+};
 
 const MANY: u64 = u64::MAX;
 
@@ -298,4 +300,21 @@ fn the_line_of_bytes_in_memory(rt: HostRuntime) {
     let mut sink = ScriptSink::<60>::new(7, 0);
     let answer = digest_of_bytes(Kind::X32, 1234, b"some bytes", &mut sink);
     assert!(rt; answer == Ok(()) && sink.bytes() == b"92f68bd9\n".as_slice());
+}
+
+// The value alone, by reads of 64 bytes.
+#[test]
+fn the_value_of_a_source(rt: HostRuntime) -> Result<(), Fail> {
+    let bytes = cycling(rt.alloc(), 10000)?;
+    let mut buf = [0; 64];
+    for (kind, value) in [
+        (Kind::X32, 0x96bf9b9b),
+        (Kind::X64, 0xb3dba2084c8288c4),
+        (Kind::X3_64, 0x1cb3abee1c2fc1c4),
+        (Kind::X3_128, 0x89dec82a789965e61cb3abee1c2fc1c4),
+    ] {
+        let mut r = SliceSource::new(bytes.as_slice());
+        assert!(rt; value_of_source(kind, 0, MANY, &mut r, &mut buf) == Ok(value));
+    }
+    Ok(())
 }

@@ -2,7 +2,8 @@
 use Rattle.std.specs.Prelude.{◌≡◌, ℕ, List, Bool, true, false, Option, Some, option_map, find, bytes_eq, unwrap_or, MatchOption, pos}
 use Rattle.xxhsum_files.specs.declared.memory.MemoryEntry.{MemoryEntry}
 use Rattle.xxhsum_files.specs.declared.memory.MemoryFiles.{MemoryFiles}
-use Rattle.xxhsum_files.specs.declared.store.Refusal.{Refusal}
+use Rattle.xxhsum_files.specs.declared.refusal.Refusal.{Refusal}
+use Rattle.xxhsum_files.specs.Refusal.{refusal_code}
 
 -- the table
 abbrev pub entries_of : {S : Type 0} → MemoryFiles S → List (MemoryEntry S)
@@ -19,8 +20,8 @@ LeadsTo files name file = option_map (λ entry. entry.source) (entry_named files
 -- 2, as for a missing file, where there is no such name; 5, as for a failed read, where its source has failed
 abbrev pub RefusedFor : {S : Type 0} → (S → Bool) → MemoryFiles S → List ℕ → Refusal → Type 0
 RefusedFor has_failed files name why =
-    MatchOption (entry_named files name) (why.code ≡ pos 2)
-    (λ entry. (has_failed entry.source ≡ true) × (why.code ≡ pos 5))
+    MatchOption (entry_named files name) (refusal_code why ≡ pos 2)
+    (λ entry. (has_failed entry.source ≡ true) × (refusal_code why ≡ pos 5))
 
 -- the name's first entry is a directory's
 abbrev pub is_directory_named : {S : Type 0} → MemoryFiles S → List ℕ → Bool

@@ -1,6 +1,6 @@
 -- What clauses read of the system's files. Which bytes they hold is not known here.
 use Rattle.std.specs.Prelude.{Bool, ℕ, List}
-use Rattle.xxhsum_files.specs.declared.store.Refusal.{Refusal}
+use Rattle.xxhsum_files.specs.declared.refusal.Refusal.{Refusal}
 use Rattle.xxhsum_files.specs.declared.system.SystemFile.{SystemFile}
 use Rattle.xxhsum_files.specs.declared.system.SystemFiles.{SystemFiles}
 

@@ -2,5 +2,6 @@
 #![tactic(auto)]
 
 pub mod memory;
+pub mod refusal;
 pub mod store;
 pub mod system;

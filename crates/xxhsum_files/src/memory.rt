@@ -4,12 +4,9 @@ ghost use Rattle.std.specs.Prelude.{◌≡◌};
 ghost use Rattle.std.specs.Option.{option_copied};
 ghost use Rattle.xxhsum_files.specs.Memory.{entries_of, entry_named, is_directory_named, LeadsTo, RefusedFor};
 
-use crate::store::{Refusal, Store};
+use crate::refusal::Refusal;
+use crate::store::Store;
 use xxh_io::ends::Source;
-
-const NO_SUCH_FILE: Refusal = Refusal { code: libc::ENOENT };
-
-const READ_FAILED: Refusal = Refusal { code: libc::EIO };
 
 /// A name, and what it leads to.
 #[derive(Clone, Copy)]
@@ -64,10 +61,10 @@ impl<S: Source + Copy> Store for MemoryFiles<'_, S> {
 
     fn open(&self, name: &[u8]) -> Result<S, Refusal> {
         let Some(entry) = self.find(name) else {
-            return Err(NO_SUCH_FILE);
+            return Err(Refusal::of_code(libc::ENOENT));
         };
         if entry.source.failed() {
-            return Err(READ_FAILED);
+            return Err(Refusal::of_code(libc::EIO));
         }
         Ok(entry.source)
     }

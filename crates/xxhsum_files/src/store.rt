@@ -1,16 +1,10 @@
 //! What files are opened from.
 
 ghost use Rattle.std.specs.Prelude.{◌≡◌, false, List, ℕ, Bool, IfOk, IfErr};
-ghost use Rattle.xxhsum_files.specs.declared.store.Refusal.{Refusal};
+ghost use Rattle.xxhsum_files.specs.declared.refusal.Refusal.{Refusal};
 
+use crate::refusal::Refusal;
 use xxh_io::ends::Source;
-
-/// Why a name gave no file.
-#[derive(Clone, Copy, Debug, PartialEq, Eq)]
-pub struct Refusal {
-    /// The system's number of the error, as `ENOENT`.
-    pub code: i32,
-}
 
 /// Files by name. A name is bytes, as the system has it: no UTF-8 is asked for.
 pub trait Store {

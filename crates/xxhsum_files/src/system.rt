@@ -2,13 +2,10 @@
 
 ghost use Rattle.xxhsum_files.specs.System.{AnyAnswer, AnyFile, AnyRefusal};
 
-use crate::store::{Refusal, Store};
+use crate::refusal::Refusal;
+use crate::store::Store;
 use libc::PATH_MAX;
-use std::alloc::{AllocError, Global};
 use xxh_io::ends::{Failed, Source};
-
-// Room for the system's words for an error, which are shorter.
-const TEXT_ROOM: usize = 256;
 
 /// The files of the system, by paths as `open` takes them.
 #[derive(Clone, Copy, Debug)]
@@ -83,21 +80,11 @@ impl Store for SystemFiles {
     fn open(&self, name: &[u8]) -> Result<SystemFile, Refusal> {
         let descriptor = os::open_read(name);
         if descriptor < 0 {
-            return Err(Refusal { code: os::errno() });
+            return Err(Refusal::of_code(os::errno()));
         }
         Ok(SystemFile {
             descriptor,
             failed: false,
         })
     }
-}
-
-/// The system's words for the refusal, as `No such file or directory`. An error says that there was no
-/// memory for them.
-pub fn refusal_text(alloc: Global, refusal: Refusal) -> Result<Vec<u8>, AllocError> {
-    let mut room = [0; TEXT_ROOM];
-    let len = os::error_text(refusal.code, &mut room);
-    let mut text = Vec::new(alloc);
-    text.extend_from_slice(&room[..len])?;
-    Ok(text)
 }

@@ -9,9 +9,7 @@ ghost use Rattle.xxh_program.specs.Feeding.{IsFed};
 ghost use Rattle.xxh_program.specs.Kind.{digits_of, value_of};
 
 use crate::program::feed::Feed;
-use crate::program::hasher_3_64::with_seed_64;
-use crate::program::hasher_3_128::with_seed_128;
-use twox_hash::{XxHash32, XxHash64};
+use crate::program::value::value_of_source;
 use xxh_io::ends::{Failed, Sink, Source};
 use xxh_io::error::DigestError;
 use xxh_io::kind::Kind;
@@ -20,15 +18,15 @@ use xxh_io::write::write_line;
 // How many bytes each read of the public calls is offered.
 pub(crate) const OFFERED: usize = 4096;
 
-// Feeds the hasher what is read, until a read gives nothing.
-pub(crate) fn read_all<H: Feed, R: Source, const READ: usize>(
+// Feeds the hasher what is read, until a read gives nothing. Each read is offered the whole buffer.
+pub(crate) fn read_all<H: Feed, R: Source>(
     hasher: H,
     max_reads: u64,
     r: &mut R,
+    buf: &mut [u8],
 ) -> Result<H, DigestError>
     requires works { R.has_failed r.old ≡ false }
-    requires offers { 1 ≤ READ }
-    requires few { READ ≤ 131072 }
+    requires room { 0 < length buf.old }
     ensures reads { (pieces : List (List ℕ)) × NoneEmpty pieces
         × ReadsOn R.gives R.fails max_reads pieces r.old r.new result
         × ((result ≡ Err DigestError.TooLong) ↔ (length pieces ≡ max_reads))
@@ -37,9 +35,8 @@ pub(crate) fn read_all<H: Feed, R: Source, const READ: usize>(
     ensures never_writes { result ≢ Err DigestError.WriteFailed }
 {
     let mut hasher = hasher;
-    let mut buf = [0; READ];
     for turn in 0..max_reads {
-        match r.read(&mut buf) {
+        match r.read(buf) {
             Ok(0) => return Ok(hasher),
             Ok(count) => hasher.feed(&buf[..count]),
             Err(Failed) => return Err(DigestError::ReadFailed),
@@ -72,34 +69,8 @@ pub(crate) fn digest_on<H: Feed, R: Source, W: Sink, const READ: usize>(
     ensures unwritten { (result ≡ Err DigestError.ReadFailed) ⊎ (result ≡ Err DigestError.TooLong)
         → w.new ≡ w.old }
 {
-    let hasher = read_all::<_, _, READ>(hasher, max_reads, r)?;
+    let hasher = read_all(hasher, max_reads, r, &mut [0; READ])?;
     write_line(hasher.value(), digits, w)
-}
-
-// The same by a hasher that was given no bytes and answers the kind's value under the seed.
-fn digest_by<H: Feed, R: Source, W: Sink, const READ: usize>(
-    kind: Kind,
-    seed: u64,
-    hasher: H,
-    max_reads: u64,
-    r: &mut R,
-    w: &mut W,
-) -> Result<(), DigestError>
-    requires reader { R.has_failed r.old ≡ false }
-    requires writer { W.has_failed w.old ≡ false }
-    requires empty { H.follows hasher seed [] }
-    requires offers { 1 ≤ READ }
-    requires few { READ ≤ 131072 }
-    requires value { (m : List ℕ) → H.value_at seed m ≡ value_of kind seed m }
-    ensures digests { (pieces : List (List ℕ)) × NoneEmpty pieces
-        × ReadsOn R.gives R.fails max_reads pieces r.old r.new result
-        × ((result ≡ Err DigestError.TooLong) ↔ (length pieces ≡ max_reads))
-        × Writes W.takes W.refuses (hex_line (digits_of kind) (value_of kind seed (concat pieces)))
-        w.old w.new result }
-    ensures read_failed { (result ≡ Err DigestError.ReadFailed) ↔ (R.has_failed r.new ≡ true) }
-    ensures write_failed { (result ≡ Err DigestError.WriteFailed) ↔ (W.has_failed w.new ≡ true) }
-{
-    digest_on::<_, _, _, READ>(hasher, kind.digits(), max_reads, r, w)
 }
 
 // What `digest` does, with reads that are offered so many bytes.
@@ -123,24 +94,8 @@ pub(crate) fn digest_reading<R: Source, W: Sink, const READ: usize>(
     ensures read_failed { (result ≡ Err DigestError.ReadFailed) ↔ (R.has_failed r.new ≡ true) }
     ensures write_failed { (result ≡ Err DigestError.WriteFailed) ↔ (W.has_failed w.new ≡ true) }
 {
-    match kind {
-        Kind::X32 => {
-            let hasher = XxHash32::with_seed(seed as u32);
-            digest_by::<_, _, _, READ>(kind, seed, hasher, max_reads, r, w)
-        }
-        Kind::X64 => {
-            let hasher = XxHash64::with_seed(seed);
-            digest_by::<_, _, _, READ>(kind, seed, hasher, max_reads, r, w)
-        }
-        Kind::X3_64 => {
-            let hasher = with_seed_64(seed);
-            digest_by::<_, _, _, READ>(kind, seed, hasher, max_reads, r, w)
-        }
-        Kind::X3_128 => {
-            let hasher = with_seed_128(seed);
-            digest_by::<_, _, _, READ>(kind, seed, hasher, max_reads, r, w)
-        }
-    }
+    let value = value_of_source(kind, seed, max_reads, r, &mut [0; READ])?;
+    write_line(value, kind.digits(), w)
 }
 
 /// Reads to the end of the source and writes the digest line of what was read: the hash of the kind under

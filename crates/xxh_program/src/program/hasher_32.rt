@@ -75,5 +75,5 @@ pub fn read_on_32<R: Source>(
     ensures read_failed { (result ≡ Err DigestError.ReadFailed) ↔ (R.has_failed r.new ≡ true) }
     ensures never_writes { result ≢ Err DigestError.WriteFailed }
 {
-    read_all::<_, _, OFFERED>(hasher, max_reads, r)
+    read_all(hasher, max_reads, r, &mut [0; OFFERED])
 }

@@ -1,0 +1,89 @@
+-- Lists that lack a byte, and where a byte stands first or last.
+use Rattle.std.proofs.Common.{◌≡◌, ℕ, suc, ◌+◌, ◌-◌, ◌<◌, ◌≤◌, List, [], ◌∷◌, ◌++◌, length, take, drop, get_or, refl, sym, ap, subst, ◌∙◌, inl, inr, arith}
+use Rattle.std.proofs.lemmas.List.{drop_more, take-append-drop, length-take-le, length-drop, get_or-take, get_or-drop}
+use Rattle.std.proofs.lemmas.Bool.Decides.{eqb_tells}
+use Rattle.xxhsum_line.specs.Parts.{Lacks, up_to_nul}
+
+pub lacks_left : (b : ℕ) (x y : List ℕ) → Lacks b (x ++ y) → Lacks b x
+lacks_left b [] y h = tt
+lacks_left b (c ∷ x) y h = (h.0, lacks_left b x y h.1)
+
+pub lacks_right : (b : ℕ) (x y : List ℕ) → Lacks b (x ++ y) → Lacks b y
+lacks_right b [] y h = h
+lacks_right b (c ∷ x) y h = lacks_right b x y h.1
+
+pub lacks_both : (b : ℕ) (x y : List ℕ) → Lacks b x → Lacks b y → Lacks b (x ++ y)
+lacks_both b [] y h k = k
+lacks_both b (c ∷ x) y h k = (h.0, lacks_both b x y h.1 k)
+
+pub lacks_not : (b : ℕ) (x y : List ℕ) → Lacks b (x ++ b ∷ y) → ⊥
+lacks_not b x y h = (lacks_right b x (b ∷ y) h).0 refl
+
+-- two cuts at the first such byte are the same
+pub first_same : (b : ℕ) (x y x' y' : List ℕ) → x ++ b ∷ y ≡ x' ++ b ∷ y' → Lacks b x → Lacks b x' → (x ≡ x') × (y ≡ y')
+first_same b [] y [] y' e h h' = (refl, cc)
+first_same b [] y (c ∷ x') y' e h h' = let here : c ≡ b = cc in absurd (h'.0 here)
+first_same b (c ∷ x) y [] y' e h h' = let here : c ≡ b = cc in absurd (h.0 here)
+first_same b (c ∷ x) y (c' ∷ x') y' e h h' =
+    let heads : c ≡ c' = cc in
+    let tails : x ++ b ∷ y ≡ x' ++ b ∷ y' = cc in
+    let rest = first_same b x y x' y' tails h.1 h'.1 in
+    let fronts : x ≡ x' = rest.0 in
+    (cc, rest.1)
+
+-- two cuts at the last such byte are the same
+pub last_same : (b : ℕ) (x y x' y' : List ℕ) → x ++ b ∷ y ≡ x' ++ b ∷ y' → Lacks b y → Lacks b y' → (x ≡ x') × (y ≡ y')
+last_same b [] y [] y' e h h' = (refl, cc)
+last_same b [] y (c ∷ x') y' e h h' = let tails : y ≡ x' ++ b ∷ y' = cc in absurd (lacks_not b x' y' (subst (Lacks b) tails h))
+last_same b (c ∷ x) y [] y' e h h' = let tails : y' ≡ x ++ b ∷ y = cc in absurd (lacks_not b x y (subst (Lacks b) tails h'))
+last_same b (c ∷ x) y (c' ∷ x') y' e h h' =
+    let heads : c ≡ c' = cc in
+    let tails : x ++ b ∷ y ≡ x' ++ b ∷ y' = cc in
+    let rest = last_same b x y x' y' tails h h' in
+    let fronts : x ≡ x' = rest.0 in
+    (cc, rest.1)
+
+-- what is known place by place
+pub lacks_by_place : (b : ℕ) (l : List ℕ) → ((k : ℕ) → k < length l → get_or l k 0 ≡ b → ⊥) → Lacks b l
+lacks_by_place b [] h = tt
+lacks_by_place b (c ∷ l) h =
+    (h 0 (omega arith), lacks_by_place b l (λ k lt. h (suc k) (omega arith)))
+
+pub lacks_before : (b : ℕ) (l : List ℕ) (n : ℕ) → n ≤ length l
+    → ((k : ℕ) → k < n → get_or l k 0 ≡ b → ⊥) → Lacks b (take n l)
+lacks_before b l n le h =
+    let len : length (take n l) ≡ n = length-take-le n l le in
+    lacks_by_place b (take n l) (λ k lt e.
+    let below : k < n = omega (arith, len, lt) in
+    h k below (sym (get_or-take n l k 0 below) ∙ e))
+
+pub lacks_from : (b : ℕ) (l : List ℕ) (n : ℕ)
+    → ((k : ℕ) → n ≤ k → k < length l → get_or l k 0 ≡ b → ⊥) → Lacks b (drop n l)
+lacks_from b l n h =
+    let len : length (drop n l) ≡ length l - n = length-drop n l in
+    lacks_by_place b (drop n l) (λ k lt e.
+    let within : n + k < length l = omega (arith, len, lt) in
+    h (n + k) (omega arith) within (sym (get_or-drop n l k 0) ∙ e))
+
+-- a list is what comes before a place, the element there and what comes behind it
+pub at_place : (l : List ℕ) (i b : ℕ) → i < length l → get_or l i 0 ≡ b → l ≡ take i l ++ b ∷ drop (i + 1) l
+at_place l i b h e =
+    sym (take-append-drop i l)
+    ∙ ap (λ r. take i l ++ r) (drop_more l i 0 h)
+    ∙ ap (λ x. take i l ++ x ∷ drop (i + 1) l) e
+
+pub up_to_nul_whole : (l : List ℕ) → Lacks 0 l → up_to_nul l ≡ l
+up_to_nul_whole [] h = refl
+up_to_nul_whole (c ∷ l) h =
+    elim (eqb_tells c 0) [
+      | inl w ↦ absurd (h.0 w.1)
+      | inr w ↦ rw (w.0) (ap (λ r. c ∷ r) (up_to_nul_whole l h.1))
+    ]
+
+pub up_to_nul_cut : (p r : List ℕ) → Lacks 0 p → up_to_nul (p ++ 0 ∷ r) ≡ p
+up_to_nul_cut [] r h = refl
+up_to_nul_cut (c ∷ p) r h =
+    elim (eqb_tells c 0) [
+      | inl w ↦ absurd (h.0 w.1)
+      | inr w ↦ rw (w.0) (ap (λ x. c ∷ x) (up_to_nul_cut p r h.1))
+    ]

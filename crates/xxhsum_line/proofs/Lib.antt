@@ -1,0 +1,7 @@
+pub mod NumberFacts
+pub mod TurnFacts
+pub mod LackFacts
+pub mod PartFacts
+pub mod EntryFacts
+pub mod ShownFacts
+pub mod PrintedFacts

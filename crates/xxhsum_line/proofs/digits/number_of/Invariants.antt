@@ -1,0 +1,10 @@
+use Rattle.std.proofs.Common.{◌≡◌, ◌<◌, ◌^◌, drop}
+use Rattle.xxhsum_line.specs.Digits.{number_of, number_after}
+use Rattle.xxhsum_line.proofs.digits.number_of.Given as goal
+
+-- the digits to come, after those that were read
+abbrev pub invariant-loop-byte : goal.invariant-loop-byte
+invariant-loop-byte l = record {
+  fits : l.number < 16 ^ l.byte-index;
+  rest : number_after l.number (drop l.byte-index l.digits) ≡ number_of l.digits;
+}

@@ -1,0 +1,40 @@
+-- What holds of printed lines and of entries.
+use Rattle.std.specs.Prelude.{ℕ, ◌≡◌, ◌<◌, ◌^◌, Bool, List}
+use Rattle.xxh_io.specs.Kind.{digits_of}
+use Rattle.xxh_io.specs.declared.kind.Kind.{Kind}
+use Rattle.xxhsum_line.specs.Entry.{Says}
+use Rattle.xxhsum_line.specs.Parts.{IsPlain, IsTagged, Lacks}
+use Rattle.xxhsum_line.specs.Printed.{text_of}
+use Rattle.xxhsum_line.specs.declared.printed.Shape.{Shape}
+
+-- a printed line, whose name has no NUL, says what it was made of
+abbrev pub PrintedIsAccepted : Type 0
+PrintedIsAccepted =
+    (kind : Kind) (shape : Shape) (value : ℕ) (name : List ℕ) → value < 16 ^ digits_of kind → Lacks 0 name
+    → Says shape.is_little (text_of kind shape value name) kind value name
+
+-- a printed line, whose name has no line feed, has none but its last byte
+abbrev pub PrintedIsOneLine : Type 0
+PrintedIsOneLine =
+    (kind : Kind) (shape : Shape) (value : ℕ) (name : List ℕ) → Lacks 10 name → Lacks 10 (text_of kind shape value name)
+
+-- a line says one thing
+abbrev pub SaysOneThing : Type 0
+SaysOneThing =
+    (is_little : Bool) (line : List ℕ) (kind kind' : Kind) (value value' : ℕ) (name name' : List ℕ)
+    → Says is_little line kind value name → Says is_little line kind' value' name'
+    → (kind ≡ kind') × (value ≡ value') × (name ≡ name')
+
+-- a line has one choice of parts
+abbrev pub PlainPartsAreOne : Type 0
+PlainPartsAreOne =
+    (line digits digits' name name' : List ℕ) → IsPlain line digits name → IsPlain line digits' name'
+    → (digits ≡ digits') × (name ≡ name')
+
+abbrev pub TaggedPartsAreOne : Type 0
+TaggedPartsAreOne =
+    (line tag tag' name name' digits digits' : List ℕ) → IsTagged line tag name digits → IsTagged line tag' name' digits'
+    → (tag ≡ tag') × (name ≡ name') × (digits ≡ digits')
+
+abbrev pub NotBothForms : Type 0
+NotBothForms = (line digits name tag name' digits' : List ℕ) → IsPlain line digits name → ¬ IsTagged line tag name' digits'

@@ -1,0 +1,46 @@
+-- The two forms of a line.
+use Rattle.std.specs.Prelude.{ℕ, ◌≡◌, ◌≢◌, ◌==◌, List, [], ◌∷◌, ◌++◌, if◌then◌else◌}
+use Rattle.xxhsum_line.specs.declared.parts.Parts.{Parts}
+use Rattle.xxhsum_line.specs.declared.parts.Parts.TheVariants.{Plain, Tagged}
+
+-- this byte is none of these
+abbrev pub Lacks : ℕ → List ℕ → Type 0
+Lacks byte [] = Unit {0}
+Lacks byte (c ∷ cs) = (c ≢ byte) × Lacks byte cs
+
+-- what comes before the first NUL
+abbrev pub up_to_nul : List ℕ → List ℕ
+up_to_nul [] = []
+up_to_nul (c ∷ cs) = if c == 0 then [] else c ∷ up_to_nul cs
+
+-- digits, a space, any byte but '(', and the name: no space is among the digits
+abbrev pub IsPlain : List ℕ → List ℕ → List ℕ → Type 0
+IsPlain line digits name = (mark : ℕ) × (line ≡ digits ++ 32 ∷ mark ∷ name) × Lacks 32 digits × (mark ≢ 40)
+
+-- what follows "TAG (" in a tagged line: the name, ") = " and digits, none of them a space
+abbrev pub EndsTagged : List ℕ → List ℕ → List ℕ → Type 0
+EndsTagged inside name digits = (inside ≡ name ++ 41 ∷ 32 ∷ 61 ∷ 32 ∷ digits) × Lacks 32 digits
+
+-- a tag with no space, " (", the name, ") = " and digits with no space
+abbrev pub IsTagged : List ℕ → List ℕ → List ℕ → List ℕ → Type 0
+IsTagged line tag name digits =
+    (line ≡ tag ++ 32 ∷ 40 ∷ (name ++ 41 ∷ 32 ∷ 61 ∷ 32 ∷ digits)) × Lacks 32 tag × Lacks 32 digits
+
+-- these are the parts of the line
+abbrev pub HasParts : List ℕ → Parts → Type 0
+HasParts line (Plain digits name) = IsPlain line digits.now name.now
+HasParts line (Tagged tag name digits) = IsTagged line tag.now name.now digits.now
+
+-- the line has neither form
+abbrev pub HasNoParts : List ℕ → Type 0
+HasNoParts line =
+    ((digits name : List ℕ) → ¬ IsPlain line digits name)
+    × ((tag name digits : List ℕ) → ¬ IsTagged line tag name digits)
+
+-- these are the parts of a tagged line, of which the bytes behind "TAG (" are given
+abbrev pub IsTaggedWith : List ℕ → List ℕ → Parts → Type 0
+IsTaggedWith tag inside (Plain digits name) = ⊥
+IsTaggedWith tag inside (Tagged tag' name digits) = (tag'.now ≡ tag) × EndsTagged inside name.now digits.now
+
+abbrev pub HasNoTaggedParts : List ℕ → Type 0
+HasNoTaggedParts inside = (name digits : List ℕ) → ¬ EndsTagged inside name digits

@@ -1,0 +1,36 @@
+-- The tags of lines, and the kinds that they name.
+use Rattle.std.specs.Prelude.{ℕ, Bool, false, ◌||◌, List, [], ◌∷◌, Option, Some, None, nat_eq, codes, if◌then◌else◌}
+use Rattle.std.specs.List.{starts_with}
+use Rattle.xxh_io.specs.declared.kind.Kind.{Kind}
+use Rattle.xxh_io.specs.declared.kind.Kind.TheVariants.{X32, X64, X3_64, X3_128}
+
+-- the kind of a line without a tag, by how many digits it has
+abbrev pub kind_of_count : ℕ → Option Kind
+kind_of_count count =
+    if nat_eq count 8 then Some X32
+    else if nat_eq count 16 then Some X64
+    else if nat_eq count 32 then Some X3_128
+    else None
+
+abbrev pub tag_of : Kind → List ℕ
+tag_of X32 = codes "XXH32"
+tag_of X64 = codes "XXH64"
+tag_of X3_64 = codes "XXH3"
+tag_of X3_128 = codes "XXH128"
+
+abbrev pub begins_with : List ℕ → List ℕ → Bool
+begins_with tag text = starts_with nat_eq tag text
+
+-- the kind of a line with this tag
+abbrev pub kind_of_tag : List ℕ → Kind
+kind_of_tag tag =
+    if begins_with tag (codes "XXH32") then X32
+    else if begins_with tag (codes "XXH64") then X64
+    else if begins_with tag (codes "XXH128") then X3_128
+    else if begins_with tag (codes "XXH3") then X3_64
+    else X64
+
+-- "_LE" stands somewhere in the tag
+abbrev pub is_little_tag : List ℕ → Bool
+is_little_tag [] = false
+is_little_tag (c ∷ cs) = begins_with (c ∷ cs) (codes "_LE") || is_little_tag cs

@@ -1,0 +1,74 @@
+//! The parts of a line.
+
+ghost use Rattle.std.specs.Prelude.{◌≡◌, ◌++◌, ◌∷◌, MatchOption};
+ghost use Rattle.xxhsum_line.specs.Parts.{up_to_nul, Lacks, HasParts, HasNoParts, HasNoTaggedParts, IsTagged, IsTaggedWith};
+
+use memchr::{memchr, memrchr};
+
+/// What a line consists of.
+#[derive(Clone, Copy, Debug, PartialEq, Eq)]
+pub enum Parts<'a> {
+    /// Digits, a space, a byte that is no opening bracket, and the name of a file.
+    Plain {
+        digits: &'a [u8],
+        name: &'a [u8],
+    },
+    /// A tag, the name of a file in brackets, an equals sign and digits.
+    Tagged {
+        tag: &'a [u8],
+        name: &'a [u8],
+        digits: &'a [u8],
+    },
+}
+
+/// What comes before the first NUL of a line, or the whole line where it has none.
+pub fn up_to_nul(line: &[u8]) -> &[u8]
+    ensures { result.now ≡ up_to_nul line.now }
+{
+    match memchr(0, line) {
+        Some(place) => &line[..place],
+        None => line,
+    }
+}
+
+/// The parts of a line, without its line feed. `None` where it has neither form.
+pub fn parts_of(line: &[u8]) -> Option<Parts<'_>>
+    ensures { MatchOption result (HasNoParts line.now) (HasParts line.now) }
+{
+    let (first, rest) = split_at_first_space(line)?;
+    match rest {
+        [] => None,
+        [b'(', inside @ ..] => tagged_parts(first, inside),
+        [_, name @ ..] => Some(Parts::Plain {
+            digits: first,
+            name,
+        }),
+    }
+}
+
+// The parts of a tagged line, which has this tag, a space, an opening bracket and these bytes behind it.
+fn tagged_parts<'a>(tag: &'a [u8], inside: &'a [u8]) -> Option<Parts<'a>>
+    ensures { MatchOption result (HasNoTaggedParts inside.now) (IsTaggedWith tag.now inside.now) }
+{
+    let (before, digits) = split_at_last_space(inside)?;
+    let name = before.strip_suffix(b") =")?;
+    Some(Parts::Tagged { tag, name, digits })
+}
+
+// What stands before the first space, and behind it.
+fn split_at_first_space(line: &[u8]) -> Option<(&[u8], &[u8])>
+    ensures { MatchOption result (Lacks 32 line.now)
+        (λ parts. (line.now ≡ parts.0.now ++ 32 ∷ parts.1.now) × Lacks 32 parts.0.now) }
+{
+    let place = memchr(b' ', line)?;
+    Some((&line[..place], &line[place + 1..]))
+}
+
+// What stands before the last space, and behind it.
+fn split_at_last_space(line: &[u8]) -> Option<(&[u8], &[u8])>
+    ensures { MatchOption result (Lacks 32 line.now)
+        (λ parts. (line.now ≡ parts.0.now ++ 32 ∷ parts.1.now) × Lacks 32 parts.1.now) }
+{
+    let place = memrchr(b' ', line)?;
+    Some((&line[..place], &line[place + 1..]))
+}

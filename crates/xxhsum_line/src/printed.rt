@@ -1,0 +1,98 @@
+//! The lines that are printed.
+
+ghost use Rattle.std.specs.Prelude.{◌≡◌, ◌++◌, IfOk};
+ghost use Rattle.xxhsum_line.specs.Printed.{is_tagged_line, line_of, plain_text, shown, tagged_text};
+
+use crate::digits::{MOST_DIGITS, turn};
+use crate::tags::tag_of;
+use std::alloc::{AllocError, Global};
+use xxh_io::hex::write_digits;
+use xxh_io::kind::Kind;
+
+/// How a line is written.
+#[derive(Clone, Copy, Debug, PartialEq, Eq)]
+pub struct Shape {
+    /// With a tag before the name and the digits behind it, as BSD's programs write it.
+    pub is_tagged: bool,
+    /// With the bytes of the value in the opposite order.
+    pub is_little: bool,
+}
+
+/// The line of this value of the file with this name, with its line feed. A line of XXH3 of 64 bits is always
+/// tagged. Of a value that has more digits than its kind, the lowest are shown. `AllocError` where memory runs out.
+pub fn digest_line(
+    alloc: Global,
+    kind: Kind,
+    shape: Shape,
+    value: u128,
+    name: &[u8],
+) -> Result<Vec<u8>, AllocError>
+    ensures { IfOk result (λ line. line.items ≡ line_of kind shape value name.now) }
+{
+    let mut line = Vec::new(alloc);
+    if is_tagged_line(kind, shape) {
+        put_tagged(&mut line, kind, shape.is_little, value, name)?;
+    } else {
+        put_plain(&mut line, kind, shape.is_little, value, name)?;
+    }
+    line.extend_from_slice(b"\n")?;
+    Ok(line)
+}
+
+// Whether the line has a tag.
+fn is_tagged_line(kind: Kind, shape: Shape) -> bool
+    ensures { result ≡ is_tagged_line kind shape }
+{
+    match kind {
+        Kind::X3_64 => true,
+        Kind::X32 | Kind::X64 | Kind::X3_128 => shape.is_tagged,
+    }
+}
+
+fn put_plain(
+    line: &mut Vec<u8>,
+    kind: Kind,
+    is_little: bool,
+    value: u128,
+    name: &[u8],
+) -> Result<(), AllocError>
+    ensures { IfOk result
+        (λ _. line.new.items ≡ line.old.items ++ plain_text kind is_little value name.now) }
+{
+    put_value(line, kind, is_little, value)?;
+    line.extend_from_slice(b"  ")?;
+    line.extend_from_slice(name)
+}
+
+fn put_tagged(
+    line: &mut Vec<u8>,
+    kind: Kind,
+    is_little: bool,
+    value: u128,
+    name: &[u8],
+) -> Result<(), AllocError>
+    ensures { IfOk result
+        (λ _. line.new.items ≡ line.old.items ++ tagged_text kind is_little value name.now) }
+{
+    line.extend_from_slice(tag_of(kind))?;
+    if is_little {
+        line.extend_from_slice(b"_LE")?;
+    }
+    line.extend_from_slice(b" (")?;
+    line.extend_from_slice(name)?;
+    line.extend_from_slice(b") = ")?;
+    put_value(line, kind, is_little, value)
+}
+
+// The digits of the value.
+fn put_value(line: &mut Vec<u8>, kind: Kind, is_little: bool, value: u128) -> Result<(), AllocError>
+    ensures { IfOk result (λ _. line.new.items ≡ line.old.items ++ shown kind is_little value) }
+{
+    let mut room = [0; MOST_DIGITS];
+    let digits = &mut room[..kind.digits()];
+    write_digits(value, digits);
+    if is_little {
+        turn(digits);
+    }
+    line.extend_from_slice(digits)
+}

@@ -1,0 +1,59 @@
+//! The tags of lines, and the kinds that they name.
+
+ghost use Rattle.std.specs.Prelude.{◌≡◌};
+ghost use Rattle.xxhsum_line.specs.Tags.{kind_of_count, kind_of_tag, is_little_tag, tag_of};
+
+use xxh_io::kind::Kind;
+
+/// The kind of a line without a tag, by how many digits it has. `None` for any other number of digits.
+pub fn kind_of_count(count: usize) -> Option<Kind>
+    ensures { result ≡ kind_of_count count }
+{
+    match count {
+        8 => Some(Kind::X32),
+        16 => Some(Kind::X64),
+        32 => Some(Kind::X3_128),
+        _ => None,
+    }
+}
+
+/// The tag of a kind.
+pub fn tag_of(kind: Kind) -> &'static [u8]
+    ensures { result.now ≡ tag_of kind }
+{
+    match kind {
+        Kind::X32 => b"XXH32",
+        Kind::X64 => b"XXH64",
+        Kind::X3_64 => b"XXH3",
+        Kind::X3_128 => b"XXH128",
+    }
+}
+
+/// The kind of a line with this tag: the one whose tag it begins with, and XXH64 where there is none.
+pub fn kind_of_tag(tag: &[u8]) -> Kind
+    ensures { result ≡ kind_of_tag tag.now }
+{
+    if tag.starts_with(b"XXH32") {
+        Kind::X32
+    } else if tag.starts_with(b"XXH64") {
+        Kind::X64
+    } else if tag.starts_with(b"XXH128") {
+        Kind::X3_128
+    } else if tag.starts_with(b"XXH3") {
+        Kind::X3_64
+    } else {
+        Kind::X64
+    }
+}
+
+/// Whether the digits of a line with this tag are little-endian: `_LE` stands somewhere in it.
+pub fn is_little_tag(tag: &[u8]) -> bool
+    ensures { result ≡ is_little_tag tag.now }
+{
+    for i in 0..tag.len() {
+        if tag[i..].starts_with(b"_LE") {
+            return true;
+        }
+    }
+    false
+}

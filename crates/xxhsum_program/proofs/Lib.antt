@@ -1,0 +1,3 @@
+mod HashFacts
+mod OutcomeFacts
+mod ToldFacts

@@ -1,0 +1,5 @@
+pub mod HashNames
+pub mod Lines
+pub mod Outcomes
+pub mod Report
+pub mod Told

@@ -1,0 +1,55 @@
+-- What becomes of the names of a hashing run.
+use Rattle.std.specs.Prelude.{◌≡◌, ◌≢◌, ◌&&◌, ℕ, Bool, true, false, List, [], ◌∷◌}
+use Rattle.std.specs.List.{concat}
+use Rattle.std.specs.declared.result.Result.{Result}
+use Rattle.std.specs.declared.result.Result.TheVariants.{Ok, Err}
+use Rattle.xxh_io.specs.declared.error.DigestError.{DigestError}
+use Rattle.xxh_io.specs.declared.error.DigestError.TheVariants.{WriteFailed}
+use Rattle.xxh_io.specs.declared.kind.Kind.{Kind}
+use Rattle.xxh_io.specs.Pieces.{NoneEmpty, Step, Failing}
+use Rattle.xxh_io.specs.Digest.{ReadsOn}
+use Rattle.xxh_program.specs.Kind.{value_of}
+use Rattle.xxh_program.specs.States.{most_reads}
+use Rattle.xxhsum_files.specs.declared.refusal.Refusal.{Refusal}
+use Rattle.xxhsum_program.specs.declared.outcome.Outcome.{Outcome}
+use Rattle.xxhsum_program.specs.declared.outcome.Outcome.TheVariants.{Digested, IsDirectory, Unopened}
+use Rattle.xxhsum_program.specs.declared.stop.Stop.{Stop}
+use Rattle.xxhsum_program.specs.declared.stop.Stop.TheVariants.{Digest, OutOfMemory}
+
+-- the name leads to a file that was read to its end, and this is the hash of what its reads gave
+abbrev pub IsValueOf : {S F : Type 0} → (S → List ℕ → F → Type 0) → Step F → Failing F → S → Kind → List ℕ
+    → ℕ → Type 0
+IsValueOf {S} {F} opens gives fails store kind name value =
+    (file end : F) × (pieces : List (List ℕ)) × (read : Result ℕ DigestError) × (read ≡ Ok value)
+    × opens store name file × NoneEmpty pieces × ReadsOn gives fails most_reads pieces file end read
+    × (value ≡ value_of kind 0 (concat pieces))
+
+-- what became of a name, by what the store says of it
+abbrev pub Comes : {S F : Type 0} → (S → List ℕ → F → Type 0) → (S → List ℕ → Refusal → Type 0)
+    → (S → List ℕ → Bool → Type 0) → Step F → Failing F → S → Kind → List ℕ → Outcome → Type 0
+Comes opens refuses holds_directory gives fails store kind name (Digested value) =
+    IsValueOf opens gives fails store kind name value
+Comes opens refuses holds_directory gives fails store kind name IsDirectory =
+    holds_directory store name true
+Comes opens refuses holds_directory gives fails store kind name (Unopened refusal) =
+    refuses store name refusal
+
+-- the name leads to a file whose reading came to no end, for this reason
+abbrev pub FailsOn : {S F : Type 0} → (S → List ℕ → F → Type 0) → Step F → Failing F → S → List ℕ → Stop
+    → Type 0
+FailsOn {S} {F} opens gives fails store name OutOfMemory = ⊥
+FailsOn {S} {F} opens gives fails store name (Digest e) =
+    (file end : F) × (pieces : List (List ℕ)) × (read : Result ℕ DigestError) × (read ≡ Err e)
+    × opens store name file × NoneEmpty pieces × ReadsOn gives fails most_reads pieces file end read
+    × (e ≢ WriteFailed)
+
+-- whether a name has a value
+abbrev pub is_digested : Outcome → Bool
+is_digested (Digested value) = true
+is_digested IsDirectory = false
+is_digested (Unopened refusal) = false
+
+-- whether each of them has
+abbrev pub are_digested : List Outcome → Bool
+are_digested [] = true
+are_digested (outcome ∷ outcomes) = is_digested outcome && are_digested outcomes

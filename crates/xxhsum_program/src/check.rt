@@ -1,0 +1,262 @@
+//! Lists of checksum lines, and whether their files are as the lines say.
+
+ghost use Rattle.std.specs.Prelude.{◌≡◌, ◌<◌, length};
+ghost use Rattle.xxhsum_program.specs.Report.{is_good};
+
+use crate::entry::{Found, compare, say_found};
+use crate::lines::{Lines, Next};
+use crate::say::{decimal, joined, say};
+use crate::stop::Stop;
+use crate::tell::tell;
+use std::alloc::{AllocError, Global};
+use xxh_io::ends::{Sink, Source};
+use xxh_io::error::DigestError;
+use xxhsum_files::store::Store;
+use xxhsum_line::entry::entry_of;
+use xxhsum_words::options::Options;
+
+// How many bytes each read of a file is offered.
+const OFFERED: usize = 131072;
+
+/// What was found in a list: how many of its lines are of each kind.
+#[derive(Clone, Copy, Debug, PartialEq, Eq)]
+pub struct Report {
+    /// Lines that name a value and a file.
+    pub proper: u64,
+    /// Other lines.
+    pub improper: u64,
+    /// Proper lines whose file could not be opened.
+    pub unread: u64,
+    /// Proper lines whose file has another value.
+    pub different: u64,
+    /// The list ends with a line that is too long.
+    pub is_broken: bool,
+}
+
+impl Report {
+    // Nothing was found yet.
+    fn new() -> Report {
+        Report {
+            proper: 0,
+            improper: 0,
+            unread: 0,
+            different: 0,
+            is_broken: false,
+        }
+    }
+
+    /// Whether the list is good: it has a proper line, each file was read and has its value, no line is too long, and,
+    /// where the check is strict, none is improper.
+    pub fn is_good(&self, is_strict: bool) -> bool
+        ensures { result ≡ is_good is_strict self.now }
+    {
+        self.proper > 0
+            && self.different == 0
+            && self.unread == 0
+            && (!is_strict || self.improper == 0)
+            && !self.is_broken
+    }
+}
+
+// A list that is checked.
+#[derive(Clone, Copy)]
+struct List<'a, S> {
+    alloc: Global,
+    store: &'a S,
+    options: Options,
+    name: &'a [u8],
+}
+
+impl<S: Store> List<'_, S> {
+    // Compares what the line says with its file, and counts it.
+    fn check_line<W: Sink, E: Sink>(
+        &self,
+        line: &[u8],
+        number: u64,
+        report: &mut Report,
+        buf: &mut [u8],
+        out: &mut W,
+        err: &mut E,
+    ) -> Result<(), Stop>
+        requires { 0 < length buf.old }
+    {
+        let Some(entry) = entry_of(line, self.options.is_little_endian) else {
+            report.improper = report.improper.saturating_add(1);
+            if self.options.warns {
+                self.tell_of_line(number, b"Improperly formatted checksum line", err)?;
+            }
+            return Ok(());
+        };
+        report.proper = report.proper.saturating_add(1);
+        let found = compare(self.store, &entry, buf)?;
+        match found {
+            Found::Same => {}
+            Found::Different => report.different = report.different.saturating_add(1),
+            Found::Unread(_) => report.unread = report.unread.saturating_add(1),
+        }
+        say_found(
+            self.alloc,
+            self.options,
+            self.name,
+            number,
+            entry.name,
+            &found,
+            out,
+        )
+    }
+
+    // Tells what is wrong with a line.
+    fn tell_of_line<E: Sink>(
+        &self,
+        number: u64,
+        what: &[u8],
+        err: &mut E,
+    ) -> Result<(), AllocError> {
+        let number = decimal(self.alloc, number)?;
+        tell(
+            &joined(
+                self.alloc,
+                &[self.name, b":", &number, b": Error: ", what, b".\n"],
+            )?,
+            err,
+        );
+        Ok(())
+    }
+
+    // Says how many lines are not as they should be.
+    fn sum_up<W: Sink, E: Sink>(
+        &self,
+        report: &Report,
+        out: &mut W,
+        err: &mut E,
+    ) -> Result<(), Stop> {
+        if report.proper == 0 {
+            tell(self.name, err);
+            tell(
+                b": no properly formatted xxHash checksum lines found\n",
+                err,
+            );
+            return Ok(());
+        }
+        if self.options.is_status_only {
+            return Ok(());
+        }
+        let alloc = self.alloc;
+        say_count(
+            alloc,
+            report.improper,
+            b" line is improperly formatted\n",
+            b" lines are improperly formatted\n",
+            out,
+        )?;
+        say_count(
+            alloc,
+            report.unread,
+            b" listed file could not be read\n",
+            b" listed files could not be read\n",
+            out,
+        )?;
+        say_count(
+            alloc,
+            report.different,
+            b" computed checksum did NOT match\n",
+            b" computed checksums did NOT match\n",
+            out,
+        )
+    }
+}
+
+// Says how many there are, in the singular or the plural, where there are any.
+fn say_count<W: Sink>(
+    alloc: Global,
+    count: u64,
+    one: &'static [u8],
+    more: &'static [u8],
+    out: &mut W,
+) -> Result<(), Stop> {
+    if count == 0 {
+        return Ok(());
+    }
+    let number = decimal(alloc, count)?;
+    let what = if count == 1 { one } else { more };
+    say(alloc, &[number.as_slice(), what], out)
+}
+
+/// Checks the lines of a list, which is told by this name: says for each proper line how its file is, and at the end how
+/// many lines are not as they should be. Answers whether the list is good.
+///
+/// # Errors
+///
+/// [`Stop`] where a read of the list or of a file, or a write, fails, or memory runs out: at once.
+pub fn check_list<S: Store, R: Source + Drop, W: Sink, E: Sink>(
+    alloc: Global,
+    store: &S,
+    options: Options,
+    name: &[u8],
+    source: R,
+    out: &mut W,
+    err: &mut E,
+) -> Result<bool, Stop> {
+    let list = List {
+        alloc,
+        store,
+        options,
+        name,
+    };
+    let mut lines = Lines::new(source);
+    let mut report = Report::new();
+    let mut buf = [0; OFFERED];
+    for number in 1..u64::MAX {
+        match lines.next() {
+            Next::End => break,
+            Next::Failed => return Err(Stop::Digest(DigestError::ReadFailed)),
+            Next::TooLong => {
+                list.tell_of_line(number, b"Line too long", err)?;
+                report.is_broken = true;
+                break;
+            }
+            Next::Line(line) => list.check_line(line, number, &mut report, &mut buf, out, err)?,
+        }
+    }
+    list.sum_up(&report, out, err)?;
+    Ok(report.is_good(options.is_strict))
+}
+
+/// Checks each named list. Answers whether all are good.
+///
+/// # Errors
+///
+/// As [`check_list`]. A list that can't be opened is told, and isn't good.
+pub fn check_lists<S: Store, W: Sink, E: Sink>(
+    alloc: Global,
+    store: &S,
+    options: Options,
+    names: &[Vec<u8>],
+    out: &mut W,
+    err: &mut E,
+) -> Result<bool, Stop> {
+    let mut all = true;
+    for name in names {
+        match store.open(name) {
+            Ok(file) => {
+                let good = check_list(alloc, store, options, name, file, out, err)?;
+                all = all && good;
+            }
+            Err(refusal) => {
+                all = false;
+                let text = joined(
+                    alloc,
+                    &[
+                        b"Error: Could not open '",
+                        name,
+                        b"': ",
+                        refusal.text(),
+                        b"\n",
+                    ],
+                )?;
+                tell(&text, err);
+            }
+        }
+    }
+    Ok(all)
+}

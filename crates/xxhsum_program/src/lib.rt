@@ -1,0 +1,15 @@
+//! The program `xxhsum` over any store of files and any ends: digest lines of named files, and lists of them that are
+//! checked.
+#![tactic(auto)]
+
+mod arguments;
+pub mod check;
+mod entry;
+pub mod hash;
+mod lines;
+pub mod outcome;
+pub mod process;
+mod say;
+pub mod stop;
+mod tell;
+mod usage;
