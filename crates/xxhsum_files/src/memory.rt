@@ -11,9 +11,11 @@ use xxh_io::ends::Source;
 /// A name, and what it leads to.
 #[derive(Clone, Copy)]
 pub struct MemoryEntry<'a, S> {
+    /// The name, byte for byte as `open` is given it.
     pub name: &'a [u8],
     /// What each file that is opened by this name gives, from its start.
     pub source: S,
+    /// Whether the name is a directory's.
     pub is_directory: bool,
 }
 

@@ -8,6 +8,7 @@ use xxh_io::ends::Source;
 
 /// Files by name. A name is bytes, as the system has it: no UTF-8 is asked for.
 pub trait Store {
+    /// An open file. It is closed where it is dropped.
     type File: Source + Drop;
 
     // The name leads to this file, as it is before anything is read.
@@ -23,7 +24,8 @@ pub trait Store {
     fn is_directory(&self, name: &[u8]) -> bool
         ensures { holds_directory self.now name.now result };
 
-    /// Opens the file of this name for reading. Its first read may still fail, as a directory's does.
+    /// Opens the file of this name for reading. Its first read may still fail, as a directory's does. An error
+    /// says why there is none.
     fn open(&self, name: &[u8]) -> Result<Self::File, Refusal>
         ensures opens { IfOk result (λ file. opens self.now name.now file) }
         ensures works { IfOk result (λ file. Self.File.has_failed file ≡ false) }
