@@ -1,6 +1,8 @@
 //! One line of a list, beside the file that it names.
 
-ghost use Rattle.std.specs.Prelude.{◌<◌, length};
+ghost use Rattle.std.specs.Prelude.{◌<◌, length, IfOk, IfErr};
+ghost use Rattle.xxhsum_program.specs.Found.{IsFound};
+ghost use Rattle.xxhsum_program.specs.Outcomes.{FailsOn};
 
 use crate::outcome::MAX_READS;
 use crate::say::{decimal, say};
@@ -27,6 +29,11 @@ pub(crate) enum Found {
 // Hashes the file that the line names, with reads that are offered the whole buffer.
 pub(crate) fn compare<S: Store>(store: &S, entry: &Entry<'_>, buf: &mut [u8]) -> Result<Found, Stop>
     requires { 0 < length buf.old }
+    ensures found { IfOk result
+        (IsFound S.opens S.refuses S.File.gives S.File.fails store.now entry.now.kind entry.now.value
+        entry.now.name.now) }
+    ensures fails { IfErr result
+        (FailsOn S.opens S.File.gives S.File.fails store.now entry.now.name.now) }
 {
     match store.open(entry.name) {
         Ok(file) => {
