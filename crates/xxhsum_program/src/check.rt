@@ -123,7 +123,12 @@ impl<S: Store> List<'_, S> {
     }
 
     // Tells that the list could not be read on. Where it has no proper line so far, that is told at its end.
-    fn tell_of_failure<E: Sink>(&self, number: u64, report: &Report, err: &mut E) -> Result<(), AllocError> {
+    fn tell_of_failure<E: Sink>(
+        &self,
+        number: u64,
+        report: &Report,
+        err: &mut E,
+    ) -> Result<(), AllocError> {
         if report.proper == 0 {
             return Ok(());
         }

@@ -103,7 +103,8 @@ fn print_outcome<W: Sink>(
     out: &mut W,
 ) -> Result<(), Stop>
     requires { W.has_failed out.old ≡ false }
-    ensures prints { PrintsLine W.takes W.refuses (printed_line kind shape name.now outcome.now) out.old out.new result }
+    ensures prints { PrintsLine W.takes W.refuses (printed_line kind shape name.now outcome.now)
+        out.old out.new result }
     ensures works { IfOk result (λ _. W.has_failed out.new ≡ false) }
     ensures only { IfErr result IsOfWriting }
 {

@@ -1,0 +1,169 @@
+//! The program over a table of names. Digests, lines and answers are those of Debian's `xxhsum` 0.8.1 over such files.
+
+use std::alloc::{AllocError, Global};
+use xxh_io::error::DigestError;
+use xxh_io::kind::Kind;
+use xxh_io::script_sink::ScriptSink;
+use xxh_io::script_source::ScriptSource;
+use xxhsum_files::memory::{MemoryEntry, MemoryFiles};
+use xxhsum_line::printed::Shape;
+use xxhsum_program::check::{check_list, check_lists};
+use xxhsum_program::hash::{hash_input, hash_names};
+use xxhsum_program::stop::Stop;
+use xxhsum_words::options::{Asked, asked_by};
+
+const PLAIN: Shape = Shape {
+    is_tagged: false,
+    is_little: false,
+};
+
+const LIST: &[u8] =
+    b"26c7827d889f6da3  a\ndeadbeefdeadbeef  b\nnonsense\n0123456789abcdef  gone\nXXH3 (b) = d30345fef8ac3570";
+
+// What is printed of it.
+const CHECKED: &[u8] =
+    b"a: OK\nb: FAILED\nL:4: Could not open or read 'gone': No such file or directory.\nb: OK\n1 line is improperly formatted\n1 listed file could not be read\n1 computed checksum did NOT match\n";
+
+// The files a and b, the folder d, a file whose second read fails, and a list.
+fn entries<'a>() -> [MemoryEntry<'a, ScriptSource<'a>>; 5] {
+    [
+        entry(b"a", ScriptSource::new(b"hello", &[2, 9], 0), false),
+        entry(b"b", ScriptSource::new(b"bytes", &[4, 9], 0), false),
+        entry(b"d", ScriptSource::new(b"", &[], 1), true),
+        entry(b"bad", ScriptSource::new(b"hello", &[2, 9], 2), false),
+        entry(b"L", ScriptSource::new(LIST, &[7, 999], 0), false),
+    ]
+}
+
+fn entry<'a>(
+    name: &'a [u8],
+    source: ScriptSource<'a>,
+    is_directory: bool,
+) -> MemoryEntry<'a, ScriptSource<'a>> {
+    MemoryEntry {
+        name,
+        source,
+        is_directory,
+    }
+}
+
+fn names(alloc: Global, all: &[&[u8]]) -> Result<Vec<Vec<u8>>, AllocError> {
+    let mut names = Vec::new(alloc);
+    for name in all {
+        names.push(name.to_vec(alloc)?)?;
+    }
+    Ok(names)
+}
+
+#[test]
+fn each_name_has_its_line(rt: HostRuntime) -> Result<(), AllocError> {
+    let entries = entries();
+    let names = names(rt.alloc(), &[b"a", b"b", b"d", b"gone"])?;
+    for (refuses, told) in [
+        (
+            0,
+            b"xxhsum: d: Is a directory \nError: Could not open 'gone': No such file or directory. \n".as_slice(),
+        ),
+        (1, b""),
+        (3, b"xxhsum: d"),
+    ] {
+        let mut out = ScriptSink::<99>::new(9, 0);
+        let mut err = ScriptSink::<99>::new(99, refuses);
+        let all = hash_names(
+            rt.alloc(),
+            &MemoryFiles::new(&entries),
+            Kind::X64,
+            PLAIN,
+            &names,
+            &mut out,
+            &mut err,
+        );
+        assert!(rt; all == Ok(false));
+        assert!(rt; out.bytes() == b"26c7827d889f6da3  a\n2d83aaba506794c4  b\n".as_slice());
+        assert!(rt; err.bytes() == told);
+    }
+    Ok(())
+}
+
+#[test]
+fn a_fault_stops_the_run(rt: HostRuntime) -> Result<(), AllocError> {
+    let entries = entries();
+    let names = names(rt.alloc(), &[b"a", b"bad", b"b"])?;
+    for (write_fails, stop, printed) in [
+        (
+            0,
+            Stop::Digest(DigestError::ReadFailed),
+            b"26c7827d889f6da3  a\n".as_slice(),
+        ),
+        (2, Stop::Digest(DigestError::WriteFailed), b"26c7827d8"),
+    ] {
+        let mut out = ScriptSink::<99>::new(9, write_fails);
+        let mut err = ScriptSink::<99>::new(99, 0);
+        let all = hash_names(
+            rt.alloc(),
+            &MemoryFiles::new(&entries),
+            Kind::X64,
+            PLAIN,
+            &names,
+            &mut out,
+            &mut err,
+        );
+        assert!(rt; all == Err(stop));
+        assert!(rt; out.bytes() == printed);
+    }
+    Ok(())
+}
+
+#[test]
+fn standard_input_has_its_line(rt: HostRuntime) {
+    let shape = Shape {
+        is_tagged: true,
+        is_little: false,
+    };
+    let mut input = ScriptSource::new(b"hello", &[1, 9], 0);
+    let mut out = ScriptSink::<99>::new(99, 0);
+    let done = hash_input(rt.alloc(), Kind::X32, shape, b"stdin", &mut input, &mut out);
+    assert!(rt; done == Ok(()));
+    assert!(rt; out.bytes() == b"XXH32 (stdin) = fb0077f9\n".as_slice());
+}
+
+#[test]
+fn a_list_is_checked(rt: HostRuntime) -> Result<(), AllocError> {
+    let entries = entries();
+    let words = names(rt.alloc(), &[b"-c", b"-w"])?;
+    let Asked::Run {
+        options,
+        names_from: _,
+    } = asked_by(Kind::X64, &words)
+    else {
+        return Err(AllocError);
+    };
+    let mut out = ScriptSink::<300>::new(300, 0);
+    let mut err = ScriptSink::<99>::new(99, 0);
+    let source = ScriptSource::new(LIST, &[7, 999], 0);
+    let good = check_list(
+        rt.alloc(),
+        &MemoryFiles::new(&entries),
+        options,
+        b"L",
+        source,
+        &mut out,
+        &mut err,
+    );
+    assert!(rt; good == Ok(false));
+    assert!(rt; out.bytes() == CHECKED);
+    assert!(rt; err.bytes() == b"L:3: Error: Improperly formatted checksum line.\n".as_slice());
+    let lists = names(rt.alloc(), &[b"L"])?;
+    let mut out = ScriptSink::<300>::new(300, 0);
+    let good = check_lists(
+        rt.alloc(),
+        &MemoryFiles::new(&entries),
+        options,
+        &lists,
+        &mut out,
+        &mut err,
+    );
+    assert!(rt; good == Ok(false));
+    assert!(rt; out.bytes() == CHECKED);
+    Ok(())
+}
