@@ -2,7 +2,7 @@
 
 use crate::copies::{boxed, boxed_wide, core};
 use crate::streams::Stream;
-use std::alloc::AllocError;
+use std::alloc::{AllocError, Global};
 use std::test::Fail;
 use twox_hash::{XxHash3_64, XxHash3_128};
 
@@ -25,32 +25,45 @@ fn copy_goes_on<S: Stream + Drop>(mut stream: S) -> Result<bool, AllocError> {
     Ok(same && kept && copy.value() != before && copy.value() == stream.value())
 }
 
+// Whether that holds of a stream of each kind, after so many times the piece.
+fn copies_go_on(alloc: Global, count: u32, piece: &[u8]) -> Result<bool, AllocError> {
+    Ok(
+        copy_goes_on(after_many(boxed(alloc)?, count, piece))?
+            && copy_goes_on(after_many(boxed_wide(alloc)?, count, piece))?
+            && copy_goes_on(after_many(core(), count, piece))?,
+    )
+}
+
 #[test]
-fn copies_after_a_mebibyte(rt: HostRuntime) -> Result<(), Fail> {
-    let piece = [7; 65_536];
-    assert!(rt; copy_goes_on(after_many(boxed(rt.alloc())?, 16, &piece))?);
-    assert!(rt; copy_goes_on(after_many(boxed_wide(rt.alloc())?, 16, &piece))?);
-    assert!(rt; copy_goes_on(after_many(core(), 16, &piece))?);
+fn copies_after_a_mebibyte(rt: HostRuntime) -> Result<(), AllocError> {
+    assert!(rt; copies_go_on(rt.alloc(), 16, &[7; 65_536])?);
     Ok(())
 }
 
 #[test]
-fn copies_after_five_million_bytes(rt: HostRuntime) -> Result<(), Fail> {
-    let piece = [7; 50_000];
-    assert!(rt; copy_goes_on(after_many(boxed(rt.alloc())?, 100, &piece))?);
-    assert!(rt; copy_goes_on(after_many(boxed_wide(rt.alloc())?, 100, &piece))?);
-    assert!(rt; copy_goes_on(after_many(core(), 100, &piece))?);
+fn copies_after_five_million_bytes(rt: HostRuntime) -> Result<(), AllocError> {
+    assert!(rt; copies_go_on(rt.alloc(), 100, &[7; 50_000])?);
     Ok(())
+}
+
+fn seeded_copies_go_on(
+    alloc: Global,
+    seed: u64,
+    count: u32,
+    piece: &[u8],
+) -> Result<bool, AllocError> {
+    Ok(
+        copy_goes_on(after_many(XxHash3_64::with_seed(alloc, seed)?, count, piece))?
+            && copy_goes_on(after_many(XxHash3_128::with_seed(alloc, seed)?, count, piece))?,
+    )
 }
 
 // The same under the greatest seed.
 #[test]
-fn copies_after_five_million_bytes_under_the_greatest_seed(rt: HostRuntime) -> Result<(), Fail> {
-    let piece = [7; 50_000];
-    let narrow = XxHash3_64::with_seed(rt.alloc(), u64::MAX)?;
-    assert!(rt; copy_goes_on(after_many(narrow, 100, &piece))?);
-    let wide = XxHash3_128::with_seed(rt.alloc(), u64::MAX)?;
-    assert!(rt; copy_goes_on(after_many(wide, 100, &piece))?);
+fn copies_after_five_million_bytes_under_the_greatest_seed(
+    rt: HostRuntime,
+) -> Result<(), AllocError> {
+    assert!(rt; seeded_copies_go_on(rt.alloc(), u64::MAX, 100, &[7; 50_000])?);
     Ok(())
 }
 

@@ -6,13 +6,14 @@
 //! request is refused.
 
 use crate::inputs::{first, generated};
-use crate::streams::{Stream, after, copy_after, seeded_64, seeded_128};
+use crate::streams::{
+    Stream, beside_64, beside_128, copy_after, keyed_64, keyed_128, seeded_64, seeded_128,
+};
 use linked_list_allocator::LocalHeap;
 use std::alloc::{AllocError, Global};
 use std::boxed::BoxedSlice;
-use std::test::Fail;
 use twox_hash::xxhash3::{AllocRawHasher, DEFAULT_SECRET_RAW};
-use twox_hash::xxhash3_64::{self, Finalize64, SecretBuffer};
+use twox_hash::xxhash3_64::{self, SecretBuffer};
 use twox_hash::{XxHash3_64, XxHash3_128, xxhash3_128};
 
 type Own<'a> = BoxedSlice<u8, &'a LocalHeap>;
@@ -58,23 +59,27 @@ fn all_are(heap: &LocalHeap, refused: bool) -> bool {
 }
 
 #[test]
-fn constructors_answer_out_of_memory(rt: HostRuntime) -> Result<(), Fail> {
+fn constructors_answer_out_of_memory(rt: HostRuntime) -> Result<(), AllocError> {
     assert!(rt; all_are(&heap_of(rt.alloc(), 0)?, true));
     // with room for one secret each is made in turn, so that each takes one request and gives it back
     let room = heap_of(rt.alloc(), 1)?;
-    assert!(rt; all_are(&room, false));
-    assert!(rt; room.used() == 0);
+    assert!(rt; all_are(&room, false) && room.used() == 0);
     Ok(())
 }
 
-#[test]
-fn constructors_answer_while_another_holds_the_memory(rt: HostRuntime) -> Result<(), Fail> {
-    let room = heap_of(rt.alloc(), 1)?;
-    let held = XxHash3_64::new(&room)?;
-    assert!(rt; room.used() == SECRET_IN_HEAP);
-    assert!(rt; all_are(&room, true));
+// Whether all are refused while a stream holds the memory, and succeed afterwards.
+fn wait_for_another(room: &LocalHeap) -> bool {
+    let Ok(held) = XxHash3_64::new(room) else {
+        return false;
+    };
+    let refused = room.used() == SECRET_IN_HEAP && all_are(room, true);
     drop(held);
-    assert!(rt; all_are(&room, false));
+    refused && all_are(room, false)
+}
+
+#[test]
+fn constructors_answer_while_another_holds_the_memory(rt: HostRuntime) -> Result<(), AllocError> {
+    assert!(rt; wait_for_another(&heap_of(rt.alloc(), 1)?));
     Ok(())
 }
 
@@ -92,220 +97,225 @@ fn core(heap: &LocalHeap) -> Result<Core<'_>, AllocError> {
     Core::allocate_with_seed(heap, SEED)
 }
 
-// Whether there is no memory for a copy, and the stream has its value still.
-fn is_kept<S: Stream + Drop>(stream: S, input: &[u8], value: u128) -> bool {
-    let stream = after(stream, input);
+// Whether the stream was made, there is no memory for a copy of it, and it has its value still.
+fn is_kept<S: Stream + Drop>(made: Result<S, AllocError>, input: &[u8], value: u128) -> bool {
+    let Ok(mut stream) = made else {
+        return false;
+    };
+    stream.take(input);
     stream.copy().is_err() && stream.value() == value
 }
 
-// Whether a copy is made, and has the value.
-fn is_copied<S: Stream + Drop>(stream: S, input: &[u8], value: u128) -> Result<bool, AllocError> {
-    Ok(copy_after(&after(stream, input), &[])? == value)
+// Whether the stream was made, and a copy of it, which has the value.
+fn is_copied<S: Stream + Drop>(made: Result<S, AllocError>, input: &[u8], value: u128) -> bool {
+    let Ok(mut stream) = made else {
+        return false;
+    };
+    stream.take(input);
+    copy_after(&stream, &[]) == Ok(value)
 }
 
 // Where there is room for one secret, a copy is refused; where there is room for two, the same call succeeds.
-fn narrow_are_kept(one: &LocalHeap, two: &LocalHeap, input: &[u8]) -> Result<bool, AllocError> {
+fn narrow_are_kept(one: &LocalHeap, two: &LocalHeap, input: &[u8]) -> bool {
     let value = seeded_64(SEED, input);
-    Ok(
-        is_kept(XxHash3_64::with_seed(one, SEED)?, input, value)
-            && is_copied(XxHash3_64::with_seed(two, SEED)?, input, value)?
-            && is_kept(raw(one)?, input, value)
-            && is_copied(raw(two)?, input, value)?
-            && is_kept(core(one)?, input, value)
-            && is_copied(core(two)?, input, value)?,
-    )
+    is_kept(XxHash3_64::with_seed(one, SEED), input, value)
+        && is_copied(XxHash3_64::with_seed(two, SEED), input, value)
+        && is_kept(raw(one), input, value)
+        && is_copied(raw(two), input, value)
+        && is_kept(core(one), input, value)
+        && is_copied(core(two), input, value)
 }
 
-fn wide_are_kept(one: &LocalHeap, two: &LocalHeap, input: &[u8]) -> Result<bool, AllocError> {
+fn wide_are_kept(one: &LocalHeap, two: &LocalHeap, input: &[u8]) -> bool {
     let value = seeded_128(SEED, input);
-    Ok(
-        is_kept(XxHash3_128::with_seed(one, SEED)?, input, value)
-            && is_copied(XxHash3_128::with_seed(two, SEED)?, input, value)?
-            && is_kept(raw_wide(one)?, input, value)
-            && is_copied(raw_wide(two)?, input, value)?,
-    )
+    is_kept(XxHash3_128::with_seed(one, SEED), input, value)
+        && is_copied(XxHash3_128::with_seed(two, SEED), input, value)
+        && is_kept(raw_wide(one), input, value)
+        && is_copied(raw_wide(two), input, value)
 }
 
 // The lengths around which a stream begins to keep something else.
 const LENGTHS: [usize; 5] = [0, 5, 240, 241, 1000];
 
-// Boxed streams, raw streams and cores.
-#[test]
-fn copies_of_streams_answer_out_of_memory(rt: HostRuntime) -> Result<(), Fail> {
+fn all_are_kept(one: &LocalHeap, two: &LocalHeap) -> bool {
     let bytes = generated();
-    let (one, two) = (heap_of(rt.alloc(), 1)?, heap_of(rt.alloc(), 2)?);
+    let mut kept = true;
     for count in LENGTHS {
         let input = first(&bytes, count);
-        assert!(rt; narrow_are_kept(&one, &two, input)?, "{count} bytes");
-        assert!(rt; wide_are_kept(&one, &two, input)?, "{count} bytes");
+        kept &= narrow_are_kept(one, two, input) && wide_are_kept(one, two, input);
     }
-    assert!(rt; one.used() == 0 && two.used() == 0);
+    kept && one.used() == 0 && two.used() == 0
+}
+
+// Boxed streams, raw streams and cores.
+#[test]
+fn copies_of_streams_answer_out_of_memory(rt: HostRuntime) -> Result<(), AllocError> {
+    let (one, two) = (heap_of(rt.alloc(), 1)?, heap_of(rt.alloc(), 2)?);
+    assert!(rt; all_are_kept(&one, &two));
     Ok(())
 }
 
 // The copy of the secret alone.
-fn secret_is_kept(heap: &LocalHeap, input: &[u8]) -> Result<bool, AllocError> {
-    let secret = after(core(heap)?, input).into_secret();
-    Ok(secret.clone().is_err())
+fn secret_is_kept(heap: &LocalHeap, input: &[u8]) -> bool {
+    let Ok(mut stream) = core(heap) else {
+        return false;
+    };
+    stream.take(input);
+    stream.into_held().clone().is_err()
 }
 
-#[test]
-fn copies_of_secrets_answer_out_of_memory(rt: HostRuntime) -> Result<(), Fail> {
+fn secrets_are_kept(heap: &LocalHeap) -> bool {
     let bytes = generated();
-    let room = heap_of(rt.alloc(), 1)?;
+    let mut kept = true;
     for count in LENGTHS {
-        assert!(rt;
-            secret_is_kept(&room, first(&bytes, count))?,
-            "{count} bytes"
-        );
+        kept &= secret_is_kept(heap, first(&bytes, count));
     }
-    assert!(rt; room.used() == 0);
-    Ok(())
-}
-
-fn is_the_default(buffer: SecretBuffer<Own<'_>>) -> bool {
-    buffer.into_secret().as_slice() == DEFAULT_SECRET_RAW.as_slice()
+    kept && heap.used() == 0
 }
 
 #[test]
-fn copies_of_secret_buffers_answer_out_of_memory(rt: HostRuntime) -> Result<(), Fail> {
-    let (one, two) = (heap_of(rt.alloc(), 1)?, heap_of(rt.alloc(), 2)?);
-    let buffer = SecretBuffer::allocate_default(&one)?;
-    assert!(rt; buffer.clone().is_err());
-    assert!(rt; is_the_default(buffer));
-    let buffer = SecretBuffer::allocate_default(&two)?;
-    assert!(rt; is_the_default(buffer.clone()?));
+fn copies_of_secrets_answer_out_of_memory(rt: HostRuntime) -> Result<(), AllocError> {
+    assert!(rt; secrets_are_kept(&heap_of(rt.alloc(), 1)?));
     Ok(())
 }
 
-// Each constructor that takes a secret, as a call that gives the value of an input and the secret back.
-fn narrow_beside<'a>(own: Own<'a>, input: &[u8]) -> Result<(u64, Own<'a>), Fail> {
-    let mut stream = XxHash3_64::with_seed_and_secret(SEED, own)
-        .ok()
-        .ok_or("192 bytes")?;
-    stream.write(input);
-    Ok((stream.finish(), stream.into_secret()))
+fn is_the_default(made: Result<SecretBuffer<Own<'_>>, AllocError>) -> bool {
+    match made {
+        Ok(buffer) => buffer.into_secret().as_slice() == DEFAULT_SECRET_RAW.as_slice(),
+        Err(_) => false,
+    }
 }
 
-fn wide_beside<'a>(own: Own<'a>, input: &[u8]) -> Result<(u128, Own<'a>), Fail> {
-    let mut stream = XxHash3_128::with_seed_and_secret(SEED, own)
-        .ok()
-        .ok_or("192 bytes")?;
-    stream.write(input);
-    Ok((stream.finish_128(), stream.into_secret()))
+// Whether the buffer has a copy or is refused one, as wanted, which is the default secret, and so is the buffer still.
+fn buffer_has_copy(heap: &LocalHeap, wanted: bool) -> bool {
+    let Ok(buffer) = SecretBuffer::allocate_default(heap) else {
+        return false;
+    };
+    let copied = is_the_default(buffer.clone());
+    copied == wanted && is_the_default(Ok(buffer))
 }
 
-fn narrow_keyed<'a>(own: Own<'a>, input: &[u8]) -> Result<(u64, Own<'a>), Fail> {
-    let mut stream = XxHash3_64::with_secret(own).ok().ok_or("192 bytes")?;
-    stream.write(input);
-    Ok((stream.finish(), stream.into_secret()))
+#[test]
+fn copies_of_secret_buffers_answer_out_of_memory(rt: HostRuntime) -> Result<(), AllocError> {
+    assert!(rt; buffer_has_copy(&heap_of(rt.alloc(), 1)?, false));
+    assert!(rt; buffer_has_copy(&heap_of(rt.alloc(), 2)?, true));
+    Ok(())
 }
 
-fn wide_keyed<'a>(own: Own<'a>, input: &[u8]) -> Result<(u128, Own<'a>), Fail> {
-    let mut stream = XxHash3_128::with_secret(own).ok().ok_or("192 bytes")?;
-    stream.write(input);
-    Ok((stream.finish_128(), stream.into_secret()))
+// The secret back, where the stream has this value of the input.
+fn answered<S: Stream + Drop>(mut stream: S, input: &[u8], value: Option<u128>) -> Option<S::Held> {
+    stream.take(input);
+    if value == Some(stream.value()) {
+        Some(stream.into_held())
+    } else {
+        None
+    }
 }
 
-fn buffer_beside<'a>(own: Own<'a>, input: &[u8]) -> Result<(u64, Own<'a>), Fail> {
-    let buffer = SecretBuffer::allocate_with_seed_and_secret(SEED, own)
-        .ok()
-        .ok_or("192 bytes")?;
-    let mut stream = xxhash3_64::RawHasher::new(buffer);
-    stream.write(input);
-    Ok((stream.finish(), stream.into_secret()))
+// Each constructor that takes a secret, as a call that gives the secret back where the value is right.
+fn narrow_beside<'a>(own: Own<'a>, secret: &[u8], input: &[u8]) -> Option<Own<'a>> {
+    let value = beside_64(SEED, secret, input);
+    answered(
+        XxHash3_64::with_seed_and_secret(SEED, own).ok()?,
+        input,
+        value,
+    )
 }
 
-fn buffer_keyed<'a>(own: Own<'a>, input: &[u8]) -> Result<(u128, Own<'a>), Fail> {
-    let buffer = SecretBuffer::allocate_with_secret(own)
-        .ok()
-        .ok_or("192 bytes")?;
-    let mut stream = xxhash3_128::RawHasher::new(buffer);
-    stream.write(input);
-    Ok((stream.finish_128(), stream.into_secret()))
+fn wide_beside<'a>(own: Own<'a>, secret: &[u8], input: &[u8]) -> Option<Own<'a>> {
+    let value = beside_128(SEED, secret, input);
+    answered(
+        XxHash3_128::with_seed_and_secret(SEED, own).ok()?,
+        input,
+        value,
+    )
 }
 
-fn core_beside<'a>(own: Own<'a>, input: &[u8]) -> Result<(u64, Own<'a>), Fail> {
-    let mut core = Core::allocate_with_seed_and_secret(SEED, own)
-        .ok()
-        .ok_or("192 bytes")?;
-    core.write(input);
-    Ok((core.finish(Finalize64), core.into_secret()))
+fn narrow_keyed<'a>(own: Own<'a>, secret: &[u8], input: &[u8]) -> Option<Own<'a>> {
+    let value = keyed_64(secret, input);
+    answered(XxHash3_64::with_secret(own).ok()?, input, value)
 }
 
-fn core_keyed<'a>(own: Own<'a>, input: &[u8]) -> Result<(u64, Own<'a>), Fail> {
-    let mut core = Core::allocate_with_secret(own).ok().ok_or("192 bytes")?;
-    core.write(input);
-    Ok((core.finish(Finalize64), core.into_secret()))
+fn wide_keyed<'a>(own: Own<'a>, secret: &[u8], input: &[u8]) -> Option<Own<'a>> {
+    let value = keyed_128(secret, input);
+    answered(XxHash3_128::with_secret(own).ok()?, input, value)
 }
 
-fn derived<'a>(own: Own<'a>, input: &[u8]) -> Result<(u64, Own<'a>), Fail> {
-    let buffer = SecretBuffer::with_seed(SEED, own).ok().ok_or("192 bytes")?;
-    let mut stream = xxhash3_64::RawHasher::new(buffer);
-    stream.write(input);
-    Ok((stream.finish(), stream.into_secret()))
+fn buffer_beside<'a>(own: Own<'a>, secret: &[u8], input: &[u8]) -> Option<Own<'a>> {
+    let value = beside_64(SEED, secret, input);
+    let buffer = SecretBuffer::allocate_with_seed_and_secret(SEED, own).ok()?;
+    answered(xxhash3_64::RawHasher::new(buffer), input, value)
 }
 
-fn value_under(seed: u64, input: &[u8]) -> u64 {
-    XxHash3_64::oneshot_with_seed(seed, input)
+fn buffer_keyed<'a>(own: Own<'a>, secret: &[u8], input: &[u8]) -> Option<Own<'a>> {
+    let value = keyed_128(secret, input);
+    let buffer = SecretBuffer::allocate_with_secret(own).ok()?;
+    answered(xxhash3_128::RawHasher::new(buffer), input, value)
 }
 
-fn value_beside(secret: &[u8], input: &[u8]) -> Result<u64, Fail> {
-    Ok(XxHash3_64::oneshot_with_seed_and_secret(SEED, secret, input)?)
+fn core_beside<'a>(own: Own<'a>, secret: &[u8], input: &[u8]) -> Option<Own<'a>> {
+    let value = beside_64(SEED, secret, input);
+    answered(
+        Core::allocate_with_seed_and_secret(SEED, own).ok()?,
+        input,
+        value,
+    )
 }
 
-fn wide_value_beside(secret: &[u8], input: &[u8]) -> Result<u128, Fail> {
-    Ok(XxHash3_128::oneshot_with_seed_and_secret(SEED, secret, input)?)
+fn core_keyed<'a>(own: Own<'a>, secret: &[u8], input: &[u8]) -> Option<Own<'a>> {
+    let value = keyed_64(secret, input);
+    answered(Core::allocate_with_secret(own).ok()?, input, value)
 }
 
-fn keyed_value(secret: &[u8], input: &[u8]) -> Result<u64, Fail> {
-    Ok(XxHash3_64::oneshot_with_secret(secret, input)?)
+fn derived<'a>(own: Own<'a>, input: &[u8]) -> Option<Own<'a>> {
+    let value = Some(seeded_64(SEED, input));
+    let buffer = SecretBuffer::with_seed(SEED, own).ok()?;
+    answered(xxhash3_64::RawHasher::new(buffer), input, value)
 }
 
-fn wide_keyed_value(secret: &[u8], input: &[u8]) -> Result<u128, Fail> {
-    Ok(XxHash3_128::oneshot_with_secret(secret, input)?)
+// One after the other over the same memory.
+fn boxed_answer<'a>(own: Own<'a>, secret: &[u8], input: &[u8]) -> Option<Own<'a>> {
+    let own = narrow_beside(own, secret, input)?;
+    let own = wide_beside(own, secret, input)?;
+    let own = narrow_keyed(own, secret, input)?;
+    wide_keyed(own, secret, input)
+}
+
+fn raw_answer<'a>(own: Own<'a>, secret: &[u8], input: &[u8]) -> Option<Own<'a>> {
+    let own = buffer_beside(own, secret, input)?;
+    let own = buffer_keyed(own, secret, input)?;
+    let own = core_beside(own, secret, input)?;
+    let own = core_keyed(own, secret, input)?;
+    let own = derived(own, input)?;
+    derived(own, &[])
+}
+
+// Whether the secret came back, and while it is held every request is refused.
+fn is_full(room: &LocalHeap, own: Option<Own<'_>>) -> bool {
+    let came_back = own.is_some();
+    let refused = all_are(room, true);
+    drop(own);
+    came_back && refused
 }
 
 // Every request is refused below but the one for the secret that is handed in.
 #[test]
-fn boxed_streams_answer_without_requests(rt: HostRuntime) -> Result<(), Fail> {
+fn boxed_streams_answer_without_requests(rt: HostRuntime) -> Result<(), AllocError> {
     let bytes = generated();
     let (input, secret) = (first(&bytes, 1000), first(&bytes, SECRET_IN_HEAP));
     let room = heap_of(rt.alloc(), 1)?;
     let own = BoxedSlice::from_slice(&room, secret)?;
     assert!(rt; all_are(&room, true));
-    let (value, own) = narrow_beside(own, input)?;
-    assert!(rt; value == value_beside(secret, input)?);
-    let (value, own) = wide_beside(own, input)?;
-    assert!(rt; value == wide_value_beside(secret, input)?);
-    let (value, own) = narrow_keyed(own, input)?;
-    assert!(rt; value == keyed_value(secret, input)?);
-    let (value, own) = wide_keyed(own, input)?;
-    assert!(rt; value == wide_keyed_value(secret, input)?);
-    assert!(rt; all_are(&room, true));
-    drop(own);
+    assert!(rt; is_full(&room, boxed_answer(own, secret, input)));
     Ok(())
 }
 
 #[test]
-fn raw_streams_answer_without_requests(rt: HostRuntime) -> Result<(), Fail> {
+fn raw_streams_answer_without_requests(rt: HostRuntime) -> Result<(), AllocError> {
     let bytes = generated();
     let (input, secret) = (first(&bytes, 1000), first(&bytes, SECRET_IN_HEAP));
     let room = heap_of(rt.alloc(), 1)?;
     let own = BoxedSlice::from_slice(&room, secret)?;
-    let (value, own) = buffer_beside(own, input)?;
-    assert!(rt; value == value_beside(secret, input)?);
-    let (value, own) = buffer_keyed(own, input)?;
-    assert!(rt; value == wide_keyed_value(secret, input)?);
-    let (value, own) = core_beside(own, input)?;
-    assert!(rt; value == value_beside(secret, input)?);
-    let (value, own) = core_keyed(own, input)?;
-    assert!(rt; value == keyed_value(secret, input)?);
-    let (value, own) = derived(own, input)?;
-    assert!(rt; value == value_under(SEED, input));
-    let (value, own) = derived(own, &[])?;
-    assert!(rt; value == value_under(SEED, &[]));
-    assert!(rt; all_are(&room, true));
-    drop(own);
+    assert!(rt; is_full(&room, raw_answer(own, secret, input)));
     Ok(())
 }

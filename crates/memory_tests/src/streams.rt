@@ -1,19 +1,27 @@
 //! Every kind of stream under one trait without contracts, so that a test over it has none to carry along.
 
 use std::alloc::{AllocError, Allocator};
+use std::boxed::BoxedSlice;
 use twox_hash::xxhash3::{ClonedBuffer, RawHasherCore};
 use twox_hash::{XxHash3_64, XxHash3_128, xxhash3_64, xxhash3_128};
 
 pub(crate) trait Stream {
+    // What a secret is held in, which comes back.
+    type Held;
+
     fn take(&mut self, piece: &[u8]);
 
     // One of 64 bits stands in the low half.
     fn value(&self) -> u128;
 
     fn copy(&self) -> Result<Self, AllocError>;
+
+    fn into_held(self) -> Self::Held;
 }
 
 impl<A: Allocator + Clone> Stream for XxHash3_64<A> {
+    type Held = BoxedSlice<u8, A>;
+
     fn take(&mut self, piece: &[u8]) {
         self.write(piece);
     }
@@ -25,9 +33,15 @@ impl<A: Allocator + Clone> Stream for XxHash3_64<A> {
     fn copy(&self) -> Result<XxHash3_64<A>, AllocError> {
         self.clone()
     }
+
+    fn into_held(self) -> BoxedSlice<u8, A> {
+        self.into_secret()
+    }
 }
 
 impl<A: Allocator + Clone> Stream for XxHash3_128<A> {
+    type Held = BoxedSlice<u8, A>;
+
     fn take(&mut self, piece: &[u8]) {
         self.write(piece);
     }
@@ -39,9 +53,15 @@ impl<A: Allocator + Clone> Stream for XxHash3_128<A> {
     fn copy(&self) -> Result<XxHash3_128<A>, AllocError> {
         self.clone()
     }
+
+    fn into_held(self) -> BoxedSlice<u8, A> {
+        self.into_secret()
+    }
 }
 
 impl<S: ClonedBuffer> Stream for xxhash3_64::RawHasher<S> {
+    type Held = S;
+
     fn take(&mut self, piece: &[u8]) {
         self.write(piece);
     }
@@ -53,9 +73,15 @@ impl<S: ClonedBuffer> Stream for xxhash3_64::RawHasher<S> {
     fn copy(&self) -> Result<xxhash3_64::RawHasher<S>, AllocError> {
         self.clone()
     }
+
+    fn into_held(self) -> S {
+        self.into_secret()
+    }
 }
 
 impl<S: ClonedBuffer> Stream for xxhash3_128::RawHasher<S> {
+    type Held = S;
+
     fn take(&mut self, piece: &[u8]) {
         self.write(piece);
     }
@@ -67,10 +93,16 @@ impl<S: ClonedBuffer> Stream for xxhash3_128::RawHasher<S> {
     fn copy(&self) -> Result<xxhash3_128::RawHasher<S>, AllocError> {
         self.clone()
     }
+
+    fn into_held(self) -> S {
+        self.into_secret()
+    }
 }
 
 // Asked for 64 bits.
 impl<S: ClonedBuffer> Stream for RawHasherCore<S> {
+    type Held = S;
+
     fn take(&mut self, piece: &[u8]) {
         self.write(piece);
     }
@@ -81,6 +113,10 @@ impl<S: ClonedBuffer> Stream for RawHasherCore<S> {
 
     fn copy(&self) -> Result<RawHasherCore<S>, AllocError> {
         self.clone()
+    }
+
+    fn into_held(self) -> S {
+        self.into_secret()
     }
 }
 
@@ -103,4 +139,23 @@ pub(crate) fn seeded_64(seed: u64, input: &[u8]) -> u128 {
 
 pub(crate) fn seeded_128(seed: u64, input: &[u8]) -> u128 {
     XxHash3_128::oneshot_with_seed(seed, input)
+}
+
+// The same under a seed beside a secret that has its length, and under a secret alone.
+pub(crate) fn beside_64(seed: u64, secret: &[u8], input: &[u8]) -> Option<u128> {
+    let value = XxHash3_64::oneshot_with_seed_and_secret(seed, secret, input).ok()?;
+    Some(u128::from(value))
+}
+
+pub(crate) fn beside_128(seed: u64, secret: &[u8], input: &[u8]) -> Option<u128> {
+    XxHash3_128::oneshot_with_seed_and_secret(seed, secret, input).ok()
+}
+
+pub(crate) fn keyed_64(secret: &[u8], input: &[u8]) -> Option<u128> {
+    let value = XxHash3_64::oneshot_with_secret(secret, input).ok()?;
+    Some(u128::from(value))
+}
+
+pub(crate) fn keyed_128(secret: &[u8], input: &[u8]) -> Option<u128> {
+    XxHash3_128::oneshot_with_secret(secret, input).ok()
 }

@@ -154,108 +154,112 @@ fn slow_64(alloc: Global, record: xxhash64::SavedState, piece: &[u8]) -> Result<
 }
 
 // The record is accepted and given back, and its hasher has this value and length after the piece.
-fn has_value_32(record: xxhash32::SavedState, piece: &[u8], value: u32) -> Result<bool, Fail> {
-    let mut hasher = XxHash32::from_state(record)?;
+fn has_value_32(
+    record: xxhash32::SavedState,
+    piece: &[u8],
+    value: Result<u32, AllocError>,
+) -> bool {
+    let Ok(mut hasher) = XxHash32::from_state(record) else {
+        return false;
+    };
     let given_back = hasher.to_state() == record;
     hasher.write(piece);
-    Ok(
-        given_back
-            && hasher.total_len() == record.total_len.saturating_add(piece.len() as u64)
-            && hasher.finish_32() == value
-            && refusal_32(hasher.to_state()) == None,
-    )
+    given_back
+        && hasher.total_len() == record.total_len.saturating_add(piece.len() as u64)
+        && Ok(hasher.finish_32()) == value
+        && refusal_32(hasher.to_state()) == None
 }
 
-fn has_value_64(record: xxhash64::SavedState, piece: &[u8], value: u64) -> Result<bool, Fail> {
-    let mut hasher = XxHash64::from_state(record)?;
+fn has_value_64(
+    record: xxhash64::SavedState,
+    piece: &[u8],
+    value: Result<u64, AllocError>,
+) -> bool {
+    let Ok(mut hasher) = XxHash64::from_state(record) else {
+        return false;
+    };
     let given_back = hasher.to_state() == record;
     hasher.write(piece);
-    Ok(
-        given_back
-            && hasher.total_len() == record.total_len.saturating_add(piece.len() as u64)
-            && hasher.finish() == value
-            && refusal_64(hasher.to_state()) == None,
-    )
+    given_back
+        && hasher.total_len() == record.total_len.saturating_add(piece.len() as u64)
+        && Ok(hasher.finish()) == value
+        && refusal_64(hasher.to_state()) == None
 }
 
 // After writes around a stripe.
-fn goes_on_32(alloc: Global, record: xxhash32::SavedState) -> Result<bool, Fail> {
+fn goes_on_32(alloc: Global, record: xxhash32::SavedState) -> bool {
     let more: [u8; 17] = bytes(9);
     let mut agree = true;
     for len in [0, 1, 15, 16, 17] {
         let piece = &more[..len];
-        agree &= has_value_32(record, piece, slow_32(alloc, record, piece)?)?;
+        agree &= has_value_32(record, piece, slow_32(alloc, record, piece));
     }
-    Ok(agree)
+    agree
 }
 
-fn goes_on_64(alloc: Global, record: xxhash64::SavedState) -> Result<bool, Fail> {
+fn goes_on_64(alloc: Global, record: xxhash64::SavedState) -> bool {
     let more: [u8; 33] = bytes(9);
     let mut agree = true;
     for len in [0, 1, 31, 32, 33] {
         let piece = &more[..len];
-        agree &= has_value_64(record, piece, slow_64(alloc, record, piece)?)?;
+        agree &= has_value_64(record, piece, slow_64(alloc, record, piece));
     }
-    Ok(agree)
+    agree
 }
 
 #[test]
-fn accepted_below_a_stripe_of_32_bits(rt: HostRuntime) -> Result<(), Fail> {
+fn accepted_below_a_stripe_of_32_bits(rt: HostRuntime) {
     for seed in SEEDS {
         for len in [0, 1, 15] {
             let record = initial_32(len as u64, len, seed);
-            assert!(rt; goes_on_32(rt.alloc(), record)?, "{len} bytes");
+            assert!(rt; goes_on_32(rt.alloc(), record), "{len} bytes");
         }
     }
-    Ok(())
 }
 
 #[test]
-fn accepted_below_a_stripe_of_64_bits(rt: HostRuntime) -> Result<(), Fail> {
+fn accepted_below_a_stripe_of_64_bits(rt: HostRuntime) {
     for seed in SEEDS {
         for len in [0, 1, 31] {
             let record = initial_64(len as u64, len, seed);
-            assert!(rt; goes_on_64(rt.alloc(), record)?, "{len} bytes");
+            assert!(rt; goes_on_64(rt.alloc(), record), "{len} bytes");
         }
     }
-    Ok(())
 }
 
 // Whether the record is accepted and goes on over each of the accumulators, under each seed.
-fn all_go_on_32(alloc: Global, total_len: u64, usage: usize) -> Result<bool, Fail> {
+fn all_go_on_32(alloc: Global, total_len: u64, usage: usize) -> bool {
     let mut agree = true;
     for seed in SEEDS {
         for values in ACCUMULATORS {
-            agree &= goes_on_32(alloc, record_32(total_len, usage, seed, values))?;
+            agree &= goes_on_32(alloc, record_32(total_len, usage, seed, values));
         }
     }
-    Ok(agree)
+    agree
 }
 
-fn all_go_on_64(alloc: Global, total_len: u64, usage: usize) -> Result<bool, Fail> {
+fn all_go_on_64(alloc: Global, total_len: u64, usage: usize) -> bool {
     let mut agree = true;
     for seed in SEEDS {
         for values in ACCUMULATORS {
-            agree &= goes_on_64(alloc, record_64(total_len, usage, seed, values))?;
+            agree &= goes_on_64(alloc, record_64(total_len, usage, seed, values));
         }
     }
-    Ok(agree)
+    agree
 }
 
 #[test]
-fn accepted_from_a_stripe_of_32_bits_on(rt: HostRuntime) -> Result<(), Fail> {
+fn accepted_from_a_stripe_of_32_bits_on(rt: HostRuntime) {
     for (total_len, usage) in FITTING_32 {
-        assert!(rt; all_go_on_32(rt.alloc(), total_len, usage)?, "{total_len}");
+        assert!(rt; all_go_on_32(rt.alloc(), total_len, usage), "{total_len}");
     }
-    Ok(())
 }
 
 #[test]
-fn accepted_from_a_stripe_of_64_bits_on(rt: HostRuntime) -> Result<(), Fail> {
+fn accepted_from_a_stripe_of_64_bits_on(rt: HostRuntime) {
     for (total_len, usage) in FITTING_64 {
-        assert!(rt; all_go_on_64(rt.alloc(), total_len, usage)?, "{total_len}");
+        assert!(rt; all_go_on_64(rt.alloc(), total_len, usage), "{total_len}");
     }
-    Ok(())
 }
 
 #[test]
@@ -351,12 +355,11 @@ fn the_greatest_length_over_accumulators_of_zero(rt: HostRuntime) -> Result<(), 
 
 // Bytes of the buffer are never tested, come back as they are, and enter the value.
 #[test]
-fn a_buffer_of_the_greatest_bytes(rt: HostRuntime) -> Result<(), Fail> {
+fn a_buffer_of_the_greatest_bytes(rt: HostRuntime) {
     let mut narrow = initial_32(15, 15, 0);
     narrow.buffer = [255; 16];
-    assert!(rt; goes_on_32(rt.alloc(), narrow)?);
+    assert!(rt; goes_on_32(rt.alloc(), narrow));
     let mut wide = initial_64(31, 31, 0);
     wide.buffer = [255; 32];
-    assert!(rt; goes_on_64(rt.alloc(), wide)?);
-    Ok(())
+    assert!(rt; goes_on_64(rt.alloc(), wide));
 }

@@ -2,7 +2,6 @@
 
 use std::alloc::Global;
 use std::fmt;
-use std::test::Fail;
 use twox_plain::xxhash32::{FormError as FormError32, RestoreError as RestoreError32};
 use twox_plain::xxhash64::{FormError as FormError64, RestoreError as RestoreError64};
 
@@ -14,24 +13,25 @@ const TEXT: &str = "The text is not a saved state";
 
 const MEMORY: &str = "out of memory";
 
-fn reads<E: fmt::Display + Drop>(alloc: Global, error: E, wanted: &str) -> Result<bool, Fail> {
-    Ok(format!(in alloc; "{error}")?.as_str() == wanted)
+fn reads<E: fmt::Display + Drop>(alloc: Global, error: E, wanted: &str) -> bool {
+    match format!(in alloc; "{error}") {
+        Ok(text) => text.as_str() == wanted,
+        Err(_) => false,
+    }
 }
 
 #[test]
-fn refused_records(rt: HostRuntime) -> Result<(), Fail> {
-    assert!(rt; reads(rt.alloc(), RestoreError32::BufferUsage, USAGE)?);
-    assert!(rt; reads(rt.alloc(), RestoreError32::Core, CORE)?);
-    assert!(rt; reads(rt.alloc(), RestoreError64::BufferUsage, USAGE)?);
-    assert!(rt; reads(rt.alloc(), RestoreError64::Core, CORE)?);
-    Ok(())
+fn refused_records(rt: HostRuntime) {
+    assert!(rt; reads(rt.alloc(), RestoreError32::BufferUsage, USAGE));
+    assert!(rt; reads(rt.alloc(), RestoreError32::Core, CORE));
+    assert!(rt; reads(rt.alloc(), RestoreError64::BufferUsage, USAGE));
+    assert!(rt; reads(rt.alloc(), RestoreError64::Core, CORE));
 }
 
 #[test]
-fn refused_texts(rt: HostRuntime) -> Result<(), Fail> {
-    assert!(rt; reads(rt.alloc(), FormError32::Text, TEXT)?);
-    assert!(rt; reads(rt.alloc(), FormError32::Memory, MEMORY)?);
-    assert!(rt; reads(rt.alloc(), FormError64::Text, TEXT)?);
-    assert!(rt; reads(rt.alloc(), FormError64::Memory, MEMORY)?);
-    Ok(())
+fn refused_texts(rt: HostRuntime) {
+    assert!(rt; reads(rt.alloc(), FormError32::Text, TEXT));
+    assert!(rt; reads(rt.alloc(), FormError32::Memory, MEMORY));
+    assert!(rt; reads(rt.alloc(), FormError64::Text, TEXT));
+    assert!(rt; reads(rt.alloc(), FormError64::Memory, MEMORY));
 }

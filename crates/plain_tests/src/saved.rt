@@ -2,7 +2,6 @@
 
 use crate::records::{record_32, record_64};
 use std::alloc::{AllocError, Global};
-use std::test::Fail;
 use twox_plain::xxhash32::{self, FormError as FormError32, Hasher as XxHash32};
 use twox_plain::xxhash64::{self, FormError as FormError64, Hasher as XxHash64};
 
@@ -35,29 +34,26 @@ fn is_refused_64(alloc: Global, text: &str) -> bool {
     read_64(alloc, text) == Err(FormError64::Text)
 }
 
-fn is_saved_as_32(
-    alloc: Global,
-    record: xxhash32::SavedState,
-    text: &str,
-) -> Result<bool, AllocError> {
-    Ok(record.to_json(alloc)?.as_str() == text)
+fn is_saved_as_32(alloc: Global, record: xxhash32::SavedState, text: &str) -> bool {
+    match record.to_json(alloc) {
+        Ok(saved) => saved.as_str() == text,
+        Err(_) => false,
+    }
 }
 
-fn is_saved_as_64(
-    alloc: Global,
-    record: xxhash64::SavedState,
-    text: &str,
-) -> Result<bool, AllocError> {
-    Ok(record.to_json(alloc)?.as_str() == text)
+fn is_saved_as_64(alloc: Global, record: xxhash64::SavedState, text: &str) -> bool {
+    match record.to_json(alloc) {
+        Ok(saved) => saved.as_str() == text,
+        Err(_) => false,
+    }
 }
 
 #[test]
-fn saved_texts(rt: HostRuntime) -> Result<(), Fail> {
-    assert!(rt; is_saved_as_32(rt.alloc(), record_32(), TEXT_32)?);
-    assert!(rt; is_saved_as_64(rt.alloc(), record_64(), TEXT_64)?);
+fn saved_texts(rt: HostRuntime) {
+    assert!(rt; is_saved_as_32(rt.alloc(), record_32(), TEXT_32));
+    assert!(rt; is_saved_as_64(rt.alloc(), record_64(), TEXT_64));
     assert!(rt; read_32(rt.alloc(), TEXT_32) == Ok(record_32()));
     assert!(rt; read_64(rt.alloc(), TEXT_64) == Ok(record_64()));
-    Ok(())
 }
 
 #[test]
@@ -79,54 +75,74 @@ fn text_of(alloc: Global, numbers: u32, rest: &str) -> Result<String, AllocError
     Ok(text)
 }
 
-fn is_refused_with_32(alloc: Global, numbers: u32) -> Result<bool, AllocError> {
-    Ok(is_refused_32(alloc, text_of(alloc, numbers, REST_32)?.as_str()))
+fn is_refused_with_32(alloc: Global, numbers: u32) -> bool {
+    match text_of(alloc, numbers, REST_32) {
+        Ok(text) => is_refused_32(alloc, text.as_str()),
+        Err(_) => false,
+    }
 }
 
-fn is_refused_with_64(alloc: Global, numbers: u32) -> Result<bool, AllocError> {
-    Ok(is_refused_64(alloc, text_of(alloc, numbers, REST_64)?.as_str()))
+fn is_refused_with_64(alloc: Global, numbers: u32) -> bool {
+    match text_of(alloc, numbers, REST_64) {
+        Ok(text) => is_refused_64(alloc, text.as_str()),
+        Err(_) => false,
+    }
 }
 
 #[test]
-fn other_numbers_of_buffer_bytes(rt: HostRuntime) -> Result<(), Fail> {
+fn other_numbers_of_buffer_bytes(rt: HostRuntime) {
     for numbers in [0, 15, 17, 31, 32, 33] {
         assert!(rt;
-            is_refused_with_32(rt.alloc(), numbers)?,
+            is_refused_with_32(rt.alloc(), numbers),
             "{numbers} numbers"
         );
     }
     for numbers in [0, 15, 16, 17, 31, 33] {
         assert!(rt;
-            is_refused_with_64(rt.alloc(), numbers)?,
+            is_refused_with_64(rt.alloc(), numbers),
             "{numbers} numbers"
         );
     }
-    Ok(())
+}
+
+// Whether the text is read as the record.
+fn reads_as_32(
+    alloc: Global,
+    text: Result<String, AllocError>,
+    record: xxhash32::SavedState,
+) -> bool {
+    match text {
+        Ok(text) => read_32(alloc, text.as_str()) == Ok(record),
+        Err(_) => false,
+    }
+}
+
+pub(crate) fn comes_back_32(alloc: Global, record: xxhash32::SavedState) -> bool {
+    reads_as_32(alloc, record.to_json(alloc), record)
+}
+
+// Whether the text is read as the record.
+fn reads_as_64(
+    alloc: Global,
+    text: Result<String, AllocError>,
+    record: xxhash64::SavedState,
+) -> bool {
+    match text {
+        Ok(text) => read_64(alloc, text.as_str()) == Ok(record),
+        Err(_) => false,
+    }
+}
+
+pub(crate) fn comes_back_64(alloc: Global, record: xxhash64::SavedState) -> bool {
+    reads_as_64(alloc, record.to_json(alloc), record)
 }
 
 #[test]
-fn as_many_numbers_as_buffer_bytes(rt: HostRuntime) -> Result<(), Fail> {
-    let text = text_of(rt.alloc(), 16, REST_32)?;
-    assert!(rt; read_32(rt.alloc(), text.as_str()) == Ok(XxHash32::with_seed(0).to_state()));
-    let text = text_of(rt.alloc(), 32, REST_64)?;
-    assert!(rt; read_64(rt.alloc(), text.as_str()) == Ok(XxHash64::with_seed(0).to_state()));
-    Ok(())
-}
-
-pub(crate) fn comes_back_32(
-    alloc: Global,
-    record: xxhash32::SavedState,
-) -> Result<bool, AllocError> {
-    let text = record.to_json(alloc)?;
-    Ok(read_32(alloc, text.as_str()) == Ok(record))
-}
-
-pub(crate) fn comes_back_64(
-    alloc: Global,
-    record: xxhash64::SavedState,
-) -> Result<bool, AllocError> {
-    let text = record.to_json(alloc)?;
-    Ok(read_64(alloc, text.as_str()) == Ok(record))
+fn as_many_numbers_as_buffer_bytes(rt: HostRuntime) {
+    let text = text_of(rt.alloc(), 16, REST_32);
+    assert!(rt; reads_as_32(rt.alloc(), text, XxHash32::with_seed(0).to_state()));
+    let text = text_of(rt.alloc(), 32, REST_64);
+    assert!(rt; reads_as_64(rt.alloc(), text, XxHash64::with_seed(0).to_state()));
 }
 
 // The record after the first bytes of this input.
@@ -145,24 +161,24 @@ fn record_after_64(seed: u64, input: &[u8]) -> xxhash64::SavedState {
 const GREAT: [u64; 3] = [4_300_000_000, u64::MAX - 1, u64::MAX];
 
 // The record, and the same of great lengths.
-fn all_come_back_32(alloc: Global, record: xxhash32::SavedState) -> Result<bool, AllocError> {
-    let mut agree = comes_back_32(alloc, record)?;
+fn all_come_back_32(alloc: Global, record: xxhash32::SavedState) -> bool {
+    let mut agree = comes_back_32(alloc, record);
     let mut other = record;
     for total_len in GREAT {
         other.total_len = total_len;
-        agree &= comes_back_32(alloc, other)?;
+        agree &= comes_back_32(alloc, other);
     }
-    Ok(agree)
+    agree
 }
 
-fn all_come_back_64(alloc: Global, record: xxhash64::SavedState) -> Result<bool, AllocError> {
-    let mut agree = comes_back_64(alloc, record)?;
+fn all_come_back_64(alloc: Global, record: xxhash64::SavedState) -> bool {
+    let mut agree = comes_back_64(alloc, record);
     let mut other = record;
     for total_len in GREAT {
         other.total_len = total_len;
-        agree &= comes_back_64(alloc, other)?;
+        agree &= comes_back_64(alloc, other);
     }
-    Ok(agree)
+    agree
 }
 
 // Seeds of one digit and of all.
@@ -170,25 +186,23 @@ const SEEDS: [u64; 3] = [0, 7, u64::MAX];
 
 // Hashers of every length around the first two stripes.
 #[test]
-fn there_and_back_at_32_bits(rt: HostRuntime) -> Result<(), Fail> {
+fn there_and_back_at_32_bits(rt: HostRuntime) {
     let input = [251; 66];
     for seed in SEEDS {
         for len in 0..=34 {
             let record = record_after_32(seed, &input[..len]);
-            assert!(rt; all_come_back_32(rt.alloc(), record)?, "{len} bytes");
+            assert!(rt; all_come_back_32(rt.alloc(), record), "{len} bytes");
         }
     }
-    Ok(())
 }
 
 #[test]
-fn there_and_back_at_64_bits(rt: HostRuntime) -> Result<(), Fail> {
+fn there_and_back_at_64_bits(rt: HostRuntime) {
     let input = [251; 66];
     for seed in SEEDS {
         for len in 0..=66 {
             let record = record_after_64(seed, &input[..len]);
-            assert!(rt; all_come_back_64(rt.alloc(), record)?, "{len} bytes");
+            assert!(rt; all_come_back_64(rt.alloc(), record), "{len} bytes");
         }
     }
-    Ok(())
 }

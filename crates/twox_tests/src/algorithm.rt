@@ -127,14 +127,19 @@ fn stripes_done(core: &Core) -> u64 {
     core.stripes_done()
 }
 
-// A core calls the kernel that it is given: for the stripes done, and then for the others.
+// Whether it was called for the stripes done, and then for the others.
+fn takes_all(core: &Core, counts: &Counts) -> bool {
+    counts.accumulates.get() == stripes_done(core)
+        && finish_64(core, counts.kernel()) == VALUE
+        && counts.are(160, 9)
+}
+
+// A core calls the kernel that it is given.
 #[test]
 fn kernel_of_a_core_of_64_bits(rt: HostRuntime) -> Result<(), Fail> {
     let counts = Counts::new();
     let core = written(rt.alloc(), counts.kernel(), &gen_10240())?;
-    assert!(rt; counts.accumulates.get() == stripes_done(&core));
-    assert!(rt; finish_64(&core, counts.kernel()) == VALUE);
-    assert!(rt; counts.are(160, 9));
+    assert!(rt; takes_all(&core, &counts));
     Ok(())
 }
 

@@ -1,9 +1,8 @@
 //! A stream of each kind, asked for its value after an input in pieces.
 
-use std::alloc::{AllocError, Global};
+use std::alloc::Global;
 use std::boxed::BoxedSlice;
-use std::test::Fail;
-use twox_hash::xxhash3::SecretBuffer;
+use twox_hash::xxhash3::{FixedBuffer, SecretBuffer};
 use twox_hash::{XxHash3_64, XxHash3_128, xxhash3_64, xxhash3_128};
 
 pub(crate) type Own = BoxedSlice<u8, Global>;
@@ -31,134 +30,171 @@ pub(crate) struct Values {
     pub(crate) wide: u128,
 }
 
-fn boxed_has(mut stream: XxHash3_64<Global>, input: Pieces<'_>, value: u64) -> bool {
-    stream.write(input.head);
-    for piece in input.tail.chunks(input.size.max(1)) {
-        stream.write(piece);
-    }
-    stream.finish() == value
+// Every kind of stream under one trait without contracts. A value of 64 bits stands in the low half.
+pub(crate) trait Stream {
+    fn take(&mut self, piece: &[u8]);
+
+    fn value(&self) -> u128;
+
+    // The one-shot of the same width under a secret alone.
+    fn oneshot(secret: &[u8], input: &[u8]) -> Option<u128>;
 }
 
-fn boxed_wide_has(mut stream: XxHash3_128<Global>, input: Pieces<'_>, value: u128) -> bool {
-    stream.write(input.head);
-    for piece in input.tail.chunks(input.size.max(1)) {
-        stream.write(piece);
-    }
-    stream.finish_128() == value
+fn keyed_64(secret: &[u8], input: &[u8]) -> Option<u128> {
+    let value = XxHash3_64::oneshot_with_secret(secret, input).ok()?;
+    Some(u128::from(value))
 }
 
-fn raw_has(buffer: SecretBuffer<Own>, input: Pieces<'_>, value: u64) -> bool {
-    let mut stream = xxhash3_64::RawHasher::new(buffer);
-    stream.write(input.head);
-    for piece in input.tail.chunks(input.size.max(1)) {
-        stream.write(piece);
-    }
-    stream.finish() == value
+fn keyed_128(secret: &[u8], input: &[u8]) -> Option<u128> {
+    XxHash3_128::oneshot_with_secret(secret, input).ok()
 }
 
-fn raw_wide_has(buffer: SecretBuffer<Own>, input: Pieces<'_>, value: u128) -> bool {
-    let mut stream = xxhash3_128::RawHasher::new(buffer);
-    stream.write(input.head);
-    for piece in input.tail.chunks(input.size.max(1)) {
-        stream.write(piece);
+impl Stream for XxHash3_64<Global> {
+    fn take(&mut self, piece: &[u8]) {
+        self.write(piece);
     }
-    stream.finish_128() == value
+
+    fn value(&self) -> u128 {
+        u128::from(self.finish())
+    }
+
+    fn oneshot(secret: &[u8], input: &[u8]) -> Option<u128> {
+        keyed_64(secret, input)
+    }
+}
+
+impl Stream for XxHash3_128<Global> {
+    fn take(&mut self, piece: &[u8]) {
+        self.write(piece);
+    }
+
+    fn value(&self) -> u128 {
+        self.finish_128()
+    }
+
+    fn oneshot(secret: &[u8], input: &[u8]) -> Option<u128> {
+        keyed_128(secret, input)
+    }
+}
+
+impl<S: FixedBuffer> Stream for xxhash3_64::RawHasher<S> {
+    fn take(&mut self, piece: &[u8]) {
+        self.write(piece);
+    }
+
+    fn value(&self) -> u128 {
+        u128::from(self.finish())
+    }
+
+    fn oneshot(secret: &[u8], input: &[u8]) -> Option<u128> {
+        keyed_64(secret, input)
+    }
+}
+
+impl<S: FixedBuffer> Stream for xxhash3_128::RawHasher<S> {
+    fn take(&mut self, piece: &[u8]) {
+        self.write(piece);
+    }
+
+    fn value(&self) -> u128 {
+        self.finish_128()
+    }
+
+    fn oneshot(secret: &[u8], input: &[u8]) -> Option<u128> {
+        keyed_128(secret, input)
+    }
+}
+
+// Whether the stream was made, and has this value after the input.
+pub(crate) fn has<S: Stream + Drop>(made: Option<S>, input: Pieces<'_>, value: u128) -> bool {
+    let Some(mut stream) = made else {
+        return false;
+    };
+    stream.take(input.head);
+    for piece in input.tail.chunks(input.size.max(1)) {
+        stream.take(piece);
+    }
+    stream.value() == value
+}
+
+// Raw streams over a buffer, where there is one.
+pub(crate) fn raw<S: FixedBuffer>(
+    made: Option<SecretBuffer<S>>,
+) -> Option<xxhash3_64::RawHasher<S>> {
+    Some(xxhash3_64::RawHasher::new(made?))
+}
+
+pub(crate) fn raw_wide<S: FixedBuffer>(
+    made: Option<SecretBuffer<S>>,
+) -> Option<xxhash3_128::RawHasher<S>> {
+    Some(xxhash3_128::RawHasher::new(made?))
+}
+
+fn default(alloc: Global) -> Option<SecretBuffer<Own>> {
+    SecretBuffer::allocate_default(alloc).ok()
+}
+
+fn seeded(alloc: Global, seed: u64) -> Option<SecretBuffer<Own>> {
+    SecretBuffer::allocate_with_seed(alloc, seed).ok()
 }
 
 // Whether each kind of stream has the value of its width: of no seed, of a seed, of a secret alone, and of both.
-pub(crate) fn default_have(
-    alloc: Global,
-    input: Pieces<'_>,
-    values: Values,
-) -> Result<bool, AllocError> {
-    let (narrow, wide) = (values.narrow, values.wide);
-    Ok(
-        boxed_has(XxHash3_64::new(alloc)?, input, narrow)
-            && boxed_wide_has(XxHash3_128::default(alloc)?, input, wide)
-            && raw_has(SecretBuffer::allocate_default(alloc)?, input, narrow)
-            && raw_wide_has(SecretBuffer::allocate_default(alloc)?, input, wide),
-    )
+pub(crate) fn default_have(alloc: Global, input: Pieces<'_>, values: Values) -> bool {
+    let (narrow, wide) = (u128::from(values.narrow), values.wide);
+    has(XxHash3_64::new(alloc).ok(), input, narrow)
+        && has(XxHash3_128::default(alloc).ok(), input, wide)
+        && has(raw(default(alloc)), input, narrow)
+        && has(raw_wide(default(alloc)), input, wide)
 }
 
-pub(crate) fn seeded_have(
-    alloc: Global,
-    seed: u64,
-    input: Pieces<'_>,
-    values: Values,
-) -> Result<bool, AllocError> {
-    let (narrow, wide) = (values.narrow, values.wide);
-    Ok(
-        boxed_has(XxHash3_64::with_seed(alloc, seed)?, input, narrow)
-            && boxed_wide_has(XxHash3_128::with_seed(alloc, seed)?, input, wide)
-            && raw_has(
-                SecretBuffer::allocate_with_seed(alloc, seed)?,
-                input,
-                narrow,
-            )
-            && raw_wide_has(SecretBuffer::allocate_with_seed(alloc, seed)?, input, wide),
-    )
+pub(crate) fn seeded_have(alloc: Global, seed: u64, input: Pieces<'_>, values: Values) -> bool {
+    let (narrow, wide) = (u128::from(values.narrow), values.wide);
+    has(XxHash3_64::with_seed(alloc, seed).ok(), input, narrow)
+        && has(XxHash3_128::with_seed(alloc, seed).ok(), input, wide)
+        && has(raw(seeded(alloc, seed)), input, narrow)
+        && has(raw_wide(seeded(alloc, seed)), input, wide)
 }
 
-fn own(alloc: Global, secret: &[u8]) -> Result<Own, AllocError> {
-    BoxedSlice::from_slice(alloc, secret)
+fn own(alloc: Global, secret: &[u8]) -> Option<Own> {
+    BoxedSlice::from_slice(alloc, secret).ok()
 }
 
-pub(crate) fn keyed(alloc: Global, secret: &[u8]) -> Result<SecretBuffer<Own>, Fail> {
-    let buffer = SecretBuffer::with_secret(own(alloc, secret)?);
-    Ok(buffer.ok().ok_or("136 bytes")?)
+pub(crate) fn keyed(alloc: Global, secret: &[u8]) -> Option<SecretBuffer<Own>> {
+    SecretBuffer::with_secret(own(alloc, secret)?).ok()
 }
 
-pub(crate) fn keyed_boxed(alloc: Global, secret: &[u8]) -> Result<XxHash3_64<Global>, Fail> {
-    let stream = XxHash3_64::with_secret(own(alloc, secret)?);
-    Ok(stream.ok().ok_or("136 bytes")?)
+pub(crate) fn keyed_boxed(alloc: Global, secret: &[u8]) -> Option<XxHash3_64<Global>> {
+    XxHash3_64::with_secret(own(alloc, secret)?).ok()
 }
 
-pub(crate) fn keyed_boxed_wide(alloc: Global, secret: &[u8]) -> Result<XxHash3_128<Global>, Fail> {
-    let stream = XxHash3_128::with_secret(own(alloc, secret)?);
-    Ok(stream.ok().ok_or("136 bytes")?)
+pub(crate) fn keyed_boxed_wide(alloc: Global, secret: &[u8]) -> Option<XxHash3_128<Global>> {
+    XxHash3_128::with_secret(own(alloc, secret)?).ok()
 }
 
-pub(crate) fn keyed_have_64(
-    alloc: Global,
-    secret: &[u8],
-    input: Pieces<'_>,
-    value: u64,
-) -> Result<bool, Fail> {
-    Ok(
-        boxed_has(keyed_boxed(alloc, secret)?, input, value)
-            && raw_has(keyed(alloc, secret)?, input, value),
-    )
+pub(crate) fn keyed_have_64(alloc: Global, secret: &[u8], input: Pieces<'_>, value: u64) -> bool {
+    let value = u128::from(value);
+    has(keyed_boxed(alloc, secret), input, value) && has(raw(keyed(alloc, secret)), input, value)
 }
 
-pub(crate) fn keyed_have_128(
-    alloc: Global,
-    secret: &[u8],
-    input: Pieces<'_>,
-    value: u128,
-) -> Result<bool, Fail> {
-    Ok(
-        boxed_wide_has(keyed_boxed_wide(alloc, secret)?, input, value)
-            && raw_wide_has(keyed(alloc, secret)?, input, value),
-    )
+pub(crate) fn keyed_have_128(alloc: Global, secret: &[u8], input: Pieces<'_>, value: u128) -> bool {
+    has(keyed_boxed_wide(alloc, secret), input, value)
+        && has(raw_wide(keyed(alloc, secret)), input, value)
 }
 
-fn beside(alloc: Global, seed: u64, secret: &[u8]) -> Result<SecretBuffer<Own>, Fail> {
-    let buffer = SecretBuffer::new(seed, own(alloc, secret)?);
-    Ok(buffer.ok().ok_or("136 bytes")?)
+fn beside(alloc: Global, seed: u64, secret: &[u8]) -> Option<SecretBuffer<Own>> {
+    SecretBuffer::new(seed, own(alloc, secret)?).ok()
 }
 
-fn boxed_beside(alloc: Global, seed: u64, secret: &[u8]) -> Result<XxHash3_64<Global>, Fail> {
-    let stream = XxHash3_64::with_seed_and_secret(seed, own(alloc, secret)?);
-    Ok(stream.ok().ok_or("136 bytes")?)
+fn boxed_beside(alloc: Global, seed: u64, secret: &[u8]) -> Option<XxHash3_64<Global>> {
+    XxHash3_64::with_seed_and_secret(seed, own(alloc, secret)?).ok()
 }
 
 pub(crate) fn boxed_wide_beside(
     alloc: Global,
     seed: u64,
     secret: &[u8],
-) -> Result<XxHash3_128<Global>, Fail> {
-    let stream = XxHash3_128::with_seed_and_secret(seed, own(alloc, secret)?);
-    Ok(stream.ok().ok_or("136 bytes")?)
+) -> Option<XxHash3_128<Global>> {
+    XxHash3_128::with_seed_and_secret(seed, own(alloc, secret)?).ok()
 }
 
 pub(crate) fn beside_have_64(
@@ -167,11 +203,10 @@ pub(crate) fn beside_have_64(
     secret: &[u8],
     input: Pieces<'_>,
     value: u64,
-) -> Result<bool, Fail> {
-    Ok(
-        boxed_has(boxed_beside(alloc, seed, secret)?, input, value)
-            && raw_has(beside(alloc, seed, secret)?, input, value),
-    )
+) -> bool {
+    let value = u128::from(value);
+    has(boxed_beside(alloc, seed, secret), input, value)
+        && has(raw(beside(alloc, seed, secret)), input, value)
 }
 
 pub(crate) fn beside_have_128(
@@ -180,9 +215,30 @@ pub(crate) fn beside_have_128(
     secret: &[u8],
     input: Pieces<'_>,
     value: u128,
-) -> Result<bool, Fail> {
-    Ok(
-        boxed_wide_has(boxed_wide_beside(alloc, seed, secret)?, input, value)
-            && raw_wide_has(beside(alloc, seed, secret)?, input, value),
-    )
+) -> bool {
+    has(boxed_wide_beside(alloc, seed, secret), input, value)
+        && has(raw_wide(beside(alloc, seed, secret)), input, value)
+}
+
+// The values under a seed beside a secret that has its length, at once.
+pub(crate) fn values_beside(seed: u64, secret: &[u8], input: &[u8]) -> Option<Values> {
+    Some(Values {
+        narrow: XxHash3_64::oneshot_with_seed_and_secret(seed, secret, input).ok()?,
+        wide: XxHash3_128::oneshot_with_seed_and_secret(seed, secret, input).ok()?,
+    })
+}
+
+// Whether streams that take this input in such pieces have the values of the whole.
+pub(crate) fn beside_are_the_oneshot(
+    alloc: Global,
+    seed: u64,
+    secret: &[u8],
+    input: Pieces<'_>,
+    whole: &[u8],
+) -> bool {
+    let Some(values) = values_beside(seed, secret, whole) else {
+        return false;
+    };
+    beside_have_64(alloc, seed, secret, input, values.narrow)
+        && beside_have_128(alloc, seed, secret, input, values.wide)
 }

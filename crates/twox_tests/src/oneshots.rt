@@ -93,17 +93,25 @@ fn secrets_beside_a_seed(rt: HostRuntime) {
     }
 }
 
+fn alone_are_refused(secret: &[u8], input: &[u8]) -> bool {
+    let refused = OneshotWithSecretError::from(Error);
+    under_secret_64(secret, input) == Err(refused)
+        && under_secret_128(secret, input) == Err(refused)
+}
+
+fn both_are_refused(secret: &[u8], input: &[u8]) -> bool {
+    let refused = OneshotWithSecretError::from(Error);
+    under_both_64(7, secret, input) == Err(refused)
+        && under_both_128(7, secret, input) == Err(refused)
+}
+
 #[test]
 fn secrets_that_are_too_short(rt: HostRuntime) {
     let bytes = gen_10240();
     let (long, too_short) = (first(&bytes, 241), first(&bytes, 135));
-    let refused = OneshotWithSecretError::from(Error);
-    assert!(rt; under_both_64(7, too_short, long) == Err(refused));
-    assert!(rt; under_secret_64(too_short, long) == Err(refused));
-    assert!(rt; under_both_128(7, too_short, long) == Err(refused));
-    assert!(rt; under_secret_128(too_short, long) == Err(refused));
-    assert!(rt; under_secret_64(&[0; 135], &[]) == Err(refused));
-    assert!(rt; under_secret_128(&[0; 135], &[]) == Err(refused));
+    assert!(rt; both_are_refused(too_short, long));
+    assert!(rt; alone_are_refused(too_short, long));
+    assert!(rt; alone_are_refused(&[0; 135], &[]));
     assert!(rt; Secret::new(&[0; 135]).is_err());
 }
 

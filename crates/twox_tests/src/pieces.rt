@@ -2,14 +2,14 @@
 //! one-shots', which other tests hold against it.
 
 use crate::kinds::{
-    Pieces, Values, beside_have_64, beside_have_128, boxed_wide_beside, default_have, in_pieces,
-    keyed, keyed_boxed, keyed_boxed_wide, keyed_have_64, keyed_have_128, seeded_have,
+    Pieces, Stream, Values, beside_are_the_oneshot, beside_have_64, boxed_wide_beside,
+    default_have, has, in_pieces, keyed, keyed_boxed, keyed_boxed_wide, keyed_have_64,
+    keyed_have_128, raw, raw_wide, seeded_have,
 };
 use crate::rows::{SEED, first, gen_10240, rows, seeded_rows};
-use std::alloc::{AllocError, Global};
-use std::test::Fail;
+use std::alloc::Global;
 use twox_hash::xxhash3::{DEFAULT_SECRET_RAW, SecretBuffer};
-use twox_hash::{XxHash3_64, XxHash3_128, xxhash3_64, xxhash3_128};
+use twox_hash::{XxHash3_64, XxHash3_128};
 
 fn oneshots(input: &[u8]) -> Values {
     Values {
@@ -19,7 +19,7 @@ fn oneshots(input: &[u8]) -> Values {
 }
 
 #[test]
-fn byte_by_byte(rt: HostRuntime) -> Result<(), Fail> {
+fn byte_by_byte(rt: HostRuntime) {
     let bytes = gen_10240();
     for row in rows() {
         let values = Values {
@@ -28,116 +28,108 @@ fn byte_by_byte(rt: HostRuntime) -> Result<(), Fail> {
         };
         let input = in_pieces(first(&bytes, row.len), 1);
         assert!(rt;
-            default_have(rt.alloc(), input, values)?,
+            default_have(rt.alloc(), input, values),
             "{} bytes",
             row.len
         );
     }
-    Ok(())
 }
 
 // With the default secret alone.
-fn keyed_have(alloc: Global, input: Pieces<'_>, narrow: u64, wide: u128) -> Result<bool, Fail> {
-    Ok(
-        keyed_have_64(alloc, &DEFAULT_SECRET_RAW, input, narrow)?
-            && keyed_have_128(alloc, &DEFAULT_SECRET_RAW, input, wide)?,
-    )
+fn keyed_have(alloc: Global, input: Pieces<'_>, narrow: u64, wide: u128) -> bool {
+    keyed_have_64(alloc, &DEFAULT_SECRET_RAW, input, narrow)
+        && keyed_have_128(alloc, &DEFAULT_SECRET_RAW, input, wide)
 }
 
 #[test]
-fn byte_by_byte_under_a_secret_alone(rt: HostRuntime) -> Result<(), Fail> {
+fn byte_by_byte_under_a_secret_alone(rt: HostRuntime) {
     let bytes = gen_10240();
     for row in rows() {
         let input = in_pieces(first(&bytes, row.len), 1);
-        let have = keyed_have(rt.alloc(), input, row.value, row.wide_value)?;
-        assert!(rt; have, "{} bytes", row.len);
+        assert!(rt;
+            keyed_have(rt.alloc(), input, row.value, row.wide_value),
+            "{} bytes",
+            row.len
+        );
     }
-    Ok(())
+}
+
+// Byte by byte, under the seed of the table.
+fn seeded_row_holds(alloc: Global, input: &[u8], narrow: u64) -> bool {
+    let wide = XxHash3_128::oneshot_with_seed(SEED, input);
+    seeded_have(alloc, SEED, in_pieces(input, 1), Values { narrow, wide })
 }
 
 #[test]
-fn seeded_byte_by_byte(rt: HostRuntime) -> Result<(), Fail> {
+fn seeded_byte_by_byte(rt: HostRuntime) {
     let bytes = gen_10240();
     for (len, narrow) in seeded_rows() {
-        let input = first(&bytes, len);
-        let wide = XxHash3_128::oneshot_with_seed(SEED, input);
-        let have = seeded_have(
-            rt.alloc(),
-            SEED,
-            in_pieces(input, 1),
-            Values { narrow, wide },
-        )?;
-        assert!(rt; have, "{len} bytes");
+        assert!(rt;
+            seeded_row_holds(rt.alloc(), first(&bytes, len), narrow),
+            "{len} bytes"
+        );
     }
-    Ok(())
 }
 
 // Whether streams that take the input in such pieces are the one-shot.
-fn are_the_oneshot(alloc: Global, input: &[u8], size: usize) -> Result<bool, AllocError> {
+fn are_the_oneshot(alloc: Global, input: &[u8], size: usize) -> bool {
     default_have(alloc, in_pieces(input, size), oneshots(input))
 }
 
 // The last stripe stays in a full buffer, so that the last call takes it, and once.
 #[test]
-fn full_buffer(rt: HostRuntime) -> Result<(), Fail> {
+fn full_buffer(rt: HostRuntime) {
     let bytes = gen_10240();
-    let (half, full) = (first(&bytes, 256), first(&bytes, 512));
-    assert!(rt; are_the_oneshot(rt.alloc(), half, 1)?);
-    assert!(rt; are_the_oneshot(rt.alloc(), half, 16)?);
-    assert!(rt; are_the_oneshot(rt.alloc(), half, 240)?);
-    assert!(rt; are_the_oneshot(rt.alloc(), half, 256)?);
-    assert!(rt; are_the_oneshot(rt.alloc(), full, 128)?);
-    assert!(rt; are_the_oneshot(rt.alloc(), full, 512)?);
-    Ok(())
+    for (len, size) in [
+        (256, 1),
+        (256, 16),
+        (256, 240),
+        (256, 256),
+        (512, 128),
+        (512, 512),
+    ] {
+        assert!(rt;
+            are_the_oneshot(rt.alloc(), first(&bytes, len), size),
+            "{len} bytes by {size}"
+        );
+    }
 }
 
 // Twenty full buffers.
 #[test]
-fn pieces_of_a_buffer(rt: HostRuntime) -> Result<(), Fail> {
+fn pieces_of_a_buffer(rt: HostRuntime) {
     let values = Values {
         narrow: 0xbcd6_3266_df6e_2244,
         wide: 0x4f63_75cc_a7ec_e1e1_bcd6_3266_df6e_2244,
     };
-    assert!(rt; default_have(rt.alloc(), in_pieces(&gen_10240(), 512), values)?);
-    Ok(())
-}
-
-fn value_beside(seed: u64, secret: &[u8], input: &[u8]) -> Result<u64, Fail> {
-    Ok(XxHash3_64::oneshot_with_seed_and_secret(seed, secret, input)?)
-}
-
-fn wide_value_beside(seed: u64, secret: &[u8], input: &[u8]) -> Result<u128, Fail> {
-    Ok(XxHash3_128::oneshot_with_seed_and_secret(seed, secret, input)?)
+    assert!(rt; default_have(rt.alloc(), in_pieces(&gen_10240(), 512), values));
 }
 
 // 577 bytes are nine stripes before the last, which is all places of 136 bytes: one scramble.
 #[test]
-fn one_scramble_under_a_short_secret(rt: HostRuntime) -> Result<(), Fail> {
+fn one_scramble_under_a_short_secret(rt: HostRuntime) {
     let bytes = gen_10240();
     let (input, secret) = (first(&bytes, 577), first(&bytes, 136));
     let cut = in_pieces(input, 100);
-    let value = value_beside(5, secret, input)?;
-    assert!(rt; beside_have_64(rt.alloc(), 5, secret, cut, value)?);
-    let value = wide_value_beside(5, secret, input)?;
-    assert!(rt; beside_have_128(rt.alloc(), 5, secret, cut, value)?);
-    Ok(())
+    assert!(rt; beside_are_the_oneshot(rt.alloc(), 5, secret, cut, input));
 }
 
-fn secret_comes_back(alloc: Global, secret: &[u8], input: &[u8]) -> Result<bool, Fail> {
-    let mut stream = boxed_wide_beside(alloc, 5, secret)?;
+fn secret_comes_back(alloc: Global, secret: &[u8], input: &[u8]) -> bool {
+    let Some(mut stream) = boxed_wide_beside(alloc, 5, secret) else {
+        return false;
+    };
     stream.write(input);
-    Ok(stream.into_secret().as_slice() == secret)
+    stream.into_secret().as_slice() == secret
 }
 
 #[test]
-fn secrets_come_back_after_bytes(rt: HostRuntime) -> Result<(), Fail> {
+fn secrets_come_back_after_bytes(rt: HostRuntime) {
     let bytes = gen_10240();
-    assert!(rt; secret_comes_back(rt.alloc(), first(&bytes, 136), first(&bytes, 577))?);
-    Ok(())
+    assert!(rt; secret_comes_back(rt.alloc(), first(&bytes, 136), first(&bytes, 577)));
 }
 
 // Whether the input cut at each point, before the first byte and after the last among them, is the one-shot.
-fn is_the_same_cut(alloc: Global, input: &[u8]) -> Result<bool, AllocError> {
+fn is_the_same_cut(alloc: Global, input: &[u8]) -> bool {
     let values = oneshots(input);
     let mut agree = true;
     for cut in 0..=input.len() {
@@ -146,153 +138,105 @@ fn is_the_same_cut(alloc: Global, input: &[u8]) -> Result<bool, AllocError> {
             tail: &input[cut..],
             size: 10240,
         };
-        agree &= default_have(alloc, parts, values)?;
+        agree &= default_have(alloc, parts, values);
     }
-    Ok(agree)
+    agree
 }
 
 #[test]
-fn cut_in_two_at_every_point(rt: HostRuntime) -> Result<(), Fail> {
+fn cut_in_two_at_every_point(rt: HostRuntime) {
     let bytes = gen_10240();
     for n in [240, 241, 255, 256, 257, 511, 512, 513, 576, 1024] {
-        assert!(rt; is_the_same_cut(rt.alloc(), first(&bytes, n))?, "{n} bytes");
+        assert!(rt; is_the_same_cut(rt.alloc(), first(&bytes, n)), "{n} bytes");
     }
-    Ok(())
 }
 
 const OF_FOUR_ZEROS: u64 = 0x7ec8_7193_96e4_65d3;
 
+const ZEROS: &[u8] = &[0; 136];
+
 // In one piece, and one by one.
 #[test]
-fn secrets_of_zeros(rt: HostRuntime) -> Result<(), Fail> {
-    let secret = [0; 136];
-    assert!(rt; keyed_have_64(rt.alloc(), &secret, in_pieces(&[], 1), 0)?);
-    assert!(rt; keyed_have_128(rt.alloc(), &secret, in_pieces(&[], 1), 0)?);
-    assert!(rt; keyed_have_64(rt.alloc(), &secret, in_pieces(&[0; 4], 4), OF_FOUR_ZEROS)?);
-    assert!(rt; keyed_have_64(rt.alloc(), &secret, in_pieces(&[0; 4], 1), OF_FOUR_ZEROS)?);
-    Ok(())
+fn secrets_of_zeros(rt: HostRuntime) {
+    assert!(rt; keyed_have_64(rt.alloc(), ZEROS, in_pieces(&[], 1), 0));
+    assert!(rt; keyed_have_128(rt.alloc(), ZEROS, in_pieces(&[], 1), 0));
+    for size in [4, 1] {
+        assert!(rt; keyed_have_64(rt.alloc(), ZEROS, in_pieces(&[0; 4], size), OF_FOUR_ZEROS));
+    }
 }
 
 // Beside a seed, even 0, the default secret is used for no bytes.
 #[test]
-fn secrets_of_zeros_beside_a_seed(rt: HostRuntime) -> Result<(), Fail> {
+fn secrets_of_zeros_beside_a_seed(rt: HostRuntime) {
     let value = 0x2d06_8005_38d3_94c2;
-    assert!(rt; beside_have_64(rt.alloc(), 0, &[0; 136], in_pieces(&[], 1), value)?);
-    Ok(())
+    assert!(rt; beside_have_64(rt.alloc(), 0, ZEROS, in_pieces(&[], 1), value));
 }
 
-fn keyed_value(secret: &[u8], input: &[u8]) -> Result<u64, Fail> {
-    Ok(XxHash3_64::oneshot_with_secret(secret, input)?)
-}
-
-fn wide_keyed_value(secret: &[u8], input: &[u8]) -> Result<u128, Fail> {
-    Ok(XxHash3_128::oneshot_with_secret(secret, input)?)
-}
-
-// Streams that grow byte by byte, asked after each.
-fn raw_grows(alloc: Global, bytes: &[u8; 10240], secret: &[u8]) -> Result<bool, Fail> {
-    let mut stream = xxhash3_64::RawHasher::new(keyed(alloc, secret)?);
+// Whether a stream under this secret that grows byte by byte is the one-shot after each.
+fn grows<S: Stream + Drop>(made: Option<S>, bytes: &[u8; 10240], secret: &[u8]) -> bool {
+    let Some(mut stream) = made else {
+        return false;
+    };
     let mut agree = true;
     for n in 0..601 {
-        agree &= stream.finish() == keyed_value(secret, first(bytes, n))?;
-        stream.write(&[bytes[n]]);
+        agree &= S::oneshot(secret, first(bytes, n)) == Some(stream.value());
+        stream.take(&[bytes[n]]);
     }
-    Ok(agree)
+    agree
 }
 
-fn raw_wide_grows(alloc: Global, bytes: &[u8; 10240], secret: &[u8]) -> Result<bool, Fail> {
-    let mut stream = xxhash3_128::RawHasher::new(keyed(alloc, secret)?);
-    let mut agree = true;
-    for n in 0..601 {
-        agree &= stream.finish_128() == wide_keyed_value(secret, first(bytes, n))?;
-        stream.write(&[bytes[n]]);
-    }
-    Ok(agree)
-}
-
-fn boxed_grows(alloc: Global, bytes: &[u8; 10240], secret: &[u8]) -> Result<bool, Fail> {
-    let mut stream = keyed_boxed(alloc, secret)?;
-    let mut agree = true;
-    for n in 0..601 {
-        agree &= stream.finish() == keyed_value(secret, first(bytes, n))?;
-        stream.write(&[bytes[n]]);
-    }
-    Ok(agree)
-}
-
-fn boxed_wide_grows(alloc: Global, bytes: &[u8; 10240], secret: &[u8]) -> Result<bool, Fail> {
-    let mut stream = keyed_boxed_wide(alloc, secret)?;
-    let mut agree = true;
-    for n in 0..601 {
-        agree &= stream.finish_128() == wide_keyed_value(secret, first(bytes, n))?;
-        stream.write(&[bytes[n]]);
-    }
-    Ok(agree)
+fn all_grow(alloc: Global, bytes: &[u8; 10240], secret: &[u8]) -> bool {
+    grows(raw(keyed(alloc, secret)), bytes, secret)
+        && grows(raw_wide(keyed(alloc, secret)), bytes, secret)
+        && grows(keyed_boxed(alloc, secret), bytes, secret)
+        && grows(keyed_boxed_wide(alloc, secret), bytes, secret)
 }
 
 #[test]
-fn growing_streams_are_the_oneshot(rt: HostRuntime) -> Result<(), Fail> {
+fn growing_streams_are_the_oneshot(rt: HostRuntime) {
     let bytes = gen_10240();
     for length in [136, 192] {
-        let secret = first(&bytes, length);
-        assert!(rt; raw_grows(rt.alloc(), &bytes, secret)?);
-        assert!(rt; raw_wide_grows(rt.alloc(), &bytes, secret)?);
-        assert!(rt; boxed_grows(rt.alloc(), &bytes, secret)?);
-        assert!(rt; boxed_wide_grows(rt.alloc(), &bytes, secret)?);
+        assert!(rt;
+            all_grow(rt.alloc(), &bytes, first(&bytes, length)),
+            "{length} bytes"
+        );
     }
-    Ok(())
 }
 
-// The value of 64 bits by a raw stream whose secret stands in an array, as most have it.
-fn by_an_array_64(input: &[u8]) -> u64 {
-    let mut raw = xxhash3_64::RawHasher::new(SecretBuffer::default());
-    for piece in input.chunks(1) {
-        raw.write(piece);
-    }
-    raw.finish()
+// A secret in an array, as most streams have it.
+fn default_array() -> Option<SecretBuffer<[u8; 192]>> {
+    Some(SecretBuffer::default())
 }
 
-fn by_an_array_128(input: &[u8]) -> u128 {
-    let mut raw = xxhash3_128::RawHasher::new(SecretBuffer::default());
-    for piece in input.chunks(1) {
-        raw.write(piece);
-    }
-    raw.finish_128()
+fn seeded_array() -> Option<SecretBuffer<[u8; 192]>> {
+    SecretBuffer::with_seed(SEED, [0; 192]).ok()
+}
+
+fn arrays_have(input: &[u8], value: u64, wide_value: u128) -> bool {
+    has(raw(default_array()), in_pieces(input, 1), u128::from(value))
+        && has(raw_wide(default_array()), in_pieces(input, 1), wide_value)
 }
 
 #[test]
 fn byte_by_byte_with_the_secret_in_an_array(rt: HostRuntime) {
     let bytes = gen_10240();
     for row in rows() {
-        let input = first(&bytes, row.len);
-        assert!(rt; by_an_array_64(input) == row.value, "{} bytes", row.len);
         assert!(rt;
-            by_an_array_128(input) == row.wide_value,
+            arrays_have(first(&bytes, row.len), row.value, row.wide_value),
             "{} bytes",
             row.len
         );
     }
 }
 
-fn seeded_by_an_array(input: &[u8]) -> Result<u64, Fail> {
-    let secret = SecretBuffer::with_seed(SEED, [0; 192])
-        .ok()
-        .ok_or("192 bytes")?;
-    let mut raw = xxhash3_64::RawHasher::new(secret);
-    for piece in input.chunks(1) {
-        raw.write(piece);
-    }
-    Ok(raw.finish())
+fn seeded_array_has(input: &[u8], value: u64) -> bool {
+    has(raw(seeded_array()), in_pieces(input, 1), u128::from(value))
 }
 
 #[test]
-fn seeded_byte_by_byte_with_the_secret_in_an_array(rt: HostRuntime) -> Result<(), Fail> {
+fn seeded_byte_by_byte_with_the_secret_in_an_array(rt: HostRuntime) {
     let bytes = gen_10240();
     for (len, value) in seeded_rows() {
-        assert!(rt;
-            seeded_by_an_array(first(&bytes, len))? == value,
-            "{len} bytes"
-        );
+        assert!(rt; seeded_array_has(first(&bytes, len), value), "{len} bytes");
     }
-    Ok(())
 }

@@ -1,6 +1,6 @@
 //! Secrets of every length: which are refused, that they come back, and that a stream is the one-shot under each.
 
-use crate::kinds::{Own, Pieces, beside_have_64, beside_have_128, in_pieces};
+use crate::kinds::{Own, Pieces, beside_are_the_oneshot, in_pieces};
 use crate::rows::{SEED, first, gen_10240};
 use std::alloc::{AllocError, Global};
 use std::boxed::BoxedSlice;
@@ -113,29 +113,14 @@ fn derived_exactly_into_192_bytes(rt: HostRuntime) -> Result<(), Fail> {
     Ok(())
 }
 
-fn value_beside(secret: &[u8], input: &[u8]) -> Result<u64, Fail> {
-    Ok(XxHash3_64::oneshot_with_seed_and_secret(SEED, secret, input)?)
-}
-
-fn wide_value_beside(secret: &[u8], input: &[u8]) -> Result<u128, Fail> {
-    Ok(XxHash3_128::oneshot_with_seed_and_secret(SEED, secret, input)?)
-}
-
 // Whether a stream of each kind has the value of the whole.
-fn have(alloc: Global, secret: &[u8], input: Pieces<'_>, whole: &[u8]) -> Result<bool, Fail> {
-    let (narrow, wide) = (
-        value_beside(secret, whole)?,
-        wide_value_beside(secret, whole)?,
-    );
-    Ok(
-        beside_have_64(alloc, SEED, secret, input, narrow)?
-            && beside_have_128(alloc, SEED, secret, input, wide)?,
-    )
+fn have(alloc: Global, secret: &[u8], input: Pieces<'_>, whole: &[u8]) -> bool {
+    beside_are_the_oneshot(alloc, SEED, secret, input, whole)
 }
 
 // Cut in two at each of these places, and byte by byte.
-fn is_the_same_by_parts(alloc: Global, secret: &[u8], input: &[u8]) -> Result<bool, Fail> {
-    let mut agree = have(alloc, secret, in_pieces(input, 1), input)?;
+fn is_the_same_by_parts(alloc: Global, secret: &[u8], input: &[u8]) -> bool {
+    let mut agree = have(alloc, secret, in_pieces(input, 1), input);
     for cut in [0, 1, 63, 64, 65, 240, 241, 256, 512] {
         if cut <= input.len() {
             let parts = Pieces {
@@ -143,59 +128,53 @@ fn is_the_same_by_parts(alloc: Global, secret: &[u8], input: &[u8]) -> Result<bo
                 tail: &input[cut..],
                 size: 10240,
             };
-            agree &= have(alloc, secret, parts, input)?;
+            agree &= have(alloc, secret, parts, input);
         }
     }
-    Ok(agree)
+    agree
 }
 
 // At every length to 1,100, and around as many stripes as the secret has places.
-fn streams_under(alloc: Global, length: usize, block: usize) -> Result<bool, Fail> {
+fn streams_under(alloc: Global, length: usize, block: usize) -> bool {
     let bytes = gen_10240();
     let secret = first(&bytes, length);
     let mut agree = true;
     for n in 0..1101 {
-        agree &= is_the_same_by_parts(alloc, secret, first(&bytes, n))?;
+        agree &= is_the_same_by_parts(alloc, secret, first(&bytes, n));
     }
     for d in 0..4 {
         let n = block.wrapping_add(d).wrapping_sub(1);
-        agree &= is_the_same_by_parts(alloc, secret, first(&bytes, n))?;
+        agree &= is_the_same_by_parts(alloc, secret, first(&bytes, n));
     }
-    Ok(agree)
+    agree
 }
 
 #[test]
-fn streams_are_the_oneshot_under_136_bytes(rt: HostRuntime) -> Result<(), Fail> {
-    assert!(rt; streams_under(rt.alloc(), 136, 576)?);
-    Ok(())
+fn streams_are_the_oneshot_under_136_bytes(rt: HostRuntime) {
+    assert!(rt; streams_under(rt.alloc(), 136, 576));
 }
 
 #[test]
-fn streams_are_the_oneshot_under_137_bytes(rt: HostRuntime) -> Result<(), Fail> {
-    assert!(rt; streams_under(rt.alloc(), 137, 576)?);
-    Ok(())
+fn streams_are_the_oneshot_under_137_bytes(rt: HostRuntime) {
+    assert!(rt; streams_under(rt.alloc(), 137, 576));
 }
 
 #[test]
-fn streams_are_the_oneshot_under_143_bytes(rt: HostRuntime) -> Result<(), Fail> {
-    assert!(rt; streams_under(rt.alloc(), 143, 576)?);
-    Ok(())
+fn streams_are_the_oneshot_under_143_bytes(rt: HostRuntime) {
+    assert!(rt; streams_under(rt.alloc(), 143, 576));
 }
 
 #[test]
-fn streams_are_the_oneshot_under_144_bytes(rt: HostRuntime) -> Result<(), Fail> {
-    assert!(rt; streams_under(rt.alloc(), 144, 640)?);
-    Ok(())
+fn streams_are_the_oneshot_under_144_bytes(rt: HostRuntime) {
+    assert!(rt; streams_under(rt.alloc(), 144, 640));
 }
 
 #[test]
-fn streams_are_the_oneshot_under_192_bytes(rt: HostRuntime) -> Result<(), Fail> {
-    assert!(rt; streams_under(rt.alloc(), 192, 1024)?);
-    Ok(())
+fn streams_are_the_oneshot_under_192_bytes(rt: HostRuntime) {
+    assert!(rt; streams_under(rt.alloc(), 192, 1024));
 }
 
 #[test]
-fn streams_are_the_oneshot_under_300_bytes(rt: HostRuntime) -> Result<(), Fail> {
-    assert!(rt; streams_under(rt.alloc(), 300, 1856)?);
-    Ok(())
+fn streams_are_the_oneshot_under_300_bytes(rt: HostRuntime) {
+    assert!(rt; streams_under(rt.alloc(), 300, 1856));
 }

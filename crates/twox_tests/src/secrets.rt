@@ -86,36 +86,36 @@ fn refused_secrets_are_handed_back(rt: HostRuntime) -> Result<(), Fail> {
     Ok(())
 }
 
-fn keyed_core(alloc: Global, secret: &[u8], input: &[u8]) -> Result<AllocRawHasher<Global>, Fail> {
-    let mut core = AllocRawHasher::allocate_with_secret(own(alloc, secret)?)
-        .ok()
-        .ok_or("136 bytes")?;
+fn keyed_core(alloc: Global, secret: &[u8]) -> Option<AllocRawHasher<Global>> {
+    AllocRawHasher::allocate_with_secret(own(alloc, secret).ok()?).ok()
+}
+
+// Whether the core has the value and the counts of five bytes.
+fn has(core: &RawHasherCore<Own>, value: Option<u64>) -> bool {
+    let counts = core.total_len() == 5 && core.stripes_done() == 0 && core.buffered() == 5;
+    counts && value == Some(core.finish(Finalize64))
+}
+
+// Whether a copy has them too, and the secret.
+fn copy_keeps(core: &RawHasherCore<Own>, secret: &[u8], value: Option<u64>) -> bool {
+    let Ok(copy) = core.clone() else {
+        return false;
+    };
+    has(&copy, value) && is(copy.into_secret(), secret)
+}
+
+fn core_and_copy_keep(alloc: Global, secret: &[u8], input: &[u8]) -> bool {
+    let value = XxHash3_64::oneshot_with_secret(secret, input).ok();
+    let Some(mut core) = keyed_core(alloc, secret) else {
+        return false;
+    };
     core.write(input);
-    Ok(core)
-}
-
-fn counts(core: &RawHasherCore<Own>, total_len: u64, stripes: u64, buffered: usize) -> bool {
-    core.total_len() == total_len && core.stripes_done() == stripes && core.buffered() == buffered
-}
-
-fn value(core: &RawHasherCore<Own>) -> u64 {
-    core.finish(Finalize64)
-}
-
-// Whether a copy has the value, the counts and the secret.
-fn copy_keeps(core: &RawHasherCore<Own>, secret: &[u8], wanted: u64) -> Result<bool, AllocError> {
-    let copy = core.clone()?;
-    Ok(value(&copy) == wanted && counts(&copy, 5, 0, 5) && is(copy.into_secret(), secret))
+    has(&core, value) && copy_keeps(&core, secret, value)
 }
 
 // How a stream was made stays with its copies, its counts and the secret that it gives back.
 #[test]
-fn copies_keep_how_they_were_made(rt: HostRuntime) -> Result<(), Fail> {
+fn copies_keep_how_they_were_made(rt: HostRuntime) {
     let bytes = gen_10240();
-    let (secret, input) = (first(&bytes, 136), first(&bytes, 5));
-    let wanted = XxHash3_64::oneshot_with_secret(secret, input)?;
-    let core = keyed_core(rt.alloc(), secret, input)?;
-    assert!(rt; value(&core) == wanted);
-    assert!(rt; copy_keeps(&core, secret, wanted)?);
-    Ok(())
+    assert!(rt; core_and_copy_keep(rt.alloc(), first(&bytes, 136), first(&bytes, 5)));
 }
