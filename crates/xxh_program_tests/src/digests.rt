@@ -8,7 +8,8 @@ use crate::ends::{Offered, Taken};
 use std::alloc::{AllocError, Global};
 use std::test::Fail;
 use xxh_program::program::{
-    DigestError, Kind, ScriptSink, ScriptSource, Sink, SliceSource, digest_of_bytes, value_of_source,
+    DigestError, Kind, ScriptSink, ScriptSource, Sink, SliceSource, digest_of_bytes,
+    value_of_source,
 };
 
 const MANY: u64 = u64::MAX;
