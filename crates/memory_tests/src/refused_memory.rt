@@ -191,8 +191,11 @@ fn buffer_has_copy(heap: &LocalHeap, wanted: bool) -> bool {
     let Ok(buffer) = SecretBuffer::allocate_default(heap) else {
         return false;
     };
-    let copied = is_the_default(buffer.clone());
-    copied == wanted && is_the_default(Ok(buffer))
+    let copied = match buffer.clone() {
+        Ok(copy) => wanted && is_the_default(Ok(copy)),
+        Err(_) => !wanted,
+    };
+    copied && is_the_default(Ok(buffer))
 }
 
 #[test]

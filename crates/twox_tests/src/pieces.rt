@@ -212,9 +212,20 @@ fn seeded_array() -> Option<SecretBuffer<[u8; 192]>> {
     SecretBuffer::with_seed(SEED, [0; 192]).ok()
 }
 
+// Whether the stream was made, and has this value after the bytes, one a piece.
+fn has_bytewise<S: Stream + Drop>(made: Option<S>, input: &[u8], value: u128) -> bool {
+    let Some(mut stream) = made else {
+        return false;
+    };
+    for piece in input.chunks(1) {
+        stream.take(piece);
+    }
+    stream.value() == value
+}
+
 fn arrays_have(input: &[u8], value: u64, wide_value: u128) -> bool {
-    has(raw(default_array()), in_pieces(input, 1), u128::from(value))
-        && has(raw_wide(default_array()), in_pieces(input, 1), wide_value)
+    has_bytewise(raw(default_array()), input, u128::from(value))
+        && has_bytewise(raw_wide(default_array()), input, wide_value)
 }
 
 #[test]
@@ -230,7 +241,7 @@ fn byte_by_byte_with_the_secret_in_an_array(rt: HostRuntime) {
 }
 
 fn seeded_array_has(input: &[u8], value: u64) -> bool {
-    has(raw(seeded_array()), in_pieces(input, 1), u128::from(value))
+    has_bytewise(raw(seeded_array()), input, u128::from(value))
 }
 
 #[test]
