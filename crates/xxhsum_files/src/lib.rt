@@ -4,4 +4,3 @@
 pub mod memory;
 pub mod refusal;
 pub mod store;
-pub mod system;

@@ -61,10 +61,10 @@ impl<S: Source + Copy> Store for MemoryFiles<'_, S> {
 
     fn open(&self, name: &[u8]) -> Result<S, Refusal> {
         let Some(entry) = self.find(name) else {
-            return Err(Refusal::of_code(libc::ENOENT));
+            return Err(Refusal::new(2, b"No such file or directory"));
         };
         if entry.source.failed() {
-            return Err(Refusal::of_code(libc::EIO));
+            return Err(Refusal::new(5, b"Input/output error"));
         }
         Ok(entry.source)
     }

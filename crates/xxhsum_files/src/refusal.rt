@@ -17,12 +17,13 @@ pub struct Refusal {
 impl Refusal {
     ghost use Rattle.xxhsum_files.specs.Refusal.{refusal_code, refusal_text};
 
-    /// The refusal of this number, as `ENOENT`.
-    pub fn of_code(code: i32) -> Refusal
+    /// The refusal of this number, as 2, and these words, of which it takes 256 bytes at most.
+    pub fn new(code: i32, words: &[u8]) -> Refusal
         ensures { refusal_code result ≡ code }
     {
+        let len = words.len().min(TEXT_ROOM);
         let mut text = [0; TEXT_ROOM];
-        let len = os::error_text(code, &mut text);
+        text[..len].copy_from_slice(&words[..len]);
         Refusal { code, text, len }
     }
 

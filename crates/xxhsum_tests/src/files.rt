@@ -1,4 +1,4 @@
-//! Files by name, in memory and of the system.
+//! Files by name, in memory.
 
 use std::test::Fail;
 use xxh_io::ends::Source;
@@ -6,7 +6,6 @@ use xxh_io::script_source::{ScriptSource, SliceSource};
 use xxhsum_files::memory::{MemoryEntry, MemoryFiles};
 use xxhsum_files::refusal::Refusal;
 use xxhsum_files::store::Store;
-use xxhsum_files::system::SystemFiles;
 
 // What the first read of the file of this name gives, and a word where there is none.
 fn first_read<'a, S: Store>(store: &S, name: &[u8], room: &'a mut [u8; 16]) -> &'a [u8] {
@@ -66,28 +65,16 @@ fn a_slice_is_given_whole(rt: HostRuntime) {
     assert!(rt; first_read(&MemoryFiles::new(&entries), b"a", &mut [0; 16]) == b"hello".as_slice());
 }
 
-// Files that every Linux has: the second is a link to a directory.
+// A name that is not there is refused, as the system would.
 #[test]
-fn the_system_says_what_a_name_is(rt: HostRuntime) {
-    for (name, want, is_directory) in [
-        (b"/dev/null".as_slice(), b"".as_slice(), false),
-        (b"/proc/self", b"fails", true),
-        (b"/", b"fails", true),
-        (b"/dev/null/", b"refused", false),
-        (b"", b"refused", false),
-        (b"/gone\xff", b"refused", false),
-    ] {
-        assert!(rt; first_read(&SystemFiles, name, &mut [0; 16]) == want);
-        assert!(rt; SystemFiles.is_directory(name) == is_directory);
-    }
-}
-
-#[test]
-fn the_system_has_words_for_a_refusal(rt: HostRuntime) -> Result<(), Fail> {
-    let Err(why) = SystemFiles.open(b"/gone") else {
+fn a_refusal_has_its_words(rt: HostRuntime) -> Result<(), Fail> {
+    let Err(why) = MemoryFiles::new(&[entry(b"a", ScriptSource::new(b"", &[], 0), false)]).open(
+        b"gone",
+    ) else {
         return Err(Fail::from("it is there"));
     };
-    assert!(rt; why == Refusal::of_code(libc::ENOENT));
+    assert!(rt; why == Refusal::new(2, b"No such file or directory"));
     assert!(rt; why.text() == b"No such file or directory".as_slice());
+    assert!(rt; Refusal::new(1, &[b'x'; 300]).text() == [b'x'; 256].as_slice());
     Ok(())
 }
