@@ -4,5 +4,3 @@
 pub mod memory;
 pub mod refusal;
 pub mod store;
-pub mod system;
-mod words;
