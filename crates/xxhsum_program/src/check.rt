@@ -44,8 +44,8 @@ impl Report {
         }
     }
 
-    /// Whether the list is good: it has a proper line, each file was read and has its value, no line is too long, no read of the list failed, and,
-    /// where the check is strict, none is improper.
+    /// Whether the list is good: it has a proper line, each file was read and has its value, no line is too long, no
+    /// read of the list failed, and, where the check is strict, no line is improper.
     pub fn is_good(&self, is_strict: bool) -> bool
         ensures { result ≡ is_good is_strict self.now }
     {
@@ -194,13 +194,13 @@ fn say_count<W: Sink>(
     say(alloc, &[number.as_slice(), what], out)
 }
 
-/// Checks the lines of a list, which is told by this name: says for each proper line how its file is, and at the end how
-/// many lines are not as they should be. Answers whether the list is good.
+/// Checks the lines of a list, which is told by this name: says for each proper line how its file is, and at the end
+/// how many lines are not as they should be. Answers whether the list is good. No clause says this: tests do.
 ///
 /// # Errors
 ///
-/// [`Stop`] where a read of a file or a write fails, or memory runs out: at once. Where a read of the list fails, the list
-/// ends there, and isn't good.
+/// [`Stop`] where a read of a file or a write fails, or memory runs out: at once. Where a read of the list fails, the
+/// list ends there, and isn't good.
 pub fn check_list<S: Store, R: Source + Drop, W: Sink, E: Sink>(
     alloc: Global,
     store: &S,
