@@ -4,3 +4,5 @@
 pub mod memory;
 pub mod refusal;
 pub mod store;
+pub mod system;
+mod words;

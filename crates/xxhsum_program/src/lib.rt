@@ -2,11 +2,14 @@
 //! checked.
 #![tactic(auto)]
 
+mod arguments;
 pub mod check;
 mod entry;
 pub mod hash;
 mod lines;
 pub mod outcome;
+pub mod process;
 mod say;
 pub mod stop;
 mod tell;
+mod usage;

@@ -1,0 +1,46 @@
+//! The system's words for an error.
+
+ghost use Rattle.std.specs.Prelude.{◌≤◌};
+
+use crate::refusal::Refusal;
+use std::fmt;
+use std::fmt::Write;
+use std::io;
+
+// Room for them, which are shorter.
+const ROOM: usize = 256;
+
+// How std ends the text of a system's error, after the system's own words.
+const SUFFIX: &[u8] = b" (os error ";
+
+// A text that is written into a fixed room, as far as it goes.
+#[derive(Drop)]
+struct Words {
+    text: [u8; ROOM],
+    len: usize,
+    ghost within: { len ≤ 256 },
+}
+
+impl Write for Words {
+    fn write_str(&mut self, text: &str) -> fmt::Result {
+        let bytes = text.as_bytes();
+        let count = bytes.len().min(ROOM - self.len);
+        self.text[self.len..self.len + count].copy_from_slice(&bytes[..count]);
+        self.len += count;
+        Ok(())
+    }
+}
+
+// The refusal by this error. Which number it has std doesn't tell.
+pub(crate) fn words_of(error: io::Error) -> Refusal {
+    let mut words = Words {
+        text: [0; ROOM],
+        len: 0,
+    };
+    let _ = write!(words, "{error}");
+    let text = &words.text[..words.len];
+    match memchr::memmem::find(text, SUFFIX) {
+        Some(len) => Refusal::new(0, &text[..len]),
+        None => Refusal::new(0, text),
+    }
+}

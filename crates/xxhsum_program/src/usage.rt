@@ -1,0 +1,27 @@
+//! The help and the version.
+
+// The first line of both, after the program's name.
+pub(crate) const TITLE: &[u8] = b" 0.1.0 of twox_hash, with the words and lines of xxhsum 0.8.1\n";
+
+pub(crate) const ABOUT: &[u8] =
+    b"Prints or checks the digests of files by xxHash: XXH32, XXH64, XXH3.\n\nUsage: ";
+
+pub(crate) const OPTIONS: &[u8] = b" [OPTION].. [FILE]..
+
+Without a file, or with -, standard input is read.
+
+  -H#                 the digest: 0 or 32, 1 or 64 (as without it), 2 or 128, 3 (XXH3 of 64 bits)
+  -c, --check         the files are lists of digests, whose files are compared
+  --tag               lines as BSD's programs write them
+  --little-endian     digests with their lowest byte first
+  -q, --quiet         with -c: no line for a file that is as it should be
+  --status            with -c: no lines, the exit status alone
+  --strict            with -c: a line that is none makes the list a bad one
+  -w, --warn          with -c: each such line is told
+  -h, --help          this text
+  -V, --version       the version
+
+The exit status is 0 where every file was digested, or is as its line says, and else 1.
+";
+
+pub(crate) const NO_BENCHMARK: &[u8] = b": this xxhsum has no benchmark\n";
