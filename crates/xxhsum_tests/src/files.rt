@@ -1,4 +1,4 @@
-//! Files by name, in memory.
+//! Files by name, in memory and of the system.
 
 use std::test::Fail;
 use xxh_io::ends::Source;
@@ -6,6 +6,7 @@ use xxh_io::script_source::{ScriptSource, SliceSource};
 use xxhsum_files::memory::{MemoryEntry, MemoryFiles};
 use xxhsum_files::refusal::Refusal;
 use xxhsum_files::store::Store;
+use xxhsum_files::system::SystemFiles;
 
 // What the first read of the file of this name gives, and a word where there is none.
 fn first_read<'a, S: Store>(store: &S, name: &[u8], room: &'a mut [u8; 16]) -> &'a [u8] {
@@ -76,5 +77,37 @@ fn a_refusal_has_its_words(rt: HostRuntime) -> Result<(), Fail> {
     assert!(rt; why == Refusal::new(2, b"No such file or directory"));
     assert!(rt; why.text() == b"No such file or directory".as_slice());
     assert!(rt; Refusal::new(1, &[b'x'; 300]).text() == [b'x'; 256].as_slice());
+    Ok(())
+}
+
+// What every system has: the empty file, the root folder, and names that lead to nothing.
+#[test]
+fn the_system_gives_its_files(rt: HostRuntime) {
+    let store = SystemFiles::new(&rt);
+    for (name, want, is_directory) in [
+        (b"/dev/null".as_slice(), b"".as_slice(), false),
+        (b"/", b"fails", true),
+        (b"/dev/null/a", b"refused", false),
+        (b"/\xff", b"refused", false),
+        (b"", b"refused", false),
+    ] {
+        assert!(rt; first_read(&store, name, &mut [0; 16]) == want);
+        assert!(rt; store.is_directory(name) == is_directory);
+    }
+}
+
+// A refusal has the system's words alone, without std's number behind them.
+#[test]
+fn a_refusal_of_the_system_has_its_words(rt: HostRuntime) -> Result<(), Fail> {
+    for (name, words) in [
+        (b"/dev/null/a".as_slice(), b"Not a directory".as_slice()),
+        (b"/no such name", b"No such file or directory"),
+        (b"/\xff", b"The name is not UTF-8"),
+    ] {
+        let Err(why) = SystemFiles::new(&rt).open(name) else {
+            return Err(Fail::from("it is there"));
+        };
+        assert!(rt; why.text() == words);
+    }
     Ok(())
 }
