@@ -43,3 +43,27 @@ read_target() {
     *) fail "no target '$target': there are x86-64 and aarch64" ;;
     esac
 }
+
+# read_cpu WORDS: takes --cpu NAME off the words, and leaves the others in `words`. `cpu` is then the set of
+# instructions that programs are built for: without --cpu the larger one where the loader says that the machine has it.
+read_cpu() {
+    cpu=
+    if [ "${1:-}" = --cpu ]; then
+        cpu=${2:-}
+        shift $(($# < 2 ? $# : 2))
+        case $cpu in
+        x86-64-v2 | x86-64-v3) ;;
+        *) fail "no processor '$cpu': there are x86-64-v2 and x86-64-v3" ;;
+        esac
+    fi
+    words=("$@")
+    [ -n "$cpu" ] || cpu=$(best_cpu)
+}
+
+best_cpu() {
+    if /lib64/ld-linux-x86-64.so.2 --help 2> /dev/null | grep -q '^ *x86-64-v3 (supported'; then
+        echo x86-64-v3
+    else
+        echo x86-64-v2
+    fi
+}
