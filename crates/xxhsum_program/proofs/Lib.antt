@@ -1,3 +1,4 @@
 mod HashFacts
+mod LineFacts
 mod OutcomeFacts
 mod ToldFacts

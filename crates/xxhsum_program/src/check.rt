@@ -232,7 +232,7 @@ pub fn check_list<S: Store, R: Source + Drop, W: Sink, E: Sink>(
                 report.is_broken = true;
                 break;
             }
-            Next::Line(line) => list.check_line(line, number, &mut report, &mut buf, out, err)?,
+            Next::Line => list.check_line(lines.line(), number, &mut report, &mut buf, out, err)?,
         }
     }
     list.sum_up(&report, out, err)?;
