@@ -1,3 +1,4 @@
+mod CheckFacts
 mod HashFacts
 mod LineFacts
 mod OutcomeFacts

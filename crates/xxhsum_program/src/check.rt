@@ -1,6 +1,6 @@
 //! Lists of checksum lines, and whether their files are as the lines say.
 
-ghost use Rattle.std.specs.Prelude.{◌≡◌, ◌<◌, length};
+ghost use Rattle.std.specs.Prelude.{◌≡◌, ◌<◌, length, OnOk};
 ghost use Rattle.xxhsum_program.specs.Report.{is_good};
 
 use crate::entry::{Found, compare, say_found};
@@ -67,6 +67,8 @@ struct List<'a, S> {
 }
 
 impl<S: Store> List<'_, S> {
+    ghost use Rattle.xxhsum_program.specs.Findings.{CountsLine};
+
     // Compares what the line says with its file, and counts it.
     fn check_line<W: Sink, E: Sink>(
         &self,
@@ -78,6 +80,8 @@ impl<S: Store> List<'_, S> {
         err: &mut E,
     ) -> Result<(), Stop>
         requires { 0 < length buf.old }
+        ensures { OnOk result (CountsLine S.opens S.refuses S.File.gives S.File.fails self.now.store.now
+            self.now.options.is_little_endian line.now report.old report.new) }
     {
         let Some(entry) = entry_of(line, self.options.is_little_endian) else {
             report.improper = report.improper.saturating_add(1);
