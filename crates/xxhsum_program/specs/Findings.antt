@@ -1,5 +1,5 @@
 -- What is found of the lines of a list, and the report that it adds up to.
-use Rattle.std.specs.Prelude.{◌≡◌, ℕ, ◌+◌, ◌-◌, ◌^◌, Bool, List, min}
+use Rattle.std.specs.Prelude.{◌≡◌, ℕ, ◌+◌, ◌-◌, ◌^◌, Bool, true, false, List, [], ◌∷◌, min}
 use Rattle.xxh_io.specs.Pieces.{Step, Failing}
 use Rattle.xxhsum_files.specs.declared.refusal.Refusal.{Refusal}
 use Rattle.xxhsum_line.specs.Entry.{Says, SaysNothing}
@@ -42,3 +42,19 @@ abbrev pub CountsLine : {S F : Type 0} → (S → List ℕ → F → Type 0) →
 CountsLine opens refuses gives fails store is_little line old new =
     (finding : Finding) × IsFinding opens refuses gives fails store is_little line finding
     × (new ≡ count_one old finding)
+
+-- ---- a report of all
+
+abbrev pub no_findings : Report
+no_findings = record { proper = 0; improper = 0; unread = 0; different = 0; is_broken = false }
+
+abbrev pub add_up : Report → List Finding → Report
+add_up report [] = report
+add_up report (finding ∷ findings) = add_up (count_one report finding) findings
+
+abbrev pub report_of : List Finding → Report
+report_of findings = add_up no_findings findings
+
+-- the list breaks off behind what was found
+abbrev pub with_broken_end : Report → Report
+with_broken_end report = record report { is_broken = true }

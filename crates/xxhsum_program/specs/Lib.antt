@@ -1,3 +1,4 @@
+pub mod CheckList
 pub mod Findings
 pub mod Found
 pub mod HashNames
