@@ -1,3 +1,5 @@
+mod CheckFacts
 mod HashFacts
+mod LineFacts
 mod OutcomeFacts
 mod ToldFacts

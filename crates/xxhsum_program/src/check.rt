@@ -1,6 +1,8 @@
 //! Lists of checksum lines, and whether their files are as the lines say.
 
-ghost use Rattle.std.specs.Prelude.{◌≡◌, ◌<◌, length};
+ghost use Rattle.std.specs.Prelude.{◌≡◌, ◌<◌, length, map, IfOk, OnOk};
+ghost use Rattle.xxhsum_program.specs.CheckList.{AnswersFor, ChecksList, ChecksLines, IsAnswer};
+ghost use Rattle.xxhsum_program.specs.Findings.{CountsLine, IsFinding, no_findings, with_broken_end};
 ghost use Rattle.xxhsum_program.specs.Report.{is_good};
 
 use crate::entry::{Found, compare, say_found};
@@ -34,13 +36,25 @@ pub struct Report {
 
 impl Report {
     // Nothing was found yet.
-    fn new() -> Report {
+    fn new() -> Report
+        ensures { result ≡ no_findings }
+    {
         Report {
             proper: 0,
             improper: 0,
             unread: 0,
             different: 0,
             is_broken: false,
+        }
+    }
+
+    // Where the list breaks off behind what was found.
+    fn with_broken_end(self) -> Report
+        ensures { result ≡ with_broken_end self }
+    {
+        Report {
+            is_broken: true,
+            ..self
         }
     }
 
@@ -78,6 +92,8 @@ impl<S: Store> List<'_, S> {
         err: &mut E,
     ) -> Result<(), Stop>
         requires { 0 < length buf.old }
+        ensures { OnOk result (CountsLine S.opens S.refuses S.File.gives S.File.fails self.now.store.now
+            self.now.options.is_little_endian line.now report.old report.new) }
     {
         let Some(entry) = entry_of(line, self.options.is_little_endian) else {
             report.improper = report.improper.saturating_add(1);
@@ -102,6 +118,38 @@ impl<S: Store> List<'_, S> {
             &found,
             out,
         )
+    }
+
+    // Checks the lines of a source, up to its end or the first that is too long, or as many as a number can count.
+    fn check_lines<R: Source + Drop, W: Sink, E: Sink>(
+        &self,
+        source: R,
+        out: &mut W,
+        err: &mut E,
+    ) -> Result<Report, Stop>
+        ensures { ChecksLines (IsFinding S.opens S.refuses S.File.gives S.File.fails self.now.store.now
+            self.now.options.is_little_endian) R.gives R.fails R.has_failed source result }
+    {
+        let mut lines = Lines::new(source);
+        let mut report = Report::new();
+        let mut buf = [0; OFFERED];
+        for number in 1..u64::MAX {
+            match lines.next() {
+                Next::End => return Ok(report),
+                Next::Failed => {
+                    self.tell_of_failure(number, &report, err)?;
+                    return Ok(report.with_broken_end());
+                }
+                Next::TooLong => {
+                    self.tell_of_line(number, b"Line too long", err)?;
+                    return Ok(report.with_broken_end());
+                }
+                Next::Line => {
+                    self.check_line(lines.line(), number, &mut report, &mut buf, out, err)?;
+                }
+            }
+        }
+        Ok(report)
     }
 
     // Tells what is wrong with a line.
@@ -195,7 +243,8 @@ fn say_count<W: Sink>(
 }
 
 /// Checks the lines of a list, which is told by this name: says for each proper line how its file is, and at the end
-/// how many lines are not as they should be. Answers whether the list is good. No clause says this: tests do.
+/// how many lines are not as they should be. Answers whether the list is good: by what is found of each of its lines, in their
+/// order, up to its end, to a line that is too long or to a read of it that fails. What is said, no clause has: tests do.
 ///
 /// # Errors
 ///
@@ -209,34 +258,51 @@ pub fn check_list<S: Store, R: Source + Drop, W: Sink, E: Sink>(
     source: R,
     out: &mut W,
     err: &mut E,
-) -> Result<bool, Stop> {
+) -> Result<bool, Stop>
+    ensures { ChecksList (IsFinding S.opens S.refuses S.File.gives S.File.fails store.now options.is_little_endian)
+        R.gives R.fails R.has_failed source options.is_strict result }
+{
     let list = List {
         alloc,
         store,
         options,
         name,
     };
-    let mut lines = Lines::new(source);
-    let mut report = Report::new();
-    let mut buf = [0; OFFERED];
-    for number in 1..u64::MAX {
-        match lines.next() {
-            Next::End => break,
-            Next::Failed => {
-                list.tell_of_failure(number, &report, err)?;
-                report.is_broken = true;
-                break;
-            }
-            Next::TooLong => {
-                list.tell_of_line(number, b"Line too long", err)?;
-                report.is_broken = true;
-                break;
-            }
-            Next::Line(line) => list.check_line(line, number, &mut report, &mut buf, out, err)?,
-        }
-    }
+    let report = list.check_lines(source, out, err)?;
     list.sum_up(&report, out, err)?;
     Ok(report.is_good(options.is_strict))
+}
+
+// Checks the list of this name. One that can't be opened is told, and isn't good.
+fn check_named<S: Store, W: Sink, E: Sink>(
+    alloc: Global,
+    store: &S,
+    options: Options,
+    name: &[u8],
+    out: &mut W,
+    err: &mut E,
+) -> Result<bool, Stop>
+    ensures { IfOk result (IsAnswer (IsFinding S.opens S.refuses S.File.gives S.File.fails store.now
+        options.is_little_endian) S.opens S.refuses S.File.gives S.File.fails S.File.has_failed store.now
+        options.is_strict name.now) }
+{
+    match store.open(name) {
+        Ok(file) => check_list(alloc, store, options, name, file, out, err),
+        Err(refusal) => {
+            let text = joined(
+                alloc,
+                &[
+                    b"Error: Could not open '",
+                    name,
+                    b"': ",
+                    refusal.text(),
+                    b"\n",
+                ],
+            )?;
+            tell(&text, err);
+            Ok(false)
+        }
+    }
 }
 
 /// Checks each named list. Answers whether all are good.
@@ -251,29 +317,15 @@ pub fn check_lists<S: Store, W: Sink, E: Sink>(
     names: &[Vec<u8>],
     out: &mut W,
     err: &mut E,
-) -> Result<bool, Stop> {
+) -> Result<bool, Stop>
+    ensures { IfOk result (AnswersFor (IsAnswer (IsFinding S.opens S.refuses S.File.gives S.File.fails store.now
+        options.is_little_endian) S.opens S.refuses S.File.gives S.File.fails S.File.has_failed store.now
+        options.is_strict) (map (λ name. name.items) names.now)) }
+{
     let mut all = true;
     for name in names {
-        match store.open(name) {
-            Ok(file) => {
-                let good = check_list(alloc, store, options, name, file, out, err)?;
-                all = all && good;
-            }
-            Err(refusal) => {
-                all = false;
-                let text = joined(
-                    alloc,
-                    &[
-                        b"Error: Could not open '",
-                        name,
-                        b"': ",
-                        refusal.text(),
-                        b"\n",
-                    ],
-                )?;
-                tell(&text, err);
-            }
-        }
+        let good = check_named(alloc, store, options, name, out, err)?;
+        all = all && good;
     }
     Ok(all)
 }

@@ -1,6 +1,6 @@
 //! The lines of a list.
 
-ghost use Rattle.std.specs.Prelude.{◌+◌, ◌<◌, ◌≤◌, IfSome};
+ghost use Rattle.std.specs.Prelude.{◌≡◌, ◌+◌, ◌<◌, ◌≤◌, [], false, List, ℕ, length, Ok, None, IfOk, OnOk};
 
 use xxh_io::ends::{Failed, Source};
 
@@ -10,10 +10,11 @@ const BUFFER: usize = 65536;
 const MOST: usize = 32767;
 
 /// What comes next in a list.
-pub(crate) enum Next<'a> {
-    /// A line, without its line feed.
-    Line(&'a [u8]),
-    /// A line of more than 32,767 bytes: its list ends there.
+#[derive(Clone, Copy, Debug, PartialEq, Eq)]
+pub(crate) enum Next {
+    /// A line.
+    Line,
+    /// A line of more than 32,767 bytes, its line feed among them: its list ends there.
     TooLong,
     End,
     /// A read failed.
@@ -28,29 +29,48 @@ pub(crate) struct Lines<R> {
     // `buf[start..end]` waits.
     start: usize,
     end: usize,
+    // `buf[line_start..line_end]` is the line that came last, without its line feed.
+    line_start: usize,
+    line_end: usize,
     has_ended: bool,
     ghost ordered: { start ≤ end },
-    ghost in_bounds: { end ≤ 65536 },
+    ghost in_bounds: { end ≤ length buf },
+    ghost line_ordered: { line_start ≤ line_end },
+    ghost line_in_bounds: { line_end ≤ length buf },
 }
 
 impl<R: Source + Drop> Lines<R> {
-    pub(crate) fn new(source: R) -> Lines<R> {
+    ghost use Rattle.xxhsum_line.specs.Parts.{Lacks};
+    ghost use Rattle.xxhsum_program.specs.ListLines.{HasRead, IsAtEnd, IsBeforeLineFeed, IsNext, IsTaken, ReadsBehind, StopsAt, line_of, most_reads_left, waiting};
+
+    pub(crate) fn new(source: R) -> Lines<R>
+        ensures { HasRead R.gives source [] result }
+    {
         Lines {
             source,
             buf: [0; BUFFER],
             start: 0,
             end: 0,
+            line_start: 0,
+            line_end: 0,
             has_ended: false,
         }
     }
 
     // Moves what waits to the front, and reads once behind it.
-    fn refill(&mut self) -> Result<(), Failed> {
+    fn refill(&mut self) -> Result<(), Failed>
+        requires open { self.old.has_ended ≡ false }
+        requires unended { Lacks 10 (waiting self.old) }
+        requires room { self.old.end ≤ self.old.start + 32767 }
+        ensures reads { (from : R) (done : List ℕ) → HasRead R.gives from done self.old
+            → ReadsBehind R.gives R.fails R.has_failed from done self.new result }
+        ensures ends { OnOk result (most_reads_left self.new < most_reads_left self.old) }
+    {
         let len = self.end - self.start;
         self.buf.copy_within(self.start..self.end, 0);
         self.start = 0;
         self.end = len;
-        if self.source.failed() || len == BUFFER {
+        if self.source.failed() {
             return Err(Failed);
         }
         let count = self.source.read(&mut self.buf[len..])?;
@@ -61,41 +81,67 @@ impl<R: Source + Drop> Lines<R> {
 
     // How many of the bytes that wait come before a line feed.
     fn before_line_feed(&self) -> Option<usize>
-        ensures { IfSome result (λ len. self.now.start + len < self.now.end) }
+        ensures { IsBeforeLineFeed result self.now }
     {
         memchr::memchr(b'\n', &self.buf[self.start..self.end])
     }
 
-    // The next bytes that wait, and how many of them are taken.
-    fn take(&mut self, len: usize, taken: usize) -> Next<'_>
-        requires within { len ≤ taken }
-        requires waiting { self.old.start + taken ≤ self.old.end }
+    // Reads until what waits has a line feed or is too long for a line, or the source has ended. Answers how many bytes
+    // come before the line feed.
+    fn gather(&mut self) -> Result<Option<usize>, Failed>
+        ensures reads { (from : R) (done : List ℕ) → HasRead R.gives from done self.old
+            → ReadsBehind R.gives R.fails R.has_failed from done self.new result }
+        ensures ended { IsAtEnd self.old → IsAtEnd self.new × (result ≡ Ok None) }
+        ensures found { IfOk result (λ found. StopsAt found self.new) }
     {
-        let start = self.start;
-        self.start = start + taken;
-        if len >= MOST && taken > len || len > MOST {
-            return Next::TooLong;
+        loop {
+            let found = self.before_line_feed();
+            if found.is_some() || self.has_ended || self.end - self.start > MOST {
+                return Ok(found);
+            }
+            self.refill()?;
         }
-        let whole = &*self;
-        Next::Line(&whole.buf[start..start + len])
     }
 
-    /// The next line.
-    pub(crate) fn next(&mut self) -> Next<'_> {
-        for _ in 0..MOST + 2 {
-            let waiting = self.end - self.start;
-            match self.before_line_feed() {
-                Some(len) => return self.take(len, len + 1),
-                None if waiting > MOST => return Next::TooLong,
-                None if self.has_ended && waiting == 0 => return Next::End,
-                None if self.has_ended => return self.take(waiting, waiting),
-                None => {
-                    if self.refill().is_err() {
-                        return Next::Failed;
-                    }
-                }
+    // Takes the next bytes that wait: the first of them are a line.
+    fn take(&mut self, len: usize, taken: usize)
+        requires within { len ≤ taken }
+        requires waiting { self.old.start + taken ≤ self.old.end }
+        ensures { IsTaken len taken self.old self.new }
+    {
+        self.line_start = self.start;
+        self.line_end = self.start + len;
+        self.start += taken;
+    }
+
+    /// Goes on to the next line.
+    pub(crate) fn next(&mut self) -> Next
+        ensures next { (from : R) (done : List ℕ) → HasRead R.gives from done self.old
+            → IsNext R.gives R.fails R.has_failed from done self.new result }
+        ensures ended { IsAtEnd self.old → result ≡ Next.End }
+    {
+        match self.gather() {
+            Err(Failed) => Next::Failed,
+            Ok(Some(len)) if len >= MOST => Next::TooLong,
+            Ok(Some(len)) => {
+                self.take(len, len + 1);
+                Next::Line
             }
+            Ok(None) => match self.end - self.start {
+                0 => Next::End,
+                waiting if waiting > MOST => Next::TooLong,
+                waiting => {
+                    self.take(waiting, waiting);
+                    Next::Line
+                }
+            },
         }
-        Next::End
+    }
+
+    /// The line that came last, without its line feed.
+    pub(crate) fn line(&self) -> &[u8]
+        ensures { result.now ≡ line_of self.now }
+    {
+        &self.buf[self.line_start..self.line_end]
     }
 }

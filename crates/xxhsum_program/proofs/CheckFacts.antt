@@ -1,0 +1,107 @@
+-- Findings of lines, and the report that they add up to.
+use Rattle.std.proofs.Common.{◌≡◌, ◌⊎◌, ℕ, ◌&&◌, Bool, true, false, List, [], ◌∷◌, ◌++◌, Ok, Err, OnOk, refl, sym, ap, subst, ◌∙◌, inl, inr, append-nil, append_assoc}
+use Rattle.std.specs.List.{AllByRecursion, concat}
+use Rattle.std.specs.declared.result.Result.{Result}
+use Rattle.xxh_io.specs.Pieces.{Pieces}
+use Rattle.xxhsum_program.specs.declared.check.Report.{Report}
+use Rattle.xxhsum_program.specs.declared.lines.Lines.{Lines}
+use Rattle.xxhsum_program.specs.declared.lines.Next.TheVariants as Variant
+use Rattle.xxhsum_program.specs.CheckList.{BreaksOff, EachHas, EndsInLine, EndsWell, HasLines, ReadsSome, all_true, with_line_feeds}
+use Rattle.xxhsum_program.specs.Findings.{Finding, add_up, count_one}
+use Rattle.xxhsum_program.specs.ListLines.{FailsAfter, HasRead, IsAtEnd, IsLine, IsNext, end_piece, line_of, waiting}
+
+pub on-ok : {T E P : Type 0} (result : Result T E) → P → OnOk result P
+on-ok (Ok x) p = p
+on-ok (Err e) p = tt
+
+pub EachHas-push : {T : Type 0} (has : List ℕ → T → Type 0) (lines : List (List ℕ)) (xs : List T) (line : List ℕ) (x : T) → EachHas has lines xs → has line x → EachHas has (lines ++ line ∷ []) (xs ++ x ∷ [])
+EachHas-push has [] [] line x each more = (more, tt)
+EachHas-push has [] (y ∷ ys) line x each more = absurd each
+EachHas-push has (l ∷ ls) [] line x each more = absurd each
+EachHas-push has (l ∷ ls) (y ∷ ys) line x each more = (each.0, EachHas-push has ls ys line x each.1 more)
+
+pub add_up-push : (report : Report) (findings : List Finding) (finding : Finding) → add_up report (findings ++ finding ∷ []) ≡ count_one (add_up report findings) finding
+add_up-push report [] finding = refl
+add_up-push report (f ∷ fs) finding = add_up-push (count_one report f) fs finding
+
+-- ---- the lines so far
+
+-- what was read of a list so far is these lines, and what waits
+abbrev pub Stands : {R : Type 0} → (R → List ℕ → R → Type 0) → R → Lines R → List (List ℕ) → Type 0
+Stands gives source state lines =
+    (done : List ℕ) × HasRead gives source done state
+    × ((AllByRecursion IsLine lines × (done ≡ with_line_feeds lines)) ⊎ (IsAtEnd state × EndsInLine done lines))
+
+pub stands-new : {R : Type 0} (gives : R → List ℕ → R → Type 0) (source : R) (state : Lines R) → HasRead gives source [] state → Stands gives source state []
+stands-new gives source state read = ([], read, inl (tt, refl))
+
+line-feeds-push : (lines : List (List ℕ)) (line : List ℕ) → with_line_feeds (lines ++ line ∷ []) ≡ with_line_feeds lines ++ line ++ 10 ∷ []
+line-feeds-push [] line = refl
+line-feeds-push (x ∷ xs) line =
+    let before = with_line_feeds xs in
+    ap (λ (r : List ℕ). x ++ 10 ∷ r) (line-feeds-push xs line) ∙ sym (append_assoc x (10 ∷ (before ++ line)) (10 ∷ [])) ∙ ap (λ (r : List ℕ). r ++ 10 ∷ []) (sym (append_assoc x (10 ∷ before) line))
+
+all-push : (lines : List (List ℕ)) (line : List ℕ) → AllByRecursion IsLine lines → IsLine line → AllByRecursion IsLine (lines ++ line ∷ [])
+all-push [] line all is = (is, tt)
+all-push (x ∷ xs) line all is = (all.0, all-push xs line all.1 is)
+
+-- one line more
+pub stands-line : {R : Type 0} (gives : R → List ℕ → R → Type 0) (fails : R → R → Type 0) (has_failed : R → Bool) (source : R) (old new : Lines R) (lines : List (List ℕ)) → Stands gives source old lines → ((from : R) (done : List ℕ) → HasRead gives from done old → IsNext gives fails has_failed from done new Variant.Line) → (IsAtEnd old → Variant.Line ≡ Variant.End) → Stands gives source new (lines ++ line_of new ∷ [])
+stands-line gives fails has_failed source old new lines (done, read, inl so_far) next ended =
+    elim (next source done read) [
+      | inl more ↦ (done ++ line_of new ++ 10 ∷ [], more.1, inl (all-push lines (line_of new) so_far.0 more.0, ap (λ (d : List ℕ). d ++ line_of new ++ 10 ∷ []) so_far.1 ∙ sym (line-feeds-push lines (line_of new))))
+      | inr last ↦ (done ++ line_of new, last.1, inr (last.2, (lines, line_of new, so_far.0, last.0, ap (λ (d : List ℕ). d ++ line_of new) so_far.1, refl)))
+    ]
+stands-line gives fails has_failed source old new lines (done, read, inr so_far) next ended =
+    let never = ended so_far.0 in cc
+
+pub some-read : {R : Type 0} (gives : R → List ℕ → R → Type 0) (source : R) (state : Lines R) (lines : List (List ℕ)) → Stands gives source state lines → ReadsSome gives source lines
+some-read gives source state lines (done, read, inl so_far) =
+    (state.has_ended, waiting state, (read.0, state.source, read.1, read.2, inl (so_far.0, read.3 ∙ ap (λ (d : List ℕ). d ++ waiting state) so_far.1)))
+some-read gives source state lines (done, read, inr so_far) =
+    let whole : concat read.0 ≡ done = read.3 ∙ ap (λ (w : List ℕ). done ++ w) so_far.0.1 ∙ append-nil done in
+    (state.has_ended, [], (read.0, state.source, read.1, read.2, inr (so_far.0.0, subst (λ (text : List ℕ). EndsInLine text lines) (sym whole) so_far.1, refl)))
+
+-- ---- the end
+
+at-end : {R : Type 0} (gives : R → List ℕ → R → Type 0) (source : R) (done : List ℕ) (state : Lines R) (lines : List (List ℕ)) → HasRead gives source done state → IsAtEnd state → HasLines true done lines [] → EndsWell gives source lines
+at-end gives source done state lines read ended has =
+    let whole : concat read.0 ≡ done = read.3 ∙ ap (λ (w : List ℕ). done ++ w) ended.1 ∙ append-nil done in
+    (read.0, state.source, read.1, subst (λ e. Pieces gives source (read.0 ++ end_piece e) state.source) ended.0 read.2, subst (λ (text : List ℕ). HasLines true text lines []) (sym whole) has)
+
+pub ends-well : {R : Type 0} (gives : R → List ℕ → R → Type 0) (fails : R → R → Type 0) (has_failed : R → Bool) (source : R) (old new : Lines R) (lines : List (List ℕ)) → Stands gives source old lines → ((from : R) (done : List ℕ) → HasRead gives from done old → IsNext gives fails has_failed from done new Variant.End) → EndsWell gives source lines
+ends-well gives fails has_failed source old new lines (done, read, inl so_far) next =
+    let end = next source done read in
+    at-end gives source done new lines end.0 end.1 (inl (so_far.0, so_far.1 ∙ sym (append-nil (with_line_feeds lines))))
+ends-well gives fails has_failed source old new lines (done, read, inr so_far) next =
+    let end = next source done read in
+    at-end gives source done new lines end.0 end.1 (inr (refl, so_far.1, refl))
+
+pub breaks-too-long : {R : Type 0} (gives : R → List ℕ → R → Type 0) (fails : R → R → Type 0) (has_failed : R → Bool) (source : R) (old new : Lines R) (lines : List (List ℕ)) → Stands gives source old lines → ((from : R) (done : List ℕ) → HasRead gives from done old → IsNext gives fails has_failed from done new Variant.TooLong) → (IsAtEnd old → Variant.TooLong ≡ Variant.End) → BreaksOff gives fails has_failed source lines
+breaks-too-long gives fails has_failed source old new lines (done, read, inl so_far) next ended =
+    let long = next source done read in
+    let state = long.0 in
+    inl (new.has_ended, waiting new, (state.0, new.source, state.1, state.2, inl (so_far.0, state.3 ∙ ap (λ (d : List ℕ). d ++ waiting new) so_far.1)), long.1)
+breaks-too-long gives fails has_failed source old new lines (done, read, inr so_far) next ended =
+    let never = ended so_far.0 in cc
+
+pub breaks-failed : {R : Type 0} (gives : R → List ℕ → R → Type 0) (fails : R → R → Type 0) (has_failed : R → Bool) (source : R) (old new : Lines R) (lines : List (List ℕ)) → Stands gives source old lines → ((from : R) (done : List ℕ) → HasRead gives from done old → IsNext gives fails has_failed from done new Variant.Failed) → (IsAtEnd old → Variant.Failed ≡ Variant.End) → BreaksOff gives fails has_failed source lines
+breaks-failed gives fails has_failed source old new lines (done, read, inl so_far) next ended =
+    let failed = next source done read in
+    inr (waiting new, subst (λ (d : List ℕ). FailsAfter gives fails has_failed source (d ++ waiting new)) so_far.1 failed.0, failed.1, so_far.0)
+breaks-failed gives fails has_failed source old new lines (done, read, inr so_far) next ended =
+    let never = ended so_far.0 in cc
+
+-- ---- several lists
+
+and-assoc : (a b c : Bool) → (a && (b && c)) ≡ ((a && b) && c)
+and-assoc true b c = refl
+and-assoc false b c = refl
+
+and-true : (a : Bool) → (a && true) ≡ a
+and-true true = refl
+and-true false = refl
+
+pub all_true-push : (answers : List Bool) (answer : Bool) → all_true (answers ++ answer ∷ []) ≡ (all_true answers && answer)
+all_true-push [] answer = and-true answer
+all_true-push (a ∷ rest) answer = ap (λ b. a && b) (all_true-push rest answer) ∙ and-assoc a (all_true rest) answer

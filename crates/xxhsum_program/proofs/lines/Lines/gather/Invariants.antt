@@ -1,0 +1,14 @@
+use Rattle.std.proofs.Common.{List, ℕ}
+use Rattle.xxhsum_program.specs.ListLines.{HasRead, IsAtEnd, most_reads_left}
+use Rattle.xxhsum_program.proofs.lines.Lines.gather.Given as goal
+
+-- what was read so far, unless it had ended before
+abbrev pub invariant-loop-found : goal.invariant-loop-found
+invariant-loop-found g l = record {
+  reads : (from : g.row.R.Denot) (done : List ℕ) → HasRead g.R.Source.gives from done l.initial.self
+      → HasRead g.R.Source.gives from done l.self;
+  ended : IsAtEnd l.initial.self → IsAtEnd l.self;
+}
+
+abbrev pub decreases-loop-found : goal.decreases-loop-found
+decreases-loop-found g l = most_reads_left l.self

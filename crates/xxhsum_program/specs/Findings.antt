@@ -1,0 +1,60 @@
+-- What is found of the lines of a list, and the report that it adds up to.
+use Rattle.std.specs.Prelude.{◌≡◌, ℕ, ◌+◌, ◌-◌, ◌^◌, Bool, true, false, List, [], ◌∷◌, min}
+use Rattle.xxh_io.specs.Pieces.{Step, Failing}
+use Rattle.xxhsum_files.specs.declared.refusal.Refusal.{Refusal}
+use Rattle.xxhsum_line.specs.Entry.{Says, SaysNothing}
+use Rattle.xxh_io.specs.declared.kind.Kind.{Kind}
+use Rattle.xxhsum_program.specs.declared.check.Report.{Report}
+use Rattle.xxhsum_program.specs.declared.entry.Found.{Found}
+use Rattle.xxhsum_program.specs.declared.entry.Found.TheVariants.{Same, Different, Unread}
+use Rattle.xxhsum_program.specs.Found.{IsFound}
+
+-- a line says nothing, or names a file that was found like this
+pub data Finding : Type 0 where
+  Improper : Finding
+  Proper : Found → Finding
+
+-- what is found of a line
+abbrev pub IsFinding : {S F : Type 0} → (S → List ℕ → F → Type 0) → (S → List ℕ → Refusal → Type 0) → Step F
+    → Failing F → S → Bool → List ℕ → Finding → Type 0
+IsFinding opens refuses gives fails store is_little line Improper = SaysNothing is_little line
+IsFinding opens refuses gives fails store is_little line (Proper found) =
+    (kind : Kind) × (value : ℕ) × (name : List ℕ) × Says is_little line kind value name
+    × IsFound opens refuses gives fails store kind value name found
+
+-- one more, but no more than the largest number of 64 bits
+abbrev pub one_more : ℕ → ℕ
+one_more count = min (count + 1) (2 ^ 64 - 1)
+
+-- a proper line is counted by how its file was found
+abbrev pub count_found : Report → Found → Report
+count_found report Same = report
+count_found report Different = record report { different = one_more report.different }
+count_found report (Unread refusal) = record report { unread = one_more report.unread }
+
+abbrev pub count_one : Report → Finding → Report
+count_one report Improper = record report { improper = one_more report.improper }
+count_one report (Proper found) = count_found (record report { proper = one_more report.proper }) found
+
+-- a line was counted once, as what is found of it
+abbrev pub CountsLine : {S F : Type 0} → (S → List ℕ → F → Type 0) → (S → List ℕ → Refusal → Type 0) → Step F
+    → Failing F → S → Bool → List ℕ → Report → Report → Type 0
+CountsLine opens refuses gives fails store is_little line old new =
+    (finding : Finding) × IsFinding opens refuses gives fails store is_little line finding
+    × (new ≡ count_one old finding)
+
+-- ---- a report of all
+
+abbrev pub no_findings : Report
+no_findings = record { proper = 0; improper = 0; unread = 0; different = 0; is_broken = false }
+
+abbrev pub add_up : Report → List Finding → Report
+add_up report [] = report
+add_up report (finding ∷ findings) = add_up (count_one report finding) findings
+
+abbrev pub report_of : List Finding → Report
+report_of findings = add_up no_findings findings
+
+-- the list breaks off behind what was found
+abbrev pub with_broken_end : Report → Report
+with_broken_end report = record report { is_broken = true }
