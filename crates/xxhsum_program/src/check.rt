@@ -243,8 +243,8 @@ fn say_count<W: Sink>(
 }
 
 /// Checks the lines of a list, which is told by this name: says for each proper line how its file is, and at the end
-/// how many lines are not as they should be. Answers whether the list is good: by what is found of each of its lines, in their
-/// order, up to its end, to a line that is too long or to a read of it that fails. What is said, no clause has: tests do.
+/// how many lines are not as they should be. Answers whether the list is good, by what is found of each of its lines,
+/// up to its end, or to a line that is too long or a read that fails. No clause says what is printed: tests do.
 ///
 /// # Errors
 ///
