@@ -30,7 +30,7 @@ impl Xxh128Hash {
 
     // The value of the halves.
     #[inline(always)]
-    fn value(self) -> u128
+    pub(crate) fn value(self) -> u128
         ensures { result ≡ value_of self }
     {
         (self.high64.into_u128() << 64) + self.low64.into_u128()

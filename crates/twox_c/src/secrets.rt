@@ -4,9 +4,9 @@ ghost use Rattle.std.specs.Prelude.{◌≡◌, ◌+◌, ◌*◌, ◌/◌, ◌<�
 ghost use Rattle.twox_core.specs.Secret.{derived_secret};
 ghost use Rattle.twox_c.specs.GeneratedSecret.{generated_secret, groups_xored, pair_xored, repeated, secret_from, word_xored};
 
+use crate::xxh3_128::{XXH3_128bits, XXH3_128bits_withSeed};
 use crate::{XXH_ERROR, XXH_OK};
 use twox_core::xxhash3::{DEFAULT_SECRET_RAW, SECRET_MINIMUM_LENGTH};
-use twox_hash::XxHash3_128;
 use twox_hash::words::{Halves, IntoU64, u64_at};
 use twox_hash::xxhash3::{DefaultSecret, derived_secret};
 
@@ -49,7 +49,8 @@ fn write_secret(secret: &mut [u8], source: &[u8])
     ensures { secret.new ≡ secret_from source.now (length secret.old) }
 {
     repeat(secret, source);
-    let hash = XxHash3_128::oneshot(source);
+    // The export itself: with a second caller `oneshot` would be no part of it, but a call.
+    let hash = XXH3_128bits(source).value();
     xor_groups(secret, &hash.to_be_bytes());
     xor_pair(secret, secret.len() - 16, hash);
 }
@@ -72,7 +73,7 @@ fn xor_groups(secret: &mut [u8], bytes: &[u8; 16])
         xor_pair(
             secret,
             16 * k,
-            XxHash3_128::oneshot_with_seed(k.into_u64(), bytes),
+            XXH3_128bits_withSeed(bytes, k.into_u64()).value(),
         );
     }
 }

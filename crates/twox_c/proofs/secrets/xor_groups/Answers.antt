@@ -15,7 +15,7 @@ loop-k-preserved c =
     let k = c.loop-k.k in
     c.xor_pair.ensures
     ∙ ap₂ (λ (l : List ℕ) (h : ℕ). pair_xored l (16 * k) h) c.loop-k.invariant
-    (c.oneshot_with_seed.ensures.value
+    (c.value.ensures ∙ c.XXH3_128bits_withSeed.ensures
     ∙ ap₂ (λ (seed : ℕ) (s : List ℕ). xxh3_128 seed s b) c.into_u64.ensures (effective_secret-of_16 _ b c.told-bytes))
     ∙ sym (groups_xored-next b m k)
 
