@@ -1,18 +1,30 @@
 -- Findings of lines, and the report that they add up to.
-use Rattle.std.proofs.Common.{◌≡◌, ◌⊎◌, ℕ, ◌&&◌, Bool, true, false, List, [], ◌∷◌, ◌++◌, Ok, Err, OnOk, refl, sym, ap, subst, ◌∙◌, inl, inr, append-nil, append_assoc}
+use Rattle.std.proofs.Common.{◌≡◌, ◌⊎◌, ℕ, ◌&&◌, Bool, true, false, List, [], ◌∷◌, ◌++◌, Ok, Err, IfErr, OnOk, refl, sym, ap, subst, ◌∙◌, inl, inr, append-nil, append_assoc}
 use Rattle.std.specs.List.{AllByRecursion, concat}
 use Rattle.std.specs.declared.result.Result.{Result}
 use Rattle.xxh_io.specs.Pieces.{Pieces}
+use Rattle.std.specs.Result.{IsErrAnd}
 use Rattle.xxhsum_program.specs.declared.check.Report.{Report}
+use Rattle.xxhsum_program.specs.declared.stop.Stop.{Stop}
+use Rattle.xxhsum_program.specs.Lines.{IsOfWriting}
 use Rattle.xxhsum_program.specs.declared.lines.Lines.{Lines}
 use Rattle.xxhsum_program.specs.declared.lines.Next.TheVariants as Variant
-use Rattle.xxhsum_program.specs.CheckList.{BreaksOff, EachHas, EndsInLine, EndsWell, HasLines, ReadsSome, all_true, with_line_feeds}
+use Rattle.xxhsum_program.specs.CheckList.{BreaksOff, EachHas, EndsInLine, EndsWell, HasLines, ReadsSome, StopsEarly, all_true, with_line_feeds}
 use Rattle.xxhsum_program.specs.Findings.{Finding, add_up, count_one}
 use Rattle.xxhsum_program.specs.ListLines.{FailsAfter, HasRead, IsAtEnd, IsLine, IsNext, end_piece, line_of, waiting}
 
 pub on-ok : {T E P : Type 0} (result : Result T E) → P → OnOk result P
 on-ok (Ok x) p = p
 on-ok (Err e) p = tt
+
+-- an error that a `?` passes on
+pub passes-on : {T E : Type 0} (P : E → Type 0) (result : Result T E) (e : E) → IsErrAnd result (λ f. f ≡ e) → P e → IfErr result P
+passes-on P (Ok x) e is p = tt
+passes-on P (Err f) e is p = subst P (sym is) p
+
+pub writing-stops : {T : Type 0} (P : Stop → Type 0) (result : Result T Stop) → IfErr result IsOfWriting → IfErr result (λ stop. IsOfWriting stop ⊎ P stop)
+writing-stops P (Ok x) only = tt
+writing-stops P (Err stop) only = inl only
 
 pub EachHas-push : {T : Type 0} (has : List ℕ → T → Type 0) (lines : List (List ℕ)) (xs : List T) (line : List ℕ) (x : T) → EachHas has lines xs → has line x → EachHas has (lines ++ line ∷ []) (xs ++ x ∷ [])
 EachHas-push has [] [] line x each more = (more, tt)
@@ -61,6 +73,13 @@ some-read gives source state lines (done, read, inl so_far) =
 some-read gives source state lines (done, read, inr so_far) =
     let whole : concat read.0 ≡ done = read.3 ∙ ap (λ (w : List ℕ). done ++ w) so_far.0.1 ∙ append-nil done in
     (state.has_ended, [], (read.0, state.source, read.1, read.2, inr (so_far.0.0, subst (λ (text : List ℕ). EndsInLine text lines) (sym whole) so_far.1, refl)))
+
+-- the check of a line failed
+pub stops-early : {R : Type 0} (is_finding : List ℕ → Finding → Type 0) (fails_on : List ℕ → Stop → Type 0) (gives : R → List ℕ → R → Type 0) (source : R) (old new : Lines R) (lines : List (List ℕ)) (findings : List Finding) (line : List ℕ) (stop : Stop) → EachHas is_finding lines findings → Stands gives source old lines → Stands gives source new (lines ++ line ∷ []) → IsOfWriting stop ⊎ fails_on line stop → StopsEarly is_finding fails_on gives source stop
+stops-early is_finding fails_on gives source old new lines findings line stop each before after (inl writing) =
+    (lines, findings, each, inl (writing, some-read gives source old lines before))
+stops-early is_finding fails_on gives source old new lines findings line stop each before after (inr fails) =
+    (lines, findings, each, inr (line, fails, some-read gives source new (lines ++ line ∷ []) after))
 
 -- ---- the end
 

@@ -1,13 +1,12 @@
 -- The check of a list: each of its lines is found once, in their order.
-use Rattle.std.specs.Prelude.{◌≡◌, ◌⊎◌, ℕ, ◌-◌, ◌^◌, Bool, true, false, ◌&&◌, List, [], ◌∷◌, ◌++◌, length, MatchResult}
+use Rattle.std.specs.Prelude.{◌≡◌, ◌⊎◌, ℕ, ◌-◌, ◌^◌, Bool, true, false, ◌&&◌, List, [], ◌∷◌, ◌++◌, length}
 use Rattle.std.specs.List.{AllByRecursion, concat}
-use Rattle.std.specs.declared.result.Result.{Result}
 use Rattle.xxh_io.specs.Pieces.{Pieces, NoneEmpty, Step, Failing}
-use Rattle.std.specs.declared.result.Result.TheVariants.{Ok}
 use Rattle.xxhsum_files.specs.declared.refusal.Refusal.{Refusal}
 use Rattle.xxhsum_program.specs.declared.check.Report.{Report}
 use Rattle.xxhsum_program.specs.declared.stop.Stop.{Stop}
 use Rattle.xxhsum_program.specs.Findings.{Finding, report_of, with_broken_end}
+use Rattle.xxhsum_program.specs.Lines.{IsOfWriting}
 use Rattle.xxhsum_program.specs.ListLines.{BeginsTooLong, FailsAfter, IsLastLine, IsLine, IsUnended, end_piece}
 use Rattle.xxhsum_program.specs.Report.{is_good}
 
@@ -56,37 +55,36 @@ BreaksOff gives fails has_failed source lines =
     ⊎ ((rest : List ℕ) × FailsAfter gives fails has_failed source (with_line_feeds lines ++ rest)
     × IsUnended rest × AllByRecursion IsLine lines)
 
--- The report of a list with these lines: what the findings add up to, where the list ends well or has too many lines to
--- be read on; with a broken end, where it breaks off.
-abbrev pub IsReport : {R : Type 0} → Step R → Failing R → (R → Bool) → R → List (List ℕ) → List Finding → Report
+-- What the findings of these lines add up to: with a broken end where the list breaks off behind them, and without one
+-- where it ends well or has more lines than are read.
+abbrev pub AddsUpTo : {R : Type 0} → Step R → Failing R → (R → Bool) → R → List (List ℕ) → List Finding → Report
     → Type 0
-IsReport gives fails has_failed source lines findings report =
+AddsUpTo gives fails has_failed source lines findings report =
     (EndsWell gives source lines × (report ≡ report_of findings))
     ⊎ ((ReadsSome gives source lines × (length lines ≡ 2 ^ 64 - 2) × (report ≡ report_of findings))
     ⊎ (BreaksOff gives fails has_failed source lines × (report ≡ with_broken_end (report_of findings))))
 
--- the report of a source; where a file or an end fails, some of its lines were found before
-abbrev pub ChecksLines : {R : Type 0} → (List ℕ → Finding → Type 0) → Step R → Failing R → (R → Bool) → R
-    → Result Report Stop → Type 0
-ChecksLines is_finding gives fails has_failed source result =
+-- the report of a source: each of its lines has a finding
+abbrev pub IsReport : {R : Type 0} → (List ℕ → Finding → Type 0) → Step R → Failing R → (R → Bool) → R → Report
+    → Type 0
+IsReport is_finding gives fails has_failed source report =
     (lines : List (List ℕ)) × (findings : List Finding) × EachHas is_finding lines findings
-    × MatchResult result (IsReport gives fails has_failed source lines findings)
-    (λ stop. ReadsSome gives source lines)
-
--- the report's answer
-abbrev pub IsVerdict : {R : Type 0} → Step R → Failing R → (R → Bool) → R → Bool → List (List ℕ) → List Finding
-    → Bool → Type 0
-IsVerdict gives fails has_failed source is_strict lines findings good =
-    (report : Report) × IsReport gives fails has_failed source lines findings report
-    × (good ≡ is_good is_strict report)
+    × AddsUpTo gives fails has_failed source lines findings report
 
 -- whether a source is a good list
-abbrev pub ChecksList : {R : Type 0} → (List ℕ → Finding → Type 0) → Step R → Failing R → (R → Bool) → R → Bool
-    → Result Bool Stop → Type 0
-ChecksList is_finding gives fails has_failed source is_strict result =
+abbrev pub IsVerdict : {R : Type 0} → (List ℕ → Finding → Type 0) → Step R → Failing R → (R → Bool) → R → Bool
+    → Bool → Type 0
+IsVerdict is_finding gives fails has_failed source is_strict good =
+    (report : Report) × IsReport is_finding gives fails has_failed source report × (good ≡ is_good is_strict report)
+
+-- Some lines of a source have findings, and then a write failed or memory ran out, or the file of the next line could
+-- not be read to its end.
+abbrev pub StopsEarly : {R : Type 0} → (List ℕ → Finding → Type 0) → (List ℕ → Stop → Type 0) → Step R → R → Stop
+    → Type 0
+StopsEarly is_finding fails_on gives source stop =
     (lines : List (List ℕ)) × (findings : List Finding) × EachHas is_finding lines findings
-    × MatchResult result (IsVerdict gives fails has_failed source is_strict lines findings)
-    (λ stop. ReadsSome gives source lines)
+    × ((IsOfWriting stop × ReadsSome gives source lines)
+    ⊎ ((line : List ℕ) × fails_on line stop × ReadsSome gives source (lines ++ line ∷ [])))
 
 -- ---- lists by their names
 
@@ -94,7 +92,7 @@ ChecksList is_finding gives fails has_failed source is_strict result =
 abbrev pub IsAnswer : {S F : Type 0} → (List ℕ → Finding → Type 0) → (S → List ℕ → F → Type 0)
     → (S → List ℕ → Refusal → Type 0) → Step F → Failing F → (F → Bool) → S → Bool → List ℕ → Bool → Type 0
 IsAnswer {S} {F} is_finding opens refuses gives fails has_failed store is_strict name good =
-    ((file : F) × opens store name file × ChecksList is_finding gives fails has_failed file is_strict (Ok good))
+    ((file : F) × opens store name file × IsVerdict is_finding gives fails has_failed file is_strict good)
     ⊎ ((refusal : Refusal) × refuses store name refusal × (good ≡ false))
 
 abbrev pub all_true : List Bool → Bool

@@ -7,7 +7,9 @@ use Rattle.xxh_io.specs.declared.kind.Kind.{Kind}
 use Rattle.xxhsum_program.specs.declared.check.Report.{Report}
 use Rattle.xxhsum_program.specs.declared.entry.Found.{Found}
 use Rattle.xxhsum_program.specs.declared.entry.Found.TheVariants.{Same, Different, Unread}
+use Rattle.xxhsum_program.specs.declared.stop.Stop.{Stop}
 use Rattle.xxhsum_program.specs.Found.{IsFound}
+use Rattle.xxhsum_program.specs.Outcomes.{FailsOn}
 
 -- a line says nothing, or names a file that was found like this
 pub data Finding : Type 0 where
@@ -21,6 +23,13 @@ IsFinding opens refuses gives fails store is_little line Improper = SaysNothing 
 IsFinding opens refuses gives fails store is_little line (Proper found) =
     (kind : Kind) × (value : ℕ) × (name : List ℕ) × Says is_little line kind value name
     × IsFound opens refuses gives fails store kind value name found
+
+-- a line names a file that could not be read to its end, for this reason
+abbrev pub FailsOnLine : {S F : Type 0} → (S → List ℕ → F → Type 0) → Step F → Failing F → S → Bool → List ℕ → Stop
+    → Type 0
+FailsOnLine opens gives fails store is_little line stop =
+    (kind : Kind) × (value : ℕ) × (name : List ℕ) × Says is_little line kind value name
+    × FailsOn opens gives fails store name stop
 
 -- one more, but no more than the largest number of 64 bits
 abbrev pub one_more : ℕ → ℕ

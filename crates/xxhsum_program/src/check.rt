@@ -1,8 +1,9 @@
 //! Lists of checksum lines, and whether their files are as the lines say.
 
-ghost use Rattle.std.specs.Prelude.{◌≡◌, ◌<◌, length, map, IfOk, OnOk};
-ghost use Rattle.xxhsum_program.specs.CheckList.{AnswersFor, ChecksList, ChecksLines, IsAnswer};
-ghost use Rattle.xxhsum_program.specs.Findings.{CountsLine, IsFinding, no_findings, with_broken_end};
+ghost use Rattle.std.specs.Prelude.{◌≡◌, ◌⊎◌, ◌<◌, length, map, IfErr, IfOk, OnOk};
+ghost use Rattle.xxhsum_program.specs.CheckList.{AnswersFor, IsAnswer, IsReport, IsVerdict, StopsEarly};
+ghost use Rattle.xxhsum_program.specs.Findings.{CountsLine, FailsOnLine, IsFinding, no_findings, with_broken_end};
+ghost use Rattle.xxhsum_program.specs.Lines.{IsOfWriting};
 ghost use Rattle.xxhsum_program.specs.Report.{is_good};
 
 use crate::entry::{Found, compare, say_found};
@@ -92,8 +93,10 @@ impl<S: Store> List<'_, S> {
         err: &mut E,
     ) -> Result<(), Stop>
         requires { 0 < length buf.old }
-        ensures { OnOk result (CountsLine S.opens S.refuses S.File.gives S.File.fails self.now.store.now
+        ensures counts { OnOk result (CountsLine S.opens S.refuses S.File.gives S.File.fails self.now.store.now
             self.now.options.is_little_endian line.now report.old report.new) }
+        ensures stops { IfErr result (λ stop. IsOfWriting stop ⊎ FailsOnLine S.opens S.File.gives S.File.fails
+            self.now.store.now self.now.options.is_little_endian line.now stop) }
     {
         let Some(entry) = entry_of(line, self.options.is_little_endian) else {
             report.improper = report.improper.saturating_add(1);
@@ -127,8 +130,11 @@ impl<S: Store> List<'_, S> {
         out: &mut W,
         err: &mut E,
     ) -> Result<Report, Stop>
-        ensures { ChecksLines (IsFinding S.opens S.refuses S.File.gives S.File.fails self.now.store.now
-            self.now.options.is_little_endian) R.gives R.fails R.has_failed source result }
+        ensures report { IfOk result (IsReport (IsFinding S.opens S.refuses S.File.gives S.File.fails
+            self.now.store.now self.now.options.is_little_endian) R.gives R.fails R.has_failed source) }
+        ensures stops { IfErr result (StopsEarly (IsFinding S.opens S.refuses S.File.gives S.File.fails
+            self.now.store.now self.now.options.is_little_endian) (FailsOnLine S.opens S.File.gives S.File.fails
+            self.now.store.now self.now.options.is_little_endian) R.gives source) }
     {
         let mut lines = Lines::new(source);
         let mut report = Report::new();
@@ -189,7 +195,9 @@ impl<S: Store> List<'_, S> {
         report: &Report,
         out: &mut W,
         err: &mut E,
-    ) -> Result<(), Stop> {
+    ) -> Result<(), Stop>
+        ensures { IfErr result IsOfWriting }
+    {
         if report.proper == 0 {
             tell(self.name, err);
             tell(
@@ -233,7 +241,9 @@ fn say_count<W: Sink>(
     one: &'static [u8],
     more: &'static [u8],
     out: &mut W,
-) -> Result<(), Stop> {
+) -> Result<(), Stop>
+    ensures { IfErr result IsOfWriting }
+{
     if count == 0 {
         return Ok(());
     }
@@ -259,8 +269,11 @@ pub fn check_list<S: Store, R: Source + Drop, W: Sink, E: Sink>(
     out: &mut W,
     err: &mut E,
 ) -> Result<bool, Stop>
-    ensures { ChecksList (IsFinding S.opens S.refuses S.File.gives S.File.fails store.now options.is_little_endian)
-        R.gives R.fails R.has_failed source options.is_strict result }
+    ensures verdict { IfOk result (IsVerdict (IsFinding S.opens S.refuses S.File.gives S.File.fails store.now
+        options.is_little_endian) R.gives R.fails R.has_failed source options.is_strict) }
+    ensures stops { IfErr result (StopsEarly (IsFinding S.opens S.refuses S.File.gives S.File.fails store.now
+        options.is_little_endian) (FailsOnLine S.opens S.File.gives S.File.fails store.now options.is_little_endian)
+        R.gives source) }
 {
     let list = List {
         alloc,

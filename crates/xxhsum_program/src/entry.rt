@@ -2,6 +2,7 @@
 
 ghost use Rattle.std.specs.Prelude.{◌<◌, length, IfOk, IfErr};
 ghost use Rattle.xxhsum_program.specs.Found.{IsFound};
+ghost use Rattle.xxhsum_program.specs.Lines.{IsOfWriting};
 ghost use Rattle.xxhsum_program.specs.Outcomes.{FailsOn};
 
 use crate::outcome::MAX_READS;
@@ -58,7 +59,9 @@ pub(crate) fn say_found<W: Sink>(
     name: &[u8],
     found: &Found,
     out: &mut W,
-) -> Result<(), Stop> {
+) -> Result<(), Stop>
+    ensures { IfErr result IsOfWriting }
+{
     match found {
         _ if options.is_status_only => Ok(()),
         Found::Same if options.is_quiet => Ok(()),

@@ -1,5 +1,8 @@
 //! Texts of several parts, as one write each.
 
+ghost use Rattle.std.specs.Prelude.{IfErr};
+ghost use Rattle.xxhsum_program.specs.Lines.{IsOfWriting};
+
 use crate::stop::Stop;
 use std::alloc::{AllocError, Global};
 use xxh_io::ends::Sink;
@@ -16,7 +19,9 @@ pub(crate) fn joined(alloc: Global, parts: &[&[u8]]) -> Result<Vec<u8>, AllocErr
 }
 
 // Writes the parts to standard output, where no write has failed before.
-pub(crate) fn say<W: Sink>(alloc: Global, parts: &[&[u8]], out: &mut W) -> Result<(), Stop> {
+pub(crate) fn say<W: Sink>(alloc: Global, parts: &[&[u8]], out: &mut W) -> Result<(), Stop>
+    ensures { IfErr result IsOfWriting }
+{
     let text = joined(alloc, parts)?;
     if out.failed() {
         return Err(Stop::Digest(DigestError::WriteFailed));

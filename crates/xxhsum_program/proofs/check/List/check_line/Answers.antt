@@ -4,8 +4,8 @@ use Rattle.xxhsum_program.proofs.CheckFacts.{on-ok}
 use Rattle.xxhsum_program.proofs.check.List.check_line.Goals as goal
 use Rattle.xxhsum_program.proofs.check.List.check_line.Goals.{in-Same, in-Different, in-Unread}
 
-pub returns : goal.returns
-returns g c =
+pub returns-clause-counts : goal.returns-clause-counts
+returns-clause-counts g c =
     let entry = c.in-Some.entry in
     let found = c.in_ok-found.found in
     let counted : c.match-found.report ≡ count_one c.args.report.now (Proper found) =
