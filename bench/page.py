@@ -144,6 +144,13 @@ def programs(rows):
     return markdown(["`xxh hash`", "a file: GB/s, ratio", "a pipe: GB/s, ratio"], lines)
 
 
+def xxhsum():
+    """The program `xxhsum` beside Debian's, as bench/xxhsum measured both."""
+    with open(f"{TOP}/bench/data/xxhsum.tsv") as lines:
+        rows = [it.rstrip("\n").split("\t") for it in lines if not it.startswith("#")]
+    return markdown(["`xxhsum`", "the original, s", *SETS], rows)
+
+
 def kernels(parts):
     header = ["c_gcc", "c_clang"]
     lines = [[name, *(ranged([it.best_peer(header)[1].median for it in parts[s] if it.name == name]) for s in SETS)]
@@ -222,6 +229,9 @@ The reference library's header built by clang for WebAssembly, over the module t
 `xxh` beside Debian's `xxhsum`, which takes AVX-512 where the processor has it: wall time of the whole program, 1 GiB in the page cache.
 
 #PROGRAMS
+`xxhsum` beside the same program, both on files in the page cache: the original's best time over ours, measured by `bench/xxhsum`.
+
+#XXHSUM
 XXH3-64 by each kernel, beside the header's best. `Kernel` is `lanes4`.
 
 #KERNELS
@@ -239,7 +249,7 @@ Instructions of the reference's header, by gcc 12 -O3, over ours for one call, c
 - Ours takes an address in a room of 64 MiB and a length, and compares it with the room. The peers' one-shots make that comparison too: of 16 to 32 bytes it is a tenth of a call.
 """
     drawn = {"SUMMARY": summary(parts, best), "TWOX_HASH": twox_hash(parts), "LOWEST": lowest(parts), "GOALS": goals(parts), "SHARED": shared(parts["c"]),
-             "DISPATCH": dispatch(), "WASM": wasm(parts["wasm"]), "PROGRAMS": programs(parts["program"]),
+             "DISPATCH": dispatch(), "WASM": wasm(parts["wasm"]), "PROGRAMS": programs(parts["program"]), "XXHSUM": xxhsum(),
              "KERNELS": kernels(parts), "ARM": arm(), "SAID": [f"- {it}" for it in said]}
     return "\n".join(line for it in text.rstrip("\n").split("\n") for line in drawn.get(it[1:], [it])) + "\n"
 
