@@ -49,6 +49,7 @@ read_target() {
 read_cpu() {
     cpu=
     if [ "${1:-}" = --cpu ]; then
+        [ "$target" = x86-64 ] || fail '--cpu is for x86-64'
         cpu=${2:-}
         shift $(($# < 2 ? $# : 2))
         case $cpu in

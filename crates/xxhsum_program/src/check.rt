@@ -93,10 +93,12 @@ impl<S: Store> List<'_, S> {
         err: &mut E,
     ) -> Result<(), Stop>
         requires { 0 < length buf.old }
-        ensures counts { OnOk result (CountsLine S.opens S.refuses S.File.gives S.File.fails self.now.store.now
+        ensures counts { OnOk result
+            (CountsLine S.opens S.refuses S.File.gives S.File.fails self.now.store.now
             self.now.options.is_little_endian line.now report.old report.new) }
-        ensures stops { IfErr result (λ stop. IsOfWriting stop ⊎ FailsOnLine S.opens S.File.gives S.File.fails
-            self.now.store.now self.now.options.is_little_endian line.now stop) }
+        ensures stops { IfErr result (λ stop. IsOfWriting stop
+            ⊎ FailsOnLine S.opens S.File.gives S.File.fails self.now.store.now
+            self.now.options.is_little_endian line.now stop) }
     {
         let Some(entry) = entry_of(line, self.options.is_little_endian) else {
             report.improper = report.improper.saturating_add(1);
@@ -130,10 +132,14 @@ impl<S: Store> List<'_, S> {
         out: &mut W,
         err: &mut E,
     ) -> Result<Report, Stop>
-        ensures report { IfOk result (IsReport (IsFinding S.opens S.refuses S.File.gives S.File.fails
-            self.now.store.now self.now.options.is_little_endian) R.gives R.fails R.has_failed source) }
-        ensures stops { IfErr result (StopsEarly (IsFinding S.opens S.refuses S.File.gives S.File.fails
-            self.now.store.now self.now.options.is_little_endian) (FailsOnLine S.opens S.File.gives S.File.fails
+        ensures report { IfOk result
+            (IsReport (IsFinding S.opens S.refuses S.File.gives S.File.fails
+            self.now.store.now self.now.options.is_little_endian)
+            R.gives R.fails R.has_failed source) }
+        ensures stops { IfErr result
+            (StopsEarly (IsFinding S.opens S.refuses S.File.gives S.File.fails
+            self.now.store.now self.now.options.is_little_endian)
+            (FailsOnLine S.opens S.File.gives S.File.fails
             self.now.store.now self.now.options.is_little_endian) R.gives source) }
     {
         let mut lines = Lines::new(source);
@@ -269,10 +275,13 @@ pub fn check_list<S: Store, R: Source + Drop, W: Sink, E: Sink>(
     out: &mut W,
     err: &mut E,
 ) -> Result<bool, Stop>
-    ensures verdict { IfOk result (IsVerdict (IsFinding S.opens S.refuses S.File.gives S.File.fails store.now
+    ensures verdict { IfOk result
+        (IsVerdict (IsFinding S.opens S.refuses S.File.gives S.File.fails store.now
         options.is_little_endian) R.gives R.fails R.has_failed source options.is_strict) }
-    ensures stops { IfErr result (StopsEarly (IsFinding S.opens S.refuses S.File.gives S.File.fails store.now
-        options.is_little_endian) (FailsOnLine S.opens S.File.gives S.File.fails store.now options.is_little_endian)
+    ensures stops { IfErr result
+        (StopsEarly (IsFinding S.opens S.refuses S.File.gives S.File.fails store.now
+        options.is_little_endian)
+        (FailsOnLine S.opens S.File.gives S.File.fails store.now options.is_little_endian)
         R.gives source) }
 {
     let list = List {
@@ -331,9 +340,10 @@ pub fn check_lists<S: Store, W: Sink, E: Sink>(
     out: &mut W,
     err: &mut E,
 ) -> Result<bool, Stop>
-    ensures { IfOk result (AnswersFor (IsAnswer (IsFinding S.opens S.refuses S.File.gives S.File.fails store.now
-        options.is_little_endian) S.opens S.refuses S.File.gives S.File.fails S.File.has_failed store.now
-        options.is_strict) (map (λ name. name.items) names.now)) }
+    ensures { IfOk result
+        (AnswersFor (IsAnswer (IsFinding S.opens S.refuses S.File.gives S.File.fails store.now
+        options.is_little_endian) S.opens S.refuses S.File.gives S.File.fails S.File.has_failed
+        store.now options.is_strict) (map (λ name. name.items) names.now)) }
 {
     let mut all = true;
     for name in names {
