@@ -21,8 +21,10 @@ class Edit:
         if around:
             self.body, self.function = around[-1], around[-1].checked_name(names)
 
-    def proof_folder(self):
-        return f"proofs/{'/'.join(self.function.split('::')[1:])}/"
+
+def proof_folder(function):
+    """Where the answers of a function stand, as a check names it."""
+    return f"proofs/{'/'.join(function.split('::')[1:])}/"
 
 
 def parsed(text):

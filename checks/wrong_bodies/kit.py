@@ -9,7 +9,7 @@ import sys
 
 TOP = os.path.dirname(os.path.dirname(os.path.dirname(os.path.abspath(__file__))))
 # What this program calls of rt. A new kit may name these otherwise.
-USED = ("checked", "must_fail", "read_edit", "unread", "rtlib")
+USED = ("checked", "must_fail", "read_edit", "unread", "rtlib", "REFUSED", "AT_LIMIT")
 
 
 def load():
@@ -51,10 +51,10 @@ def check(crate, texts, kept, only=()):
 
 def try_alone(crate, edit_file, kept):
     """Whether the prover refuses the edit, and what to say: over the kept work, and what passes there from nothing."""
-    refused, said = rt.must_fail(crate, edit_file, one_job(), kept)
-    if not refused:
-        refused, said = rt.must_fail(crate, edit_file, one_job())
-    return refused, said.partition(": ")[2]
+    came_to, said = rt.must_fail(crate, edit_file, one_job(), kept)
+    if came_to not in (rt.REFUSED, rt.AT_LIMIT):
+        came_to, said = rt.must_fail(crate, edit_file, one_job())
+    return came_to in (rt.REFUSED, rt.AT_LIMIT), said.partition(": ")[2]
 
 
 def is_built(crate):
@@ -73,19 +73,9 @@ def build_library(crate):
         sys.exit(f"wrong-bodies: {crate.name} is not proved")
 
 
-def calls_in_build(crate):
-    """What each function of a built library calls, all named as a check names them: the functions that its compiled
-    body names, and the methods of each impl of a trait that it names."""
-    compiled = json.loads(read(f"{crate.rlib}/toolchain/mir.json"))
-    bodies = {name: json.dumps(body) for name, body in compiled if not name.endswith("+decl")}
-    methods = {}
-    for name in bodies:
-        methods.setdefault(name.rpartition("::")[0], set()).add(name)
-    calls = {}
-    for name, body in bodies.items():
-        of_impls = [methods.get(it, set()) for it in re.findall(r'"Impl": \["([^"]*)"', body)]
-        calls[name] = (bodies.keys() & set(re.findall(r'"([^"]*)"', body))).union(*of_impls) - {name}
-    return calls
+def names_in_build(crate):
+    """The functions of a built library, named as a check names them."""
+    return {name for name, _ in json.loads(read(f"{crate.rlib}/toolchain/mir.json")) if not name.endswith("+decl")}
 
 
 def is_front_end_error(line, texts):

@@ -37,7 +37,7 @@ def tell(trial, is_told_all):
         if is_told_all or not well:
             print(f"{trial.crate.name}/{edit.name}: {'refused' if well else 'FAILED'}: {said[:300]}")
     refused = [well for _, (well, _) in told].count(True)
-    print(f"{trial.crate.name}: {refused} of {len(told)} refused, in {trial.checks} checks", flush=True)
+    print(f"{trial.crate.name}: {refused} of {len(told)} refused, in {trial.checks} checks of {trial.seconds:.0f} s", flush=True)
 
 
 def try_all(files, jobs, tell_end):

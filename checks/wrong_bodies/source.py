@@ -78,14 +78,3 @@ def without_bodies(path, text):
     lines = text.split("\n")
     hidden = {i for it in functions(path, lines) for i in range(it.first + 1, it.last)}
     return "\n".join(it for i, it in enumerate(lines) if i not in hidden)
-
-
-def reach(calls_of):
-    """What each function reaches through any number of calls."""
-    found = {}
-    for name in calls_of:
-        seen, left = set(), [name]
-        while left:
-            left += [it for it in calls_of.get(left.pop(), ()) if it not in seen and not seen.add(it)]
-        found[name] = seen
-    return found

@@ -1,10 +1,11 @@
-"""A crate's edits while they are tried: what waits, what was said of each, and which function calls which."""
+"""A crate's edits while they are tried: what waits, and what was said of each."""
 import os
 import re
 import sys
 import threading
+import time
 
-from . import edits, kit, source
+from . import edits, kit
 
 # The most edits that share a check: a long batch fills one processor while others idle.
 MOST = 24
@@ -12,22 +13,22 @@ MOST = 24
 CONTROLS = 8
 # An error of a proof file that names what the edit took away, which says little of the contract.
 GONE = re.compile(r"has no field|is not in scope|has no `|was not admitted")
+# What a function's line says of its own goals. What it says of its callees, as `it calls`, comes behind.
+OWN_GOALS = re.compile(r"no proof: expected .*`search` did not prove ")
 
 
 class Trial:
     def __init__(self, crate, kept, files):
         self.crate, self.kept, self.files = crate, kept, files
         self.lock = threading.Lock()
-        self.waiting, self.alone, self.said, self.checks, self.is_ended = [], [], {}, 0, False
+        self.waiting, self.alone, self.said, self.is_ended = [], [], {}, False
         self.controls, self.has_kept = [], False
-        # What each function calls, as far as that is known: from the build, and from what checks say.
-        self.calls = {}
+        self.checks, self.seconds = 0, 0
 
     def begin(self):
         """Sorts the edits of the crate, which has to be proved as it stands."""
         if kit.is_built(self.crate):
-            self.calls = kit.calls_in_build(self.crate)
-            names = [*self.calls]
+            names = kit.names_in_build(self.crate)
         else:
             names, self.has_kept = self.check_as_it_stands(), True
         for it in (edits.Edit(file, self.crate, names) for file in self.files):
@@ -37,10 +38,16 @@ class Trial:
                 self.alone.append((it, "it changes no body, or more than one"))
         self.controls = [*dict.fromkeys(it.function for it in self.waiting)][:CONTROLS]
 
+    def check(self, texts, only):
+        began = time.monotonic()
+        status, lines = kit.check(self.crate, texts, self.kept, only)
+        with self.lock:
+            self.checks, self.seconds = self.checks + 1, self.seconds + time.monotonic() - began
+        return status, lines
+
     def check_as_it_stands(self, only=()):
         """The functions that are proved so."""
-        self.checks += 1
-        status, lines = kit.check(self.crate, {}, self.kept, only)
+        status, lines = self.check({}, only)
         if status:
             sys.exit("\n".join([f"wrong-bodies: {self.crate.name} is not proved as it stands", *lines[-5:]]))
         return {it[2] for it in map(kit.LINE.fullmatch, lines) if it and it[1] == "fn"}
@@ -51,31 +58,19 @@ class Trial:
         self.is_ended = True
 
     def batch(self):
-        """The next edits to try together, first those that fit beside the fewest others."""
+        """The next edits to try together: one of a function, first those of functions that have the most left."""
         with self.lock:
-            reach = source.reach(self.calls)
-            unfit = {it: [other for other in self.waiting if self.are_apart(it, other, reach)] for it in self.waiting}
-            chosen = []
-            for it in sorted(self.waiting, key=lambda it: -len(unfit[it])):
-                if len(chosen) < MOST and not any(other in chosen for other in unfit[it]):
-                    chosen.append(it)
+            left = {}
+            for it in self.waiting:
+                left.setdefault(it.function, []).append(it)
+            chosen = [its[0] for its in sorted(left.values(), key=len, reverse=True)[:MOST]]
             self.waiting = [it for it in self.waiting if it not in chosen]
             return chosen
 
-    def are_apart(self, one, other, reach):
-        """Whether a check with both says nothing of one: they change one function, or one hides the other."""
-        return one.function == other.function or self.hides(one, other, reach) or self.hides(other, one, reach)
-
-    def hides(self, one, other, reach):
-        """Whether the other's function calls that of the one. With proof files of its own it shows its own errors."""
-        has_files = os.path.isdir(f"{self.crate.folder}/{other.proof_folder()}")
-        return not has_files and one.function in reach.get(other.function, ())
-
     def try_batch(self, batch):
         """Tries these edits in one check. What it can't judge waits again, or waits to be tried alone."""
-        self.checks += 1
         texts = edits.texts_with(self.crate, batch)
-        status, lines = kit.check(self.crate, texts, self.kept, [it.function for it in batch])
+        status, lines = self.check(texts, [it.function for it in batch])
         self.has_kept = True
         with self.lock:
             if status not in (0, 1) or not lines[-1].startswith("only=") or any(kit.is_front_end_error(it, texts) for it in lines):
@@ -93,38 +88,34 @@ class Trial:
     def judge(self, batch, lines):
         says = {it[2]: it[3] for it in map(kit.LINE.fullmatch, lines) if it}
         functions = {it.function for it in batch}
-        # Each function that no edit changes is a control: a refusal shows only in what calls the refused.
-        loose = [name for name, said in says.items()
-                 if name not in functions and not said.startswith(("proved", "assumed")) and "it calls" not in said]
+        errors = [it for it in map(kit.PLACE.match, lines) if it and not GONE.search(it[3])]
+        goals = [it for it in map(kit.OPEN_GOAL.match, lines) if it]
+        # Each function that no edit changes is a control: it is proved, or would be but for what it calls.
+        loose = [name for name, said in says.items() if name not in functions and not is_well(name, said, errors)]
         if loose:
             self.alone += [(it, f"{loose[0]}, which no edit changes, is not proved either") for it in batch]
             return
-        for name, said in says.items():
-            if "it calls" in said:
-                self.calls.setdefault(name, set()).update(re.findall("`([^`]+)`", said))
-        errors = [it for it in map(kit.PLACE.match, lines) if it and not GONE.search(it[3])]
-        goals = [it for it in map(kit.OPEN_GOAL.match, lines) if it]
-        again = []
         for it in batch:
             said = says.get(it.function, "nothing")
-            own = [error[0] for error in errors if error[1].startswith(it.proof_folder())]
-            if said == "not proved":
-                own += [goal[0] for goal in goals if goal[1] == it.path and it.body.has_inside(int(goal[2]) - 1)]
+            own = [error[0] for error in errors if error[1].startswith(edits.proof_folder(it.function))]
+            own += [goal[0] for goal in goals if goal[1] == it.path and it.body.has_inside(int(goal[2]) - 1)]
             if said.startswith("not proved") and own:
                 self.said[it] = True, own[0]
-            elif "it calls" in said:
-                again.append(it)
-            elif said.startswith("no proof: expected") and "did not prove" in said:
+            elif OWN_GOALS.match(said):
                 self.said[it] = True, said
             else:
                 self.alone.append((it, f"its line in a check with others: {said}"))
-        if len(again) == len(batch):
-            self.alone += [(it, "what it calls hides it") for it in again]
-        else:
-            self.waiting += again
 
     def try_alone(self, edit, why):
-        self.checks += 1
+        began = time.monotonic()
         refused, said = kit.try_alone(self.crate, edit.file, self.kept)
         with self.lock:
+            self.checks, self.seconds = self.checks + 1, self.seconds + time.monotonic() - began
             self.said[edit] = refused, f"{said} ({why})"
+
+
+def is_well(name, said, errors):
+    """Whether a function is proved, or would be but for what it calls: its line names no goal, and its folder has no error."""
+    if said.startswith(("proved", "assumed")):
+        return True
+    return "it calls" in said and not OWN_GOALS.match(said) and not any(it[1].startswith(edits.proof_folder(name)) for it in errors)

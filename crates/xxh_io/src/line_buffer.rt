@@ -46,7 +46,8 @@ impl<const N: usize> LineBuffer<N> {
         }
     }
 
-    /// Takes a line. Where there is no room for it, those that wait are written first.
+    /// Takes a line. Where there is no room for it, those that wait are written first. An error
+    /// takes nothing: the lines that waited still wait.
     pub fn push<W: Sink>(&mut self, line: &[u8; LINE], w: &mut W) -> Result<(), DigestError>
         requires { W.has_failed w.old ≡ false }
         ensures gathers { IfOk result
@@ -54,6 +55,7 @@ impl<const N: usize> LineBuffer<N> {
             (waiting_bytes self.new)) }
         ensures refused { OnErr result
             (Refused W.takes W.refuses (waiting_bytes self.old) w.old w.new) }
+        ensures kept { OnErr result (waiting_bytes self.new ≡ waiting_bytes self.old) }
         ensures write_failed { (result ≡ Err DigestError.WriteFailed)
             ↔ (W.has_failed w.new ≡ true) }
         ensures only { IfErr result (λ e. e ≡ DigestError.WriteFailed) }
@@ -75,11 +77,12 @@ impl<const N: usize> LineBuffer<N> {
         self.len += LINE;
     }
 
-    /// Writes the lines that wait.
+    /// Writes the lines that wait. After an error they still wait.
     pub fn flush<W: Sink>(&mut self, w: &mut W) -> Result<(), DigestError>
         requires { W.has_failed w.old ≡ false }
         ensures writes { Writes W.takes W.refuses (waiting_bytes self.old) w.old w.new result }
         ensures empty { IfOk result (λ _. waiting_count self.new ≡ 0) }
+        ensures kept { OnErr result (waiting_bytes self.new ≡ waiting_bytes self.old) }
         ensures write_failed { (result ≡ Err DigestError.WriteFailed)
             ↔ (W.has_failed w.new ≡ true) }
         ensures only { IfErr result (λ e. e ≡ DigestError.WriteFailed) }
