@@ -1,6 +1,7 @@
 pub mod BlockFacts
 pub mod DerivedFacts
 pub mod EndingFacts
+pub mod HalvesFacts
 pub mod KernelFacts
 pub mod LongValues
 pub mod AccumulatorFacts

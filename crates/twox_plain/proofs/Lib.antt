@@ -23,5 +23,6 @@ pub mod Tail32
 pub mod Tail64
 pub mod UnitFacts
 pub mod UnitLaws
+pub mod UpperWords
 pub mod Vectors32
 pub mod Vectors64

@@ -1,7 +1,7 @@
 //! The rounds and the last step of XXH32, and its one-shot: the xxHash specification, "XXH32 algorithm
 //! description".
 
-ghost use Rattle.std.specs.Prelude.{◌≡◌, ℕ, ◌*◌, ◌/◌, ◌<◌, List, drop, length, slice_index};
+ghost use Rattle.std.specs.Prelude.{◌≡◌, ℕ, ◌+◌, ◌*◌, ◌/◌, ◌<◌, ◌≤◌, List, drop, length, slice_index};
 ghost use Rattle.std.specs.Int.{w32};
 ghost use Rattle.twox_words.specs.Word.{word_at, wrap_mul};
 ghost use Rattle.twox_plain.specs.Xxh32.{p2, round, convergence, take_word, take_byte, after_tail, avalanche, xxh32};
@@ -9,7 +9,7 @@ ghost use Rattle.twox_plain.specs.Core32.{core_of_stripes, core_after_stripes};
 ghost use Rattle.twox_plain.specs.Record32.{value_of};
 
 use super::Core;
-use crate::words::{Halves, IntoU32, IntoU64, u32_at};
+use crate::words::{Halves, IntoU32, IntoU64, u32_at, u64_at};
 
 const PRIME32_1: u32 = 0x9E3779B1;
 
@@ -60,6 +60,16 @@ fn products_of_block(block: &[u8; BYTES_IN_BLOCK]) -> [u32; WORDS_IN_BLOCK]
         products[i] = u32_at(block, i * 4).wrapping_mul(PRIME32_2);
     }
     products
+}
+
+// The word at byte `i + 4`, taken out of the eight bytes before its end, which is one load too. LLVM then doesn't see the
+// words of a stripe as a vector: on 64-bit ARM it would make a vector of the accumulators, which is slower.
+#[inline(always)]
+fn upper_word_at(bytes: &[u8], i: usize) -> u32
+    requires { i + 8 ≤ length bytes.now }
+    ensures { result ≡ word_at w32 bytes.now (i + 4) }
+{
+    u64_at(bytes, i).upper_half()
 }
 
 #[inline(always)]
@@ -113,9 +123,9 @@ impl Core {
         ensures { self.new ≡ core_after_stripes self.old stripe.now 1 }
     {
         self.v1 = round(self.v1, u32_at(stripe, 0));
-        self.v2 = round(self.v2, u32_at(stripe, 4));
-        self.v3 = round(self.v3, u32_at(stripe, 8));
-        self.v4 = round(self.v4, u32_at(stripe, 12));
+        self.v2 = round(self.v2, upper_word_at(stripe, 0));
+        self.v3 = round(self.v3, upper_word_at(stripe, 4));
+        self.v4 = round(self.v4, upper_word_at(stripe, 8));
     }
 
     // Takes a block.

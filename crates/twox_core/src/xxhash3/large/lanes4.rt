@@ -1,12 +1,13 @@
 //! The kernel that works on four accumulators at a time, by `std::simd`.
 
-ghost use Rattle.std.specs.Prelude.{◌≡◌, slice_index};
+ghost use Rattle.std.specs.Prelude.{◌≡◌, ◌+◌, ◌*◌, ◌/◌, ◌%◌, ◌^◌, [], ◌∷◌, slice_index};
 ghost use Rattle.twox_core.specs.Kernel.{sum_with_words, scramble_with_word};
+ghost use Rattle.twox_core.specs.Primes.{prime32_1};
 
 use super::word::words;
 use crate::xxhash3::Vector;
 use crate::xxhash3::primes::PRIME32_1;
-use std::simd::u64x4;
+use std::simd::{u32x8, u64x4};
 
 /// The kernel of four accumulators at a time.
 #[derive(Clone, Copy)]
@@ -65,5 +66,48 @@ fn scramble_four(acc: [u64; 4], keys: [u64; 4]) -> [u64; 4]
     let [k0, k1, k2, k3] = keys;
     let acc = u64x4::from_array([a0, a1, a2, a3]);
     let keys = u64x4::from_array([k0, k1, k2, k3]);
-    ((acc ^ (acc >> u64x4::splat(47)) ^ keys) * u64x4::splat(PRIME32_1)).to_array()
+    times_prime((acc ^ (acc >> u64x4::splat(47)) ^ keys).to_array())
+}
+
+// Each word times the prime, modulo 2^64. A processor's vectors mostly have no product of 64 bits, and LLVM makes one
+// outside of vectors on 64-bit ARM. So the upper half is multiplied as a word of 32 bits, where it stands.
+#[inline]
+fn times_prime(words: [u64; 4]) -> [u64; 4]
+    ensures { result ≡ slice_index words 0 * prime32_1 % 2 ^ 64
+        ∷ slice_index words 1 * prime32_1 % 2 ^ 64
+        ∷ slice_index words 2 * prime32_1 % 2 ^ 64
+        ∷ slice_index words 3 * prime32_1 % 2 ^ 64 ∷ [] }
+{
+    let prime = PRIME32_1 as u32;
+    let factors = u32x8::from_array([0, prime, 0, prime, 0, prime, 0, prime]);
+    let [a, b, c, d] = joined((halves_of(words) * factors).to_array());
+    let upper = u64x4::from_array([a, b, c, d]);
+    let [a, b, c, d] = words;
+    let lower = u64x4::from_array([a, b, c, d]) & u64x4::splat(0xffff_ffff);
+    (upper + lower * u64x4::splat(PRIME32_1)).to_array()
+}
+
+// The halves of each word, the lower one first.
+#[inline]
+fn halves_of(words: [u64; 4]) -> u32x8
+    ensures { result ≡ slice_index words 0 % 2 ^ 32 ∷ slice_index words 0 / 2 ^ 32
+        ∷ slice_index words 1 % 2 ^ 32 ∷ slice_index words 1 / 2 ^ 32
+        ∷ slice_index words 2 % 2 ^ 32 ∷ slice_index words 2 / 2 ^ 32
+        ∷ slice_index words 3 % 2 ^ 32 ∷ slice_index words 3 / 2 ^ 32 ∷ [] }
+{
+    let [a, b, c, d] = words;
+    u32x8::from_le_bytes(u64x4::from_array([a, b, c, d]).to_le_bytes())
+}
+
+// The words of these halves.
+#[inline]
+fn joined(halves: [u32; 8]) -> [u64; 4]
+    ensures { result ≡ (slice_index halves 0 + 2 ^ 32 * slice_index halves 1)
+        ∷ (slice_index halves 2 + 2 ^ 32 * slice_index halves 3)
+        ∷ (slice_index halves 4 + 2 ^ 32 * slice_index halves 5)
+        ∷ (slice_index halves 6 + 2 ^ 32 * slice_index halves 7) ∷ [] }
+{
+    let [a, b, c, d, e, f, g, h] = halves;
+    let halves = u32x8::from_array([a, b, c, d, e, f, g, h]);
+    u64x4::from_le_bytes(halves.to_le_bytes()).to_array()
 }
