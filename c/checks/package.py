@@ -7,6 +7,8 @@ import shutil
 import subprocess
 
 import clients
+from file_program import file_program_agrees
+from launcher import OLD, SETS
 from report import Fault, tail, want
 from sides import THEIRS, Side, others, run
 from tools import C, TOP, must
@@ -151,6 +153,23 @@ def commands_are_there(package):
     want('xxh blocks' in must(['zcat', '/usr/share/man/man1/xxh.1.gz']), 'the manual page is another')
 
 
+def both_builds_run(package, v3):
+    """xxhsum by its four names beside Debian's; and what is called runs the build that the processor has."""
+    note = file_program_agrees(PREFIX)
+    if not v3:
+        return note
+    for words, build in (([], SETS[v3]), (OLD, SETS[0])):
+        path = os.path.join(PREFIX, 'libexec', NAME, build, 'xxhsum')
+        os.rename(path, path + '.away')
+        done = subprocess.run([*words, os.path.join(PREFIX, 'bin', 'xxhsum'), EXAMPLE], stdout=subprocess.PIPE,
+                              stderr=subprocess.PIPE, text=True)
+        os.rename(path + '.away', path)
+        want((done.returncode, done.stdout) == (127, '') and path in done.stderr, f'{build} is not what runs')
+        want(must([*words, os.path.join(PREFIX, 'bin', 'xxhsum'), '-q', EXAMPLE]) == must(['xxhsum', '-q', EXAMPLE]),
+             f'{build} prints another line')
+    return note + '; each build where the processor has it'
+
+
 def change_is_told(package):
     """dpkg -V names a file that somebody changed."""
     path = os.path.join(PREFIX, 'include', 'xxhash.h')
@@ -187,6 +206,7 @@ def check_all(report, room, sides, v3):
         report.attempt('the Debian package: python3-xxhash where it is told to', runs_where_told, package, sides)
         report.attempt('the Debian package: a whole machine', serves_a_machine, package)
         report.attempt('the Debian package: xxh', commands_are_there, package)
+        report.attempt('the Debian package: both builds of xxhsum', both_builds_run, package, v3)
         report.attempt('the Debian package: a changed file is told', change_is_told, package)
         report.attempt('the Debian package: removed', leaves_nothing, package)
     finally:

@@ -1,5 +1,7 @@
 mod CheckFacts
+mod EachFacts
 mod HashFacts
 mod LineFacts
 mod OutcomeFacts
+mod ProgressFacts
 mod ToldFacts

@@ -1,0 +1,5 @@
+use Rattle.xxhsum_program.proofs.ProgressFacts.{inner-pieces}
+use Rattle.xxhsum_program.proofs.watched.watched_pieces.Goals as goal
+
+pub returns : goal.returns
+returns g c = λ old new pieces read. inner-pieces g.R.Source.gives old new pieces read

@@ -1,0 +1,114 @@
+//! Sources and stores whose reads are shown, and which give just what they give without.
+
+ghost use Rattle.std.specs.Prelude.{◌≡◌, ◌<◌, ◌≤◌, false, List, ℕ, length, take, is_err, IfOk, OnErr};
+ghost use Rattle.xxh_io.specs.Pieces.{Pieces};
+ghost use Rattle.xxhsum_program.specs.Watched.{IsFresh, ShowsRead, files_of, meter_of, source_of};
+ghost use Rattle.xxhsum_program.specs.declared.watched.Watched.{Watched};
+
+use crate::progress::Meter;
+use std::io::Write;
+use xxh_io::ends::{Failed, Sink, Source};
+use xxh_io::from_write::FromWrite;
+use xxhsum_files::refusal::Refusal;
+use xxhsum_files::store::Store;
+
+/// A source whose reads a meter shows. It gives just what its source gives.
+#[derive(Drop)]
+pub struct Watched<R, E> {
+    source: R,
+    meter: Meter<E>,
+}
+
+impl<R: Source, E: Sink> Watched<R, E> {
+    /// This source, watched by this meter.
+    pub fn new(source: R, meter: Meter<E>) -> Watched<R, E>
+        ensures source { source_of result ≡ source }
+        ensures meter { meter_of result ≡ meter }
+    {
+        Watched { source, meter }
+    }
+}
+
+impl<R: Source, E: Sink> Source for Watched<R, E> {
+    ghost has_failed = { λ watched. R.has_failed (source_of watched) };
+
+    ghost gives = { λ old piece new. R.gives (source_of old) piece (source_of new) };
+
+    ghost fails = { λ old new. R.fails (source_of old) (source_of new) };
+
+    fn failed(&self) -> bool {
+        self.source.failed()
+    }
+
+    fn read(&mut self, buf: &mut [u8]) -> Result<usize, Failed>
+        requires works { R.has_failed (source_of self.old) ≡ false }
+        requires room { 0 < length buf.old }
+        ensures within { IfOk result (λ n. n ≤ length buf.new) }
+        ensures piece { IfOk result
+            (λ n. R.gives (source_of self.old) (take n buf.new) (source_of self.new)) }
+        ensures fails { OnErr result (R.fails (source_of self.old) (source_of self.new)) }
+        ensures failed { R.has_failed (source_of self.new) ≡ is_err result }
+        ensures shows { ShowsRead E.takes E.refuses E.has_failed (meter_of self.old)
+            (meter_of self.new) result }
+    {
+        let found = self.source.read(buf);
+        match found {
+            Ok(count) => self.meter.show(count),
+            Err(Failed) => self.meter.show(0),
+        }
+        found
+    }
+}
+
+/// The files of a store, each watched by a meter of its own on one writer.
+#[derive(Clone, Copy)]
+pub struct WatchedFiles<'a, S, W> {
+    files: &'a S,
+    screen: W,
+    is_on: bool,
+}
+
+impl<'a, S: Store, W: Write + Copy + Drop> WatchedFiles<'a, S, W> {
+    /// The files of this store. Where it is off, nothing is shown.
+    pub fn new(files: &'a S, screen: W, is_on: bool) -> WatchedFiles<'a, S, W>
+        ensures { files_of result ≡ files.now }
+    {
+        WatchedFiles {
+            files,
+            screen,
+            is_on,
+        }
+    }
+}
+
+impl<S: Store, W: Write + Copy + Drop> Store for WatchedFiles<'_, S, W> {
+    type File = Watched<S::File, FromWrite<W>>;
+
+    ghost opens = { λ files name file. S.opens (files_of files) name (source_of file)
+        × IsFresh files (meter_of file) };
+
+    ghost refuses = { λ files name why. S.refuses (files_of files) name why };
+
+    ghost holds_directory = { λ files name answer. S.holds_directory (files_of files) name answer };
+
+    fn is_directory(&self, name: &[u8]) -> bool {
+        self.files.is_directory(name)
+    }
+
+    fn open(&self, name: &[u8]) -> Result<Watched<S::File, FromWrite<W>>, Refusal> {
+        match self.files.open(name) {
+            Ok(file) => {
+                let meter = Meter::new(FromWrite::new(self.screen), self.is_on);
+                Ok(Watched::new(file, meter))
+            }
+            Err(refusal) => Err(refusal),
+        }
+    }
+}
+
+/// A law, with nothing to run: what a watched source gives its source gives.
+pub fn watched_pieces<R: Source, E: Sink>()
+    ensures { (old new : Watched R E) (pieces : List (List ℕ))
+        → Pieces ⟦<Watched<R, E> as Source>⟧.gives old pieces new
+        → Pieces R.gives (source_of old) pieces (source_of new) }
+{}
