@@ -5,3 +5,4 @@ mod LineFacts
 mod OutcomeFacts
 mod ProgressFacts
 mod ToldFacts
+mod WatchedFacts

@@ -1,9 +1,14 @@
 //! Sources and stores whose reads are shown, and which give just what they give without.
 
-ghost use Rattle.std.specs.Prelude.{◌≡◌, ◌<◌, ◌≤◌, false, List, ℕ, length, take, is_err, IfOk, OnErr};
+ghost use Rattle.std.specs.Prelude.{◌≡◌, ◌<◌, ◌≤◌, false, List, ℕ, Bool, Result, length, take, is_err, IfOk, OnErr};
 ghost use Rattle.xxh_io.specs.Pieces.{Pieces};
 ghost use Rattle.xxhsum_program.specs.Watched.{IsFresh, ShowsRead, files_of, meter_of, source_of};
+ghost use Rattle.xxh_io.specs.declared.kind.Kind.{Kind};
+ghost use Rattle.xxhsum_program.specs.HashNames.{HashesNames};
+ghost use Rattle.xxhsum_program.specs.declared.outcome.Outcome.{Outcome};
+ghost use Rattle.xxhsum_program.specs.declared.stop.Stop.{Stop};
 ghost use Rattle.xxhsum_program.specs.declared.watched.Watched.{Watched};
+ghost use Rattle.xxhsum_program.specs.declared.watched.WatchedFiles.{WatchedFiles};
 
 use crate::progress::Meter;
 use std::io::Write;
@@ -111,4 +116,18 @@ pub fn watched_pieces<R: Source, E: Sink>()
     ensures { (old new : Watched R E) (pieces : List (List ℕ))
         → Pieces ⟦<Watched<R, E> as Source>⟧.gives old pieces new
         → Pieces R.gives (source_of old) pieces (source_of new) }
+{}
+
+/// A law, with nothing to run: what a hashing run over watched files says it says of the files.
+pub fn watched_names<S: Store, W: Write + Copy + Drop>()
+    ensures { (files : WatchedFiles S W) (kind : Kind) (names done rest : List (List ℕ))
+        → (outcomes : List Outcome) → (result : Result Bool Stop)
+        → HashesNames ⟦<WatchedFiles<'static, S, W> as Store>⟧.opens
+        ⟦<WatchedFiles<'static, S, W> as Store>⟧.refuses
+        ⟦<WatchedFiles<'static, S, W> as Store>⟧.holds_directory
+        ⟦<Watched<S::File, FromWrite<W>> as Source>⟧.gives
+        ⟦<Watched<S::File, FromWrite<W>> as Source>⟧.fails
+        files kind names done rest outcomes result
+        → HashesNames S.opens S.refuses S.holds_directory S.File.gives S.File.fails
+        (files_of files) kind names done rest outcomes result }
 {}
