@@ -6,3 +6,4 @@ mod OutcomeFacts
 mod ProgressFacts
 mod ToldFacts
 mod WatchedFacts
+mod WatchedListFacts

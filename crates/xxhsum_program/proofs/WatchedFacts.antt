@@ -38,7 +38,7 @@ inner-reads f gives fails most pieces old new (Err TooLong) (count, read) = (cou
 abbrev pub OpensInner : {A S V F : Type 0} → (A → S) → (V → F) → (A → List ℕ → V → Type 0) → (S → List ℕ → F → Type 0) → Type 0
 OpensInner {A} {S} {V} {F} s f watched opens = (files : A) (name : List ℕ) (file : V) → watched files name file → opens (s files) name (f file)
 
-inner-value : {A S V F : Type 0} (s : A → S) (f : V → F) (watched : A → List ℕ → V → Type 0) (opens : S → List ℕ → F → Type 0) (gives : Step F) (fails : Failing F) (files : A) (kind : Kind) (name : List ℕ) (value : ℕ) → OpensInner s f watched opens → IsValueOf watched (Inner f gives) (InnerFails f fails) files kind name value → IsValueOf opens gives fails (s files) kind name value
+pub inner-value : {A S V F : Type 0} (s : A → S) (f : V → F) (watched : A → List ℕ → V → Type 0) (opens : S → List ℕ → F → Type 0) (gives : Step F) (fails : Failing F) (files : A) (kind : Kind) (name : List ℕ) (value : ℕ) → OpensInner s f watched opens → IsValueOf watched (Inner f gives) (InnerFails f fails) files kind name value → IsValueOf opens gives fails (s files) kind name value
 inner-value s f watched opens gives fails files kind name value same (file, end, pieces, read, is, opened, some, reads, hash) =
     (f file, f end, pieces, read, is, same files name file opened, some, inner-reads f gives fails _ pieces file end read reads, hash)
 
@@ -52,7 +52,7 @@ inner-fails s f watched opens gives fails files name OutOfMemory same on = absur
 inner-fails s f watched opens gives fails files name (Digest e) same (file, end, pieces, read, is, opened, some, reads, never) =
     (f file, f end, pieces, read, is, same files name file opened, some, inner-reads f gives fails _ pieces file end read reads, never)
 
-each-other : {T : Type 0} (has other : List ℕ → T → Type 0) (names : List (List ℕ)) (xs : List T) → ((name : List ℕ) (x : T) → has name x → other name x) → EachHas has names xs → EachHas other names xs
+pub each-other : {T : Type 0} (has other : List ℕ → T → Type 0) (names : List (List ℕ)) (xs : List T) → ((name : List ℕ) (x : T) → has name x → other name x) → EachHas has names xs → EachHas other names xs
 each-other has other [] [] other-too each = tt
 each-other has other [] (x ∷ xs) other-too each = absurd each
 each-other has other (name ∷ names) [] other-too each = absurd each

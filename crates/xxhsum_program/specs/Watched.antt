@@ -21,6 +21,10 @@ meter_of watched = watched.meter
 abbrev pub files_of : {S W : Type 0} → WatchedFiles S W → S
 files_of files = files.files.now
 
+-- whether their reads are shown
+abbrev pub shows_reads : {S W : Type 0} → WatchedFiles S W → Bool
+shows_reads files = files.is_on
+
 -- a read was shown as that of so many bytes, and one that failed as that of none
 abbrev pub ShowsRead : {E : Type 0} → Step E → Failing E → (E → Bool) → Meter E → Meter E → Result ℕ Failed
     → Type 0
@@ -29,4 +33,4 @@ ShowsRead takes refuses has_failed old new (Err e) = Shows takes refuses has_fai
 
 -- the meter of a file that is not read yet
 abbrev pub IsFresh : {S W E : Type 0} → WatchedFiles S W → Meter E → Type 0
-IsFresh files meter = (is_shown meter ≡ files.is_on) × (bytes_read meter ≡ 0)
+IsFresh files meter = (is_shown meter ≡ shows_reads files) × (bytes_read meter ≡ 0)

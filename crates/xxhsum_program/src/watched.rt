@@ -2,8 +2,10 @@
 
 ghost use Rattle.std.specs.Prelude.{◌≡◌, ◌<◌, ◌≤◌, false, List, ℕ, Bool, Result, length, take, is_err, IfOk, OnErr};
 ghost use Rattle.xxh_io.specs.Pieces.{Pieces};
-ghost use Rattle.xxhsum_program.specs.Watched.{IsFresh, ShowsRead, files_of, meter_of, source_of};
+ghost use Rattle.xxhsum_program.specs.Watched.{IsFresh, ShowsRead, files_of, meter_of, shows_reads, source_of};
 ghost use Rattle.xxh_io.specs.declared.kind.Kind.{Kind};
+ghost use Rattle.xxhsum_program.specs.CheckList.{AnswersFor, IsAnswer, IsVerdict};
+ghost use Rattle.xxhsum_program.specs.Findings.{IsFinding};
 ghost use Rattle.xxhsum_program.specs.HashNames.{HashesNames};
 ghost use Rattle.xxhsum_program.specs.declared.outcome.Outcome.{Outcome};
 ghost use Rattle.xxhsum_program.specs.declared.stop.Stop.{Stop};
@@ -76,7 +78,8 @@ pub struct WatchedFiles<'a, S, W> {
 impl<'a, S: Store, W: Write + Copy + Drop> WatchedFiles<'a, S, W> {
     /// The files of this store. Where it is off, nothing is shown.
     pub fn new(files: &'a S, screen: W, is_on: bool) -> WatchedFiles<'a, S, W>
-        ensures { files_of result ≡ files.now }
+        ensures files { files_of result ≡ files.now }
+        ensures shown { shows_reads result ≡ is_on }
     {
         WatchedFiles {
             files,
@@ -130,4 +133,35 @@ pub fn watched_names<S: Store, W: Write + Copy + Drop>()
         files kind names done rest outcomes result
         → HashesNames S.opens S.refuses S.holds_directory S.File.gives S.File.fails
         (files_of files) kind names done rest outcomes result }
+{}
+
+/// A law, with nothing to run: what the check of a watched list over watched files says it says of the list and the
+/// files.
+pub fn watched_list<S: Store, W: Write + Copy + Drop, R: Source, E: Sink>()
+    ensures { (files : WatchedFiles S W) (list : Watched R E) (is_little is_strict good : Bool)
+        → IsVerdict (IsFinding ⟦<WatchedFiles<'static, S, W> as Store>⟧.opens
+        ⟦<WatchedFiles<'static, S, W> as Store>⟧.refuses
+        ⟦<Watched<S::File, FromWrite<W>> as Source>⟧.gives
+        ⟦<Watched<S::File, FromWrite<W>> as Source>⟧.fails files is_little)
+        ⟦<Watched<R, E> as Source>⟧.gives ⟦<Watched<R, E> as Source>⟧.fails
+        ⟦<Watched<R, E> as Source>⟧.has_failed list is_strict good
+        → IsVerdict (IsFinding S.opens S.refuses S.File.gives S.File.fails (files_of files) is_little)
+        R.gives R.fails R.has_failed (source_of list) is_strict good }
+{}
+
+/// A law, with nothing to run: what the check of watched lists says it says of the lists.
+pub fn watched_lists<S: Store, W: Write + Copy + Drop>()
+    ensures { (files : WatchedFiles S W) (names : List (List ℕ)) (is_little is_strict all : Bool)
+        → AnswersFor (IsAnswer (IsFinding ⟦<WatchedFiles<'static, S, W> as Store>⟧.opens
+        ⟦<WatchedFiles<'static, S, W> as Store>⟧.refuses
+        ⟦<Watched<S::File, FromWrite<W>> as Source>⟧.gives
+        ⟦<Watched<S::File, FromWrite<W>> as Source>⟧.fails files is_little)
+        ⟦<WatchedFiles<'static, S, W> as Store>⟧.opens
+        ⟦<WatchedFiles<'static, S, W> as Store>⟧.refuses
+        ⟦<Watched<S::File, FromWrite<W>> as Source>⟧.gives
+        ⟦<Watched<S::File, FromWrite<W>> as Source>⟧.fails
+        ⟦<Watched<S::File, FromWrite<W>> as Source>⟧.has_failed files is_strict) names all
+        → AnswersFor (IsAnswer (IsFinding S.opens S.refuses S.File.gives S.File.fails
+        (files_of files) is_little) S.opens S.refuses S.File.gives S.File.fails
+        S.File.has_failed (files_of files) is_strict) names all }
 {}
