@@ -50,7 +50,7 @@ def launches(room, v3):
         shown = b''.join(b'[%s]' % (word if isinstance(word, bytes) else word.encode()) for word in words)
         for name in (launcher, os.path.join(folder, 'other-name'), 'any name'):
             found = runs([name, *words], executable=launcher)
-            want(found == (1 + len(words), best + b'[%s]' % name.encode() + shown), f'{name} {words[:2]}: {found}'[:300])
+            want(found == (1 + len(words), best + b'[%s]' % name.encode() + shown), f'as {name}: {found}'[:300])
         found = runs([*OLD, launcher, *words])
         want(found == (1 + len(words), plain + b'[%s]' % launcher.encode() + shown), f'{OLD}: {found}'[:300])
     missing = os.path.join(folder, SETS[v3], 'shows')
