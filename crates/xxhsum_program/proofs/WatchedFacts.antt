@@ -69,7 +69,7 @@ ends-other fails other rest outcomes (Err (Digest TooLong)) other-too (name, aft
 pub inner-names : {A S V F : Type 0} (s : A → S) (f : V → F) (watched : A → List ℕ → V → Type 0) (opens : S → List ℕ → F → Type 0) (refuses : S → List ℕ → Refusal → Type 0) (holds_directory : S → List ℕ → Bool → Type 0) (gives : Step F) (fails : Failing F) (files : A) (kind : Kind) (names done rest : List (List ℕ)) (outcomes : List Outcome) (result : Result Bool Stop) → OpensInner s f watched opens
     → HashesNames watched (λ a. refuses (s a)) (λ a. holds_directory (s a)) (Inner f gives) (InnerFails f fails) files kind names done rest outcomes result → HashesNames opens refuses holds_directory gives fails (s files) kind names done rest outcomes result
 inner-names s f watched opens refuses holds_directory gives fails files kind names done rest outcomes result same (parts, each, ends) = (
-      parts,
-      each-other _ _ done outcomes (λ name outcome comes. inner-comes s f watched opens refuses holds_directory gives fails files kind name outcome same comes) each,
-      ends-other _ _ rest outcomes result (λ name stop on. inner-fails s f watched opens gives fails files name stop same on) ends,
-    )
+  parts,
+  each-other _ _ done outcomes (λ name outcome comes. inner-comes s f watched opens refuses holds_directory gives fails files kind name outcome same comes) each,
+  ends-other _ _ rest outcomes result (λ name stop on. inner-fails s f watched opens gives fails files name stop same on) ends,
+)
