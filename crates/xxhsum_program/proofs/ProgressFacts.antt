@@ -1,5 +1,5 @@
 -- What is shown of a read, by the counts.
-use Rattle.std.proofs.Common.{◌≡◌, ◌≢◌, ℕ, ◌<◌, ◌≤◌, ◌/◌, Bool, true, false, List, [], ◌∷◌, ◌++◌, codes, decimal, refl, ap, arith}
+use Rattle.std.proofs.Common.{◌≡◌, ◌≢◌, ℕ, ◌<◌, ◌≤◌, ◌/◌, Bool, true, false, ◌++◌, codes, decimal, refl, arith}
 use Rattle.xxhsum_program.specs.Progress.{cleared, count_after, progress_line, shown_text}
 
 -- a step ends between the counts

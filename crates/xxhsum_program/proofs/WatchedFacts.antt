@@ -1,5 +1,5 @@
 -- What is said of watched sources and files, said of what they watch. `f` is what a watched one watches.
-use Rattle.std.proofs.Common.{◌≡◌, ℕ, Bool, List, [], ◌∷◌, ◌++◌, ap}
+use Rattle.std.proofs.Common.{ℕ, Bool, List, [], ◌∷◌, ◌++◌, ap}
 use Rattle.std.specs.declared.result.Result.{Result}
 use Rattle.std.specs.declared.result.Result.TheVariants.{Ok, Err}
 use Rattle.xxh_io.specs.declared.error.DigestError.{DigestError}
@@ -47,7 +47,7 @@ inner-comes s f watched opens refuses holds_directory gives fails files kind nam
 inner-comes s f watched opens refuses holds_directory gives fails files kind name IsDirectory same comes = comes
 inner-comes s f watched opens refuses holds_directory gives fails files kind name (Unopened refusal) same comes = comes
 
-inner-fails : {A S V F : Type 0} (s : A → S) (f : V → F) (watched : A → List ℕ → V → Type 0) (opens : S → List ℕ → F → Type 0) (gives : Step F) (fails : Failing F) (files : A) (name : List ℕ) (stop : Stop) → OpensInner s f watched opens → FailsOn watched (Inner f gives) (InnerFails f fails) files name stop → FailsOn opens gives fails (s files) name stop
+pub inner-fails : {A S V F : Type 0} (s : A → S) (f : V → F) (watched : A → List ℕ → V → Type 0) (opens : S → List ℕ → F → Type 0) (gives : Step F) (fails : Failing F) (files : A) (name : List ℕ) (stop : Stop) → OpensInner s f watched opens → FailsOn watched (Inner f gives) (InnerFails f fails) files name stop → FailsOn opens gives fails (s files) name stop
 inner-fails s f watched opens gives fails files name OutOfMemory same on = absurd on
 inner-fails s f watched opens gives fails files name (Digest e) same (file, end, pieces, read, is, opened, some, reads, never) =
     (f file, f end, pieces, read, is, same files name file opened, some, inner-reads f gives fails _ pieces file end read reads, never)

@@ -1,18 +1,19 @@
 -- What is said of watched lists, said of what they watch. `f` is what a watched source watches, and `s` the files
 -- that watched files watch.
-use Rattle.std.proofs.Common.{◌≡◌, ◌⊎◌, ℕ, Bool, List, [], ◌∷◌, ◌++◌, inl, inr}
+use Rattle.std.proofs.Common.{ℕ, Bool, List, [], ◌∷◌, ◌++◌, inl, inr}
 use Rattle.xxh_io.specs.declared.kind.Kind.{Kind}
-use Rattle.xxh_io.specs.Pieces.{Pieces, Step, Failing}
+use Rattle.xxh_io.specs.Pieces.{Step, Failing}
 use Rattle.xxhsum_files.specs.declared.refusal.Refusal.{Refusal}
 use Rattle.xxhsum_program.specs.declared.check.Report.{Report}
 use Rattle.xxhsum_program.specs.declared.entry.Found.{Found}
 use Rattle.xxhsum_program.specs.declared.entry.Found.TheVariants.{Same, Different, Unread}
-use Rattle.xxhsum_program.specs.CheckList.{AddsUpTo, AnswersFor, BreaksOff, IsAnswer, IsReport, IsVerdict, ReadsLines}
-use Rattle.xxhsum_program.specs.Findings.{Finding, IsFinding}
+use Rattle.xxhsum_program.specs.declared.stop.Stop.{Stop}
+use Rattle.xxhsum_program.specs.CheckList.{AddsUpTo, AnswersFor, BreaksOff, IsAnswer, IsVerdict, ReadsLines, StopsAtList, StopsEarly, StopsInList}
+use Rattle.xxhsum_program.specs.Findings.{FailsOnLine, Finding, IsFinding}
 use Rattle.xxhsum_program.specs.Findings.{Improper, Proper}
 use Rattle.xxhsum_program.specs.Found.{IsFound}
 use Rattle.xxhsum_program.specs.ListLines.{FailsAfter, end_piece}
-use Rattle.xxhsum_program.proofs.WatchedFacts.{Inner, InnerFails, OpensInner, each-other, inner-pieces, inner-value}
+use Rattle.xxhsum_program.proofs.WatchedFacts.{Inner, InnerFails, OpensInner, each-other, inner-fails, inner-pieces, inner-value}
 
 -- ---- a finding
 
@@ -74,3 +75,32 @@ pub inner-answers : {A S V F : Type 0} (s : A → S) (f : V → F) (watched : A 
     → AnswersFor (IsAnswer (IsFinding watched (λ a. refuses (s a)) (Inner f gives) (InnerFails f fails) files is_little) watched (λ a. refuses (s a)) (Inner f gives) (InnerFails f fails) (λ v. has_failed (f v)) files is_strict) names all → AnswersFor (IsAnswer (IsFinding opens refuses gives fails (s files) is_little) opens refuses gives fails has_failed (s files) is_strict) names all
 inner-answers s f watched opens refuses gives fails has_failed files names is_little is_strict all same (answers, each, is) =
     (answers, each-other _ _ names answers (λ name good answer. inner-answer s f watched opens refuses gives fails has_failed files is_little is_strict name good same answer) each, is)
+
+-- ---- a check that stops early
+
+inner-line : {A S V F : Type 0} (s : A → S) (f : V → F) (watched : A → List ℕ → V → Type 0) (opens : S → List ℕ → F → Type 0) (gives : Step F) (fails : Failing F) (files : A) (is_little : Bool) (line : List ℕ) (stop : Stop) → OpensInner s f watched opens → FailsOnLine watched (Inner f gives) (InnerFails f fails) files is_little line stop → FailsOnLine opens gives fails (s files) is_little line stop
+inner-line s f watched opens gives fails files is_little line stop same (kind, value, name, says, on) =
+    (kind, value, name, says, inner-fails s f watched opens gives fails files name stop same on)
+
+early-other : {V R : Type 0} (f : V → R) (finding other : List ℕ → Finding → Type 0) (on on_other : List ℕ → Stop → Type 0) (gives : Step R) (list : V) (stop : Stop) → ((line : List ℕ) (x : Finding) → finding line x → other line x) → ((line : List ℕ) → on line stop → on_other line stop) → StopsEarly finding on (Inner f gives) list stop → StopsEarly other on_other gives (f list) stop
+early-other f finding other on on_other gives list stop finding-too on-too (lines, findings, each, inl (writing, (has_ended, rest, reads))) =
+    (lines, findings, each-other finding other lines findings finding-too each, inl (writing, (has_ended, rest, inner-lines f gives list has_ended lines rest reads)))
+early-other f finding other on on_other gives list stop finding-too on-too (lines, findings, each, inr (line, fails, (has_ended, rest, reads))) =
+    (lines, findings, each-other finding other lines findings finding-too each, inr (line, on-too line fails, (has_ended, rest, inner-lines f gives list has_ended (lines ++ line ∷ []) rest reads)))
+
+pub inner-early : {A S V F L R : Type 0} (s : A → S) (f : V → F) (l : L → R) (watched : A → List ℕ → V → Type 0) (opens : S → List ℕ → F → Type 0) (refuses : S → List ℕ → Refusal → Type 0) (gives : Step F) (fails : Failing F) (l_gives : Step R) (files : A) (list : L) (is_little : Bool) (stop : Stop) → OpensInner s f watched opens
+    → StopsEarly (IsFinding watched (λ a. refuses (s a)) (Inner f gives) (InnerFails f fails) files is_little) (FailsOnLine watched (Inner f gives) (InnerFails f fails) files is_little) (Inner l l_gives) list stop → StopsEarly (IsFinding opens refuses gives fails (s files) is_little) (FailsOnLine opens gives fails (s files) is_little) l_gives (l list) stop
+inner-early s f l watched opens refuses gives fails l_gives files list is_little stop same =
+    early-other l _ _ (FailsOnLine watched (Inner f gives) (InnerFails f fails) files is_little) (FailsOnLine opens gives fails (s files) is_little) l_gives list stop (λ line x is. inner-finding s f watched opens refuses gives fails files is_little line x same is) (λ line on. inner-line s f watched opens gives fails files is_little line stop same on)
+
+inner-in-list : {A S V F : Type 0} (s : A → S) (f : V → F) (watched : A → List ℕ → V → Type 0) (opens : S → List ℕ → F → Type 0) (refuses : S → List ℕ → Refusal → Type 0) (gives : Step F) (fails : Failing F) (files : A) (is_little : Bool) (name : List ℕ) (stop : Stop) → OpensInner s f watched opens
+    → StopsInList (IsFinding watched (λ a. refuses (s a)) (Inner f gives) (InnerFails f fails) files is_little) (FailsOnLine watched (Inner f gives) (InnerFails f fails) files is_little) watched (λ a. refuses (s a)) (Inner f gives) files name stop → StopsInList (IsFinding opens refuses gives fails (s files) is_little) (FailsOnLine opens gives fails (s files) is_little) opens refuses gives (s files) name stop
+inner-in-list s f watched opens refuses gives fails files is_little name stop same (inl (file, opened, early)) =
+    inl (f file, same files name file opened, inner-early s f f watched opens refuses gives fails gives files file is_little stop same early)
+inner-in-list s f watched opens refuses gives fails files is_little name stop same (inr refused) = inr refused
+
+pub inner-stops : {A S V F : Type 0} (s : A → S) (f : V → F) (watched : A → List ℕ → V → Type 0) (opens : S → List ℕ → F → Type 0) (refuses : S → List ℕ → Refusal → Type 0) (gives : Step F) (fails : Failing F) (has_failed : F → Bool) (files : A) (names : List (List ℕ)) (is_little is_strict : Bool) (stop : Stop) → OpensInner s f watched opens
+    → StopsAtList (IsAnswer (IsFinding watched (λ a. refuses (s a)) (Inner f gives) (InnerFails f fails) files is_little) watched (λ a. refuses (s a)) (Inner f gives) (InnerFails f fails) (λ v. has_failed (f v)) files is_strict) (StopsInList (IsFinding watched (λ a. refuses (s a)) (Inner f gives) (InnerFails f fails) files is_little) (FailsOnLine watched (Inner f gives) (InnerFails f fails) files is_little) watched (λ a. refuses (s a)) (Inner f gives) files) names stop
+    → StopsAtList (IsAnswer (IsFinding opens refuses gives fails (s files) is_little) opens refuses gives fails has_failed (s files) is_strict) (StopsInList (IsFinding opens refuses gives fails (s files) is_little) (FailsOnLine opens gives fails (s files) is_little) opens refuses gives (s files)) names stop
+inner-stops s f watched opens refuses gives fails has_failed files names is_little is_strict stop same (done, after, name, answers, parts, each, stops) =
+    (done, after, name, answers, parts, each-other _ _ done answers (λ n good answer. inner-answer s f watched opens refuses gives fails has_failed files is_little is_strict n good same answer) each, inner-in-list s f watched opens refuses gives fails files is_little name stop same stops)

@@ -13,6 +13,10 @@ const STEP: u64 = 67108864;
 
 const MIB: u64 = 1048576;
 
+// An empty line, with the cursor at its beginning.
+pub(crate) const CLEARED: &[u8] =
+    b"\r                                                                      \r";
+
 /// Counts what is read of a file, and shows it on an end at each 64 MiB, or nowhere.
 #[derive(Drop)]
 pub struct Meter<E> {
@@ -86,7 +90,3 @@ fn clear_after<E: Sink>(count: u64, end: &mut E)
         tell(CLEARED, end);
     }
 }
-
-// An empty line, with the cursor at its beginning.
-pub(crate) const CLEARED: &[u8] =
-    b"\r                                                                      \r";
