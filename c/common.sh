@@ -45,7 +45,8 @@ read_target() {
 }
 
 # read_cpu WORDS: takes --cpu NAME off the words, and leaves the others in `words`. `cpu` is then the set of
-# instructions that programs are built for: without --cpu the larger one where the loader says that the machine has it.
+# instructions that programs are built for, or `both`: without --cpu the larger one where the loader says that the
+# machine has it. What is built is run once, so `both` needs a machine that has the larger one.
 read_cpu() {
     cpu=
     if [ "${1:-}" = --cpu ]; then
@@ -54,7 +55,8 @@ read_cpu() {
         shift $(($# < 2 ? $# : 2))
         case $cpu in
         x86-64-v2 | x86-64-v3) ;;
-        *) fail "no processor '$cpu': there are x86-64-v2 and x86-64-v3" ;;
+        both) [ "$(best_cpu)" = x86-64-v3 ] || fail '--cpu both runs what it builds: this machine has no x86-64-v3' ;;
+        *) fail "no processor '$cpu': there are x86-64-v2, x86-64-v3 and both" ;;
         esac
     fi
     words=("$@")

@@ -7,6 +7,8 @@ import shutil
 import subprocess
 
 import clients
+from file_program import file_program_agrees
+from launcher import OLD, SETS
 from report import Fault, tail, want
 from sides import THEIRS, Side, others, run
 from tools import C, TOP, must
@@ -16,8 +18,10 @@ PREFIX = '/usr/lib/twox-hash'
 FOLDER = os.path.join(PREFIX, 'lib')
 PLAIN, V3 = (os.path.join(FOLDER, part, 'libxxhash.so.0') for part in ('', 'glibc-hwcaps/x86-64-v3'))
 # What of lintian is left: the second `lib` of the folder is meant, as in those of LLVM; xxh is no C, whose calls gcc
-# could fortify; and a word that it takes for a misspelled one is code.
-LEFT = ('repeated-path-segment', 'hardening-no-fortify-functions', 'spelling-error-in-binary')
+# could fortify; a word that it takes for a misspelled one is code; and what it takes for a library that needs no other
+# is a program, linked statically so that it starts without any.
+LEFT = ('repeated-path-segment', 'hardening-no-fortify-functions', 'spelling-error-in-binary',
+        'shared-library-lacks-prerequisites')
 EXAMPLE = os.path.join(TOP, 'examples', 'c', 'hash-file.c')
 
 
@@ -49,7 +53,7 @@ def is_installed():
 
 
 def lintian_is_silent(package):
-    """But for three hints: see LEFT."""
+    """But for a warning and three hints: see LEFT."""
     said = must(['lintian', '--fail-on', 'none', '--display-info', '--pedantic', '--suppress-tags', ','.join(LEFT),
                  package.file])
     tags = [line for line in said.splitlines() if re.match('[EWIP]: ', line)]
@@ -151,6 +155,23 @@ def commands_are_there(package):
     want('xxh blocks' in must(['zcat', '/usr/share/man/man1/xxh.1.gz']), 'the manual page is another')
 
 
+def both_builds_run(package, v3):
+    """xxhsum by its four names beside Debian's; and what is called runs the build that the processor has."""
+    note = file_program_agrees(PREFIX)
+    if not v3:
+        return note
+    for words, build in (([], SETS[v3]), (OLD, SETS[0])):
+        path = os.path.join(PREFIX, 'libexec', NAME, build, 'xxhsum')
+        os.rename(path, path + '.away')
+        done = subprocess.run([*words, os.path.join(PREFIX, 'bin', 'xxhsum'), EXAMPLE], stdout=subprocess.PIPE,
+                              stderr=subprocess.PIPE, text=True)
+        os.rename(path + '.away', path)
+        want((done.returncode, done.stdout) == (127, '') and path in done.stderr, f'{build} is not what runs')
+        want(must([*words, os.path.join(PREFIX, 'bin', 'xxhsum'), '-q', EXAMPLE]) == must(['xxhsum', '-q', EXAMPLE]),
+             f'{build} prints another line')
+    return note + '; each build where the processor has it'
+
+
 def change_is_told(package):
     """dpkg -V names a file that somebody changed."""
     path = os.path.join(PREFIX, 'include', 'xxhash.h')
@@ -187,6 +208,7 @@ def check_all(report, room, sides, v3):
         report.attempt('the Debian package: python3-xxhash where it is told to', runs_where_told, package, sides)
         report.attempt('the Debian package: a whole machine', serves_a_machine, package)
         report.attempt('the Debian package: xxh', commands_are_there, package)
+        report.attempt('the Debian package: both builds of xxhsum', both_builds_run, package, v3)
         report.attempt('the Debian package: a changed file is told', change_is_told, package)
         report.attempt('the Debian package: removed', leaves_nothing, package)
     finally:

@@ -1,6 +1,6 @@
 //! Why a name gives no file.
 
-ghost use Rattle.std.specs.Prelude.{◌≡◌, ◌≤◌};
+ghost use Rattle.std.specs.Prelude.{◌≡◌, ◌≤◌, take};
 
 // Room for the system's words for an error, which are shorter.
 const TEXT_ROOM: usize = 256;
@@ -19,7 +19,8 @@ impl Refusal {
 
     /// The refusal of this number, as 2, and these words, of which it takes 256 bytes at most.
     pub fn new(code: i32, words: &[u8]) -> Refusal
-        ensures { refusal_code result ≡ code }
+        ensures code { refusal_code result ≡ code }
+        ensures words { refusal_text result ≡ take 256 words.now }
     {
         let len = words.len().min(TEXT_ROOM);
         let mut text = [0; TEXT_ROOM];

@@ -1,5 +1,5 @@
 -- Findings of lines, and the report that they add up to.
-use Rattle.std.proofs.Common.{◌≡◌, ◌⊎◌, ℕ, ◌&&◌, Bool, true, false, List, [], ◌∷◌, ◌++◌, Ok, Err, IfErr, OnOk, refl, sym, ap, subst, ◌∙◌, inl, inr, append-nil, append_assoc}
+use Rattle.std.proofs.Common.{◌≡◌, ◌⊎◌, ℕ, ◌&&◌, Bool, true, List, [], ◌∷◌, ◌++◌, Ok, Err, IfErr, OnOk, refl, sym, ap, subst, ◌∙◌, inl, inr, append-nil, append_assoc}
 use Rattle.std.specs.List.{AllByRecursion, concat}
 use Rattle.std.specs.declared.result.Result.{Result}
 use Rattle.xxh_io.specs.Pieces.{Pieces}
@@ -9,9 +9,12 @@ use Rattle.xxhsum_program.specs.declared.stop.Stop.{Stop}
 use Rattle.xxhsum_program.specs.Lines.{IsOfWriting}
 use Rattle.xxhsum_program.specs.declared.lines.Lines.{Lines}
 use Rattle.xxhsum_program.specs.declared.lines.Next.TheVariants as Variant
-use Rattle.xxhsum_program.specs.CheckList.{BreaksOff, EachHas, EndsInLine, EndsWell, HasLines, ReadsSome, StopsEarly, all_true, with_line_feeds}
+use Rattle.xxhsum_program.specs.CheckList.{BreaksOff, EndsInLine, EndsWell, HasLines, ReadsSome, StopsEarly, all_true, with_line_feeds}
+use Rattle.xxhsum_program.specs.EachHas.{EachHas}
 use Rattle.xxhsum_program.specs.Findings.{Finding, add_up, count_one}
-use Rattle.xxhsum_program.specs.ListLines.{FailsAfter, HasRead, IsAtEnd, IsLine, IsNext, end_piece, line_of, waiting}
+use Rattle.xxhsum_program.specs.LinesView.{HasRead, IsAtEnd, IsNext, line_of, waiting}
+use Rattle.xxhsum_program.specs.ListLines.{FailsAfter, IsLine, end_piece}
+use Rattle.xxhsum_program.proofs.EachFacts.{and-assoc, and-true}
 
 pub on-ok : {T E P : Type 0} (result : Result T E) → P → OnOk result P
 on-ok (Ok x) p = p
@@ -25,12 +28,6 @@ passes-on P (Err f) e is p = subst P (sym is) p
 pub writing-stops : {T : Type 0} (P : Stop → Type 0) (result : Result T Stop) → IfErr result IsOfWriting → IfErr result (λ stop. IsOfWriting stop ⊎ P stop)
 writing-stops P (Ok x) only = tt
 writing-stops P (Err stop) only = inl only
-
-pub EachHas-push : {T : Type 0} (has : List ℕ → T → Type 0) (lines : List (List ℕ)) (xs : List T) (line : List ℕ) (x : T) → EachHas has lines xs → has line x → EachHas has (lines ++ line ∷ []) (xs ++ x ∷ [])
-EachHas-push has [] [] line x each more = (more, tt)
-EachHas-push has [] (y ∷ ys) line x each more = absurd each
-EachHas-push has (l ∷ ls) [] line x each more = absurd each
-EachHas-push has (l ∷ ls) (y ∷ ys) line x each more = (each.0, EachHas-push has ls ys line x each.1 more)
 
 pub add_up-push : (report : Report) (findings : List Finding) (finding : Finding) → add_up report (findings ++ finding ∷ []) ≡ count_one (add_up report findings) finding
 add_up-push report [] finding = refl
@@ -112,14 +109,6 @@ breaks-failed gives fails has_failed source old new lines (done, read, inr so_fa
     let never = ended so_far.0 in cc
 
 -- ---- several lists
-
-and-assoc : (a b c : Bool) → (a && (b && c)) ≡ ((a && b) && c)
-and-assoc true b c = refl
-and-assoc false b c = refl
-
-and-true : (a : Bool) → (a && true) ≡ a
-and-true true = refl
-and-true false = refl
 
 pub all_true-push : (answers : List Bool) (answer : Bool) → all_true (answers ++ answer ∷ []) ≡ (all_true answers && answer)
 all_true-push [] answer = and-true answer

@@ -1,7 +1,6 @@
 -- A hashing run that stops, over any names, outcomes and lines.
-use Rattle.std.proofs.Common.{◌≡◌, ◌≢◌, ℕ, ◌+◌, ◌<◌, Bool, List, [], ◌∷◌, ◌++◌, length, map, take, drop, get_or, refl, sym, ap, ◌∙◌, subst, append-nil, append_assoc, take-append-drop, length-append, arith, Ok, Err}
+use Rattle.std.proofs.Common.{◌≡◌, ◌≢◌, ℕ, ◌+◌, Bool, List, [], ◌∷◌, ◌++◌, length, refl, sym, ap, ◌∙◌, subst, append-nil, append_assoc, length-append, arith, Ok, Err}
 use Rattle.std.specs.List.{concat}
-use Rattle.std.proofs.lemmas.List.{drop_more, map-append}
 use Rattle.std.specs.declared.result.Result.{Result}
 use Rattle.std.specs.Result.{IsErrAnd}
 use Rattle.xxh_io.specs.declared.error.DigestError.TheVariants.{ReadFailed, WriteFailed, TooLong}
@@ -14,20 +13,15 @@ use Rattle.xxhsum_program.specs.declared.outcome.Outcome.TheVariants.{Digested, 
 use Rattle.xxhsum_program.specs.declared.stop.Stop.{Stop}
 use Rattle.xxhsum_program.specs.declared.stop.Stop.TheVariants.{Digest, OutOfMemory}
 use Rattle.xxhsum_program.specs.Lines.{IsOfWriting, PrintsLine, PrintsLines, lines_of, printed_line, told_line}
-use Rattle.xxhsum_program.specs.HashNames.{EachComes, EndsWith}
+use Rattle.xxhsum_program.specs.EachHas.{EachHas}
+use Rattle.xxhsum_program.specs.HashNames.{EndsWith}
 use Rattle.xxhsum_program.specs.Told.{Told}
-use Rattle.xxhsum_program.proofs.OutcomeFacts.{EachComes-push, lines-push}
+use Rattle.xxhsum_program.proofs.EachFacts.{EachHas-push}
+use Rattle.xxhsum_program.proofs.OutcomeFacts.{lines-push}
 
 pub is-err : (result : Result Bool Stop) (stop : Stop) → IsErrAnd result (λ e. e ≡ stop) → result ≡ Err stop
 is-err (Ok x) stop is = absurd is
 is-err (Err e) stop is = ap Err is
-
--- a list around one of its elements
-pub map-split : {A B : Type 0} (f : A → B) (xs : List A) (k : ℕ) (x : A) → k < length xs → x ≡ get_or xs k x → map f xs ≡ map f (take k xs) ++ f x ∷ map f (drop (k + 1) xs)
-map-split f xs k x within is =
-    let parts : xs ≡ take k xs ++ get_or xs k x ∷ drop (k + 1) xs =
-    sym (take-append-drop k xs) ∙ ap (λ rest. take k xs ++ rest) (drop_more xs k x within) in
-    ap (map f) parts ∙ map-append f (take k xs) (get_or xs k x ∷ drop (k + 1) xs) ∙ ap (λ y. map f (take k xs) ++ f y ∷ map f (drop (k + 1) xs)) (sym is)
 
 -- ---- a read that failed
 
@@ -57,8 +51,8 @@ refused-has-value takes refuses kind shape name IsDirectory old new refused = ab
 refused-has-value takes refuses kind shape name (Unopened refusal) old new refused = absurd (nothing-is-refused takes refuses old new refused)
 
 pub stops-printing : {W E : Type 0} (comes : List ℕ → Outcome → Type 0) (fails_on : List ℕ → Stop → Type 0) (takes : W → List ℕ → W → Type 0) (refuses : W → W → Type 0) (e_takes : E → List ℕ → E → Type 0) (e_refuses : E → E → Type 0) (e_failed : E → Bool) (kind : Kind) (shape : Shape) (all names after : List (List ℕ)) (outcomes : List Outcome) (name : List ℕ) (outcome : Outcome) (w_old w_mid w_new : W) (e_old e_new : E) (stop : Stop)
-    → all ≡ names ++ name ∷ after → EachComes comes names outcomes → comes name outcome → Took takes (lines_of (printed_line kind shape) names outcomes) w_old w_mid → Told e_takes e_refuses e_failed (lines_of told_line names outcomes) e_old e_new → PrintsLine {T = Unit {0}} takes refuses (printed_line kind shape name outcome) w_mid w_new (Err stop) → IsOfWriting stop
-    → (done_outcomes : List Outcome) × (done rest : List (List ℕ)) × ((all ≡ done ++ rest) × EachComes comes done done_outcomes × EndsWith fails_on rest done_outcomes (Err stop)) × PrintsLines {T = Bool} takes refuses (lines_of (printed_line kind shape) done done_outcomes) w_old w_new (Err stop) × Told e_takes e_refuses e_failed (lines_of told_line done done_outcomes) e_old e_new
+    → all ≡ names ++ name ∷ after → EachHas comes names outcomes → comes name outcome → Took takes (lines_of (printed_line kind shape) names outcomes) w_old w_mid → Told e_takes e_refuses e_failed (lines_of told_line names outcomes) e_old e_new → PrintsLine {T = Unit {0}} takes refuses (printed_line kind shape name outcome) w_mid w_new (Err stop) → IsOfWriting stop
+    → (done_outcomes : List Outcome) × (done rest : List (List ℕ)) × ((all ≡ done ++ rest) × EachHas comes done done_outcomes × EndsWith fails_on rest done_outcomes (Err stop)) × PrintsLines {T = Bool} takes refuses (lines_of (printed_line kind shape) done done_outcomes) w_old w_new (Err stop) × Told e_takes e_refuses e_failed (lines_of told_line done done_outcomes) e_old e_new
 stops-printing comes fails_on takes refuses e_takes e_refuses e_failed kind shape all names after outcomes name outcome w_old w_mid w_new e_old e_new OutOfMemory parts each came took told prints only =
     (outcomes, names, name ∷ after, (parts, each, tt), subst (λ w. Took takes (lines_of (printed_line kind shape) names outcomes) w_old w) (sym prints) took, told)
 stops-printing comes fails_on takes refuses e_takes e_refuses e_failed kind shape all names after outcomes name outcome w_old w_mid w_new e_old e_new (Digest WriteFailed) parts each came took told prints only =
@@ -69,7 +63,7 @@ stops-printing comes fails_on takes refuses e_takes e_refuses e_failed kind shap
       outcomes ++ outcome ∷ [],
       names ++ name ∷ [],
       after,
-      (parts ∙ sym (append_assoc names (name ∷ []) after), EachComes-push comes names outcomes name outcome each came, tt),
+      (parts ∙ sym (append_assoc names (name ∷ []) after), EachHas-push comes names outcomes name outcome each came, tt),
       subst (λ bytes. Refused takes refuses bytes w_old w_new) (sym lines) (Refused-join takes refuses _ _ w_old w_mid w_new took prints),
       subst (λ bytes. Told e_takes e_refuses e_failed bytes e_old e_new) (sym silent) told,
     )

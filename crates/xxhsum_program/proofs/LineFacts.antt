@@ -16,7 +16,8 @@ use Rattle.xxh_io.proofs.PieceFacts.{Pieces-push, NoneEmpty-push, concat-push}
 use Rattle.xxhsum_line.specs.Parts.{Lacks}
 use Rattle.xxhsum_line.proofs.LackFacts.{at_place, lacks_before, lacks_by_place}
 use Rattle.xxhsum_program.specs.declared.lines.Lines.{Lines}
-use Rattle.xxhsum_program.specs.ListLines.{BeginsTooLong, FailsAfter, HasRead, IsAtEnd, IsBeforeLineFeed, IsLastLine, IsLine, IsTaken, IsUnended, ReadsBehind, StopsAt, end_piece, line_of, waiting}
+use Rattle.xxhsum_program.specs.LinesView.{HasRead, IsAtEnd, IsBeforeLineFeed, IsTaken, ReadsBehind, StopsAt, line_of, waiting}
+use Rattle.xxhsum_program.specs.ListLines.{BeginsTooLong, FailsAfter, IsLastLine, IsLine, IsUnended, end_piece}
 
 -- ---- parts of what waits
 

@@ -1,33 +1,20 @@
 -- Names and their outcomes, where one more comes.
-use Rattle.std.proofs.Common.{◌≡◌, ◌≢◌, ◌&&◌, ℕ, Bool, true, false, List, [], ◌∷◌, ◌++◌, refl, sym, ap, ◌∙◌, append-nil, append_assoc}
+use Rattle.std.proofs.Common.{◌≡◌, ◌≢◌, ◌&&◌, ℕ, List, [], ◌∷◌, ◌++◌, refl, sym, ap, ◌∙◌, append-nil, append_assoc}
 use Rattle.xxh_io.specs.declared.error.DigestError.TheVariants.{ReadFailed, WriteFailed, TooLong}
 use Rattle.xxhsum_program.specs.declared.outcome.Outcome.{Outcome}
 use Rattle.xxhsum_program.specs.declared.stop.Stop.{Stop}
 use Rattle.xxhsum_program.specs.declared.stop.Stop.TheVariants.{Digest, OutOfMemory}
 use Rattle.xxhsum_program.specs.Outcomes.{FailsOn, is_digested, are_digested}
 use Rattle.xxhsum_program.specs.Lines.{lines_of}
-use Rattle.xxhsum_program.specs.HashNames.{EachComes}
+use Rattle.xxhsum_program.specs.EachHas.{EachHas}
+use Rattle.xxhsum_program.proofs.EachFacts.{and-assoc, and-true}
 
-pub EachComes-push : (comes : List ℕ → Outcome → Type 0) (names : List (List ℕ)) (outcomes : List Outcome) (name : List ℕ) (outcome : Outcome) → EachComes comes names outcomes → comes name outcome → EachComes comes (names ++ name ∷ []) (outcomes ++ outcome ∷ [])
-EachComes-push comes [] [] name outcome each more = (more, tt)
-EachComes-push comes [] (o ∷ os) name outcome each more = absurd each
-EachComes-push comes (n ∷ ns) [] name outcome each more = absurd each
-EachComes-push comes (n ∷ ns) (o ∷ os) name outcome each more = (each.0, EachComes-push comes ns os name outcome each.1 more)
-
-pub lines-push : (comes : List ℕ → Outcome → Type 0) (line : List ℕ → Outcome → List ℕ) (names : List (List ℕ)) (outcomes : List Outcome) (name : List ℕ) (outcome : Outcome) → EachComes comes names outcomes → lines_of line (names ++ name ∷ []) (outcomes ++ outcome ∷ []) ≡ lines_of line names outcomes ++ line name outcome
+pub lines-push : (comes : List ℕ → Outcome → Type 0) (line : List ℕ → Outcome → List ℕ) (names : List (List ℕ)) (outcomes : List Outcome) (name : List ℕ) (outcome : Outcome) → EachHas comes names outcomes → lines_of line (names ++ name ∷ []) (outcomes ++ outcome ∷ []) ≡ lines_of line names outcomes ++ line name outcome
 lines-push comes line [] [] name outcome each = append-nil (line name outcome)
 lines-push comes line [] (o ∷ os) name outcome each = absurd each
 lines-push comes line (n ∷ ns) [] name outcome each = absurd each
 lines-push comes line (n ∷ ns) (o ∷ os) name outcome each =
     ap (λ bytes. line n o ++ bytes) (lines-push comes line ns os name outcome each.1) ∙ sym (append_assoc (line n o) (lines_of line ns os) (line name outcome))
-
-and-assoc : (a b c : Bool) → (a && (b && c)) ≡ ((a && b) && c)
-and-assoc true b c = refl
-and-assoc false b c = refl
-
-and-true : (a : Bool) → (a && true) ≡ a
-and-true true = refl
-and-true false = refl
 
 pub are_digested-push : (outcomes : List Outcome) (outcome : Outcome) → are_digested (outcomes ++ outcome ∷ []) ≡ (are_digested outcomes && is_digested outcome)
 are_digested-push [] outcome = and-true (is_digested outcome)

@@ -5,17 +5,12 @@ use Rattle.xxh_io.specs.Pieces.{Pieces, NoneEmpty, Step, Failing}
 use Rattle.xxhsum_files.specs.declared.refusal.Refusal.{Refusal}
 use Rattle.xxhsum_program.specs.declared.check.Report.{Report}
 use Rattle.xxhsum_program.specs.declared.stop.Stop.{Stop}
+use Rattle.xxhsum_program.specs.declared.stop.Stop.TheVariants.{OutOfMemory}
+use Rattle.xxhsum_program.specs.EachHas.{EachHas}
 use Rattle.xxhsum_program.specs.Findings.{Finding, report_of, with_broken_end}
 use Rattle.xxhsum_program.specs.Lines.{IsOfWriting}
 use Rattle.xxhsum_program.specs.ListLines.{BeginsTooLong, FailsAfter, IsLastLine, IsLine, IsUnended, end_piece}
 use Rattle.xxhsum_program.specs.Report.{is_good}
-
--- as many as lines or names, each that of its own
-abbrev pub EachHas : {T : Type 0} → (List ℕ → T → Type 0) → List (List ℕ) → List T → Type 0
-EachHas has [] [] = Unit {0}
-EachHas has [] (x ∷ xs) = ⊥
-EachHas has (line ∷ lines) [] = ⊥
-EachHas has (line ∷ lines) (x ∷ xs) = has line x × EachHas has lines xs
 
 -- lines, each with its line feed
 abbrev pub with_line_feeds : List (List ℕ) → List ℕ
@@ -103,3 +98,16 @@ all_true (answer ∷ answers) = answer && all_true answers
 abbrev pub AnswersFor : (List ℕ → Bool → Type 0) → List (List ℕ) → Bool → Type 0
 AnswersFor is_answer names all =
     (answers : List Bool) × EachHas is_answer names answers × (all ≡ all_true answers)
+
+-- the list of this name was opened, and stopped early; or it can't be opened, and there was no memory to say so
+abbrev pub StopsInList : {S F : Type 0} → (List ℕ → Finding → Type 0) → (List ℕ → Stop → Type 0)
+    → (S → List ℕ → F → Type 0) → (S → List ℕ → Refusal → Type 0) → Step F → S → List ℕ → Stop → Type 0
+StopsInList {S} {F} is_finding fails_on opens refuses gives store name stop =
+    ((file : F) × opens store name file × StopsEarly is_finding fails_on gives file stop)
+    ⊎ ((refusal : Refusal) × refuses store name refusal × (stop ≡ OutOfMemory))
+
+-- the first of the names have their answers, and the next one's list stopped for this reason
+abbrev pub StopsAtList : (List ℕ → Bool → Type 0) → (List ℕ → Stop → Type 0) → List (List ℕ) → Stop → Type 0
+StopsAtList is_answer stops_in names stop =
+    (done after : List (List ℕ)) × (name : List ℕ) × (answers : List Bool)
+    × (names ≡ done ++ name ∷ after) × EachHas is_answer done answers × stops_in name stop

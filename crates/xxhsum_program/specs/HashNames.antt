@@ -9,16 +9,10 @@ use Rattle.xxhsum_files.specs.declared.refusal.Refusal.{Refusal}
 use Rattle.xxhsum_program.specs.declared.outcome.Outcome.{Outcome}
 use Rattle.xxhsum_program.specs.declared.stop.Stop.{Stop}
 use Rattle.xxhsum_program.specs.declared.stop.Stop.TheVariants.{Digest, OutOfMemory}
+use Rattle.xxhsum_program.specs.EachHas.{EachHas}
 use Rattle.xxhsum_program.specs.Outcomes.{Comes, FailsOn, are_digested}
 pub use Rattle.xxhsum_program.specs.Lines.{PrintsLine, PrintsLines, printed_line, told_line, lines_of}
 pub use Rattle.xxhsum_program.specs.Told.{Told}
-
--- as many outcomes as names, each that of its name
-abbrev pub EachComes : (List ℕ → Outcome → Type 0) → List (List ℕ) → List Outcome → Type 0
-EachComes comes [] [] = Unit {0}
-EachComes comes [] (outcome ∷ outcomes) = ⊥
-EachComes comes (name ∷ names) [] = ⊥
-EachComes comes (name ∷ names) (outcome ∷ outcomes) = comes name outcome × EachComes comes names outcomes
 
 -- where the run ended well, no name is left, and the answer is whether each has a value; where a read failed, it was
 -- that of the first name that is left
@@ -37,5 +31,5 @@ abbrev pub HashesNames : {S F : Type 0} → (S → List ℕ → F → Type 0) �
     → List (List ℕ) → List Outcome → Result Bool Stop → Type 0
 HashesNames opens refuses holds_directory gives fails store kind names done rest outcomes result =
     (names ≡ done ++ rest)
-    × EachComes (Comes opens refuses holds_directory gives fails store kind) done outcomes
+    × EachHas (Comes opens refuses holds_directory gives fails store kind) done outcomes
     × EndsWith (FailsOn opens gives fails store) rest outcomes result

@@ -1,9 +1,13 @@
 pub mod CheckList
+pub mod EachHas
 pub mod Findings
 pub mod Found
 pub mod HashNames
 pub mod Lines
+pub mod LinesView
 pub mod ListLines
 pub mod Outcomes
+pub mod Progress
 pub mod Report
 pub mod Told
+pub mod Watched

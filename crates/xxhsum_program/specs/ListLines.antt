@@ -1,14 +1,8 @@
--- The lines of a list, and how they come from the reads of a source.
-use Rattle.std.specs.Prelude.{◌≡◌, ◌⊎◌, ℕ, ◌+◌, ◌-◌, ◌<◌, ◌≤◌, Bool, true, List, [], ◌∷◌, ◌++◌, Option, Some, None, length, slice_range, if◌then◌else◌}
+-- The lines of a list, and reads of a list that break off.
+use Rattle.std.specs.Prelude.{◌≡◌, ◌⊎◌, ℕ, ◌<◌, ◌≤◌, Bool, true, List, [], ◌∷◌, ◌++◌, length, if◌then◌else◌}
 use Rattle.std.specs.List.{concat}
-use Rattle.std.specs.declared.result.Result.{Result}
-use Rattle.std.specs.declared.result.Result.TheVariants.{Ok, Err}
-use Rattle.xxh_io.specs.declared.ends.Failed.{Failed}
 use Rattle.xxh_io.specs.Pieces.{Pieces, NoneEmpty, Step, Failing}
 use Rattle.xxhsum_line.specs.Parts.{Lacks}
-use Rattle.xxhsum_program.specs.declared.lines.Lines.{Lines}
-use Rattle.xxhsum_program.specs.declared.lines.Next.{Next}
-use Rattle.xxhsum_program.specs.declared.lines.Next.TheVariants as Variant
 
 -- a line without the line feed that ends it: with it, it has at most 32,767 bytes
 abbrev pub IsLine : List ℕ → Type 0
@@ -28,53 +22,9 @@ BeginsTooLong bytes =
     (front rest : List ℕ) × (bytes ≡ front ++ rest) × Lacks 10 front × (32767 ≤ length front)
     × (32767 < length bytes)
 
--- the bytes that were read and wait
-abbrev pub waiting : {R : Type 0} → Lines R → List ℕ
-waiting lines = slice_range lines.buf lines.start lines.end
-
--- the source has ended, and nothing waits
-abbrev pub IsAtEnd : {R : Type 0} → Lines R → Type 0
-IsAtEnd lines = (lines.has_ended ≡ true) × (waiting lines ≡ [])
-
--- so many of the bytes that wait come before the first line feed among them, or there is none
-abbrev pub IsBeforeLineFeed : {R : Type 0} → Option ℕ → Lines R → Type 0
-IsBeforeLineFeed None lines = Lacks 10 (waiting lines)
-IsBeforeLineFeed (Some len) lines =
-    let front = slice_range lines.buf lines.start (lines.start + len) in
-    let rest = slice_range lines.buf (lines.start + (len + 1)) lines.end in
-    (lines.start + len < lines.end) × Lacks 10 front × (waiting lines ≡ front ++ 10 ∷ rest)
-
--- where there is none, no further read is wanted
-abbrev pub StopsAt : {R : Type 0} → Option ℕ → Lines R → Type 0
-StopsAt (Some len) lines = IsBeforeLineFeed (Some len) lines
-StopsAt None lines =
-    IsBeforeLineFeed None lines × ((lines.has_ended ≡ true) ⊎ (32767 < lines.end - lines.start))
-
--- the line that came last
-abbrev pub line_of : {R : Type 0} → Lines R → List ℕ
-line_of lines = slice_range lines.buf lines.line_start lines.line_end
-
--- so many of the bytes that waited are gone, and the first of them are the line that came last
-abbrev pub IsTaken : {R : Type 0} → ℕ → ℕ → Lines R → Lines R → Type 0
-IsTaken len taken old new =
-    (line_of new ≡ slice_range old.buf old.start (old.start + len))
-    × (new.source ≡ old.source) × (new.has_ended ≡ old.has_ended)
-    × (waiting new ≡ slice_range old.buf (old.start + taken) old.end)
-
--- how many more reads the next line takes at most
-abbrev pub most_reads_left : {R : Type 0} → Lines R → ℕ
-most_reads_left lines = (if lines.has_ended then 0 else 1) + (65536 - (lines.end - lines.start))
-
 -- the piece of a source's last read is empty
 abbrev pub end_piece : Bool → List (List ℕ)
 end_piece has_ended = if has_ended then [] ∷ [] else []
-
--- reads, of which none but the last was empty, gave the bytes `done` and then those that wait
-abbrev pub HasRead : {R : Type 0} → Step R → R → List ℕ → Lines R → Type 0
-HasRead gives from done lines =
-    (pieces : List (List ℕ)) × NoneEmpty pieces
-    × Pieces gives from (pieces ++ end_piece lines.has_ended) lines.source
-    × (concat pieces ≡ done ++ waiting lines)
 
 -- the source had failed before, or its read fails
 abbrev pub CantRead : {R : Type 0} → Failing R → (R → Bool) → R → Type 0
@@ -85,22 +35,3 @@ abbrev pub FailsAfter : {R : Type 0} → Step R → Failing R → (R → Bool) �
 FailsAfter {R} gives fails has_failed from bytes =
     (pieces : List (List ℕ)) × (met : R) × NoneEmpty pieces × Pieces gives from pieces met
     × CantRead fails has_failed met × (concat pieces ≡ bytes)
-
--- what was read behind `done`, and whether a read failed
-abbrev pub ReadsBehind : {R T : Type 0} → Step R → Failing R → (R → Bool) → R → List ℕ → Lines R
-    → Result T Failed → Type 0
-ReadsBehind gives fails has_failed from done new (Ok x) = HasRead gives from done new
-ReadsBehind gives fails has_failed from done new (Err e) =
-    FailsAfter gives fails has_failed from (done ++ waiting new) × IsUnended (waiting new)
-
--- What comes next behind the bytes `done`: a line and its line feed; a last line; bytes that are too long for a line;
--- nothing, since the source has ended; or bytes that no line feed ends, since a read failed.
-abbrev pub IsNext : {R : Type 0} → Step R → Failing R → (R → Bool) → R → List ℕ → Lines R → Next → Type 0
-IsNext gives fails has_failed from done new Variant.Line =
-    (IsLine (line_of new) × HasRead gives from (done ++ line_of new ++ 10 ∷ []) new)
-    ⊎ (IsLastLine (line_of new) × HasRead gives from (done ++ line_of new) new × IsAtEnd new)
-IsNext gives fails has_failed from done new Variant.TooLong =
-    HasRead gives from done new × BeginsTooLong (waiting new)
-IsNext gives fails has_failed from done new Variant.End = HasRead gives from done new × IsAtEnd new
-IsNext gives fails has_failed from done new Variant.Failed =
-    FailsAfter gives fails has_failed from (done ++ waiting new) × IsUnended (waiting new)

@@ -1,13 +1,14 @@
 //! Lists of checksum lines, and whether their files are as the lines say.
 
 ghost use Rattle.std.specs.Prelude.{◌≡◌, ◌⊎◌, ◌<◌, length, map, IfErr, IfOk, OnOk};
-ghost use Rattle.xxhsum_program.specs.CheckList.{AnswersFor, IsAnswer, IsReport, IsVerdict, StopsEarly};
+ghost use Rattle.xxhsum_program.specs.CheckList.{AnswersFor, IsAnswer, IsReport, IsVerdict, StopsAtList, StopsEarly, StopsInList};
 ghost use Rattle.xxhsum_program.specs.Findings.{CountsLine, FailsOnLine, IsFinding, no_findings, with_broken_end};
 ghost use Rattle.xxhsum_program.specs.Lines.{IsOfWriting};
 ghost use Rattle.xxhsum_program.specs.Report.{is_good};
 
 use crate::entry::{Found, compare, say_found};
 use crate::lines::{Lines, Next};
+use crate::outcome::OFFERED;
 use crate::say::{decimal, joined, say};
 use crate::stop::Stop;
 use crate::tell::tell;
@@ -16,9 +17,6 @@ use xxh_io::ends::{Sink, Source};
 use xxhsum_files::store::Store;
 use xxhsum_line::entry::entry_of;
 use xxhsum_words::options::Options;
-
-// How many bytes each read of a file is offered.
-const OFFERED: usize = 131072;
 
 /// What was found in a list: how many of its lines are of each kind.
 #[derive(Clone, Copy, Debug, PartialEq, Eq)]
@@ -304,9 +302,15 @@ fn check_named<S: Store, W: Sink, E: Sink>(
     out: &mut W,
     err: &mut E,
 ) -> Result<bool, Stop>
-    ensures { IfOk result (IsAnswer (IsFinding S.opens S.refuses S.File.gives S.File.fails store.now
-        options.is_little_endian) S.opens S.refuses S.File.gives S.File.fails S.File.has_failed store.now
-        options.is_strict name.now) }
+    ensures answer { IfOk result
+        (IsAnswer (IsFinding S.opens S.refuses S.File.gives S.File.fails store.now
+        options.is_little_endian) S.opens S.refuses S.File.gives S.File.fails S.File.has_failed
+        store.now options.is_strict name.now) }
+    ensures stops { IfErr result
+        (StopsInList (IsFinding S.opens S.refuses S.File.gives S.File.fails store.now
+        options.is_little_endian)
+        (FailsOnLine S.opens S.File.gives S.File.fails store.now options.is_little_endian)
+        S.opens S.refuses S.File.gives store.now name.now) }
 {
     match store.open(name) {
         Ok(file) => check_list(alloc, store, options, name, file, out, err),
@@ -331,7 +335,8 @@ fn check_named<S: Store, W: Sink, E: Sink>(
 ///
 /// # Errors
 ///
-/// As [`check_list`]. A list that can't be opened is told, and isn't good.
+/// As [`check_list`], at once: the lists before have their answers, and those after are not opened. A list that can't
+/// be opened is told, and isn't good.
 pub fn check_lists<S: Store, W: Sink, E: Sink>(
     alloc: Global,
     store: &S,
@@ -340,10 +345,18 @@ pub fn check_lists<S: Store, W: Sink, E: Sink>(
     out: &mut W,
     err: &mut E,
 ) -> Result<bool, Stop>
-    ensures { IfOk result
+    ensures answers { IfOk result
         (AnswersFor (IsAnswer (IsFinding S.opens S.refuses S.File.gives S.File.fails store.now
         options.is_little_endian) S.opens S.refuses S.File.gives S.File.fails S.File.has_failed
         store.now options.is_strict) (map (λ name. name.items) names.now)) }
+    ensures stops { IfErr result
+        (StopsAtList (IsAnswer (IsFinding S.opens S.refuses S.File.gives S.File.fails store.now
+        options.is_little_endian) S.opens S.refuses S.File.gives S.File.fails S.File.has_failed
+        store.now options.is_strict)
+        (StopsInList (IsFinding S.opens S.refuses S.File.gives S.File.fails store.now
+        options.is_little_endian)
+        (FailsOnLine S.opens S.File.gives S.File.fails store.now options.is_little_endian)
+        S.opens S.refuses S.File.gives store.now) (map (λ name. name.items) names.now)) }
 {
     let mut all = true;
     for name in names {

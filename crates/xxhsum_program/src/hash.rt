@@ -12,7 +12,7 @@ ghost use Rattle.xxhsum_program.specs.HashNames.{HashesNames};
 ghost use Rattle.xxhsum_program.specs.Lines.{IsOfWriting, PrintsInput, PrintsLine, PrintsLines, lines_of, printed_line, told_line};
 ghost use Rattle.xxhsum_program.specs.Told.{Told};
 
-use crate::outcome::{MAX_READS, Outcome, outcome_of};
+use crate::outcome::{MAX_READS, OFFERED, Outcome, outcome_of};
 use crate::stop::Stop;
 use crate::tell::tell;
 use std::alloc::Global;
@@ -22,9 +22,6 @@ use xxh_io::write::write_all;
 use xxh_program::program::value_of_source;
 use xxhsum_files::store::Store;
 use xxhsum_line::printed::{Shape, digest_line};
-
-// How many bytes each read of a file is offered.
-const OFFERED: usize = 131072;
 
 /// Writes the digest line of each named file, in order, and tells of the names that have none. Answers whether all
 /// have one.

@@ -41,7 +41,7 @@ pub(crate) struct Lines<R> {
 
 impl<R: Source + Drop> Lines<R> {
     ghost use Rattle.xxhsum_line.specs.Parts.{Lacks};
-    ghost use Rattle.xxhsum_program.specs.ListLines.{HasRead, IsAtEnd, IsBeforeLineFeed, IsNext, IsTaken, ReadsBehind, StopsAt, line_of, most_reads_left, waiting};
+    ghost use Rattle.xxhsum_program.specs.LinesView.{HasRead, IsAtEnd, IsBeforeLineFeed, IsNext, IsTaken, ReadsBehind, StopsAt, line_of, most_reads_left, waiting};
 
     pub(crate) fn new(source: R) -> Lines<R>
         ensures { HasRead R.gives source [] result }

@@ -5,15 +5,17 @@ ghost use Rattle.std.specs.Prelude.{◌≡◌, ◌≤◌, false};
 use crate::arguments::{arguments, last_part};
 use crate::check::{check_list, check_lists};
 use crate::hash::{hash_input, hash_names};
+use crate::progress::{CLEARED, Meter};
 use crate::say::joined;
 use crate::stop::Stop;
 use crate::tell::tell;
 use crate::usage::{ABOUT, NO_BENCHMARK, OPTIONS, TITLE};
+use crate::watched::{Watched, WatchedFiles};
 use std::alloc::{AllocError, Global};
 use std::fs::Files;
 use std::io::{IsTerminal, Read, Write};
 use std::rt::Env;
-use xxh_io::ends::Sink;
+use xxh_io::ends::{Sink, Source};
 use xxh_io::error::DigestError;
 use xxh_io::from_read::FromRead;
 use xxh_io::from_write::FromWrite;
@@ -26,10 +28,6 @@ use xxhsum_words::options::{Asked, Options, asked_by};
 // What standard input is called in lines.
 const INPUT: &[u8] = b"stdin";
 
-// Takes the cursor back to an empty line, as after a line of progress.
-const CLEARED: &[u8] =
-    b"\r                                                                      \r";
-
 /// Runs the program with the arguments of the process over these streams, and answers the exit status: 0 where every
 /// file was digested, or is as its line says, and else 1.
 pub fn run_process<P, R, W, E>(process: &P, input: R, output: W, errors: E) -> u8
@@ -37,7 +35,7 @@ where
     P: Env + AllocGlobal + Files,
     R: Read + IsTerminal + Drop,
     W: Write + Drop,
-    E: Write + Drop,
+    E: Write + IsTerminal + Copy + Drop,
     ensures { result ≤ 1 }
 {
     let mut out = FromWrite::new(output);
@@ -45,7 +43,15 @@ where
     let done = match arguments(process) {
         Ok(args) => {
             let store = SystemFiles::new(process);
-            run(process.alloc(), &store, &args, input, &mut out, &mut err)
+            run(
+                process.alloc(),
+                &store,
+                &args,
+                input,
+                &mut out,
+                &mut err,
+                errors,
+            )
         }
         Err(AllocError) => Err(Stop::OutOfMemory),
     };
@@ -71,20 +77,23 @@ fn line_of(stop: Stop) -> &'static [u8] {
     }
 }
 
-// Does what the arguments ask for. Answers whether all went well.
-fn run<S, R, W, E>(
+// Does what the arguments ask for. Progress is shown on the screen, which is standard error too. Answers whether all
+// went well.
+fn run<S, R, W, E, T>(
     alloc: Global,
     store: &S,
     args: &[Vec<u8>],
     input: R,
     out: &mut W,
     err: &mut E,
+    screen: T,
 ) -> Result<bool, Stop>
 where
     S: Store,
     R: Read + IsTerminal + Drop,
     W: Sink,
     E: Sink,
+    T: Write + IsTerminal + Copy + Drop,
     requires writer { W.has_failed out.old ≡ false }
     requires errors { E.has_failed err.old ≡ false }
 {
@@ -101,7 +110,11 @@ where
             if names.is_empty() && !options.takes_terminal && input.is_terminal() {
                 return tell_usage(alloc, program, b"Wrong parameters\n\n", err);
             }
-            perform(alloc, store, options, names, input, out, err)
+            let shows = screen.is_terminal() && !options.is_quiet && !options.is_status_only;
+            let files = WatchedFiles::new(store, screen, shows);
+            let meter = Meter::new(FromWrite::new(screen), shows);
+            let input = Watched::new(FromRead::new(input), meter);
+            perform(alloc, &files, options, names, input, out, err)
         }
         Asked::Version => {
             tell(&joined(alloc, &[program, TITLE])?, err);
@@ -149,9 +162,10 @@ fn perform<S, R, W, E>(
 ) -> Result<bool, Stop>
 where
     S: Store,
-    R: Read + Drop,
+    R: Source + Drop,
     W: Sink,
     E: Sink,
+    requires reader { R.has_failed input ≡ false }
     requires writer { W.has_failed out.old ≡ false }
     requires errors { E.has_failed err.old ≡ false }
 {
@@ -159,7 +173,7 @@ where
         is_tagged: options.is_tagged,
         is_little: options.is_little_endian,
     };
-    let mut input = FromRead::new(input);
+    let mut input = input;
     match (options.checks, names.is_empty()) {
         (true, true) => check_list(alloc, store, options, INPUT, input, out, err),
         (true, false) => check_lists(alloc, store, options, names, out, err),

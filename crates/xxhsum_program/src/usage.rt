@@ -14,12 +14,14 @@ Without a file, or with -, standard input is read.
   -c, --check         the files are lists of digests, whose files are compared
   --tag               lines as BSD's programs write them
   --little-endian     digests with their lowest byte first
-  -q, --quiet         with -c: no line for a file that is as it should be
-  --status            with -c: no lines, the exit status alone
+  -q, --quiet         no progress; with -c: no line for a file that is as it should be
+  --status            no progress; with -c: no lines, the exit status alone
   --strict            with -c: a line that is none makes the list a bad one
   -w, --warn          with -c: each such line is told
   -h, --help          this text
   -V, --version       the version
+
+Where standard error is a terminal, it shows how much of a long file was read.
 
 The exit status is 0 where every file was digested, or is as its line says, and else 1.
 ";

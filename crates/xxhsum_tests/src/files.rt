@@ -1,5 +1,6 @@
 //! Files by name, in memory and of the system.
 
+use crate::entry::entry;
 use std::test::Fail;
 use xxh_io::ends::Source;
 use xxh_io::script_source::{ScriptSource, SliceSource};
@@ -22,6 +23,14 @@ fn first_read<'a, S: Store>(store: &S, name: &[u8], room: &'a mut [u8; 16]) -> &
     }
 }
 
+// Whether each name leads to what the row has: what the first read of its file gives, or a word where there is none;
+// and whether it is a directory's.
+pub(crate) fn leads_to<S: Store>(store: &S, rows: &[(&[u8], &[u8], bool)]) -> bool {
+    rows.iter().all(|(name, want, is_directory)| {
+        first_read(store, name, &mut [0; 16]) == *want && store.is_directory(name) == *is_directory
+    })
+}
+
 // The first of two entries of one name counts; a read may fail as the script has it.
 #[test]
 fn a_table_gives_the_source_of_the_first_entry(rt: HostRuntime) {
@@ -32,28 +41,18 @@ fn a_table_gives_the_source_of_the_first_entry(rt: HostRuntime) {
         entry(b"d", ScriptSource::new(b"", &[], 1), true),
     ];
     let store = MemoryFiles::new(&entries);
-    for (name, want, is_directory) in [
-        (b"a".as_slice(), b"hello".as_slice(), false),
-        (b"\xff", b"byt", false),
-        (b"d", b"fails", true),
-        (b"gone", b"refused", false),
-        (b"", b"refused", false),
-    ] {
-        assert!(rt; first_read(&store, name, &mut [0; 16]) == want);
-        assert!(rt; store.is_directory(name) == is_directory);
-    }
-}
-
-fn entry<'a>(
-    name: &'a [u8],
-    source: ScriptSource<'a>,
-    is_directory: bool,
-) -> MemoryEntry<'a, ScriptSource<'a>> {
-    MemoryEntry {
-        name,
-        source,
-        is_directory,
-    }
+    assert!(rt;
+        leads_to(
+            &store,
+            &[
+                (b"a", b"hello", false),
+                (b"\xff", b"byt", false),
+                (b"d", b"fails", true),
+                (b"gone", b"refused", false),
+                (b"", b"refused", false),
+            ]
+        )
+    );
 }
 
 #[test]
@@ -83,17 +82,18 @@ fn a_refusal_has_its_words(rt: HostRuntime) -> Result<(), Fail> {
 // What every system has: the empty file, the root folder, and names that lead to nothing.
 #[test]
 fn the_system_gives_its_files(rt: HostRuntime) {
-    let store = SystemFiles::new(&rt);
-    for (name, want, is_directory) in [
-        (b"/dev/null".as_slice(), b"".as_slice(), false),
-        (b"/", b"fails", true),
-        (b"/dev/null/a", b"refused", false),
-        (b"/\xff", b"refused", false),
-        (b"", b"refused", false),
-    ] {
-        assert!(rt; first_read(&store, name, &mut [0; 16]) == want);
-        assert!(rt; store.is_directory(name) == is_directory);
-    }
+    assert!(rt;
+        leads_to(
+            &SystemFiles::new(&rt),
+            &[
+                (b"/dev/null", b"", false),
+                (b"/", b"fails", true),
+                (b"/dev/null/a", b"refused", false),
+                (b"/\xff", b"refused", false),
+                (b"", b"refused", false),
+            ]
+        )
+    );
 }
 
 // A refusal has the system's words alone, without std's number behind them.

@@ -1,5 +1,6 @@
 //! The program over a table of names. Digests, lines and answers are those of Debian's `xxhsum` 0.8.1 over such files.
 
+use crate::entry::entry;
 use std::alloc::{AllocError, Global};
 use xxh_io::error::DigestError;
 use xxh_io::kind::Kind;
@@ -33,18 +34,6 @@ fn entries<'a>() -> [MemoryEntry<'a, ScriptSource<'a>>; 5] {
         entry(b"bad", ScriptSource::new(b"hello", &[2, 9], 2), false),
         entry(b"L", ScriptSource::new(LIST, &[7, 999], 0), false),
     ]
-}
-
-fn entry<'a>(
-    name: &'a [u8],
-    source: ScriptSource<'a>,
-    is_directory: bool,
-) -> MemoryEntry<'a, ScriptSource<'a>> {
-    MemoryEntry {
-        name,
-        source,
-        is_directory,
-    }
 }
 
 fn names(alloc: Global, all: &[&[u8]]) -> Result<Vec<Vec<u8>>, AllocError> {

@@ -1,5 +1,6 @@
 use Rattle.std.proofs.Common.{◌≡◌, List, Bool, take, map}
-use Rattle.xxhsum_program.specs.CheckList.{EachHas, IsAnswer, all_true}
+use Rattle.xxhsum_program.specs.CheckList.{IsAnswer, all_true}
+use Rattle.xxhsum_program.specs.EachHas.{EachHas}
 use Rattle.xxhsum_program.specs.Findings.{IsFinding}
 use Rattle.xxhsum_program.proofs.check.check_lists.Given as goal
 

@@ -1,10 +1,10 @@
-use Rattle.std.proofs.Common.{◌≡◌, ◌+◌, ◌∷◌, ◌++◌, [], Ok, Err, map, take, drop, refl, sym, subst, ap, rules}
-use Rattle.std.proofs.lemmas.List.{take_more, map-append}
+use Rattle.std.proofs.Common.{◌≡◌, ◌+◌, ◌∷◌, ◌++◌, [], Ok, Err, map, take, drop, refl, sym, subst, rules}
 use Rattle.xxh_io.proofs.WriteFacts.{Took-join}
 use Rattle.xxhsum_program.specs.Outcomes.{Comes, FailsOn}
 use Rattle.xxhsum_program.specs.Lines.{PrintsLine, printed_line, told_line}
-use Rattle.xxhsum_program.proofs.HashFacts.{is-err, map-split, ends-reading, prints-reading, stops-printing}
-use Rattle.xxhsum_program.proofs.OutcomeFacts.{EachComes-push, lines-push, are_digested-push, never-writing}
+use Rattle.xxhsum_program.proofs.EachFacts.{EachHas-push, map-more, map-split}
+use Rattle.xxhsum_program.proofs.HashFacts.{is-err, ends-reading, prints-reading, stops-printing}
+use Rattle.xxhsum_program.proofs.OutcomeFacts.{lines-push, are_digested-push, never-writing}
 use Rattle.xxhsum_program.proofs.hash.hash_names.Goals as goal
 use Rattle.xxhsum_program.proofs.hash.hash_names.Goals.{then-all, else-all}
 
@@ -26,11 +26,11 @@ loop-name-preserved g c =
     let name = c.name-item.result.items in
     let outcome = c.in_ok-outcome.outcome in
     let longer : map (λ name. name.items) (take (k + 1) c.args.names.now) ≡ names ++ name ∷ [] =
-    rw (take_more c.args.names.now k c.name-item.result c.loop-name-test.true, map-append) (ap (λ v. names ++ v.items ∷ []) (sym c.name-item.is)) in
+    map-more (λ name. name.items) c.args.names.now k c.name-item.result c.loop-name-test.true c.name-item.is in
     let line = printed_line c.args.kind c.args.shape in
     rw longer record {
       outcomes = so_far.outcomes ++ outcome ∷ [];
-      each = EachComes-push _ names so_far.outcomes name outcome so_far.each (rw (sym c.deref.ensures.value) c.in_ok-outcome.ensures.comes);
+      each = EachHas-push _ names so_far.outcomes name outcome so_far.each (rw (sym c.deref.ensures.value) c.in_ok-outcome.ensures.comes);
       prints = rw (lines-push _ line names so_far.outcomes name outcome so_far.each, sym c.deref-in-loop-name.ensures.value)
           (Took-join g.W.Sink.takes _ _ _ _ _ so_far.prints c.in_ok-print_outcome.ensures.prints);
       told = rw (lines-push _ told_line names so_far.outcomes name outcome so_far.each, sym c.deref-in-loop-name-2.ensures.value)

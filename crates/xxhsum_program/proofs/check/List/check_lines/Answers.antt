@@ -2,8 +2,9 @@ use Rattle.std.proofs.Common.{◌≡◌, ◌-◌, ◌^◌, ◌∷◌, ◌++◌, 
 use Rattle.std.proofs.lemmas.List.{length_push}
 use Rattle.xxhsum_program.specs.CheckList.{StopsEarly}
 use Rattle.xxhsum_program.specs.Findings.{FailsOnLine, IsFinding, count_one, no_findings, with_broken_end}
-use Rattle.xxhsum_program.specs.ListLines.{line_of}
-use Rattle.xxhsum_program.proofs.CheckFacts.{EachHas-push, add_up-push, breaks-failed, breaks-too-long, ends-well, passes-on, some-read, stands-line, stands-new, stops-early}
+use Rattle.xxhsum_program.specs.LinesView.{line_of}
+use Rattle.xxhsum_program.proofs.CheckFacts.{add_up-push, breaks-failed, breaks-too-long, ends-well, passes-on, some-read, stands-line, stands-new, stops-early}
+use Rattle.xxhsum_program.proofs.EachFacts.{EachHas-push}
 use Rattle.xxhsum_program.proofs.check.List.check_lines.Goals as goal
 
 pub loop-number-init : goal.loop-number-init

@@ -1,5 +1,5 @@
 use Rattle.std.proofs.Common.{◌≡◌, ◌+◌, List, ℕ, length}
-use Rattle.xxhsum_program.specs.CheckList.{EachHas}
+use Rattle.xxhsum_program.specs.EachHas.{EachHas}
 use Rattle.xxhsum_program.specs.Findings.{Finding, IsFinding, report_of}
 use Rattle.xxhsum_program.proofs.CheckFacts.{Stands}
 use Rattle.xxhsum_program.proofs.check.List.check_lines.Given as goal

@@ -1,5 +1,5 @@
 use Rattle.std.proofs.Common.{List, ℕ}
-use Rattle.xxhsum_program.specs.ListLines.{HasRead, IsAtEnd, most_reads_left}
+use Rattle.xxhsum_program.specs.LinesView.{HasRead, IsAtEnd, most_reads_left}
 use Rattle.xxhsum_program.proofs.lines.Lines.gather.Given as goal
 
 -- what was read so far, unless it had ended before

@@ -1,7 +1,7 @@
 use Rattle.std.proofs.Common.{◌≡◌, ◌+◌, ◌-◌, ◌++◌, ◌≤◌, length, take, slice_range, refl, sym, ap, ◌∙◌, arith}
 use Rattle.std.proofs.lemmas.List.{length-take-le}
 use borrow.Rule.Slice.PartMut.{put_mid}
-use Rattle.xxhsum_program.specs.ListLines.{waiting}
+use Rattle.xxhsum_program.specs.LinesView.{waiting}
 use Rattle.xxhsum_program.proofs.LineFacts.{moved, put-behind, reads-on}
 use Rattle.xxhsum_program.proofs.lines.Lines.refill.Goals as goal
 

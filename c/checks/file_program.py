@@ -1,0 +1,28 @@
+"""The program xxhsum, installed, beside Debian's."""
+import os
+import tempfile
+
+from report import want
+from tools import TOP, must
+
+
+def file_program_agrees(prefix):
+    """The xxhsum below this folder by each of its names beside Debian's, lists that one makes and the other checks, and
+    its manual page."""
+    file = os.path.join(TOP, 'LICENSE')
+    for name in ('xxhsum', 'xxh32sum', 'xxh64sum', 'xxh128sum'):
+        own, theirs = os.path.join(prefix, 'bin', name), f'/usr/bin/{name}'
+        line = must([own, '-q', file])
+        want(line == must([theirs, '-q', file]), f'{name} prints {line!r}')
+        for maker, checker in ((own, theirs), (theirs, own)):
+            want(must([checker, '-c'], stdin=line_file(must([maker, '-q', '--tag', file]))) == f'{file}: OK\n',
+                 f'{checker} refuses what {maker} printed')
+        want(os.path.isfile(os.path.join(prefix, f'share/man/man1/{name}.1')), f'{name} has no manual page')
+    return 'lines and lists of four names'
+
+
+def line_file(text):
+    file = tempfile.TemporaryFile('w+')
+    file.write(text)
+    file.seek(0)
+    return file

@@ -1,0 +1,60 @@
+"""What c/launch.c makes of a program that is built twice: the build that the processor has, called as it was."""
+import os
+import subprocess
+
+from report import want
+from tools import C, must
+
+SHOWS = '''#include <stdio.h>
+int main(int count, char **words)
+{
+    printf("%s", SET);
+    for (int i = 0; i < count; i++)
+        printf("[%s]", words[i]);
+    return count;
+}
+'''
+SETS = ('x86-64-v2', 'x86-64-v3')
+# A processor without AVX2.
+OLD = ['qemu-x86_64', '-cpu', 'Nehalem']
+
+
+def lay_out(room):
+    """Two builds that print which one they are and their words, a launcher, and a link of another name to it."""
+    folder = os.path.join(room, 'launched')
+    source = os.path.join(folder, 'shows.c')
+    os.makedirs(folder)
+    with open(source, 'w') as file:
+        file.write(SHOWS)
+    for name in SETS:
+        os.mkdir(os.path.join(folder, name))
+        must(['gcc', f'-DSET="{name}"', source, '-o', os.path.join(folder, name, 'shows')])
+    must(['gcc', '-O2', '-Wall', '-Wextra', '-Werror', '-static-pie', f'-DFOLDER="{folder}"', '-DPROGRAM="shows"',
+          os.path.join(C, 'launch.c'), '-o', os.path.join(folder, 'launcher')])
+    os.symlink('launcher', os.path.join(folder, 'other-name'))
+    return folder
+
+
+def runs(words, told=b'', **more):
+    done = subprocess.run(words, stdout=subprocess.PIPE, stderr=subprocess.PIPE, **more)
+    want(done.stderr == told, f'{words} tells {done.stderr!r}')
+    return done.returncode, done.stdout
+
+
+def launches(room, v3):
+    """Name, words, answer and standard streams are those of the build; where that is missing, one line says so."""
+    folder = lay_out(room)
+    launcher = os.path.join(folder, 'launcher')
+    best, plain = SETS[v3].encode(), SETS[0].encode()
+    for words in ([], ['-q', '', 'a b'], [b'\xff', '\n', 'x' * 100000]):
+        shown = b''.join(b'[%s]' % (word if isinstance(word, bytes) else word.encode()) for word in words)
+        for name in (launcher, os.path.join(folder, 'other-name'), 'any name'):
+            found = runs([name, *words], executable=launcher)
+            want(found == (1 + len(words), best + b'[%s]' % name.encode() + shown), f'as {name}: {found}'[:300])
+        found = runs([*OLD, launcher, *words])
+        want(found == (1 + len(words), plain + b'[%s]' % launcher.encode() + shown), f'{OLD}: {found}'[:300])
+    missing = os.path.join(folder, SETS[v3], 'shows')
+    os.remove(missing)
+    found = runs([launcher], told=f'shows: {missing}: No such file or directory\n'.encode())
+    want(found == (127, b''), f'without its build: {found}')
+    return f'{SETS[v3]} here, {SETS[0]} under {" ".join(OLD)}; a missing build is told'

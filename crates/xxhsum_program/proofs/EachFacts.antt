@@ -1,0 +1,30 @@
+-- Names or lines and what each has, where one more comes.
+use Rattle.std.proofs.Common.{◌≡◌, ℕ, ◌+◌, ◌<◌, ◌&&◌, Bool, true, false, List, [], ◌∷◌, ◌++◌, length, map, take, drop, get_or, refl, sym, ap, ◌∙◌, take-append-drop}
+use Rattle.std.proofs.lemmas.List.{drop_more, map-append, take_more}
+use Rattle.xxhsum_program.specs.EachHas.{EachHas}
+
+pub EachHas-push : {T : Type 0} (has : List ℕ → T → Type 0) (lines : List (List ℕ)) (xs : List T) (line : List ℕ) (x : T) → EachHas has lines xs → has line x → EachHas has (lines ++ line ∷ []) (xs ++ x ∷ [])
+EachHas-push has [] [] line x each more = (more, tt)
+EachHas-push has [] (y ∷ ys) line x each more = absurd each
+EachHas-push has (l ∷ ls) [] line x each more = absurd each
+EachHas-push has (l ∷ ls) (y ∷ ys) line x each more = (each.0, EachHas-push has ls ys line x each.1 more)
+
+-- a list up to one of its elements
+pub map-more : {A B : Type 0} (f : A → B) (xs : List A) (k : ℕ) (x : A) → k < length xs → x ≡ get_or xs k x → map f (take (k + 1) xs) ≡ map f (take k xs) ++ f x ∷ []
+map-more f xs k x within is =
+    rw (take_more xs k x within, map-append) (ap (λ v. map f (take k xs) ++ f v ∷ []) (sym is))
+
+-- a list around one of its elements
+pub map-split : {A B : Type 0} (f : A → B) (xs : List A) (k : ℕ) (x : A) → k < length xs → x ≡ get_or xs k x → map f xs ≡ map f (take k xs) ++ f x ∷ map f (drop (k + 1) xs)
+map-split f xs k x within is =
+    let parts : xs ≡ take k xs ++ get_or xs k x ∷ drop (k + 1) xs =
+    sym (take-append-drop k xs) ∙ ap (λ rest. take k xs ++ rest) (drop_more xs k x within) in
+    ap (map f) parts ∙ map-append f (take k xs) (get_or xs k x ∷ drop (k + 1) xs) ∙ ap (λ y. map f (take k xs) ++ f y ∷ map f (drop (k + 1) xs)) (sym is)
+
+pub and-assoc : (a b c : Bool) → (a && (b && c)) ≡ ((a && b) && c)
+and-assoc true b c = refl
+and-assoc false b c = refl
+
+pub and-true : (a : Bool) → (a && true) ≡ a
+and-true true = refl
+and-true false = refl

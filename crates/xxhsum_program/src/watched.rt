@@ -1,0 +1,211 @@
+//! Sources and stores whose reads are shown, and which give just what they give without.
+
+ghost use Rattle.std.specs.Prelude.{◌≡◌, ◌<◌, ◌≤◌, false, List, ℕ, Bool, Result, length, take, is_err, IfOk, OnErr};
+ghost use Rattle.xxh_io.specs.Pieces.{Pieces};
+ghost use Rattle.xxhsum_program.specs.Watched.{IsFresh, ShowsRead, files_of, meter_of, shows_reads, source_of};
+ghost use Rattle.xxh_io.specs.declared.kind.Kind.{Kind};
+ghost use Rattle.xxhsum_program.specs.CheckList.{AnswersFor, IsAnswer, IsVerdict, StopsAtList, StopsEarly, StopsInList};
+ghost use Rattle.xxhsum_program.specs.Findings.{FailsOnLine, IsFinding};
+ghost use Rattle.xxhsum_program.specs.HashNames.{HashesNames};
+ghost use Rattle.xxhsum_program.specs.declared.outcome.Outcome.{Outcome};
+ghost use Rattle.xxhsum_program.specs.declared.stop.Stop.{Stop};
+ghost use Rattle.xxhsum_program.specs.declared.watched.Watched.{Watched};
+ghost use Rattle.xxhsum_program.specs.declared.watched.WatchedFiles.{WatchedFiles};
+
+use crate::progress::Meter;
+use std::io::Write;
+use xxh_io::ends::{Failed, Sink, Source};
+use xxh_io::from_write::FromWrite;
+use xxhsum_files::refusal::Refusal;
+use xxhsum_files::store::Store;
+
+/// A source whose reads a meter shows. It gives just what its source gives.
+#[derive(Drop)]
+pub struct Watched<R, E> {
+    source: R,
+    meter: Meter<E>,
+}
+
+impl<R: Source, E: Sink> Watched<R, E> {
+    /// This source, watched by this meter.
+    pub fn new(source: R, meter: Meter<E>) -> Watched<R, E>
+        ensures source { source_of result ≡ source }
+        ensures meter { meter_of result ≡ meter }
+    {
+        Watched { source, meter }
+    }
+}
+
+impl<R: Source, E: Sink> Source for Watched<R, E> {
+    ghost has_failed = { λ watched. R.has_failed (source_of watched) };
+
+    ghost gives = { λ old piece new. R.gives (source_of old) piece (source_of new) };
+
+    ghost fails = { λ old new. R.fails (source_of old) (source_of new) };
+
+    fn failed(&self) -> bool {
+        self.source.failed()
+    }
+
+    fn read(&mut self, buf: &mut [u8]) -> Result<usize, Failed>
+        requires works { R.has_failed (source_of self.old) ≡ false }
+        requires room { 0 < length buf.old }
+        ensures within { IfOk result (λ n. n ≤ length buf.new) }
+        ensures piece { IfOk result
+            (λ n. R.gives (source_of self.old) (take n buf.new) (source_of self.new)) }
+        ensures fails { OnErr result (R.fails (source_of self.old) (source_of self.new)) }
+        ensures failed { R.has_failed (source_of self.new) ≡ is_err result }
+        ensures shows { ShowsRead E.takes E.refuses E.has_failed (meter_of self.old)
+            (meter_of self.new) result }
+    {
+        let found = self.source.read(buf);
+        match found {
+            Ok(count) => self.meter.show(count),
+            Err(Failed) => self.meter.show(0),
+        }
+        found
+    }
+}
+
+/// The files of a store, each watched by a meter of its own on one writer.
+#[derive(Clone, Copy)]
+pub struct WatchedFiles<'a, S, W> {
+    files: &'a S,
+    screen: W,
+    is_on: bool,
+}
+
+impl<'a, S: Store, W: Write + Copy + Drop> WatchedFiles<'a, S, W> {
+    /// The files of this store. Where it is off, nothing is shown.
+    pub fn new(files: &'a S, screen: W, is_on: bool) -> WatchedFiles<'a, S, W>
+        ensures files { files_of result ≡ files.now }
+        ensures shown { shows_reads result ≡ is_on }
+    {
+        WatchedFiles {
+            files,
+            screen,
+            is_on,
+        }
+    }
+}
+
+impl<S: Store, W: Write + Copy + Drop> Store for WatchedFiles<'_, S, W> {
+    type File = Watched<S::File, FromWrite<W>>;
+
+    ghost opens = { λ files name file. S.opens (files_of files) name (source_of file)
+        × IsFresh files (meter_of file) };
+
+    ghost refuses = { λ files name why. S.refuses (files_of files) name why };
+
+    ghost holds_directory = { λ files name answer. S.holds_directory (files_of files) name answer };
+
+    fn is_directory(&self, name: &[u8]) -> bool {
+        self.files.is_directory(name)
+    }
+
+    fn open(&self, name: &[u8]) -> Result<Watched<S::File, FromWrite<W>>, Refusal> {
+        match self.files.open(name) {
+            Ok(file) => {
+                let meter = Meter::new(FromWrite::new(self.screen), self.is_on);
+                Ok(Watched::new(file, meter))
+            }
+            Err(refusal) => Err(refusal),
+        }
+    }
+}
+
+/// A law, with nothing to run: what a watched source gives its source gives.
+pub fn watched_pieces<R: Source, E: Sink>()
+    ensures { (old new : Watched R E) (pieces : List (List ℕ))
+        → Pieces ⟦<Watched<R, E> as Source>⟧.gives old pieces new
+        → Pieces R.gives (source_of old) pieces (source_of new) }
+{}
+
+/// A law, with nothing to run: what a hashing run over watched files says it says of the files.
+pub fn watched_names<S: Store, W: Write + Copy + Drop>()
+    ensures { (files : WatchedFiles S W) (kind : Kind) (names done rest : List (List ℕ))
+        → (outcomes : List Outcome) → (result : Result Bool Stop)
+        → HashesNames ⟦<WatchedFiles<'static, S, W> as Store>⟧.opens
+        ⟦<WatchedFiles<'static, S, W> as Store>⟧.refuses
+        ⟦<WatchedFiles<'static, S, W> as Store>⟧.holds_directory
+        ⟦<Watched<S::File, FromWrite<W>> as Source>⟧.gives
+        ⟦<Watched<S::File, FromWrite<W>> as Source>⟧.fails
+        files kind names done rest outcomes result
+        → HashesNames S.opens S.refuses S.holds_directory S.File.gives S.File.fails
+        (files_of files) kind names done rest outcomes result }
+{}
+
+/// A law, with nothing to run: what the check of a watched list over watched files says it says of the list and the
+/// files.
+pub fn watched_list<S: Store, W: Write + Copy + Drop, R: Source, E: Sink>()
+    ensures verdict { (files : WatchedFiles S W) (list : Watched R E)
+        → (is_little is_strict good : Bool)
+        → IsVerdict (IsFinding ⟦<WatchedFiles<'static, S, W> as Store>⟧.opens
+        ⟦<WatchedFiles<'static, S, W> as Store>⟧.refuses
+        ⟦<Watched<S::File, FromWrite<W>> as Source>⟧.gives
+        ⟦<Watched<S::File, FromWrite<W>> as Source>⟧.fails files is_little)
+        ⟦<Watched<R, E> as Source>⟧.gives ⟦<Watched<R, E> as Source>⟧.fails
+        ⟦<Watched<R, E> as Source>⟧.has_failed list is_strict good
+        → IsVerdict (IsFinding S.opens S.refuses S.File.gives S.File.fails
+        (files_of files) is_little)
+        R.gives R.fails R.has_failed (source_of list) is_strict good }
+    ensures stops { (files : WatchedFiles S W) (list : Watched R E) (is_little : Bool) (stop : Stop)
+        → StopsEarly (IsFinding ⟦<WatchedFiles<'static, S, W> as Store>⟧.opens
+        ⟦<WatchedFiles<'static, S, W> as Store>⟧.refuses
+        ⟦<Watched<S::File, FromWrite<W>> as Source>⟧.gives
+        ⟦<Watched<S::File, FromWrite<W>> as Source>⟧.fails files is_little)
+        (FailsOnLine ⟦<WatchedFiles<'static, S, W> as Store>⟧.opens
+        ⟦<Watched<S::File, FromWrite<W>> as Source>⟧.gives
+        ⟦<Watched<S::File, FromWrite<W>> as Source>⟧.fails files is_little)
+        ⟦<Watched<R, E> as Source>⟧.gives list stop
+        → StopsEarly (IsFinding S.opens S.refuses S.File.gives S.File.fails
+        (files_of files) is_little)
+        (FailsOnLine S.opens S.File.gives S.File.fails (files_of files) is_little)
+        R.gives (source_of list) stop }
+{}
+
+/// A law, with nothing to run: what the check of watched lists says it says of the lists.
+pub fn watched_lists<S: Store, W: Write + Copy + Drop>()
+    ensures answers { (files : WatchedFiles S W) (names : List (List ℕ))
+        → (is_little is_strict all : Bool)
+        → AnswersFor (IsAnswer (IsFinding ⟦<WatchedFiles<'static, S, W> as Store>⟧.opens
+        ⟦<WatchedFiles<'static, S, W> as Store>⟧.refuses
+        ⟦<Watched<S::File, FromWrite<W>> as Source>⟧.gives
+        ⟦<Watched<S::File, FromWrite<W>> as Source>⟧.fails files is_little)
+        ⟦<WatchedFiles<'static, S, W> as Store>⟧.opens
+        ⟦<WatchedFiles<'static, S, W> as Store>⟧.refuses
+        ⟦<Watched<S::File, FromWrite<W>> as Source>⟧.gives
+        ⟦<Watched<S::File, FromWrite<W>> as Source>⟧.fails
+        ⟦<Watched<S::File, FromWrite<W>> as Source>⟧.has_failed files is_strict) names all
+        → AnswersFor (IsAnswer (IsFinding S.opens S.refuses S.File.gives S.File.fails
+        (files_of files) is_little) S.opens S.refuses S.File.gives S.File.fails
+        S.File.has_failed (files_of files) is_strict) names all }
+    ensures stops { (files : WatchedFiles S W) (names : List (List ℕ)) (is_little is_strict : Bool)
+        → (stop : Stop)
+        → StopsAtList (IsAnswer (IsFinding ⟦<WatchedFiles<'static, S, W> as Store>⟧.opens
+        ⟦<WatchedFiles<'static, S, W> as Store>⟧.refuses
+        ⟦<Watched<S::File, FromWrite<W>> as Source>⟧.gives
+        ⟦<Watched<S::File, FromWrite<W>> as Source>⟧.fails files is_little)
+        ⟦<WatchedFiles<'static, S, W> as Store>⟧.opens
+        ⟦<WatchedFiles<'static, S, W> as Store>⟧.refuses
+        ⟦<Watched<S::File, FromWrite<W>> as Source>⟧.gives
+        ⟦<Watched<S::File, FromWrite<W>> as Source>⟧.fails
+        ⟦<Watched<S::File, FromWrite<W>> as Source>⟧.has_failed files is_strict)
+        (StopsInList (IsFinding ⟦<WatchedFiles<'static, S, W> as Store>⟧.opens
+        ⟦<WatchedFiles<'static, S, W> as Store>⟧.refuses
+        ⟦<Watched<S::File, FromWrite<W>> as Source>⟧.gives
+        ⟦<Watched<S::File, FromWrite<W>> as Source>⟧.fails files is_little)
+        (FailsOnLine ⟦<WatchedFiles<'static, S, W> as Store>⟧.opens
+        ⟦<Watched<S::File, FromWrite<W>> as Source>⟧.gives
+        ⟦<Watched<S::File, FromWrite<W>> as Source>⟧.fails files is_little)
+        ⟦<WatchedFiles<'static, S, W> as Store>⟧.opens
+        ⟦<WatchedFiles<'static, S, W> as Store>⟧.refuses
+        ⟦<Watched<S::File, FromWrite<W>> as Source>⟧.gives files) names stop
+        → StopsAtList (IsAnswer (IsFinding S.opens S.refuses S.File.gives S.File.fails
+        (files_of files) is_little) S.opens S.refuses S.File.gives S.File.fails
+        S.File.has_failed (files_of files) is_strict)
+        (StopsInList (IsFinding S.opens S.refuses S.File.gives S.File.fails
+        (files_of files) is_little)
+        (FailsOnLine S.opens S.File.gives S.File.fails (files_of files) is_little)
+        S.opens S.refuses S.File.gives (files_of files)) names stop }
+{}

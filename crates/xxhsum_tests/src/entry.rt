@@ -1,0 +1,16 @@
+//! Names that lead to scripts.
+
+use xxh_io::script_source::ScriptSource;
+use xxhsum_files::memory::MemoryEntry;
+
+pub(crate) fn entry<'a>(
+    name: &'a [u8],
+    source: ScriptSource<'a>,
+    is_directory: bool,
+) -> MemoryEntry<'a, ScriptSource<'a>> {
+    MemoryEntry {
+        name,
+        source,
+        is_directory,
+    }
+}
