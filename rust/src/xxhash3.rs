@@ -197,7 +197,7 @@ impl<S: FixedMutBuffer> SecretBuffer<S> {
     pub fn with_seed(seed: u64, mut secret: S) -> Result<Self, SecretWithSeedError<S>> {
         match secret.as_mut().try_into() {
             Ok(room) => {
-                library::derive_secret(room, seed);
+                library::overwrite_with_secret(room, seed);
                 Ok(Self { seed, secret })
             }
             Err(_) => Err(SecretWithSeedError(secret)),
@@ -248,10 +248,12 @@ impl SecretBuffer<Box<[u8]>> {
     ///
     /// assert_eq!(SecretBuffer::allocate_with_seed(7).into_secret().len(), 192);
     /// ```
+    #[inline]
     pub fn allocate_with_seed(seed: u64) -> Self {
-        let mut secret = Box::new([0; DEFAULT_SECRET_LENGTH]);
-        library::derive_secret(&mut secret, seed);
-        Self { seed, secret }
+        Self {
+            seed,
+            secret: library::boxed_secret(seed),
+        }
     }
 
     /// The seed and the secret as they are, as [`new`](Self::new) takes them.
@@ -328,8 +330,10 @@ pub(crate) struct Beside<S> {
 impl<S> Beside<S> {
     #[inline(always)]
     pub(crate) fn new(seed: u64, secret: S) -> Self {
-        let stream = library::started(library::xxh3_start, seed);
-        Self { stream, secret }
+        Self {
+            stream: Stream::new(seed),
+            secret,
+        }
     }
 
     pub(crate) fn into_secret(self) -> S {
@@ -496,6 +500,7 @@ macro_rules! xxh3_hashers {
             }
 
             /// A stream of no bytes yet, with a seed and the secret that it derives.
+            #[inline]
             pub fn with_seed(seed: u64) -> Self {
                 Self {
                     stream: SecretBuffer::allocate_with_seed(seed).into(),
@@ -578,7 +583,7 @@ mod tests {
     #[test]
     fn the_default_secret_is_what_the_library_derives_of_the_seed_0() {
         let mut derived = [0; DEFAULT_SECRET_LENGTH];
-        library::derive_secret(&mut derived, 0);
+        library::overwrite_with_secret(&mut derived, 0);
         assert_eq!(derived, DEFAULT_SECRET);
         assert_eq!(derived, *SecretBuffer::default().into_secret());
     }
