@@ -3,17 +3,17 @@
 //! A stream's secret lies beside it, and each call is handed it again. So a secret may have any length, and the
 //! clauses speak of the stream and that secret together.
 
-ghost use Rattle.std.specs.Prelude.{◌≡◌, ◌↔◌, ◌<◌, ◌≤◌, ℕ, List, [], ◌++◌, length, IsTrue};
+ghost use Rattle.std.specs.Prelude.{◌≡◌, ◌↔◌, ◌+◌, ◌<◌, ◌≤◌, ℕ, List, [], ◌++◌, length, IsTrue};
 ghost use Rattle.twox_hash.specs.SecretBytes.{secret_bytes};
 ghost use Rattle.twox_hash.specs.Value.{stream_64, stream_128};
-ghost use Rattle.twox_core.specs.AfterWrite.{state_after_write};
+ghost use Rattle.twox_core.specs.AfterWrite.{state_after_write, with_buffered};
 ghost use Rattle.twox_core.specs.StandsFor.{Follows};
 ghost use Rattle.twox_exports.specs.Number.{number_of};
 ghost use Rattle.twox_core.specs.InRange.{IsInRange};
 
 use crate::{DONE, NOT_A_STREAM, SECRET_TOO_SHORT, Wide, halves};
-use twox_hash::words::IntoU64;
-use twox_hash::xxhash3::{BUFFERED_BYTES, CoreState, Secret, Vector};
+use twox_hash::words::{IntoU64, copy_short};
+use twox_hash::xxhash3::{BUFFERED_BYTES, CUTOFF, CoreState, Secret, Vector};
 use twox_hash::xxhash3_64::Finalize64;
 use twox_hash::xxhash3_128::Finalize128;
 
@@ -24,6 +24,9 @@ pub fn start() -> CoreState
 {
     CoreState::new()
 }
+
+// A piece of up to so many bytes that follows others is kept with no call.
+const FEW_BYTES: usize = 64;
 
 // Whether calls go on from the state.
 #[inline(always)]
@@ -57,6 +60,90 @@ pub fn write<V: Vector>(core: &mut CoreState, v: V, secret: &[u8], input: &[u8])
     let Ok(secret) = Secret::new(secret) else {
         return SECRET_TOO_SHORT;
     };
+    if has_room(core, secret, input) {
+        keep(core, secret, input);
+        return DONE;
+    }
+    write_far(core, v, secret, input)
+}
+
+// Whether a piece of a few bytes follows others in the buffer, of a state that calls go on from: the most frequent
+// piece by far, which three tests tell.
+#[inline(always)]
+fn has_room(core: &CoreState, secret: Secret<'_>, input: &[u8]) -> bool
+    ensures in_range { IsTrue result → IsInRange (secret_bytes secret.entry) core.now }
+    ensures room { IsTrue result → core.now.buffer_usage + length input.now ≤ 512 }
+    ensures few { IsTrue result → length input.now ≤ 64 }
+    ensures size { length core.now.buffer ≡ BUFFERED_BYTES }
+{
+    let used = core.buffer_usage;
+    core.taken.stripes.current_stripe() < secret.n_stripes()
+        && input.len() <= FEW_BYTES
+        && 0 < used
+        && used <= BUFFERED_BYTES - FEW_BYTES
+}
+
+// Takes such a piece.
+#[inline(always)]
+fn keep(core: &mut CoreState, _secret: Secret<'_>, input: &[u8])
+    requires room { core.old.buffer_usage + length input.now ≤ 512 }
+    requires few { length input.now ≤ 64 }
+    ensures { core.new ≡ state_after_write (secret_bytes _secret.entry) core.old input.now }
+{
+    core.total_bytes = core.total_bytes.saturating_add(input.len().into_u64());
+    add_few(core, input);
+}
+
+// Puts a few bytes after those that wait.
+#[inline(always)]
+fn add_few(core: &mut CoreState, input: &[u8])
+    requires room { core.old.buffer_usage + length input.now ≤ 512 }
+    requires few { length input.now ≤ 64 }
+    ensures { core.new ≡ with_buffered core.old input.now }
+{
+    let used = core.buffer_usage;
+    let end = used + input.len();
+    copy_few(&mut core.buffer[used..end], input);
+    core.buffer_usage = end;
+}
+
+// Copies a slice of at most 64 bytes over another of its length, with no call.
+#[inline(always)]
+fn copy_few(to: &mut [u8], from: &[u8])
+    requires same { length to.old ≡ length from.now }
+    requires few { length from.now ≤ 64 }
+    ensures { to.new ≡ from.now }
+{
+    if from.len() > 32 {
+        copy_ends::<32>(to, from);
+    } else {
+        copy_short(to, from);
+    }
+}
+
+// Copies the first N bytes, then the last N, which may overlap them.
+#[inline(always)]
+fn copy_ends<const N: usize>(to: &mut [u8], from: &[u8])
+    requires same { length to.old ≡ length from.now }
+    requires long_enough { N ≤ length from.now }
+    requires covered { length from.now ≤ N + N }
+    ensures { to.new ≡ from.now }
+{
+    *to.first_chunk_mut::<N>().unwrap() = *from.first_chunk().unwrap();
+    *to.last_chunk_mut::<N>().unwrap() = *from.last_chunk().unwrap();
+}
+
+// Takes any other piece: a call of its own, so that those pay for no register that it keeps.
+#[inline(never)]
+fn write_far<V: Vector>(core: &mut CoreState, v: V, secret: Secret<'_>, input: &[u8]) -> u32
+    ensures done { result ≡ DONE ↔ IsInRange (secret_bytes secret.entry) core.old }
+    ensures refused { result ≡ NOT_A_STREAM
+        ↔ (¬ IsInRange (secret_bytes secret.entry) core.old) }
+    ensures size { length core.old.buffer ≡ BUFFERED_BYTES }
+    ensures exact { result ≡ DONE
+        → core.new ≡ state_after_write (secret_bytes secret.entry) core.old input.now }
+    ensures kept { (¬ (result ≡ DONE)) → core.new ≡ core.old }
+{
     if !is_in_range(core, secret) {
         return NOT_A_STREAM;
     }
