@@ -197,9 +197,9 @@ exports! {
         by input.length;
 
     fn xxh3_start(stream: &mut Stream, seed: u64), by NO_BYTES;
-    fn xxh3_write(stream: &mut Stream, secret: Bytes<'_>, input: Bytes<'_>) -> u32, by input.length;
-    fn xxh3_64_finish(stream: &Stream, secret: Bytes<'_>) -> Answer, by NO_BYTES;
-    fn xxh3_128_finish(stream: &Stream, secret: Bytes<'_>, value: &mut Wide) -> u32, by NO_BYTES;
+    fn xxh3_write(stream: &mut Stream, secret: Bytes<'_>, input: Bytes<'_>) -> u32, by MANY_BYTES;
+    fn xxh3_64_finish(stream: &Stream, secret: Bytes<'_>) -> Answer, by MANY_BYTES;
+    fn xxh3_128_finish(stream: &Stream, secret: Bytes<'_>, value: &mut Wide) -> u32, by MANY_BYTES;
 
     fn derive_secret(secret: &mut MaybeUninit<[u8; 192]>, seed: u64), by NO_BYTES;
 }
@@ -238,6 +238,9 @@ fn refused() -> ! {
 
 // Calls that take no input.
 const NO_BYTES: usize = 0;
+
+// Calls that may take a whole buffer of bytes that came before.
+const MANY_BYTES: usize = usize::MAX;
 
 const INITIAL_ACCUMULATORS: [u64; 8] = [
     0xc2b2_ae3d,

@@ -7,13 +7,14 @@ ghost use Rattle.std.specs.Prelude.{◌≡◌, ◌↔◌, ◌+◌, ◌<◌, ◌�
 ghost use Rattle.twox_hash.specs.SecretBytes.{secret_bytes};
 ghost use Rattle.twox_hash.specs.Value.{stream_64, stream_128};
 ghost use Rattle.twox_core.specs.AfterWrite.{state_after_write, with_buffered};
+ghost use Rattle.twox_core.specs.Finish.{state_finish};
 ghost use Rattle.twox_core.specs.StandsFor.{Follows};
 ghost use Rattle.twox_exports.specs.Number.{number_of};
 ghost use Rattle.twox_core.specs.InRange.{IsInRange};
 
 use crate::{DONE, NOT_A_STREAM, SECRET_TOO_SHORT, Wide, halves};
 use twox_hash::words::{IntoU64, copy_short};
-use twox_hash::xxhash3::{BUFFERED_BYTES, CUTOFF, CoreState, Secret, Vector};
+use twox_hash::xxhash3::{BUFFERED_BYTES, CUTOFF, CoreState, Finalize, Secret, Vector};
 use twox_hash::xxhash3_64::Finalize64;
 use twox_hash::xxhash3_128::Finalize128;
 
@@ -37,7 +38,7 @@ fn is_in_range(core: &CoreState, secret: Secret<'_>) -> bool
     let room = core.buffer[..].len();
     core.taken.stripes.current_stripe() < secret.n_stripes()
         && core.buffer_usage <= room
-        && core.total_bytes.min(1) <= core.buffer_usage.into_u64()
+        && (0 < core.buffer_usage || core.total_bytes == 0)
 }
 
 /// Takes the bytes of a piece after those taken before, over the stream's secret.
@@ -151,6 +152,44 @@ fn write_far<V: Vector>(core: &mut CoreState, v: V, secret: Secret<'_>, input: &
     DONE
 }
 
+// What `finalize` makes of the bytes taken.
+#[inline(always)]
+fn finish<V: Vector, F: Finalize>(
+    core: &CoreState,
+    v: V,
+    finalize: &F,
+    seed: Option<u64>,
+    secret: Secret<'_>,
+) -> F::Output
+    requires { IsInRange (secret_bytes secret) core.now }
+    ensures exact { let s = secret_bytes secret.entry in
+        result ≡ state_finish (F.small_of finalize.now) (F.large_of finalize.now) seed s core.now }
+    ensures size { length core.now.buffer ≡ BUFFERED_BYTES }
+{
+    if core.total_bytes <= CUTOFF.into_u64() {
+        core.finish(v, finalize, seed, secret)
+    } else {
+        finish_far(core, v, finalize, seed, secret)
+    }
+}
+
+// The same, as a call of its own, so that short streams pay for no register that the others need.
+#[inline(never)]
+fn finish_far<V: Vector, F: Finalize>(
+    core: &CoreState,
+    v: V,
+    finalize: &F,
+    seed: Option<u64>,
+    secret: Secret<'_>,
+) -> F::Output
+    requires { IsInRange (secret_bytes secret) core.now }
+    ensures exact { let s = secret_bytes secret.entry in
+        result ≡ state_finish (F.small_of finalize.now) (F.large_of finalize.now) seed s core.now }
+    ensures size { length core.now.buffer ≡ BUFFERED_BYTES }
+{
+    core.finish(v, finalize, seed, secret)
+}
+
 /// Writes the hash of 64 bits of the bytes taken so far, with the stream's seed, if it has one, and over its secret.
 /// More may be taken afterwards.
 ///
@@ -180,7 +219,7 @@ pub fn finish_64<V: Vector>(
     if !is_in_range(core, secret) {
         return NOT_A_STREAM;
     }
-    *value = core.finish(v, &Finalize64, seed, secret);
+    *value = finish(core, v, &Finalize64, seed, secret);
     DONE
 }
 
@@ -207,6 +246,6 @@ pub fn finish_128<V: Vector>(
     if !is_in_range(core, secret) {
         return NOT_A_STREAM;
     }
-    *value = halves(core.finish(v, &Finalize128, seed, secret));
+    *value = halves(finish(core, v, &Finalize128, seed, secret));
     DONE
 }

@@ -48,6 +48,24 @@ pub extern "C" fn twox_rust_xxh64_write(stream: &mut StateInMemory, input: &[u8]
     if stream.buffer_usage >= 32 {
         return NOT_A_STREAM;
     }
+    if input.len() < 32 - stream.buffer_usage {
+        stream.add_piece(input);
+        return DONE;
+    }
+    write_far(stream, input)
+}
+
+// Takes a piece that fills a stripe: a call of its own, so that smaller ones pay for no register that it keeps.
+#[inline(never)]
+fn write_far(stream: &mut StateInMemory, input: &[u8]) -> u32
+    requires { stream.old.buffer_usage < 32 }
+    ensures done { result ≡ DONE }
+    ensures message { (m : List ℕ) → StandsFor (record_of stream.old) m
+        → StandsFor (record_of stream.new) (m ++ input.now) }
+    ensures seed { stream.new.seed ≡ stream.old.seed }
+    ensures exact { record_of stream.new ≡ after_write (record_of stream.old) input.now }
+    ensures in_range { stream.new.buffer_usage < 32 }
+{
     stream.add_piece(input);
     DONE
 }
@@ -70,6 +88,24 @@ pub extern "C" fn twox_rust_xxh64_finish(stream: &StateInMemory) -> Answer
             value: 0,
         };
     }
+    if stream.total_len < 32 {
+        return Answer {
+            code: DONE,
+            value: stream.finish(),
+        };
+    }
+    finish_far(stream)
+}
+
+// The hash where a stripe was taken: a call of its own, so that fewer bytes pay for no register that it keeps.
+#[inline(never)]
+fn finish_far(stream: &StateInMemory) -> Answer
+    requires { stream.now.buffer_usage < 32 }
+    ensures done { result.code ≡ DONE }
+    ensures message { (m : List ℕ) → StandsFor (record_of stream.now) m
+        → result.value ≡ xxh64 stream.now.seed m }
+    ensures exact { result.value ≡ finish_value (record_of stream.now) }
+{
     Answer {
         code: DONE,
         value: stream.finish(),
