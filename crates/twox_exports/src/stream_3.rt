@@ -3,7 +3,8 @@
 //! A stream's secret lies beside it, and each call is handed it again. So a secret may have any length, and the
 //! clauses speak of the stream and that secret together.
 
-ghost use Rattle.std.specs.Prelude.{◌≡◌, ◌↔◌, ◌+◌, ◌<◌, ◌≤◌, ℕ, List, [], ◌++◌, length, IsTrue};
+ghost use Rattle.std.specs.Prelude.{◌≡◌, ◌↔◌, ◌+◌, ◌<◌, ◌≤◌, ℕ, List, [], ◌++◌, take, length, IsTrue};
+ghost use Rattle.twox_hash.specs.Secret.{default_secret};
 ghost use Rattle.twox_hash.specs.SecretBytes.{secret_bytes};
 ghost use Rattle.twox_hash.specs.Value.{stream_64, stream_128};
 ghost use Rattle.twox_core.specs.AfterWrite.{state_after_write, with_buffered};
@@ -14,7 +15,9 @@ ghost use Rattle.twox_core.specs.InRange.{IsInRange};
 
 use crate::{DONE, NOT_A_STREAM, SECRET_TOO_SHORT, Wide, halves};
 use twox_hash::words::{IntoU64, copy_short};
-use twox_hash::xxhash3::{BUFFERED_BYTES, CUTOFF, CoreState, Finalize, Secret, Vector};
+use twox_hash::xxhash3::{
+    BUFFERED_BYTES, CUTOFF, CoreState, Finalize, Secret, Vector, default_secret,
+};
 use twox_hash::xxhash3_64::Finalize64;
 use twox_hash::xxhash3_128::Finalize128;
 
@@ -26,7 +29,7 @@ pub fn start() -> CoreState
     CoreState::new()
 }
 
-// A piece of up to so many bytes that follows others is kept with no call.
+// A piece of up to so many bytes is kept with no call.
 const FEW_BYTES: usize = 64;
 
 // Whether calls go on from the state.
@@ -68,8 +71,7 @@ pub fn write<V: Vector>(core: &mut CoreState, v: V, secret: &[u8], input: &[u8])
     write_far(core, v, secret, input)
 }
 
-// Whether a piece of a few bytes follows others in the buffer, of a state that calls go on from: the most frequent
-// piece by far, which three tests tell.
+// Whether calls go on from the state, and the buffer has room for the piece, which is of a few bytes.
 #[inline(always)]
 fn has_room(core: &CoreState, secret: Secret<'_>, input: &[u8]) -> bool
     ensures in_range { IsTrue result → IsInRange (secret_bytes secret.entry) core.now }
@@ -77,11 +79,9 @@ fn has_room(core: &CoreState, secret: Secret<'_>, input: &[u8]) -> bool
     ensures few { IsTrue result → length input.now ≤ 64 }
     ensures size { length core.now.buffer ≡ BUFFERED_BYTES }
 {
-    let used = core.buffer_usage;
-    core.taken.stripes.current_stripe() < secret.n_stripes()
+    is_in_range(core, secret)
         && input.len() <= FEW_BYTES
-        && 0 < used
-        && used <= BUFFERED_BYTES - FEW_BYTES
+        && core.buffer_usage + input.len() <= BUFFERED_BYTES
 }
 
 // Takes such a piece.
@@ -166,14 +166,27 @@ fn finish<V: Vector, F: Finalize>(
         result ≡ state_finish (F.small_of finalize.now) (F.large_of finalize.now) seed s core.now }
     ensures size { length core.now.buffer ≡ BUFFERED_BYTES }
 {
-    if core.total_bytes <= CUTOFF.into_u64() {
-        core.finish(v, finalize, seed, secret)
-    } else {
-        finish_far(core, v, finalize, seed, secret)
+    let Some(own) = seed else {
+        return finish_far(core, v, finalize, seed, secret);
+    };
+    if core.total_bytes > CUTOFF.into_u64() {
+        return finish_far(core, v, finalize, seed, secret);
     }
+    finish_short(core, finalize, own)
 }
 
-// The same, as a call of its own, so that short streams pay for no register that the others need.
+// The same of up to 240 bytes, with the default secret and a seed.
+#[inline(always)]
+fn finish_short<F: Finalize>(core: &CoreState, finalize: &F, seed: u64) -> F::Output
+    requires { core.now.total_bytes ≤ 240 }
+    ensures { let bytes = take core.now.total_bytes core.now.buffer in
+        result ≡ F.small_of finalize.now default_secret seed bytes }
+{
+    let input = &core.buffer[..core.total_bytes as usize];
+    finalize.small(default_secret(), seed, input)
+}
+
+// The same at every length, as a call of its own, so that short streams pay for no register that it keeps.
 #[inline(never)]
 fn finish_far<V: Vector, F: Finalize>(
     core: &CoreState,
