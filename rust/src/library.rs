@@ -13,7 +13,7 @@ use core::marker::PhantomData;
 use core::mem::MaybeUninit;
 
 #[cfg(target_arch = "x86_64")]
-use crate::processor::{runs_on_v3, FEW, IS_BUILT_FOR_V3};
+use crate::processor::{ask, known, Known, FEW, IS_BUILT_FOR_V3};
 
 /// A slice, as the exports take one: two words, which the C calling conventions of x86-64 and of 64-bit ARM pass in two
 /// registers whether they are a struct's or two arguments. No call has more than the six words that registers hold.
@@ -120,9 +120,20 @@ impl From<Wide> for u128 {
 /// The call did what it says. Any other code is a refusal, which changed nothing.
 pub const DONE: u32 = 0;
 
+/// What a call takes in, which says whether its set of instructions is worth a choice.
+#[derive(Clone, Copy)]
+enum Input {
+    /// No bytes.
+    None,
+    /// So many.
+    Of(usize),
+    /// Maybe a whole buffer of bytes that came before.
+    Kept,
+}
+
 /// Declares each export in its sets, and a function that calls the one for so many bytes.
 macro_rules! exports {
-    ($(fn $name:ident($($argument:ident: $kind:ty),*) $(-> $answer:ty)?, by $length:expr;)*) => {
+    ($(fn $name:ident($($argument:ident: $kind:ty),*) $(-> $answer:ty)?, by $input:expr;)*) => {
         mod any_processor {
             use super::*;
             extern "C" {
@@ -140,19 +151,33 @@ macro_rules! exports {
             }
         }
 
-        // A call of its own, so that few bytes pay nothing for the choice.
+        // Calls of their own, so that few bytes pay nothing for the choice.
         #[cfg(target_arch = "x86_64")]
         mod this_processor {
             use super::*;
             $(#[inline(never)]
             pub fn $name($($argument: $kind),*) $(-> $answer)? {
-                if runs_on_v3() {
+                if known() == Known::HasV3 {
                     // SAFETY: as below, and the processor has x86-64-v3.
                     unsafe { x86_64_v3::$name($($argument),*) }
                 } else {
-                    // SAFETY: as below.
-                    unsafe { any_processor::$name($($argument),*) }
+                    unknown_processor::$name($($argument),*)
                 }
+            })*
+        }
+
+        #[cfg(target_arch = "x86_64")]
+        mod unknown_processor {
+            use super::*;
+            $(#[cold]
+            #[inline(never)]
+            pub fn $name($($argument: $kind),*) $(-> $answer)? {
+                if known() == Known::Nothing {
+                    ask();
+                    return this_processor::$name($($argument),*);
+                }
+                // SAFETY: as below.
+                unsafe { any_processor::$name($($argument),*) }
             })*
         }
 
@@ -162,10 +187,16 @@ macro_rules! exports {
         $(#[inline(always)]
         pub fn $name($($argument: $kind),*) $(-> $answer)? {
             #[cfg(target_arch = "x86_64")]
-            if IS_BUILT_FOR_V3 {
-                return unsafe { x86_64_v3::$name($($argument),*) };
-            } else if $length > FEW {
-                return this_processor::$name($($argument),*);
+            match $input {
+                _ if IS_BUILT_FOR_V3 => return unsafe { x86_64_v3::$name($($argument),*) },
+                Input::Kept if known() == Known::HasV3 => {
+                    return unsafe { x86_64_v3::$name($($argument),*) };
+                }
+                Input::Kept => return unknown_processor::$name($($argument),*),
+                Input::Of(length) if length > FEW => {
+                    return this_processor::$name($($argument),*);
+                }
+                Input::Of(_) | Input::None => {}
             }
             unsafe { any_processor::$name($($argument),*) }
         })*
@@ -173,35 +204,35 @@ macro_rules! exports {
 }
 
 exports! {
-    fn xxh32(input: Bytes<'_>, seed: u32) -> u32, by input.length;
-    fn xxh32_start(stream: &mut Record32, seed: u32), by NO_BYTES;
-    fn xxh32_write(stream: &mut Record32, input: Bytes<'_>) -> u32, by input.length;
-    fn xxh32_finish(stream: &Record32) -> Answer, by NO_BYTES;
-    fn xxh32_test(stream: &Record32) -> u32, by NO_BYTES;
+    fn xxh32(input: Bytes<'_>, seed: u32) -> u32, by Input::Of(input.length);
+    fn xxh32_start(stream: &mut Record32, seed: u32), by Input::None;
+    fn xxh32_write(stream: &mut Record32, input: Bytes<'_>) -> u32, by Input::Of(input.length);
+    fn xxh32_finish(stream: &Record32) -> Answer, by Input::None;
+    fn xxh32_test(stream: &Record32) -> u32, by Input::None;
 
-    fn xxh64(input: Bytes<'_>, seed: u64) -> u64, by input.length;
-    fn xxh64_start(stream: &mut Record64, seed: u64), by NO_BYTES;
-    fn xxh64_write(stream: &mut Record64, input: Bytes<'_>) -> u32, by input.length;
-    fn xxh64_finish(stream: &Record64) -> Answer, by NO_BYTES;
-    fn xxh64_test(stream: &Record64) -> u32, by NO_BYTES;
+    fn xxh64(input: Bytes<'_>, seed: u64) -> u64, by Input::Of(input.length);
+    fn xxh64_start(stream: &mut Record64, seed: u64), by Input::None;
+    fn xxh64_write(stream: &mut Record64, input: Bytes<'_>) -> u32, by Input::Of(input.length);
+    fn xxh64_finish(stream: &Record64) -> Answer, by Input::None;
+    fn xxh64_test(stream: &Record64) -> u32, by Input::None;
 
-    fn xxh3_64(input: Bytes<'_>) -> u64, by input.length;
-    fn xxh3_64_with_seed(input: Bytes<'_>, seed: u64) -> u64, by input.length;
-    fn xxh3_64_with_secret(input: Bytes<'_>, secret: Bytes<'_>) -> Answer, by input.length;
-    fn xxh3_64_with_seed_and_secret(input: Bytes<'_>, secret: Bytes<'_>, seed: u64) -> Answer, by input.length;
+    fn xxh3_64(input: Bytes<'_>) -> u64, by Input::Of(input.length);
+    fn xxh3_64_with_seed(input: Bytes<'_>, seed: u64) -> u64, by Input::Of(input.length);
+    fn xxh3_64_with_secret(input: Bytes<'_>, secret: Bytes<'_>) -> Answer, by Input::Of(input.length);
+    fn xxh3_64_with_seed_and_secret(input: Bytes<'_>, secret: Bytes<'_>, seed: u64) -> Answer, by Input::Of(input.length);
 
-    fn xxh3_128(input: Bytes<'_>) -> Wide, by input.length;
-    fn xxh3_128_with_seed(input: Bytes<'_>, seed: u64) -> Wide, by input.length;
-    fn xxh3_128_with_secret(input: Bytes<'_>, secret: Bytes<'_>, value: &mut Wide) -> u32, by input.length;
+    fn xxh3_128(input: Bytes<'_>) -> Wide, by Input::Of(input.length);
+    fn xxh3_128_with_seed(input: Bytes<'_>, seed: u64) -> Wide, by Input::Of(input.length);
+    fn xxh3_128_with_secret(input: Bytes<'_>, secret: Bytes<'_>, value: &mut Wide) -> u32, by Input::Of(input.length);
     fn xxh3_128_with_seed_and_secret(input: Bytes<'_>, secret: Bytes<'_>, seed: u64, value: &mut Wide) -> u32,
-        by input.length;
+        by Input::Of(input.length);
 
-    fn xxh3_start(stream: &mut Stream, seed: u64), by NO_BYTES;
-    fn xxh3_write(stream: &mut Stream, secret: Bytes<'_>, input: Bytes<'_>) -> u32, by MANY_BYTES;
-    fn xxh3_64_finish(stream: &Stream, secret: Bytes<'_>) -> Answer, by MANY_BYTES;
-    fn xxh3_128_finish(stream: &Stream, secret: Bytes<'_>, value: &mut Wide) -> u32, by MANY_BYTES;
+    fn xxh3_start(stream: &mut Stream, seed: u64), by Input::None;
+    fn xxh3_write(stream: &mut Stream, secret: Bytes<'_>, input: Bytes<'_>) -> u32, by Input::Kept;
+    fn xxh3_64_finish(stream: &Stream, secret: Bytes<'_>) -> Answer, by Input::Kept;
+    fn xxh3_128_finish(stream: &Stream, secret: Bytes<'_>, value: &mut Wide) -> u32, by Input::Kept;
 
-    fn derive_secret(secret: &mut MaybeUninit<[u8; 192]>, seed: u64), by NO_BYTES;
+    fn derive_secret(secret: &mut MaybeUninit<[u8; 192]>, seed: u64), by Input::None;
 }
 
 /// The secret that a seed derives, written by the library where it is to stay.
@@ -235,12 +266,6 @@ pub fn expect_done(code: u32) {
 fn refused() -> ! {
     panic!("the proved library refused a stream: its secret's length has changed")
 }
-
-// Calls that take no input.
-const NO_BYTES: usize = 0;
-
-// Calls that may take a whole buffer of bytes that came before.
-const MANY_BYTES: usize = usize::MAX;
 
 const INITIAL_ACCUMULATORS: [u64; 8] = [
     0xc2b2_ae3d,

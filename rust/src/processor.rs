@@ -17,36 +17,57 @@ macro_rules! target_has {
 /// Whether the compiler was told of x86-64-v3.
 pub const IS_BUILT_FOR_V3: bool = for_each_feature!(target_has);
 
-/// Whether the processor has x86-64-v3. It is asked once.
+/// What is known of the processor.
+#[derive(Clone, Copy, PartialEq)]
+pub enum Known {
+    /// It was not asked.
+    Nothing,
+    /// It has not all of x86-64-v3.
+    LacksV3,
+    /// It has x86-64-v3.
+    HasV3,
+}
+
 #[cfg(feature = "std")]
-#[inline(always)]
-pub fn runs_on_v3() -> bool {
+mod asked {
+    use super::Known;
     use core::sync::atomic::{AtomicU8, Ordering::Relaxed};
-    const UNKNOWN: u8 = 0;
-    const NO: u8 = 1;
-    const YES: u8 = 2;
-    static KNOWN: AtomicU8 = AtomicU8::new(UNKNOWN);
+
+    static KNOWN: AtomicU8 = AtomicU8::new(Known::Nothing as u8);
+    const LACKS: u8 = Known::LacksV3 as u8;
+    const HAS: u8 = Known::HasV3 as u8;
 
     macro_rules! processor_has {
         ($($feature:tt),*) => { $(std::is_x86_feature_detected!($feature))&&* };
     }
 
-    #[cold]
-    fn ask() -> bool {
+    /// Asks the processor. Afterwards something is known.
+    pub fn ask() {
         let has_all = for_each_feature!(processor_has);
-        KNOWN.store(if has_all { YES } else { NO }, Relaxed);
-        has_all
+        KNOWN.store(if has_all { HAS } else { LACKS }, Relaxed);
     }
 
-    match KNOWN.load(Relaxed) {
-        UNKNOWN => ask(),
-        known => known == YES,
+    #[inline(always)]
+    pub fn known() -> Known {
+        match KNOWN.load(Relaxed) {
+            HAS => Known::HasV3,
+            LACKS => Known::LacksV3,
+            _ => Known::Nothing,
+        }
     }
 }
 
 // Without the standard library nothing asks for the processor.
 #[cfg(not(feature = "std"))]
-#[inline(always)]
-pub fn runs_on_v3() -> bool {
-    false
+mod asked {
+    use super::Known;
+
+    pub fn ask() {}
+
+    #[inline(always)]
+    pub fn known() -> Known {
+        Known::LacksV3
+    }
 }
+
+pub use asked::{ask, known};

@@ -79,9 +79,11 @@ fn has_room(core: &CoreState, secret: Secret<'_>, input: &[u8]) -> bool
     ensures few { IsTrue result → length input.now ≤ 64 }
     ensures size { length core.now.buffer ≡ BUFFERED_BYTES }
 {
-    is_in_range(core, secret)
-        && input.len() <= FEW_BYTES
-        && core.buffer_usage + input.len() <= BUFFERED_BYTES
+    let used = core.buffer_usage;
+    input.len() <= FEW_BYTES
+        && used <= BUFFERED_BYTES
+        && input.len() <= BUFFERED_BYTES - used
+        && is_in_range(core, secret)
 }
 
 // Takes such a piece.
@@ -115,10 +117,12 @@ fn copy_few(to: &mut [u8], from: &[u8])
     requires few { length from.now ≤ 64 }
     ensures { to.new ≡ from.now }
 {
-    if from.len() > 32 {
-        copy_ends::<32>(to, from);
-    } else {
+    if from.len() <= 16 {
         copy_short(to, from);
+    } else if from.len() <= 32 {
+        copy_ends::<16>(to, from);
+    } else {
+        copy_ends::<32>(to, from);
     }
 }
 
