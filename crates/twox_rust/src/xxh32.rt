@@ -45,7 +45,7 @@ pub extern "C" fn twox_rust_xxh32_write(stream: &mut StateInMemory, input: &[u8]
     ensures in_range { result ≡ DONE → stream.new.buffer_usage < 16 }
     ensures kept { result ≡ NOT_A_STREAM → stream.new ≡ stream.old }
 {
-    if stream.buffer_usage < 16 && input.len() < 16 - stream.buffer_usage {
+    if input.len() < 16usize.saturating_sub(stream.buffer_usage) {
         stream.add_piece(input);
         return DONE;
     }

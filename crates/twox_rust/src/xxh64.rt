@@ -45,7 +45,7 @@ pub extern "C" fn twox_rust_xxh64_write(stream: &mut StateInMemory, input: &[u8]
     ensures in_range { result ≡ DONE → stream.new.buffer_usage < 32 }
     ensures kept { result ≡ NOT_A_STREAM → stream.new ≡ stream.old }
 {
-    if stream.buffer_usage < 32 && input.len() < 32 - stream.buffer_usage {
+    if input.len() < 32usize.saturating_sub(stream.buffer_usage) {
         stream.add_piece(input);
         return DONE;
     }
