@@ -9,7 +9,7 @@ use std::process::Command;
 const FILE: &str = "libtwox_rust.a";
 const FOLDER: &str = "TWOX_HASH_LIB_DIR";
 // The name of one of the library's functions: its number changes with every change of a call or of a record.
-const INTERFACE: &str = "twox_rust_interface_1";
+const INTERFACE: &str = "twox_rust_interface_2";
 
 fn main() {
     println!("cargo:rerun-if-env-changed={FOLDER}");

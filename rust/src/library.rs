@@ -229,6 +229,7 @@ exports! {
 
     fn xxh3_start(stream: &mut Stream, seed: u64), by Input::None;
     fn xxh3_write(stream: &mut Stream, secret: Bytes<'_>, input: Bytes<'_>) -> u32, by Input::Kept;
+    fn xxh3_write_192(stream: &mut Stream, secret: &[u8; 192], input: Bytes<'_>) -> u32, by Input::Kept;
     fn xxh3_64_finish(stream: &Stream, secret: Bytes<'_>) -> Answer, by Input::Kept;
     fn xxh3_128_finish(stream: &Stream, secret: Bytes<'_>, value: &mut Wide) -> u32, by Input::Kept;
 

@@ -4,7 +4,7 @@
 use alloc::boxed::Box;
 use core::fmt;
 
-use crate::library::{self, Stream};
+use crate::library::{self, Bytes, Stream};
 
 /// The fewest bytes that a secret may have.
 pub const SECRET_MINIMUM_LENGTH: usize = 136;
@@ -282,6 +282,21 @@ impl SecretBuffer<Box<[u8]>> {
 /// be the default one.
 pub(crate) trait Secret {
     fn bytes(&self) -> &[u8];
+
+    /// Takes a piece into the stream of this secret.
+    #[inline(always)]
+    fn write(&self, stream: &mut Stream, input: Bytes<'_>) -> u32 {
+        write_under(self.bytes(), stream, input)
+    }
+}
+
+// The library needs no test of a secret that is as long as the default one.
+#[inline(always)]
+fn write_under(secret: &[u8], stream: &mut Stream, input: Bytes<'_>) -> u32 {
+    match secret.try_into() {
+        Ok(secret) => library::xxh3_write_192(stream, secret, input),
+        Err(_) => library::xxh3_write(stream, secret.into(), input),
+    }
 }
 
 impl<S: FixedBuffer> Secret for S {
@@ -316,6 +331,14 @@ impl Secret for Owned {
         match self {
             Owned::Default => &DEFAULT_SECRET,
             Owned::Boxed(secret) => secret,
+        }
+    }
+
+    #[inline(always)]
+    fn write(&self, stream: &mut Stream, input: Bytes<'_>) -> u32 {
+        match self {
+            Owned::Default => library::xxh3_write_192(stream, &DEFAULT_SECRET, input),
+            Owned::Boxed(secret) => write_under(secret, stream, input),
         }
     }
 }
@@ -360,8 +383,7 @@ impl From<SecretBuffer<Box<[u8]>>> for Beside<Owned> {
 impl<S: Secret> Beside<S> {
     #[inline(always)]
     pub(crate) fn write(&mut self, input: &[u8]) {
-        let secret = self.secret.bytes().into();
-        library::expect_done(library::xxh3_write(&mut self.stream, secret, input.into()));
+        library::expect_done(self.secret.write(&mut self.stream, input.into()));
     }
 
     #[inline(always)]
