@@ -1,5 +1,4 @@
-use Rattle.std.proofs.Common.{arith, refl}
-use Rattle.twox_core.specs.InRange.{IsInRange}
+use Rattle.std.proofs.Common.{refl}
 use Rattle.twox_exports.proofs.StreamFacts.{follows_in_range, follows_written}
 use Rattle.twox_exports.proofs.stream_3.write.Goals as goal
 
