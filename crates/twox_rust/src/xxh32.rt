@@ -45,26 +45,6 @@ pub extern "C" fn twox_rust_xxh32_write(stream: &mut StateInMemory, input: &[u8]
     ensures in_range { result ≡ DONE → stream.new.buffer_usage < 16 }
     ensures kept { result ≡ NOT_A_STREAM → stream.new ≡ stream.old }
 {
-    if input.len() < 16usize.saturating_sub(stream.buffer_usage) {
-        stream.add_piece(input);
-        return DONE;
-    }
-    write_far(stream, input)
-}
-
-// The same of every piece: a call of its own, so that those that fill no stripe pay for no register that it keeps.
-#[inline(never)]
-fn write_far(stream: &mut StateInMemory, input: &[u8]) -> u32
-    ensures done { result ≡ DONE ↔ (stream.old.buffer_usage < 16) }
-    ensures refused { result ≡ NOT_A_STREAM ↔ (¬ (stream.old.buffer_usage < 16)) }
-    ensures message { (m : List ℕ) → result ≡ DONE → StandsFor (record_of stream.old) m
-        → StandsFor (record_of stream.new) (m ++ input.now) }
-    ensures seed { stream.new.seed ≡ stream.old.seed }
-    ensures exact { result ≡ DONE
-        → record_of stream.new ≡ after_write (record_of stream.old) input.now }
-    ensures in_range { result ≡ DONE → stream.new.buffer_usage < 16 }
-    ensures kept { result ≡ NOT_A_STREAM → stream.new ≡ stream.old }
-{
     if stream.buffer_usage >= 16 {
         return NOT_A_STREAM;
     }
