@@ -9,6 +9,7 @@ RUST = os.path.dirname(os.path.dirname(os.path.abspath(__file__)))
 TOP = os.path.dirname(RUST)
 sys.path.insert(0, os.path.join(TOP, 'c', 'checks'))
 
+import aarch64
 from report import tail, want
 
 CRATES = '/usr/share/cargo/registry'
@@ -21,6 +22,11 @@ PACKAGES = {'gcc': 'gcc', 'objcopy': 'binutils', 'pkg-config': 'pkg-config', 'va
             f'{CRATES}/xxhash-rust-0.8.5': 'librust-xxhash-rust-dev'}
 # Debian's newest cargo: its plain one is older than the crate's rust-version.
 CARGO = 'cargo-web'
+# What builds and runs programs for 64-bit ARM: Debian's compiler for its standard library for that processor.
+ARM = 'aarch64-unknown-linux-gnu'
+ARM_PACKAGES = {'aarch64-linux-gnu-gcc': 'gcc-aarch64-linux-gnu', 'aarch64-linux-gnu-objcopy': 'binutils-aarch64-linux-gnu',
+                '/usr/aarch64-linux-gnu/include/stdio.h': 'libc6-dev-arm64-cross', 'qemu-aarch64': 'qemu-user',
+                '/usr/bin/rustc': 'rustc-web', '/usr/bin/cargo': CARGO}
 # The original's manifest, for sources that come without one.
 ORIGINAL = '''[package]
 name = "twox-hash"
@@ -52,8 +58,8 @@ def must(words, **more):
     return done.stdout
 
 
-def install_packages():
-    missing = {package for name, package in PACKAGES.items() if not (shutil.which(name) or os.path.exists(name))}
+def install_packages(packages=PACKAGES):
+    missing = {package for name, package in packages.items() if not (shutil.which(name) or os.path.exists(name))}
     version = shutil.which('cargo') and re.match(r'cargo 1\.(\d+)', must(['cargo', '--version']))
     if not version or int(version[1]) < 81:
         missing.add(CARGO)
@@ -78,7 +84,9 @@ class Room:
         with open(os.path.join(path, '.cargo', 'config.toml'), 'w') as file:
             file.write(f'[source.crates-io]\nreplace-with = "debian"\n[source.debian]\ndirectory = "{CRATES}"\n')
         os.makedirs(os.path.join(path, 'programs'))
-        must([os.path.join(RUST, 'build-library'), self.library])
+        must([os.path.join(RUST, 'build-library'), '--target', self.target, self.library])
+
+    target = 'x86-64'
 
     def environment(self, library=None, flags='', **more):
         kept = {name: value for name, value in os.environ.items() if name not in ('RUSTFLAGS', 'TWOX_HASH_LIB_DIR')}
@@ -95,8 +103,12 @@ class Room:
         done = self.cargo(folder, 'build', '--release', *words, environment=environment)
         want(done.returncode == 0, tail(errors_of(done.stdout)))
         path = os.path.join(self.path, 'programs', name)
-        shutil.copy(os.path.join(self.path, 'target', 'release', os.path.basename(name).split('@')[0]), path)
+        shutil.copy(os.path.join(self.made, os.path.basename(name).split('@')[0]), path)
         return path
+
+    @property
+    def made(self):
+        return os.path.join(self.path, 'target', 'release')
 
     def add_original(self, package, sources):
         """Makes the original, from its sources, a crate of a package."""
@@ -110,6 +122,39 @@ class Room:
         with open(os.path.join(package, 'Cargo.toml'), 'a') as file:
             file.write(f'original = {{ package = "twox-hash", path = "{copy}", version = "=2.1.5-original", '
                        'features = ["serialize"] }\n')
+
+
+class ArmRoom(Room):
+    """The same for 64-bit ARM: programs are built by Debian's compiler and run under qemu."""
+
+    target = 'aarch64'
+
+    def __init__(self, path):
+        super().__init__(path)
+        self.root = aarch64.debian_root(os.path.join(path, 'debian'), 'libc6', 'libxxhash-dev', 'libstd-rust-web-dev')
+        self.sysroot = os.path.join(path, 'sysroot')
+        os.makedirs(os.path.join(self.sysroot, 'lib', 'rustlib'))
+        os.symlink(os.path.join(self.root, 'usr', 'lib', 'rustlib', ARM),
+                   os.path.join(self.sysroot, 'lib', 'rustlib', ARM))
+
+    def environment(self, library=None, flags='', **more):
+        variables = f'CARGO_TARGET_{ARM.upper().replace("-", "_")}'
+        libraries = os.path.join(self.root, 'usr', 'lib', 'aarch64-linux-gnu')
+        return super().environment(library, f'--sysroot {self.sysroot} -L native={libraries} {flags}', **{
+            'CARGO_BUILD_TARGET': ARM, 'RUSTC': '/usr/bin/rustc', f'{variables}_LINKER': 'aarch64-linux-gnu-gcc',
+            f'{variables}_RUNNER': ' '.join(self.runner), **more})
+
+    def cargo(self, folder, *words, environment=None):
+        return subprocess.run(['/usr/bin/cargo', *words], cwd=folder, env=environment or self.environment(),
+                              stdout=subprocess.PIPE, stderr=subprocess.STDOUT, text=True)
+
+    @property
+    def runner(self):
+        return ['qemu-aarch64', '-L', self.root]
+
+    @property
+    def made(self):
+        return os.path.join(self.path, 'target', ARM, 'release')
 
 
 def errors_of(text):

@@ -1,4 +1,4 @@
-//! The proved library: its records, its calls, and which of its two sets of instructions a call takes.
+//! The proved library: its records, its calls, and which of its sets of instructions a call takes.
 //!
 //! This file is what has to be believed of memory: each declaration says what the export of that name in
 //! `crates/twox_rust` takes, in the same order.
@@ -7,11 +7,16 @@
     reason = "each hash is a feature, and so are the calls that it makes"
 )]
 
+#[cfg(feature = "alloc")]
+use alloc::boxed::Box;
 use core::marker::PhantomData;
 use core::mem::MaybeUninit;
 
-/// A slice, as the exports take one: two words, which the C calling convention of x86-64 passes in two registers
-/// whether they are a struct's or two arguments. No call has more than the six words that registers hold.
+#[cfg(target_arch = "x86_64")]
+use crate::processor::{ask, known, Known, FEW, IS_BUILT_FOR_V3};
+
+/// A slice, as the exports take one: two words, which the C calling conventions of x86-64 and of 64-bit ARM pass in two
+/// registers whether they are a struct's or two arguments. No call has more than the six words that registers hold.
 #[derive(Clone, Copy)]
 #[repr(C)]
 pub struct Bytes<'a> {
@@ -48,10 +53,37 @@ pub struct Record<Word, const STRIPE: usize> {
 pub type Record32 = Record<u32, 16>;
 pub type Record64 = Record<u64, 32>;
 
-/// The library's stream of XXH3. No Rust reads it.
+/// The library's stream of XXH3. What no stream of no bytes has is left unwritten: no call reads it.
 #[derive(Clone)]
 #[repr(C)]
-pub struct Stream([u64; 85]);
+pub struct Stream {
+    seed: u64,
+    accumulators: [u64; 8],
+    current_stripe: usize,
+    last_stripe: MaybeUninit<[u8; 64]>,
+    stripes: u64,
+    buffer: MaybeUninit<[u8; 512]>,
+    buffer_usage: usize,
+    total_bytes: u64,
+}
+
+impl Stream {
+    /// A stream of no bytes yet. Its constants are here so that it is made where it stays, and without a call; the
+    /// test below and rust/check compare it with the library's own start.
+    #[inline(always)]
+    pub const fn new(seed: u64) -> Self {
+        Stream {
+            seed,
+            accumulators: INITIAL_ACCUMULATORS,
+            current_stripe: 0,
+            last_stripe: MaybeUninit::uninit(),
+            stripes: 0,
+            buffer: MaybeUninit::uninit(),
+            buffer_usage: 0,
+            total_bytes: 0,
+        }
+    }
+}
 
 // The library proves these sizes of its own records.
 const _: () = assert!(core::mem::size_of::<Record32>() == 64);
@@ -88,9 +120,20 @@ impl From<Wide> for u128 {
 /// The call did what it says. Any other code is a refusal, which changed nothing.
 pub const DONE: u32 = 0;
 
-/// Declares each export in both sets, and a function that calls the one for so many bytes.
+/// What a call takes in, which says whether its set of instructions is worth a choice.
+#[derive(Clone, Copy)]
+enum Input {
+    /// No bytes.
+    None,
+    /// So many.
+    Of(usize),
+    /// Maybe a whole buffer of bytes that came before.
+    Kept,
+}
+
+/// Declares each export in its sets, and a function that calls the one for so many bytes.
 macro_rules! exports {
-    ($(fn $name:ident($($argument:ident: $kind:ty),*) $(-> $answer:ty)?, by $length:expr;)*) => {
+    ($(fn $name:ident($($argument:ident: $kind:ty),*) $(-> $answer:ty)?, by $input:expr;)*) => {
         mod any_processor {
             use super::*;
             extern "C" {
@@ -99,6 +142,7 @@ macro_rules! exports {
             }
         }
 
+        #[cfg(target_arch = "x86_64")]
         mod x86_64_v3 {
             use super::*;
             extern "C" {
@@ -107,79 +151,106 @@ macro_rules! exports {
             }
         }
 
-        // A call of its own, so that few bytes pay nothing for the choice.
+        // Calls of their own, so that few bytes pay nothing for the choice.
+        #[cfg(target_arch = "x86_64")]
         mod this_processor {
             use super::*;
             $(#[inline(never)]
             pub fn $name($($argument: $kind),*) $(-> $answer)? {
-                if runs_on_v3() {
+                if known() == Known::HasV3 {
                     // SAFETY: as below, and the processor has x86-64-v3.
                     unsafe { x86_64_v3::$name($($argument),*) }
                 } else {
-                    // SAFETY: as below.
-                    unsafe { any_processor::$name($($argument),*) }
+                    unknown_processor::$name($($argument),*)
                 }
             })*
         }
 
+        #[cfg(target_arch = "x86_64")]
+        mod unknown_processor {
+            use super::*;
+            $(#[cold]
+            #[inline(never)]
+            pub fn $name($($argument: $kind),*) $(-> $answer)? {
+                if known() == Known::Nothing {
+                    ask();
+                    return this_processor::$name($($argument),*);
+                }
+                // SAFETY: as below.
+                unsafe { any_processor::$name($($argument),*) }
+            })*
+        }
+
+        // SAFETY: the declaration is the export's. What it reads and writes are borrows that last for the call: whole
+        // slices and records of its layout, of which those that it writes overlap no other. It keeps no address. The
+        // compiler was told of x86-64-v3 before that set is called.
         $(#[inline(always)]
         pub fn $name($($argument: $kind),*) $(-> $answer)? {
-            // SAFETY: the declaration is the export's. What it reads and writes are borrows that last for the call:
-            // whole slices and records of its layout, of which those that it writes overlap no other. It keeps no
-            // address. The compiler was told of x86-64-v3 before that set is called.
-            if IS_BUILT_FOR_V3 {
-                unsafe { x86_64_v3::$name($($argument),*) }
-            } else if $length > FEW {
-                this_processor::$name($($argument),*)
-            } else {
-                unsafe { any_processor::$name($($argument),*) }
+            #[cfg(target_arch = "x86_64")]
+            match $input {
+                _ if IS_BUILT_FOR_V3 => return unsafe { x86_64_v3::$name($($argument),*) },
+                Input::Kept if known() == Known::HasV3 => {
+                    return unsafe { x86_64_v3::$name($($argument),*) };
+                }
+                Input::Kept => return unknown_processor::$name($($argument),*),
+                Input::Of(length) if length > FEW => {
+                    return this_processor::$name($($argument),*);
+                }
+                Input::Of(_) | Input::None => {}
             }
+            unsafe { any_processor::$name($($argument),*) }
         })*
     };
 }
 
 exports! {
-    fn xxh32(input: Bytes<'_>, seed: u32) -> u32, by input.length;
-    fn xxh32_start(stream: &mut MaybeUninit<Record32>, seed: u32), by NO_BYTES;
-    fn xxh32_write(stream: &mut Record32, input: Bytes<'_>) -> u32, by input.length;
-    fn xxh32_finish(stream: &Record32) -> Answer, by NO_BYTES;
-    fn xxh32_test(stream: &Record32) -> u32, by NO_BYTES;
+    fn xxh32(input: Bytes<'_>, seed: u32) -> u32, by Input::Of(input.length);
+    fn xxh32_start(stream: &mut Record32, seed: u32), by Input::None;
+    fn xxh32_write(stream: &mut Record32, input: Bytes<'_>) -> u32, by Input::Of(input.length);
+    fn xxh32_finish(stream: &Record32) -> Answer, by Input::None;
+    fn xxh32_test(stream: &Record32) -> u32, by Input::None;
 
-    fn xxh64(input: Bytes<'_>, seed: u64) -> u64, by input.length;
-    fn xxh64_start(stream: &mut MaybeUninit<Record64>, seed: u64), by NO_BYTES;
-    fn xxh64_write(stream: &mut Record64, input: Bytes<'_>) -> u32, by input.length;
-    fn xxh64_finish(stream: &Record64) -> Answer, by NO_BYTES;
-    fn xxh64_test(stream: &Record64) -> u32, by NO_BYTES;
+    fn xxh64(input: Bytes<'_>, seed: u64) -> u64, by Input::Of(input.length);
+    fn xxh64_start(stream: &mut Record64, seed: u64), by Input::None;
+    fn xxh64_write(stream: &mut Record64, input: Bytes<'_>) -> u32, by Input::Of(input.length);
+    fn xxh64_finish(stream: &Record64) -> Answer, by Input::None;
+    fn xxh64_test(stream: &Record64) -> u32, by Input::None;
 
-    fn xxh3_64(input: Bytes<'_>) -> u64, by input.length;
-    fn xxh3_64_with_seed(input: Bytes<'_>, seed: u64) -> u64, by input.length;
-    fn xxh3_64_with_secret(input: Bytes<'_>, secret: Bytes<'_>) -> Answer, by input.length;
-    fn xxh3_64_with_seed_and_secret(input: Bytes<'_>, secret: Bytes<'_>, seed: u64) -> Answer, by input.length;
+    fn xxh3_64(input: Bytes<'_>) -> u64, by Input::Of(input.length);
+    fn xxh3_64_with_seed(input: Bytes<'_>, seed: u64) -> u64, by Input::Of(input.length);
+    fn xxh3_64_with_secret(input: Bytes<'_>, secret: Bytes<'_>) -> Answer, by Input::Of(input.length);
+    fn xxh3_64_with_seed_and_secret(input: Bytes<'_>, secret: Bytes<'_>, seed: u64) -> Answer, by Input::Of(input.length);
 
-    fn xxh3_128(input: Bytes<'_>) -> Wide, by input.length;
-    fn xxh3_128_with_seed(input: Bytes<'_>, seed: u64) -> Wide, by input.length;
-    fn xxh3_128_with_secret(input: Bytes<'_>, secret: Bytes<'_>, value: &mut Wide) -> u32, by input.length;
+    fn xxh3_128(input: Bytes<'_>) -> Wide, by Input::Of(input.length);
+    fn xxh3_128_with_seed(input: Bytes<'_>, seed: u64) -> Wide, by Input::Of(input.length);
+    fn xxh3_128_with_secret(input: Bytes<'_>, secret: Bytes<'_>, value: &mut Wide) -> u32, by Input::Of(input.length);
     fn xxh3_128_with_seed_and_secret(input: Bytes<'_>, secret: Bytes<'_>, seed: u64, value: &mut Wide) -> u32,
-        by input.length;
+        by Input::Of(input.length);
 
-    fn xxh3_start(stream: &mut MaybeUninit<Stream>, seed: u64), by NO_BYTES;
-    fn xxh3_write(stream: &mut Stream, secret: Bytes<'_>, input: Bytes<'_>) -> u32, by input.length;
-    fn xxh3_64_finish(stream: &Stream, secret: Bytes<'_>) -> Answer, by NO_BYTES;
-    fn xxh3_128_finish(stream: &Stream, secret: Bytes<'_>, value: &mut Wide) -> u32, by NO_BYTES;
+    fn xxh3_start(stream: &mut Stream, seed: u64), by Input::None;
+    fn xxh3_write(stream: &mut Stream, secret: Bytes<'_>, input: Bytes<'_>) -> u32, by Input::Kept;
+    fn xxh3_write_192(stream: &mut Stream, secret: &[u8; 192], input: Bytes<'_>) -> u32, by Input::Kept;
+    fn xxh3_64_finish(stream: &Stream, secret: Bytes<'_>) -> Answer, by Input::Kept;
+    fn xxh3_128_finish(stream: &Stream, secret: Bytes<'_>, value: &mut Wide) -> u32, by Input::Kept;
 
-    fn derive_secret(secret: &mut [u8; 192], seed: u64), by NO_BYTES;
+    fn derive_secret(secret: &mut MaybeUninit<[u8; 192]>, seed: u64), by Input::None;
 }
 
-/// What `start` makes.
+/// The secret that a seed derives, written by the library where it is to stay.
+#[cfg(feature = "alloc")]
 #[inline(always)]
-pub fn started<Record, Word>(
-    start: impl FnOnce(&mut MaybeUninit<Record>, Word),
-    seed: Word,
-) -> Record {
-    let mut record = MaybeUninit::uninit();
-    start(&mut record, seed);
-    // SAFETY: each start of the library writes the whole record, and each record is of integers alone.
-    unsafe { record.assume_init() }
+pub fn boxed_secret(seed: u64) -> Box<[u8; 192]> {
+    let mut secret = Box::new(MaybeUninit::uninit());
+    derive_secret(&mut secret, seed);
+    // SAFETY: the library has written all 192 bytes, and the box comes back to the type that they are of.
+    unsafe { Box::from_raw(Box::into_raw(secret).cast()) }
+}
+
+/// The same over bytes that are there.
+#[inline(always)]
+pub fn overwrite_with_secret(room: &mut [u8; 192], seed: u64) {
+    // SAFETY: the library writes bytes, and nothing that leaves the room unwritten.
+    derive_secret(unsafe { &mut *(room as *mut [u8; 192]).cast() }, seed);
 }
 
 /// Stops where the library refused a record or a secret. This crate hands it none that it refuses, unless an
@@ -197,54 +268,38 @@ fn refused() -> ! {
     panic!("the proved library refused a stream: its secret's length has changed")
 }
 
-// Calls that take no input.
-const NO_BYTES: usize = 0;
+const INITIAL_ACCUMULATORS: [u64; 8] = [
+    0xc2b2_ae3d,
+    0x9e37_79b1_85eb_ca87,
+    0xc2b2_ae3d_27d4_eb4f,
+    0x1656_67b1_9e37_79f9,
+    0x85eb_ca77_c2b2_ae63,
+    0x85eb_ca77,
+    0x27d4_eb2f_1656_67c5,
+    0x9e37_79b1,
+];
 
-// Up to this many bytes the sets differ by less than it takes to ask for the processor.
-const FEW: usize = 240;
+#[cfg(test)]
+mod tests {
+    use super::*;
 
-// The features of x86-64-v3 that the v2 set lacks.
-macro_rules! for_each_feature {
-    ($of_all:ident) => {
-        $of_all!("avx2", "bmi1", "bmi2", "f16c", "fma", "lzcnt", "movbe")
-    };
-}
-
-macro_rules! target_has {
-    ($($feature:tt),*) => { cfg!(all($(target_feature = $feature),*)) };
-}
-
-const IS_BUILT_FOR_V3: bool = for_each_feature!(target_has);
-
-#[cfg(feature = "std")]
-#[inline(always)]
-fn runs_on_v3() -> bool {
-    use core::sync::atomic::{AtomicU8, Ordering::Relaxed};
-    const UNKNOWN: u8 = 0;
-    const NO: u8 = 1;
-    const YES: u8 = 2;
-    static KNOWN: AtomicU8 = AtomicU8::new(UNKNOWN);
-
-    macro_rules! processor_has {
-        ($($feature:tt),*) => { $(std::is_x86_feature_detected!($feature))&&* };
+    #[test]
+    fn a_stream_of_no_bytes_is_what_the_library_starts() {
+        for seed in [0, 1, 0x1234_5678_9abc_def0, u64::MAX] {
+            let mut started = Stream::new(!seed);
+            started.accumulators = [1; 8];
+            started.current_stripe = 1;
+            started.stripes = 1;
+            started.buffer_usage = 1;
+            started.total_bytes = 1;
+            xxh3_start(&mut started, seed);
+            let made = Stream::new(seed);
+            assert_eq!(made.seed, started.seed);
+            assert_eq!(made.accumulators, started.accumulators);
+            assert_eq!(made.current_stripe, started.current_stripe);
+            assert_eq!(made.stripes, started.stripes);
+            assert_eq!(made.buffer_usage, started.buffer_usage);
+            assert_eq!(made.total_bytes, started.total_bytes);
+        }
     }
-
-    #[cold]
-    fn ask() -> bool {
-        let has_all = for_each_feature!(processor_has);
-        KNOWN.store(if has_all { YES } else { NO }, Relaxed);
-        has_all
-    }
-
-    match KNOWN.load(Relaxed) {
-        UNKNOWN => ask(),
-        known => known == YES,
-    }
-}
-
-// Without the standard library nothing asks for the processor.
-#[cfg(not(feature = "std"))]
-#[inline(always)]
-fn runs_on_v3() -> bool {
-    false
 }

@@ -4,7 +4,7 @@
 use alloc::boxed::Box;
 use core::fmt;
 
-use crate::library::{self, Stream};
+use crate::library::{self, Bytes, Stream};
 
 /// The fewest bytes that a secret may have.
 pub const SECRET_MINIMUM_LENGTH: usize = 136;
@@ -197,7 +197,7 @@ impl<S: FixedMutBuffer> SecretBuffer<S> {
     pub fn with_seed(seed: u64, mut secret: S) -> Result<Self, SecretWithSeedError<S>> {
         match secret.as_mut().try_into() {
             Ok(room) => {
-                library::derive_secret(room, seed);
+                library::overwrite_with_secret(room, seed);
                 Ok(Self { seed, secret })
             }
             Err(_) => Err(SecretWithSeedError(secret)),
@@ -248,10 +248,12 @@ impl SecretBuffer<Box<[u8]>> {
     ///
     /// assert_eq!(SecretBuffer::allocate_with_seed(7).into_secret().len(), 192);
     /// ```
+    #[inline]
     pub fn allocate_with_seed(seed: u64) -> Self {
-        let mut secret = Box::new([0; DEFAULT_SECRET_LENGTH]);
-        library::derive_secret(&mut secret, seed);
-        Self { seed, secret }
+        Self {
+            seed,
+            secret: library::boxed_secret(seed),
+        }
     }
 
     /// The seed and the secret as they are, as [`new`](Self::new) takes them.
@@ -280,6 +282,21 @@ impl SecretBuffer<Box<[u8]>> {
 /// be the default one.
 pub(crate) trait Secret {
     fn bytes(&self) -> &[u8];
+
+    /// Takes a piece into the stream of this secret.
+    #[inline(always)]
+    fn write(&self, stream: &mut Stream, input: Bytes<'_>) -> u32 {
+        write_under(self.bytes(), stream, input)
+    }
+}
+
+// The library needs no test of a secret that is as long as the default one.
+#[inline(always)]
+fn write_under(secret: &[u8], stream: &mut Stream, input: Bytes<'_>) -> u32 {
+    match secret.try_into() {
+        Ok(secret) => library::xxh3_write_192(stream, secret, input),
+        Err(_) => library::xxh3_write(stream, secret.into(), input),
+    }
 }
 
 impl<S: FixedBuffer> Secret for S {
@@ -316,6 +333,14 @@ impl Secret for Owned {
             Owned::Boxed(secret) => secret,
         }
     }
+
+    #[inline(always)]
+    fn write(&self, stream: &mut Stream, input: Bytes<'_>) -> u32 {
+        match self {
+            Owned::Default => library::xxh3_write_192(stream, &DEFAULT_SECRET, input),
+            Owned::Boxed(secret) => write_under(secret, stream, input),
+        }
+    }
 }
 
 /// The library's stream beside its secret, which is handed in at each call.
@@ -328,8 +353,10 @@ pub(crate) struct Beside<S> {
 impl<S> Beside<S> {
     #[inline(always)]
     pub(crate) fn new(seed: u64, secret: S) -> Self {
-        let stream = library::started(library::xxh3_start, seed);
-        Self { stream, secret }
+        Self {
+            stream: Stream::new(seed),
+            secret,
+        }
     }
 
     pub(crate) fn into_secret(self) -> S {
@@ -356,8 +383,7 @@ impl From<SecretBuffer<Box<[u8]>>> for Beside<Owned> {
 impl<S: Secret> Beside<S> {
     #[inline(always)]
     pub(crate) fn write(&mut self, input: &[u8]) {
-        let secret = self.secret.bytes().into();
-        library::expect_done(library::xxh3_write(&mut self.stream, secret, input.into()));
+        library::expect_done(self.secret.write(&mut self.stream, input.into()));
     }
 
     #[inline(always)]
@@ -496,6 +522,7 @@ macro_rules! xxh3_hashers {
             }
 
             /// A stream of no bytes yet, with a seed and the secret that it derives.
+            #[inline]
             pub fn with_seed(seed: u64) -> Self {
                 Self {
                     stream: SecretBuffer::allocate_with_seed(seed).into(),
@@ -578,7 +605,7 @@ mod tests {
     #[test]
     fn the_default_secret_is_what_the_library_derives_of_the_seed_0() {
         let mut derived = [0; DEFAULT_SECRET_LENGTH];
-        library::derive_secret(&mut derived, 0);
+        library::overwrite_with_secret(&mut derived, 0);
         assert_eq!(derived, DEFAULT_SECRET);
         assert_eq!(derived, *SecretBuffer::default().into_secret());
     }

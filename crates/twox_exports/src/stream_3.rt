@@ -3,17 +3,21 @@
 //! A stream's secret lies beside it, and each call is handed it again. So a secret may have any length, and the
 //! clauses speak of the stream and that secret together.
 
-ghost use Rattle.std.specs.Prelude.{◌≡◌, ◌↔◌, ◌<◌, ◌≤◌, ℕ, List, [], ◌++◌, length, IsTrue};
+ghost use Rattle.std.specs.Prelude.{◌≡◌, ◌↔◌, ◌+◌, ◌<◌, ◌≤◌, ℕ, List, [], ◌++◌, take, length, IsTrue};
+ghost use Rattle.twox_hash.specs.Secret.{default_secret};
 ghost use Rattle.twox_hash.specs.SecretBytes.{secret_bytes};
 ghost use Rattle.twox_hash.specs.Value.{stream_64, stream_128};
-ghost use Rattle.twox_core.specs.AfterWrite.{state_after_write};
+ghost use Rattle.twox_core.specs.AfterWrite.{state_after_write, with_buffered};
+ghost use Rattle.twox_core.specs.Finish.{state_finish};
 ghost use Rattle.twox_core.specs.StandsFor.{Follows};
 ghost use Rattle.twox_exports.specs.Number.{number_of};
 ghost use Rattle.twox_core.specs.InRange.{IsInRange};
 
 use crate::{DONE, NOT_A_STREAM, SECRET_TOO_SHORT, Wide, halves};
-use twox_hash::words::IntoU64;
-use twox_hash::xxhash3::{BUFFERED_BYTES, CoreState, Secret, Vector};
+use twox_hash::words::{IntoU64, copy_short};
+use twox_hash::xxhash3::{
+    BUFFERED_BYTES, CUTOFF, CoreState, Finalize, Secret, Vector, default_secret,
+};
 use twox_hash::xxhash3_64::Finalize64;
 use twox_hash::xxhash3_128::Finalize128;
 
@@ -25,6 +29,9 @@ pub fn start() -> CoreState
     CoreState::new()
 }
 
+// A piece of up to so many bytes is kept with no call.
+const FEW_BYTES: usize = 64;
+
 // Whether calls go on from the state.
 #[inline(always)]
 fn is_in_range(core: &CoreState, secret: Secret<'_>) -> bool
@@ -34,7 +41,7 @@ fn is_in_range(core: &CoreState, secret: Secret<'_>) -> bool
     let room = core.buffer[..].len();
     core.taken.stripes.current_stripe() < secret.n_stripes()
         && core.buffer_usage <= room
-        && core.total_bytes.min(1) <= core.buffer_usage.into_u64()
+        && (0 < core.buffer_usage || core.total_bytes == 0)
 }
 
 /// Takes the bytes of a piece after those taken before, over the stream's secret.
@@ -57,11 +64,147 @@ pub fn write<V: Vector>(core: &mut CoreState, v: V, secret: &[u8], input: &[u8])
     let Ok(secret) = Secret::new(secret) else {
         return SECRET_TOO_SHORT;
     };
+    if has_room(core, secret, input) {
+        keep(core, secret, input);
+        return DONE;
+    }
+    write_far(core, v, secret, input)
+}
+
+// Whether calls go on from the state, and the buffer has room for the piece, which is of a few bytes.
+#[inline(always)]
+fn has_room(core: &CoreState, secret: Secret<'_>, input: &[u8]) -> bool
+    ensures in_range { IsTrue result → IsInRange (secret_bytes secret.entry) core.now }
+    ensures room { IsTrue result → core.now.buffer_usage + length input.now ≤ 512 }
+    ensures few { IsTrue result → length input.now ≤ 64 }
+    ensures size { length core.now.buffer ≡ BUFFERED_BYTES }
+{
+    let used = core.buffer_usage;
+    input.len() <= FEW_BYTES
+        && used <= BUFFERED_BYTES
+        && input.len() <= BUFFERED_BYTES - used
+        && is_in_range(core, secret)
+}
+
+// Takes such a piece.
+#[inline(always)]
+fn keep(core: &mut CoreState, _secret: Secret<'_>, input: &[u8])
+    requires room { core.old.buffer_usage + length input.now ≤ 512 }
+    requires few { length input.now ≤ 64 }
+    ensures { core.new ≡ state_after_write (secret_bytes _secret.entry) core.old input.now }
+{
+    core.total_bytes = core.total_bytes.saturating_add(input.len().into_u64());
+    add_few(core, input);
+}
+
+// Puts a few bytes after those that wait.
+#[inline(always)]
+fn add_few(core: &mut CoreState, input: &[u8])
+    requires room { core.old.buffer_usage + length input.now ≤ 512 }
+    requires few { length input.now ≤ 64 }
+    ensures { core.new ≡ with_buffered core.old input.now }
+{
+    let used = core.buffer_usage;
+    let end = used + input.len();
+    copy_few(&mut core.buffer[used..end], input);
+    core.buffer_usage = end;
+}
+
+// Copies a slice of at most 64 bytes over another of its length, with no call.
+#[inline(always)]
+fn copy_few(to: &mut [u8], from: &[u8])
+    requires same { length to.old ≡ length from.now }
+    requires few { length from.now ≤ 64 }
+    ensures { to.new ≡ from.now }
+{
+    if from.len() <= 16 {
+        copy_short(to, from);
+    } else if from.len() <= 32 {
+        copy_ends::<16>(to, from);
+    } else {
+        copy_ends::<32>(to, from);
+    }
+}
+
+// Copies the first N bytes, then the last N, which may overlap them.
+#[inline(always)]
+fn copy_ends<const N: usize>(to: &mut [u8], from: &[u8])
+    requires same { length to.old ≡ length from.now }
+    requires long_enough { N ≤ length from.now }
+    requires covered { length from.now ≤ N + N }
+    ensures { to.new ≡ from.now }
+{
+    *to.first_chunk_mut::<N>().unwrap() = *from.first_chunk().unwrap();
+    *to.last_chunk_mut::<N>().unwrap() = *from.last_chunk().unwrap();
+}
+
+// Takes any other piece: a call of its own, so that those pay for no register that it keeps.
+#[inline(never)]
+fn write_far<V: Vector>(core: &mut CoreState, v: V, secret: Secret<'_>, input: &[u8]) -> u32
+    ensures done { result ≡ DONE ↔ IsInRange (secret_bytes secret.entry) core.old }
+    ensures refused { result ≡ NOT_A_STREAM
+        ↔ (¬ IsInRange (secret_bytes secret.entry) core.old) }
+    ensures size { length core.old.buffer ≡ BUFFERED_BYTES }
+    ensures exact { result ≡ DONE
+        → core.new ≡ state_after_write (secret_bytes secret.entry) core.old input.now }
+    ensures kept { (¬ (result ≡ DONE)) → core.new ≡ core.old }
+{
     if !is_in_range(core, secret) {
         return NOT_A_STREAM;
     }
     core.write(v, input, secret);
     DONE
+}
+
+// What `finalize` makes of the bytes taken.
+#[inline(always)]
+fn finish<V: Vector, F: Finalize>(
+    core: &CoreState,
+    v: V,
+    finalize: &F,
+    seed: Option<u64>,
+    secret: Secret<'_>,
+) -> F::Output
+    requires { IsInRange (secret_bytes secret) core.now }
+    ensures exact { let s = secret_bytes secret.entry in
+        result ≡ state_finish (F.small_of finalize.now) (F.large_of finalize.now) seed s core.now }
+    ensures size { length core.now.buffer ≡ BUFFERED_BYTES }
+{
+    let Some(own) = seed else {
+        return finish_far(core, v, finalize, seed, secret);
+    };
+    if core.total_bytes > CUTOFF.into_u64() {
+        return finish_far(core, v, finalize, seed, secret);
+    }
+    finish_short(core, finalize, own)
+}
+
+// The same of up to 240 bytes, with the default secret and a seed.
+#[inline(always)]
+fn finish_short<F: Finalize>(core: &CoreState, finalize: &F, seed: u64) -> F::Output
+    requires { core.now.total_bytes ≤ 240 }
+    ensures { let bytes = take core.now.total_bytes core.now.buffer in
+        result ≡ F.small_of finalize.now default_secret seed bytes }
+{
+    let input = &core.buffer[..core.total_bytes as usize];
+    finalize.small(default_secret(), seed, input)
+}
+
+// The same at every length, as a call of its own, so that short streams pay for no register that it keeps.
+#[inline(never)]
+fn finish_far<V: Vector, F: Finalize>(
+    core: &CoreState,
+    v: V,
+    finalize: &F,
+    seed: Option<u64>,
+    secret: Secret<'_>,
+) -> F::Output
+    requires { IsInRange (secret_bytes secret) core.now }
+    ensures exact { let s = secret_bytes secret.entry in
+        result ≡ state_finish (F.small_of finalize.now) (F.large_of finalize.now) seed s core.now }
+    ensures size { length core.now.buffer ≡ BUFFERED_BYTES }
+{
+    core.finish(v, finalize, seed, secret)
 }
 
 /// Writes the hash of 64 bits of the bytes taken so far, with the stream's seed, if it has one, and over its secret.
@@ -93,7 +236,7 @@ pub fn finish_64<V: Vector>(
     if !is_in_range(core, secret) {
         return NOT_A_STREAM;
     }
-    *value = core.finish(v, &Finalize64, seed, secret);
+    *value = finish(core, v, &Finalize64, seed, secret);
     DONE
 }
 
@@ -120,6 +263,6 @@ pub fn finish_128<V: Vector>(
     if !is_in_range(core, secret) {
         return NOT_A_STREAM;
     }
-    *value = halves(core.finish(v, &Finalize128, seed, secret));
+    *value = halves(finish(core, v, &Finalize128, seed, secret));
     DONE
 }

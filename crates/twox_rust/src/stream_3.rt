@@ -10,7 +10,7 @@ ghost use Rattle.twox_rust.specs.Stream.{StandsFor};
 use crate::Answer;
 use twox_exports::stream_3::{finish_64, finish_128, start, write};
 use twox_exports::{DONE, NOT_A_STREAM, SECRET_TOO_SHORT, Wide};
-use twox_hash::xxhash3::{CoreState, Kernel};
+use twox_hash::xxhash3::{CoreState, DefaultSecret, Kernel};
 
 /// A stream of both widths, over a secret that lies elsewhere.
 #[derive(Clone, Copy)]
@@ -57,6 +57,27 @@ pub extern "C" fn twox_rust_xxh3_write(stream: &mut Stream, secret: &[u8], input
     ensures kept { (¬ (result ≡ DONE)) → stream.new ≡ stream.old }
 {
     write(&mut stream.core, Kernel {}, secret, input)
+}
+
+/// The same over a secret of 192 bytes, as the default one and each derived one has, which needs no test.
+///
+/// `NOT_A_STREAM`: the record's place in the secret and its number of bytes are none that calls leave. The record stays
+/// as it was.
+#[unsafe(no_mangle)]
+pub extern "C" fn twox_rust_xxh3_write_192(
+    stream: &mut Stream,
+    secret: &DefaultSecret,
+    input: &[u8],
+) -> u32
+    ensures done { result ≡ DONE ↔ IsInRange secret.now stream.old.core }
+    ensures refused { result ≡ NOT_A_STREAM ↔ (¬ IsInRange secret.now stream.old.core) }
+    ensures message { (seed : ℕ) (m : List ℕ) → StandsFor stream.old secret.now seed m
+        → (result ≡ DONE) × StandsFor stream.new secret.now seed (m ++ input.now) }
+    ensures exact { result ≡ DONE → stream.new
+        ≡ record stream.old { core = state_after_write secret.now stream.old.core input.now } }
+    ensures kept { (¬ (result ≡ DONE)) → stream.new ≡ stream.old }
+{
+    write(&mut stream.core, Kernel {}, secret.as_slice(), input)
 }
 
 /// The hash of 64 bits of the bytes taken so far, over the stream's secret. More may be taken afterwards.

@@ -70,6 +70,24 @@ pub extern "C" fn twox_rust_xxh32_finish(stream: &StateInMemory) -> Answer
             value: 0,
         };
     }
+    if stream.total_len < 16 {
+        return Answer {
+            code: DONE,
+            value: u64::from(stream.finish()),
+        };
+    }
+    finish_far(stream)
+}
+
+// The hash where a stripe was taken: a call of its own, so that fewer bytes pay for no register that it keeps.
+#[inline(never)]
+fn finish_far(stream: &StateInMemory) -> Answer
+    requires { stream.now.buffer_usage < 16 }
+    ensures done { result.code ≡ DONE }
+    ensures message { (m : List ℕ) → StandsFor (record_of stream.now) m
+        → result.value ≡ xxh32 stream.now.seed m }
+    ensures exact { result.value ≡ finish_value (record_of stream.now) }
+{
     Answer {
         code: DONE,
         value: u64::from(stream.finish()),

@@ -45,6 +45,26 @@ pub extern "C" fn twox_rust_xxh64_write(stream: &mut StateInMemory, input: &[u8]
     ensures in_range { result ≡ DONE → stream.new.buffer_usage < 32 }
     ensures kept { result ≡ NOT_A_STREAM → stream.new ≡ stream.old }
 {
+    if input.len() < 32usize.saturating_sub(stream.buffer_usage) {
+        stream.add_piece(input);
+        return DONE;
+    }
+    write_far(stream, input)
+}
+
+// The same of every piece: a call of its own, so that those that fill no stripe pay for no register that it keeps.
+#[inline(never)]
+fn write_far(stream: &mut StateInMemory, input: &[u8]) -> u32
+    ensures done { result ≡ DONE ↔ (stream.old.buffer_usage < 32) }
+    ensures refused { result ≡ NOT_A_STREAM ↔ (¬ (stream.old.buffer_usage < 32)) }
+    ensures message { (m : List ℕ) → result ≡ DONE → StandsFor (record_of stream.old) m
+        → StandsFor (record_of stream.new) (m ++ input.now) }
+    ensures seed { stream.new.seed ≡ stream.old.seed }
+    ensures exact { result ≡ DONE
+        → record_of stream.new ≡ after_write (record_of stream.old) input.now }
+    ensures in_range { result ≡ DONE → stream.new.buffer_usage < 32 }
+    ensures kept { result ≡ NOT_A_STREAM → stream.new ≡ stream.old }
+{
     if stream.buffer_usage >= 32 {
         return NOT_A_STREAM;
     }
@@ -70,6 +90,24 @@ pub extern "C" fn twox_rust_xxh64_finish(stream: &StateInMemory) -> Answer
             value: 0,
         };
     }
+    if stream.total_len < 32 {
+        return Answer {
+            code: DONE,
+            value: stream.finish(),
+        };
+    }
+    finish_far(stream)
+}
+
+// The hash where a stripe was taken: a call of its own, so that fewer bytes pay for no register that it keeps.
+#[inline(never)]
+fn finish_far(stream: &StateInMemory) -> Answer
+    requires { stream.now.buffer_usage < 32 }
+    ensures done { result.code ≡ DONE }
+    ensures message { (m : List ℕ) → StandsFor (record_of stream.now) m
+        → result.value ≡ xxh64 stream.now.seed m }
+    ensures exact { result.value ≡ finish_value (record_of stream.now) }
+{
     Answer {
         code: DONE,
         value: stream.finish(),

@@ -3,12 +3,14 @@
 //!
 //! ```text
 //! calls compare COUNT SEED     compares COUNT calls at least
+//! calls table                  compares the oracle's table, on standard input
 //! calls save 32|64 SEED        the saved hasher of standard input, as JSON
 //! calls resume 32|64 JSON      the hash that a saved hasher gives after standard input
 //! ```
 
 mod case;
 mod reference;
+mod table;
 #[macro_use]
 mod under_test;
 
@@ -34,9 +36,12 @@ fn main() -> ExitCode {
             );
             ExitCode::SUCCESS
         }
+        ["table"] => table(),
         ["resume", bits, json] => resume(bits == "32", json),
         _ => {
-            eprintln!("usage: calls compare COUNT SEED | save 32|64 SEED | resume 32|64 JSON");
+            eprintln!(
+                "usage: calls compare COUNT SEED | table | save 32|64 SEED | resume 32|64 JSON"
+            );
             ExitCode::from(2)
         }
     }
@@ -62,6 +67,20 @@ fn resume(is_32: bool, json: &str) -> ExitCode {
         }
         Err(refusal) => {
             eprintln!("{refusal}");
+            ExitCode::FAILURE
+        }
+    }
+}
+
+fn table() -> ExitCode {
+    let text = String::from_utf8(standard_input()).expect("the table is text");
+    match table::agrees(&text) {
+        Ok(compared) => {
+            println!("{compared} calls, none differs");
+            ExitCode::SUCCESS
+        }
+        Err(difference) => {
+            println!("{difference}");
             ExitCode::FAILURE
         }
     }

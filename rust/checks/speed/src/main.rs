@@ -3,7 +3,11 @@
 //!
 //! ```text
 //! speed TURNS
+//! speed count CALLS
 //! ```
+//!
+//! The second form makes so many calls for each row and peer, with a call of `mark` before and after them, and prints
+//! the rows' names alone: rust/count has callgrind count the instructions between the marks.
 
 use std::hash::{BuildHasher, Hasher};
 use std::hint::black_box;
@@ -52,8 +56,38 @@ fn time(call: &Call<'_>, input: &[u8], calls: u32) -> Duration {
     start.elapsed()
 }
 
+/// What is done with a row's calls.
+#[derive(Clone, Copy)]
+enum Measure {
+    /// So many turns, of which the best counts.
+    Turns(u32),
+    /// So many calls between two marks.
+    Calls(u32),
+}
+
+/// Where callgrind begins to count anew.
+#[no_mangle]
+#[inline(never)]
+extern "C" fn mark() {
+    black_box(());
+}
+
+fn row(name: &str, measure: Measure, input: &[u8], calls: Vec<Call<'_>>) {
+    match measure {
+        Measure::Turns(turns) => println!("{name}\t{}", times(turns, input, calls).join("\t")),
+        Measure::Calls(count) => {
+            for call in calls {
+                mark();
+                time(&call, input, count);
+                mark();
+            }
+            println!("{name}");
+        }
+    }
+}
+
 // The peers take turns, so that what disturbs the machine disturbs each.
-fn row(name: &str, turns: u32, input: &[u8], calls: Vec<Call<'_>>) {
+fn times(turns: u32, input: &[u8], calls: Vec<Call<'_>>) -> Vec<String> {
     let mut peers: Vec<Least<'_>> = calls
         .into_iter()
         .map(|call| Least::new(call, input))
@@ -61,11 +95,15 @@ fn row(name: &str, turns: u32, input: &[u8], calls: Vec<Call<'_>>) {
     for _ in 0..turns {
         peers.iter_mut().for_each(|peer| peer.turn(input));
     }
-    let times: Vec<String> = peers
+    peers
         .iter()
         .map(|peer| format!("{:.1}", peer.nanoseconds))
-        .collect();
-    println!("{name}\t{}", times.join("\t"));
+        .collect()
+}
+
+// Both halves, since a peer that is inlined would leave out one that nothing reads.
+fn folded(value: u128) -> u64 {
+    (value >> 64) as u64 ^ value as u64
 }
 
 fn streamed<H: Hasher>(mut hasher: H, input: &[u8], piece: usize) -> u64 {
@@ -95,10 +133,10 @@ macro_rules! calls_of {
                     Box::new(XxHash3_64::oneshot),
                     Box::new(|input| XxHash3_64::oneshot_with_seed(SEED, input)),
                     Box::new(|input| XxHash3_64::oneshot_with_secret(secret, input).unwrap()),
-                    Box::new(|input| XxHash3_128::oneshot(input) as u64),
-                    Box::new(|input| XxHash3_128::oneshot_with_seed(SEED, input) as u64),
+                    Box::new(|input| folded(XxHash3_128::oneshot(input))),
+                    Box::new(|input| folded(XxHash3_128::oneshot_with_seed(SEED, input))),
                     Box::new(|input| {
-                        XxHash3_128::oneshot_with_secret(secret, input).unwrap() as u64
+                        folded(XxHash3_128::oneshot_with_secret(secret, input).unwrap())
                     }),
                 ]
             }
@@ -145,9 +183,9 @@ mod peer {
             Box::new(xxh3::xxh3_64),
             Box::new(|input| xxh3::xxh3_64_with_seed(input, SEED)),
             Box::new(|input| xxh3::xxh3_64_with_secret(input, secret)),
-            Box::new(|input| xxh3::xxh3_128(input) as u64),
-            Box::new(|input| xxh3::xxh3_128_with_seed(input, SEED) as u64),
-            Box::new(|input| xxh3::xxh3_128_with_secret(input, secret) as u64),
+            Box::new(|input| folded(xxh3::xxh3_128(input))),
+            Box::new(|input| folded(xxh3::xxh3_128_with_seed(input, SEED))),
+            Box::new(|input| folded(xxh3::xxh3_128_with_secret(input, secret))),
         ]
     }
 
@@ -176,10 +214,10 @@ mod peer {
 }
 
 // One row for each call, with that call of each peer.
-fn rows(names: &[&str], of: &str, turns: u32, input: &[u8], mut peers: Vec<Vec<Call<'_>>>) {
+fn rows(names: &[&str], of: &str, measure: Measure, input: &[u8], mut peers: Vec<Vec<Call<'_>>>) {
     for name in names.iter().rev() {
         let calls = peers.iter_mut().filter_map(Vec::pop).collect();
-        row(&format!("{name}\t{of}"), turns, input, calls);
+        row(&format!("{name}\t{of}"), measure, input, calls);
     }
 }
 
@@ -198,60 +236,80 @@ fn peers<'a>(
 use peer as theirs;
 
 extern "C" {
-    fn twox_rust_interface_1() -> u32;
+    fn twox_rust_interface_2() -> u32;
+}
+
+// Turns, or a count of calls.
+fn asked() -> Option<Measure> {
+    let words: Vec<String> = std::env::args().skip(1).collect();
+    match &words[..] {
+        [turns] => turns.parse().ok().map(Measure::Turns),
+        [count, calls] if count == "count" => calls.parse().ok().map(Measure::Calls),
+        _ => None,
+    }
 }
 
 fn main() {
-    let turns = std::env::args().nth(1).and_then(|word| word.parse().ok());
-    let Some(turns) = turns else {
-        eprintln!("usage: speed TURNS");
+    let Some(measure) = asked() else {
+        eprintln!("usage: speed TURNS | speed count CALLS");
         std::process::exit(2);
     };
     let bytes: Vec<u8> = (0..1 << 20)
         .map(|i: u32| (i.wrapping_mul(0x9e37_79b1) >> 24) as u8)
         .collect();
-    let secret: Vec<u8> = bytes.iter().rev().copied().take(192).collect();
     // SAFETY: it takes nothing, and answers a number.
-    row(
-        "an empty call\t",
-        turns,
-        &bytes,
-        vec![Box::new(|_| unsafe { twox_rust_interface_1() }.into())],
-    );
+    let empty: Call<'_> = Box::new(|_| unsafe { twox_rust_interface_2() }.into());
+    row("an empty call\t", measure, &bytes, vec![empty]);
+    if let Measure::Calls(_) = measure {
+        row("no call\t", measure, &bytes, vec![Box::new(|_| 0)]);
+    }
+    oneshots(measure, &bytes);
+    streams(measure, &bytes[..8192]);
+    others(measure, &bytes[..8]);
+}
+
+fn oneshots(measure: Measure, bytes: &[u8]) {
+    let names = [
+        "XXH32",
+        "XXH64",
+        "XXH3 64",
+        "XXH3 64, seed",
+        "XXH3 64, secret",
+        "XXH3 128",
+        "XXH3 128, seed",
+        "XXH3 128, secret",
+    ];
+    let secret: Vec<u8> = bytes.iter().rev().copied().take(192).collect();
     for length in LENGTHS {
-        let names = [
-            "XXH32",
-            "XXH64",
-            "XXH3 64",
-            "XXH3 64, seed",
-            "XXH3 64, secret",
-            "XXH3 128",
-            "XXH3 128, seed",
-            "XXH3 128, secret",
-        ];
         let peers = peers(ours::oneshots(&secret), peer::oneshots(&secret), || {
             theirs::oneshots(&secret)
         });
-        rows(&names, &length.to_string(), turns, &bytes[..length], peers);
-    }
-    for piece in PIECES {
-        let names = ["XXH32", "XXH64", "XXH3 64", "XXH3 64, raw"];
-        let peers = peers(ours::streams(piece), peer::streams(piece), || {
-            theirs::streams(piece)
-        });
         rows(
             &names,
-            &format!("8192 by {piece}"),
-            turns,
-            &bytes[..8192],
+            &length.to_string(),
+            measure,
+            &bytes[..length],
             peers,
         );
     }
+}
+
+fn streams(measure: Measure, bytes: &[u8]) {
+    let names = ["XXH32", "XXH64", "XXH3 64", "XXH3 64, raw"];
+    for piece in PIECES {
+        let peers = peers(ours::streams(piece), peer::streams(piece), || {
+            theirs::streams(piece)
+        });
+        rows(&names, &format!("8192 by {piece}"), measure, bytes, peers);
+    }
+}
+
+fn others(measure: Measure, key: &[u8]) {
     let names = [
         "a map's key by XXH64",
         "a map's key by XXH3",
         "XXH3 64 with_seed, 8 bytes, finish",
     ];
     let peers = peers(ours::others(), peer::others(), || theirs::others());
-    rows(&names, "", turns, &bytes[..8], peers);
+    rows(&names, "", measure, key, peers);
 }

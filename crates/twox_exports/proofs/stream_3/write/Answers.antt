@@ -1,14 +1,15 @@
-use Rattle.std.proofs.Common.{arith, refl}
+use Rattle.std.proofs.Common.{refl}
 use Rattle.twox_exports.proofs.StreamFacts.{follows_in_range, follows_written}
 use Rattle.twox_exports.proofs.stream_3.write.Goals as goal
 
--- What follows a list lies in range, and is not refused.
-pub returns-then-not-is_in_range-clause-message : goal.returns-then-not-is_in_range-clause-message
-returns-then-not-is_in_range-clause-message g c = λ m held enough.
-    let in_range = follows_in_range c.args.secret.now m c.args.core.now enough c.is_in_range.ensures.size held in
-    absurd (grind (arith, c.if-not-is_in_range.true, c.is_in_range.ensures.in_range.1 (rw c.in-Ok.ensures.1 in_range)))
+pub returns-then-has_room-clause-message : goal.returns-then-has_room-clause-message
+returns-then-has_room-clause-message g c = λ m held enough.
+    let exact = rw c.in-Ok.ensures.1 at c.keep.ensures in
+    (refl, rw exact (follows_written c.args.secret.now m c.args.input.now c.args.core.now enough c.has_room.ensures.size held))
 
 pub returns-clause-message : goal.returns-clause-message
 returns-clause-message g c = λ m held enough.
-    let exact = rw c.in-Ok.ensures.1 at c.write.ensures.exact in
-    (refl, rw exact (follows_written c.args.secret.now m c.args.input.now c.args.core.now enough c.is_in_range.ensures.size held))
+    let in_range = follows_in_range c.args.secret.now m c.args.core.now enough c.has_room.ensures.size held in
+    let done = c.write_far.ensures.done.1 (rw c.in-Ok.ensures.1 in_range) in
+    let exact = rw c.in-Ok.ensures.1 at c.write_far.ensures.exact done in
+    (done, rw exact (follows_written c.args.secret.now m c.args.input.now c.args.core.now enough c.has_room.ensures.size held))
