@@ -14,7 +14,7 @@ ghost use Rattle.twox_exports.specs.Number.{number_of};
 ghost use Rattle.twox_core.specs.InRange.{IsInRange};
 
 use crate::{DONE, NOT_A_STREAM, SECRET_TOO_SHORT, Wide, halves};
-use twox_hash::words::{IntoU64, copy_short};
+use twox_hash::words::{IntoU64, copy_ends, copy_short};
 use twox_hash::xxhash3::{
     BUFFERED_BYTES, CUTOFF, CoreState, Finalize, Secret, Vector, default_secret,
 };
@@ -117,25 +117,11 @@ fn copy_few(to: &mut [u8], from: &[u8])
     requires few { length from.now ≤ 64 }
     ensures { to.new ≡ from.now }
 {
-    if from.len() <= 16 {
+    if from.len() <= 32 {
         copy_short(to, from);
-    } else if from.len() <= 32 {
-        copy_ends::<16>(to, from);
     } else {
         copy_ends::<32>(to, from);
     }
-}
-
-// Copies the first N bytes, then the last N, which may overlap them.
-#[inline(always)]
-fn copy_ends<const N: usize>(to: &mut [u8], from: &[u8])
-    requires same { length to.old ≡ length from.now }
-    requires long_enough { N ≤ length from.now }
-    requires covered { length from.now ≤ N + N }
-    ensures { to.new ≡ from.now }
-{
-    *to.first_chunk_mut::<N>().unwrap() = *from.first_chunk().unwrap();
-    *to.last_chunk_mut::<N>().unwrap() = *from.last_chunk().unwrap();
 }
 
 // Takes any other piece: a call of its own, so that those pay for no register that it keeps.

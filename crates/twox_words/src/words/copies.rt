@@ -25,9 +25,10 @@ pub fn copy_short(to: &mut [u8], from: &[u8])
     }
 }
 
-// Copies the first N bytes, then the last N, which may overlap them.
+/// Copies a slice of `N` to `2 * N` bytes over another of its length: the first `N` bytes, then the last `N`, which may
+/// overlap them.
 #[inline(always)]
-fn copy_ends<const N: usize>(to: &mut [u8], from: &[u8])
+pub fn copy_ends<const N: usize>(to: &mut [u8], from: &[u8])
     requires same { length to.old ≡ length from.now }
     requires long_enough { N ≤ length from.now }
     requires covered { length from.now ≤ N + N }
