@@ -9,7 +9,7 @@ import sys
 
 TOP = os.path.dirname(os.path.dirname(os.path.dirname(os.path.abspath(__file__))))
 # What this program calls of rt. A new kit may name these otherwise.
-USED = ("checked", "must_fail", "read_edit", "unread", "rtlib", "REFUSED", "AT_LIMIT")
+USED = ("checked", "must_fail", "read_edit", "unread", "rtlib")
 
 
 def load():
@@ -52,9 +52,14 @@ def check(crate, texts, kept, only=()):
 def try_alone(crate, edit_file, kept):
     """Whether the prover refuses the edit, and what to say: over the kept work, and what passes there from nothing."""
     came_to, said = rt.must_fail(crate, edit_file, one_job(), kept)
-    if came_to not in (rt.REFUSED, rt.AT_LIMIT):
+    if not is_refusal(came_to):
         came_to, said = rt.must_fail(crate, edit_file, one_job())
-    return came_to in (rt.REFUSED, rt.AT_LIMIT), said.partition(": ")[2]
+    return is_refusal(came_to), said.partition(": ")[2]
+
+
+def is_refusal(came_to):
+    """What rt answers of an edit: kit 13b says yes or no, and kit 13f what the edit came to."""
+    return came_to if isinstance(came_to, bool) else came_to in (rt.REFUSED, rt.AT_LIMIT)
 
 
 def is_built(crate):
