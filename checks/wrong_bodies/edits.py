@@ -9,6 +9,8 @@ from . import kit, source
 class Edit:
     def __init__(self, file, crate, names):
         self.file, self.name, self.function, self.spots = file, os.path.basename(file), None, []
+        named = re.search(r"^refused by: (\S+)$", kit.read(file), re.M)
+        self.refused_by = named and f"{crate.name}::{named[1]}"
         self.path, pairs = parsed(kit.read(file))
         if kit.rt.read_edit(file, crate.folder)[1] or not self.path or not self.path.startswith("src/"):
             return
@@ -20,6 +22,7 @@ class Edit:
         around = [it for it in source.functions(self.path, text.split("\n")) if all(map(it.has_inside, changed))]
         if around:
             self.body, self.function = around[-1], around[-1].checked_name(names)
+            self.refused_by = self.refused_by or self.function
 
 
 def proof_folder(function):

@@ -62,14 +62,13 @@ def try_all(files, jobs, tell_end):
 
 
 def next_checks(trial, at_work):
-    """The trial's next checks: batches, then the edits that go alone, since a batch may still judge what waits, and
-    at last the controls. The first batch goes by itself, since it keeps the lemmas that the others need too."""
+    """The trial's next checks: batches, and before them the edits that go alone, each of which may take minutes; at last
+    the controls. The first batch goes by itself, since it keeps the lemmas that the others need too."""
     started = []
     while (trial.has_kept or not at_work and not started) and (batch := trial.batch()):
         started.append(functools.partial(trial.try_batch, batch))
-    if not started and not at_work and trial.alone:
-        todo, trial.alone = trial.alone, []
-        started = [functools.partial(trial.try_alone, *it) for it in todo]
+    if trial.has_kept or not at_work and not started:
+        started = [functools.partial(trial.try_alone, *it) for it in trial.taken_alone()] + started
     if not started and not at_work and not trial.is_ended:
         started = [trial.end]
     return started

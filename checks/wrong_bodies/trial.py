@@ -67,6 +67,12 @@ class Trial:
             self.waiting = [it for it in self.waiting if it not in chosen]
             return chosen
 
+    def taken_alone(self):
+        """The edits that have to go alone and weren't tried yet, each with the reason."""
+        with self.lock:
+            taken, self.alone = self.alone, []
+            return taken
+
     def try_batch(self, batch):
         """Tries these edits in one check. What it can't judge waits again, or waits to be tried alone."""
         texts = edits.texts_with(self.crate, batch)
@@ -107,11 +113,29 @@ class Trial:
                 self.alone.append((it, f"its line in a check with others: {said}"))
 
     def try_alone(self, edit, why):
+        if edit.refused_by and (said := self.refusal_by_one(edit)):
+            self.said[edit] = True, said
+            return
         began = time.monotonic()
         refused, said = kit.try_alone(self.crate, edit.file, self.kept)
         with self.lock:
             self.checks, self.seconds = self.checks + 1, self.seconds + time.monotonic() - began
             self.said[edit] = refused, f"{said} ({why})"
+
+    def refusal_by_one(self, edit):
+        """What refuses the edit, where a check of its function alone, or of the one that it names, does."""
+        texts, _ = kit.rt.read_edit(edit.file, self.crate.folder)
+        if not texts:
+            return None
+        status, lines = self.check(texts, [edit.refused_by])
+        says = {it[2]: it[3] for it in map(kit.LINE.fullmatch, lines) if it}
+        said = says.get(edit.refused_by, "")
+        errors = [it[0] for it in map(kit.PLACE.match, lines) if it and not GONE.search(it[3])]
+        errors += [it[0] for it in map(kit.OPEN_GOAL.match, lines) if it]
+        is_judged = status == 1 and lines[-1].startswith("only=") and not any(kit.is_front_end_error(it, texts) for it in lines)
+        if is_judged and OWN_GOALS.match(said):
+            return said
+        return errors[0] if is_judged and said.startswith("not proved") and errors else None
 
 
 def is_well(name, said, errors):
