@@ -1,4 +1,5 @@
 """The toolchain's program `rt` as a module: it knows how a crate is checked, and how an edit is tried alone."""
+import glob
 import importlib.machinery
 import importlib.util
 import json
@@ -6,6 +7,8 @@ import os
 import re
 import shutil
 import sys
+
+from . import source
 
 TOP = os.path.dirname(os.path.dirname(os.path.dirname(os.path.abspath(__file__))))
 # What this program calls of rt. A new kit may name these otherwise.
@@ -78,9 +81,18 @@ def build_library(crate):
         sys.exit(f"wrong-bodies: {crate.name} is not proved")
 
 
-def names_in_build(crate):
-    """The functions of a built library, named as a check names them."""
-    return {name for name, _ in json.loads(read(f"{crate.rlib}/toolchain/mir.json")) if not name.endswith("+decl")}
+def is_library(crate):
+    return not crate.is_program and not crate.is_static
+
+
+def names_of_functions(crate):
+    """The functions of a crate, named as a check names them: of a library from its build, else from its source, since
+    programs and static libraries have no methods of a type with parameters."""
+    if is_library(crate):
+        return {name for name, _ in json.loads(read(f"{crate.rlib}/toolchain/mir.json")) if not name.endswith("+decl")}
+    paths = [os.path.relpath(file, crate.folder) for file in glob.glob(f"{crate.folder}/src/**/*.rt", recursive=True)]
+    found = [it for path in paths for it in source.functions(path, read(f"{crate.folder}/{path}").split("\n"))]
+    return {"::".join([crate.name, *it.module, it.owner + it.name]) for it in found}
 
 
 def is_front_end_error(line, texts):

@@ -13,7 +13,7 @@ from .trial import Trial
 
 def main(given):
     os.chdir(kit.TOP)
-    folders = ["wrong-bodies"] if given.without_must_fail else ["must-fail", "wrong-bodies"]
+    folders = ["wrong-bodies"] if given.after_ci else ["must-fail", "wrong-bodies"]
     crates = kit.crates()
     unknown = [it for it in given.crates if it not in crates]
     if unknown:
@@ -22,7 +22,7 @@ def main(given):
     if given.since:
         chosen = [it for it in chosen if has_changed(it, given.since)]
     files = {it: found for it in chosen if (found := edits.files_of(it, folders))}
-    trials = try_all(files, given.jobs, lambda it: tell(it, given.v))
+    trials = try_all(files, given.jobs, lambda it: tell(it, given.v), given.after_ci)
     verdicts = [well for trial in trials for well, _ in trial.said.values()]
     used = resource.getrusage(resource.RUSAGE_CHILDREN)
     print(f"{used.ru_utime + used.ru_stime:.0f} seconds of processor time")
@@ -40,13 +40,14 @@ def tell(trial, is_told_all):
     print(f"{trial.crate.name}: {refused} of {len(told)} refused, in {trial.checks} checks of {trial.seconds:.0f} s", flush=True)
 
 
-def try_all(files, jobs, tell_end):
-    """Tries the edits of each crate, as many checks at a time as there are jobs."""
-    for it in dict.fromkeys(below for crate in files for below in crate.below()):
+def try_all(files, jobs, tell_end, after_ci=False):
+    """Tries the edits of each crate, as many checks at a time as there are jobs. A library is proved by its build."""
+    for it in dict.fromkeys(library for crate in files for library in [*crate.below(), crate] if kit.is_library(library)):
         kit.build_library(it)
     with tempfile.TemporaryDirectory(prefix="wrong-bodies-") as room, concurrent.futures.ThreadPoolExecutor(jobs) as pool:
         # The largest first, so that none is left for the end.
-        trials = [Trial(it, f"{room}/{it.name}", files[it]) for it in sorted(files, key=lambda it: -it.count(rb"\n"))]
+        ordered = sorted(files, key=lambda it: -it.count(rb"\n"))
+        trials = [Trial(it, f"{room}/{it.name}", files[it], after_ci or kit.is_library(it)) for it in ordered]
         running = {pool.submit(it.begin): it for it in trials}
         while running:
             done, _ = concurrent.futures.wait(running, return_when=concurrent.futures.FIRST_COMPLETED)

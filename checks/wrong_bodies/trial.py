@@ -10,7 +10,7 @@ from . import edits, kit
 # The most edits that share a check: a long batch fills one processor while others idle.
 MOST = 24
 # How many functions with an edit are proved without one at the end.
-CONTROLS = 8
+CONTROLS = 3
 # An error of a proof file that names what the edit took away, which says little of the contract.
 GONE = re.compile(r"has no field|is not in scope|has no `|was not admitted")
 # What a function's line says of its own goals. What it says of its callees, as `it calls`, comes behind.
@@ -18,19 +18,16 @@ OWN_GOALS = re.compile(r"no proof: expected .*`search` did not prove ")
 
 
 class Trial:
-    def __init__(self, crate, kept, files):
-        self.crate, self.kept, self.files = crate, kept, files
+    def __init__(self, crate, kept, files, is_proved):
+        self.crate, self.kept, self.files, self.is_proved = crate, kept, files, is_proved
         self.lock = threading.Lock()
         self.waiting, self.alone, self.said, self.is_ended = [], [], {}, False
         self.controls, self.has_kept = [], False
         self.checks, self.seconds = 0, 0
 
     def begin(self):
-        """Sorts the edits of the crate, which has to be proved as it stands."""
-        if kit.is_built(self.crate):
-            names = kit.names_in_build(self.crate)
-        else:
-            names, self.has_kept = self.check_as_it_stands(), True
+        """Sorts the edits of the crate."""
+        names = kit.names_of_functions(self.crate)
         for it in (edits.Edit(file, self.crate, names) for file in self.files):
             if it.function:
                 self.waiting.append(it)
@@ -45,16 +42,12 @@ class Trial:
             self.checks, self.seconds = self.checks + 1, self.seconds + time.monotonic() - began
         return status, lines
 
-    def check_as_it_stands(self, only=()):
-        """The functions that are proved so."""
-        status, lines = self.check({}, only)
+    def end(self):
+        """Functions that were refused with an edit are proved without one, over the same kept work: some of them, or the
+        whole crate where nothing has proved it before."""
+        status, lines = self.check({}, self.controls if self.is_proved else ())
         if status:
             sys.exit("\n".join([f"wrong-bodies: {self.crate.name} is not proved as it stands", *lines[-5:]]))
-        return {it[2] for it in map(kit.LINE.fullmatch, lines) if it and it[1] == "fn"}
-
-    def end(self):
-        """Functions that were refused with an edit are proved without one, over the same kept work."""
-        self.check_as_it_stands(only=self.controls)
         self.is_ended = True
 
     def batch(self):
