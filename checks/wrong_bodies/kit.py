@@ -67,12 +67,12 @@ def is_refusal(came_to):
 
 def is_built(crate):
     """Whether the library's build is of what its files say now. A library is built only if it is proved."""
-    # `rt ci` leaves a library with no stamp, so its time says whether it is up to date.
-    made, stamp = f"{crate.rlib}/format", f"{os.path.dirname(crate.rlib)}/stamp"
-    if not os.path.exists(made) or os.path.exists(stamp):
+    # `rt ci` leaves a library with no stamp, so its folder's time says whether it is up to date. The files inside may be
+    # older, of an earlier run that proved the same.
+    if not os.path.isdir(crate.rlib) or os.path.exists(f"{os.path.dirname(crate.rlib)}/stamp"):
         return crate.is_built()
     files = [file for it in [crate, *crate.below()] for file in rt.rtlib.files_of(it.folder)]
-    return os.path.getmtime(made) > max(map(os.path.getmtime, files))
+    return os.path.getmtime(crate.rlib) > max(map(os.path.getmtime, files))
 
 
 def build_library(crate):
