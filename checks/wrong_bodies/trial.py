@@ -10,7 +10,7 @@ from . import edits, kit
 # The most edits that share a check: a long batch fills one processor while others idle.
 MOST = 24
 # How many functions with an edit are proved without one at the end.
-CONTROLS = 3
+CONTROLS = 8
 # An error of a proof file that names what the edit took away, which says little of the contract.
 GONE = re.compile(r"has no field|is not in scope|has no `|was not admitted")
 # What a function's line says of its own goals. What it says of its callees, as `it calls`, comes behind.
