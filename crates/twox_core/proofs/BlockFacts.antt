@@ -1,5 +1,5 @@
 -- Whole blocks under a secret, each of which ends with a scramble.
-use Rattle.std.proofs.Common.{◌≡◌, ℕ, zero, suc, ◌+◌, ◌-◌, ◌*◌, ◌%◌, ◌<◌, ◌==◌, true, false, List, take, drop, length, refl, sym, ap, ◌∙◌, arith, add-zero}
+use Rattle.std.proofs.Common.{◌≡◌, ℕ, zero, suc, ◌+◌, ◌-◌, ◌*◌, ◌%◌, ◌<◌, ◌≤◌, ◌==◌, Bool, true, false, List, take, drop, length, refl, sym, ap, ◌∙◌, arith, add-zero}
 use Rattle.std.proofs.lemmas.Bool.Decides.{nat_tests}
 use Rattle.twox_core.specs.Parts.{stripe_at}
 use Rattle.twox_core.specs.Long.{stripes_of}
@@ -41,12 +41,32 @@ place_at_end s xs a (suc k) some h =
     let before = place_within s xs a k (omega arith) in
     begins_anew s (stripe_at xs (64 * k)) (after_stripes s a xs k) (rw before (omega arith))
 
+place_in : (b : Bool) (s xs : List ℕ) (a : StripeAccumulator) (k : ℕ) → (a.current_stripe + k == 16) ≡ b → stripes_of s ≡ 16 → 0 < k
+    → a.current_stripe + k ≤ 16 → (after_stripes s a xs k).current_stripe ≡ (a.current_stripe + k) % 16
+place_in true s xs a k e all some fits =
+    let full : a.current_stripe + k ≡ 16 = grind (arith, nat_tests, e) in
+    place_at_end s xs a k some (full ∙ sym all) ∙ rw full refl
+place_in false s xs a k e all some fits =
+    let more : a.current_stripe + k < 16 = grind (arith, nat_tests, e, fits) in
+    place_within s xs a k (rw all more) ∙ omega (arith, more)
+
+pub place_after : (s xs : List ℕ) (a : StripeAccumulator) (k : ℕ) → stripes_of s ≡ 16 → 0 < k → a.current_stripe + k ≤ 16
+    → (after_stripes s a xs k).current_stripe ≡ (a.current_stripe + k) % 16
+place_after s xs a k all some fits = place_in (a.current_stripe + k == 16) s xs a k refl all some fits
+
 -- and none where a block begins
 pub place_at_block : (s xs : List ℕ) (a : StripeAccumulator) (k : ℕ) → stripes_of s ≡ 16 → a.current_stripe < 16
     → k ≡ (16 - a.current_stripe) % 16 → (after_stripes s a xs k).current_stripe ≡ 0
 unfolding after_stripes
 place_at_block s xs a zero all low e = omega (arith, e)
 place_at_block s xs a (suc k) all low e = place_at_end s xs a (suc k) (omega arith) (omega (arith, e, all))
+
+-- stripes to a place that four divides
+pub place_at_fourth : (s xs : List ℕ) (a : StripeAccumulator) (k : ℕ) → stripes_of s ≡ 16 → a.current_stripe < 16
+    → k ≡ (16 - a.current_stripe) % 4 → (after_stripes s a xs k).current_stripe % 4 ≡ 0
+unfolding after_stripes
+place_at_fourth s xs a zero all low e = omega (arith, e)
+place_at_fourth s xs a (suc k) all low e = omega (arith, e, place_after s xs a (suc k) all (omega arith) (omega (arith, e)))
 
 pub at_start-same : (a : StripeAccumulator) → a.current_stripe ≡ 0 → at_start a.accumulator ≡ a
 at_start-same a e = rw (sym e) refl
@@ -77,10 +97,3 @@ next_block s a t b m i all before here =
     sym (whole_block s t b 15 (omega (arith, all)))
     ∙ rw here (after_stripes-take s (at_start t) (drop (i * 1024) m) 1024 16 (omega arith))
     ∙ rw (sym before, sym place, next) at (after_stripes-more s (at_start a) m (16 * i) 16)
-
--- k stripes of m to the end of a block, n in whole blocks, and j after them
-pub by_blocks : (s m : List ℕ) (a b t : StripeAccumulator) (k n j w : ℕ) → w ≡ 64 * n
-    → b ≡ after_stripes s a m k → t ≡ after_stripes s b (drop (64 * k) m) n
-    → after_stripes s t (drop w (drop (64 * k) m)) j ≡ after_stripes s a m (k + (n + j))
-by_blocks s m a b t k n j w whole front blocks =
-    rw (whole, blocks, front) (after_stripes-more s (after_stripes s a m k) (drop (64 * k) m) n j ∙ after_stripes-more s a m k (n + j))

@@ -37,6 +37,22 @@ after_stripes-more s a xs n (suc k) =
     let place : 64 * (n + k) ≡ 64 * n + 64 * k = omega arith in
     rw next (ap₂ (after_stripe s) (after_stripes-more s a xs n k) (rw place (ap (take 64) (drop-drop (64 * k) (64 * n) xs))))
 
+-- four stripes more of xs
+pub next_four : (s : List ℕ) (a t : StripeAccumulator) (f xs : List ℕ) (i : ℕ) → t ≡ after_stripes s a xs (4 * i) → f ≡ take 256 (drop (i * 256) xs)
+    → after_stripes s t f 4 ≡ after_stripes s a xs (4 * (i + 1))
+next_four s a t f xs i before here =
+    let place : i * 256 ≡ 64 * (4 * i) = omega arith in
+    let next : 4 * i + 4 ≡ 4 * (i + 1) = omega arith in
+    rw here (after_stripes-take s t (drop (i * 256) xs) 256 4 (omega arith))
+    ∙ rw (sym before, sym place, next) at (after_stripes-more s a xs (4 * i) 4)
+
+-- k stripes of xs, n of what follows them, and j of what follows those
+pub three_parts : (s xs : List ℕ) (a b t : StripeAccumulator) (k n j w : ℕ) → w ≡ 64 * n
+    → b ≡ after_stripes s a xs k → t ≡ after_stripes s b (drop (64 * k) xs) n
+    → after_stripes s t (drop w (drop (64 * k) xs)) j ≡ after_stripes s a xs (k + (n + j))
+three_parts s xs a b t k n j w whole front next =
+    rw (whole, next, front) (after_stripes-more s (after_stripes s a xs k) (drop (64 * k) xs) n j ∙ after_stripes-more s a xs k (n + j))
+
 -- ---- one stripe more of m
 
 place_on : (k q : ℕ) → k % q + 1 < q → (k + 1) % q ≡ k % q + 1

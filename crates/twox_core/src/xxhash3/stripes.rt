@@ -6,6 +6,7 @@ ghost use Rattle.twox_core.specs.SecretBytes.{secret_bytes};
 ghost use Rattle.twox_core.specs.Stripes.{AfterStripes, current_stripe_of};
 
 mod blocks;
+mod fours;
 
 pub(super) use self::blocks::STRIPES_IN_BLOCK;
 use self::blocks::{BYTES_IN_BLOCK, take_blocks, take_few_blocks};
@@ -15,6 +16,9 @@ use twox_words::words::{bp_as_chunks, u64_at};
 
 /// From how many bytes on stripes are taken out of line, in the way that is fastest for their number.
 pub const MANY_BYTES: usize = 16_384;
+
+/// From how many bytes on stripes are taken four at a time, where they begin and end anywhere.
+const BYTES_BY_FOURS: usize = 768;
 
 /// From how many bytes on a stripe further on is read ahead, where whole blocks aren't taken.
 const BYTES_TO_READ_AHEAD: usize = 49_152;
@@ -134,6 +138,8 @@ impl StripeAccumulator {
     {
         if MANY {
             *self = take_many_stripes(*self, v, bytes, secret);
+        } else if secret.n_stripes() == STRIPES_IN_BLOCK && bytes.len() >= BYTES_BY_FOURS {
+            self.process_by_fours(v, bytes, secret);
         } else {
             self.process_near(v, bytes, secret);
         }

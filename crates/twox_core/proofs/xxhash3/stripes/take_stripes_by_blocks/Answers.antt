@@ -1,8 +1,8 @@
 use Rattle.std.proofs.Common.{◌≡◌, ℕ, ◌+◌, ◌-◌, ◌*◌, ◌/◌, ◌%◌, length, take, drop, ◌∙◌, ap, arith, length-drop, length-take-le}
 use Rattle.twox_core.specs.SecretBytes.{secret_bytes}
 use Rattle.twox_core.specs.Stripes.{at_start, after_stripes}
-use Rattle.twox_core.proofs.BlockFacts.{place_at_block, at_start-same, by_blocks}
-use Rattle.twox_core.proofs.StripeFacts.{after_stripes-take}
+use Rattle.twox_core.proofs.BlockFacts.{place_at_block, at_start-same}
+use Rattle.twox_core.proofs.StripeFacts.{after_stripes-take, three_parts}
 use Rattle.twox_core.proofs.xxhash3.stripes.take_stripes_by_blocks.Goals as goal
 
 pub returns : goal.returns
@@ -29,4 +29,4 @@ returns g c =
     ∙ after_stripes-take s at_block rest w n (omega arith) in
     let ended : c.take_stripes-2.result ≡ after_stripes s c.starting_with.result (drop w rest) j =
     rw (c.split_at-2.ensures.back, c.split_at.ensures.back) at c.take_stripes-2.ensures.exact in
-    record { exact = rw all at (ended ∙ by_blocks s m from at_block c.starting_with.result k n j w (omega arith) front (c.starting_with.ensures ∙ blocks)); place = c.take_stripes-2.ensures.place }
+    record { exact = rw all at (ended ∙ three_parts s m from at_block c.starting_with.result k n j w (omega arith) front (c.starting_with.ensures ∙ blocks)); place = c.take_stripes-2.ensures.place }

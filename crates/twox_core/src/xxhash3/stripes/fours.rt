@@ -1,0 +1,79 @@
+//! Four stripes at a time under a secret of 192 bytes, the length of the default secret and of all derived ones: a
+//! block has 16 stripes then, so that it can end at every fourth one alone.
+
+ghost use Rattle.std.specs.Prelude.{◌≡◌, ◌+◌, ◌*◌, ◌/◌, ◌%◌, ◌<◌, ◌≤◌, length};
+ghost use Rattle.twox_core.specs.Long.{stripes_of};
+ghost use Rattle.twox_core.specs.SecretBytes.{secret_bytes};
+ghost use Rattle.twox_core.specs.Stripes.{AfterStripes, current_stripe_of, after_stripe, after_stripes};
+
+use super::{STRIPES_IN_BLOCK, StripeAccumulator};
+use crate::xxhash3::parts::array_at;
+use crate::xxhash3::{Secret, Vector};
+use twox_words::words::bp_as_chunks;
+
+impl StripeAccumulator {
+    // Takes the whole stripes of `bytes`: first those before a fourth one, and last those that are fewer than four.
+    #[inline(always)]
+    pub(super) fn process_by_fours<V: Vector>(&mut self, v: V, bytes: &[u8], secret: Secret<'_>)
+        requires all { stripes_of (secret_bytes secret) ≡ 16 }
+        requires place { current_stripe_of self.old < 16 }
+        requires some { 256 ≤ length bytes.now }
+        ensures { AfterStripes (secret_bytes secret.entry) self.old bytes.now self.new }
+    {
+        let (front, rest) = bytes.split_at(64 * ((STRIPES_IN_BLOCK - self.current_stripe) % 4));
+        let (fours, rest) = rest.split_at(rest.len() / 256 * 256);
+        let mut taken = *self;
+        taken.process_near(v, front, secret);
+        taken.process_fours(v, fours, secret);
+        taken.process_near(v, rest, secret);
+        *self = taken;
+    }
+
+    // Takes each four stripes of `bytes`, from a place on that four divides.
+    #[inline(always)]
+    fn process_fours<V: Vector>(&mut self, v: V, bytes: &[u8], secret: Secret<'_>)
+        requires all { stripes_of (secret_bytes secret) ≡ 16 }
+        requires place { current_stripe_of self.old < 16 }
+        requires fourth { current_stripe_of self.old % 4 ≡ 0 }
+        ensures exact { self.new
+            ≡ after_stripes (secret_bytes secret.entry) self.old bytes.now (4 * (length bytes.now / 256)) }
+        ensures place { current_stripe_of self.new < 16 }
+    {
+        let (fours, _) = bp_as_chunks(bytes);
+        let mut taken = *self;
+        'fours: for four in fours {
+            taken.process_four(v, four, secret);
+        }
+        *self = taken;
+    }
+
+    // Takes four stripes, of which the last alone can end the block.
+    #[inline(always)]
+    fn process_four<V: Vector>(&mut self, v: V, stripes: &[u8; 256], secret: Secret<'_>)
+        requires all { stripes_of (secret_bytes secret) ≡ 16 }
+        requires place { current_stripe_of self.old + 4 ≤ 16 }
+        ensures exact { self.new
+            ≡ after_stripes (secret_bytes secret.entry) self.old stripes.now 4 }
+        ensures place { current_stripe_of self.new ≡ (current_stripe_of self.old + 4) % 16 }
+    {
+        self.process_within(v, array_at(stripes, 0), secret);
+        self.process_within(v, array_at(stripes, 64), secret);
+        self.process_within(v, array_at(stripes, 128), secret);
+        self.process_stripe(v, array_at(stripes, 192), STRIPES_IN_BLOCK, secret);
+    }
+
+    // Takes a stripe that doesn't end the block.
+    #[inline(always)]
+    fn process_within<V: Vector>(&mut self, v: V, stripe: &[u8; 64], secret: Secret<'_>)
+        requires { current_stripe_of self.old + 1 < stripes_of (secret_bytes secret) }
+        ensures exact { self.new ≡ after_stripe (secret_bytes secret.entry) self.old stripe.now }
+        ensures place { current_stripe_of self.new ≡ current_stripe_of self.old + 1 }
+    {
+        v.accumulate(
+            &mut self.accumulator,
+            stripe,
+            secret.stripe(self.current_stripe),
+        );
+        self.current_stripe += 1;
+    }
+}
