@@ -10,6 +10,7 @@ pub mod OneshotLaws
 pub mod OutsideVectors128
 pub mod OutsideVectors64
 pub mod VectorBytes
+pub mod VectorWords
 pub mod PartFacts
 pub mod ShortLaws
 pub mod StepLaws

@@ -14,11 +14,9 @@ use super::primes::PRIME64_1;
 use super::{INITIAL_ACCUMULATORS, Secret, Vector};
 use twox_words::words::{bp_as_chunks, u64_at};
 
-/// From how many bytes on stripes are taken out of line, in the way that is fastest for their number.
+/// From how many bytes on a one-shot takes its stripes out of line, in the way that is fastest for their number, and
+/// whole blocks are written out.
 pub const MANY_BYTES: usize = 16_384;
-
-/// From how many bytes on stripes are taken four at a time, where they begin and end anywhere.
-const BYTES_BY_FOURS: usize = 768;
 
 /// From how many bytes on a stripe further on is read ahead, where whole blocks aren't taken.
 const BYTES_TO_READ_AHEAD: usize = 49_152;
@@ -138,8 +136,6 @@ impl StripeAccumulator {
     {
         if MANY {
             *self = take_many_stripes(*self, v, bytes, secret);
-        } else if secret.n_stripes() == STRIPES_IN_BLOCK && bytes.len() >= BYTES_BY_FOURS {
-            self.process_by_fours(v, bytes, secret);
         } else {
             self.process_near(v, bytes, secret);
         }
@@ -188,13 +184,34 @@ fn take_many_stripes<V: Vector>(
     requires { current_stripe_of from < stripes_of (secret_bytes secret) }
     ensures { AfterStripes (secret_bytes secret.entry) from bytes.now result }
 {
-    if secret.n_stripes() == STRIPES_IN_BLOCK && bytes.len() >= BYTES_IN_BLOCK {
+    let has_blocks = secret.n_stripes() == STRIPES_IN_BLOCK && bytes.len() >= BYTES_IN_BLOCK;
+    if has_blocks && bytes.len() < MANY_BYTES {
+        take_stripes_by_fours(from, v, bytes, secret)
+    } else if has_blocks {
         take_stripes_by_blocks(from, v, bytes, secret)
     } else if bytes.len() < BYTES_TO_READ_AHEAD {
         take_stripes(from, v, bytes, secret)
     } else {
         take_stripes_reading_ahead(from, v, bytes, secret)
     }
+}
+
+// The same four stripes at a time.
+#[inline(always)]
+fn take_stripes_by_fours<V: Vector>(
+    from: StripeAccumulator,
+    v: V,
+    bytes: &[u8],
+    secret: Secret<'_>,
+) -> StripeAccumulator
+    requires all { stripes_of (secret_bytes secret) ≡ 16 }
+    requires place { current_stripe_of from < 16 }
+    requires some { 1024 ≤ length bytes.now }
+    ensures { AfterStripes (secret_bytes secret.entry) from bytes.now result }
+{
+    let mut taken = from;
+    taken.process_by_fours(v, bytes, secret);
+    taken
 }
 
 // The same by whole blocks, under a secret of 192 bytes: first the stripes to the end of a block, and last those of a

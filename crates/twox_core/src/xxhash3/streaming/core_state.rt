@@ -7,7 +7,6 @@ ghost use Rattle.twox_core.specs.Stripes.{current_stripe_of};
 
 use super::taken_stripes::TakenStripes;
 use crate::xxhash3::parts::array_at;
-use crate::xxhash3::stripes::MANY_BYTES;
 use crate::xxhash3::{CUTOFF, DEFAULT_SEED, Finalize, Secret, Vector, default_secret};
 use twox_words::words::{IntoU64, copy_short};
 
@@ -17,6 +16,9 @@ pub const BUFFERED_BYTES: usize = 512;
 
 /// Pieces of up to so many bytes are kept with no call.
 const FEW_BYTES: usize = 16;
+
+/// Stripes of pieces of so many bytes or more are taken out of line, in the way that is fastest for their number.
+const LONG_PIECE_BYTES: usize = 2_048;
 
 const _: () = prove!(BUFFERED_BYTES > CUTOFF);
 
@@ -89,7 +91,7 @@ impl CoreState {
         self.total_bytes = self.total_bytes.saturating_add(input.len().into_u64());
         if input.len() <= BUFFERED_BYTES - self.buffer_usage {
             self.keep(input);
-        } else if input.len() < MANY_BYTES {
+        } else if input.len() < LONG_PIECE_BYTES {
             self.write_through::<V, false>(v, input, secret);
         } else {
             self.write_through::<V, true>(v, input, secret);

@@ -1,0 +1,25 @@
+-- The four words of 32 bytes, as a vector that is loaded at once gives them.
+use Rattle.std.proofs.Common.{◌≡◌, ℕ, ◌+◌, ◌*◌, ◌^◌, ◌<◌, ◌≤◌, List, [], ◌∷◌, take, drop, get_or, Fits, w8, refl, ◌∙◌, arith, add-zero, length, length-drop, length-take-le}
+use lib.Lanes.{number_l, digits_l}
+use Rattle.std.proofs.lemmas.Simd.{get_or_wider, chunk-fits, below_from_Fits}
+use Rattle.std.specs.Int.{w64, from_le_bytes}
+use Rattle.twox_words.specs.Word.{word_at}
+use Rattle.twox_words.proofs.WordFacts.{listed, take_listed, word_at-part}
+use Rattle.twox_core.specs.Steps.{word64}
+
+number_of_eight : (a b c d e f g h : ℕ) → number_l 256 (a ∷ b ∷ c ∷ d ∷ e ∷ f ∷ g ∷ h ∷ []) ≡ from_le_bytes w64 (a ∷ b ∷ c ∷ d ∷ e ∷ f ∷ g ∷ h ∷ [])
+number_of_eight a b c d e f g h = omega arith
+
+number_of_word : (m : List ℕ) (i : ℕ) → i + 8 ≤ length m → number_l 256 (take 8 (drop i m)) ≡ word64 m i
+unfolding word_at
+number_of_word m i fits =
+    let bytes : take 8 (drop (i + 0) m) ≡ listed m i 0 8 = take_listed m i 0 8 (omega arith) in
+    rw (rw (add-zero i) at bytes) (number_of_eight _ _ _ _ _ _ _ _)
+
+-- word j of the 32 bytes of m from `base` on
+pub word_of_vector : (m : List ℕ) (base j : ℕ) → ((k : ℕ) → Fits w8 (get_or m k 0)) → base + 32 ≤ length m → j < 4
+    → get_or (digits_l (2 ^ 64) 4 (number_l 256 (take 32 (drop base m)))) j 0 ≡ word64 m (base + 8 * j)
+word_of_vector m base j bytes fits low =
+    get_or_wider 256 8 (2 ^ 64) 4 (take 32 (drop base m)) j refl (below_from_Fits w8 (take 32 (drop base m)) (chunk-fits w8 base 32 m bytes)) low
+    ∙ number_of_word (take 32 (drop base m)) (8 * j) (omega (arith, length-take-le 32 (drop base m) (omega (arith, length-drop base m))))
+    ∙ word_at-part w64 32 m (take 32 (drop base m)) base (8 * j) refl (omega arith)
