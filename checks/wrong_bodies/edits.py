@@ -11,6 +11,8 @@ class Edit:
         self.file, self.name, self.function, self.spots = file, os.path.basename(file), None, []
         named = re.search(r"^refused by: (\S+)$", kit.read(file), re.M)
         self.refused_by = named and f"{crate.name}::{named[1]}"
+        # Functions whose edits hid this one in a check: it isn't tried beside them again.
+        self.apart = set()
         self.path, pairs = parsed(kit.read(file))
         if kit.rt.read_edit(file, crate.folder)[1] or not self.path or not self.path.startswith("src/"):
             return
@@ -39,8 +41,8 @@ def parsed(text):
     return (paths.pop() if len(paths) == 1 and len(olds) == len(news) else None), list(zip(olds, news))
 
 
-def files_of(crate, folders):
-    return sorted(file for it in folders for file in glob.glob(f"{crate.folder}/{it}/*.edit"))
+def files_of(crate):
+    return sorted(file for it in ("must-fail", "wrong-bodies") for file in glob.glob(f"{crate.folder}/{it}/*.edit"))
 
 
 def texts_with(crate, edits):

@@ -6,14 +6,15 @@ import resource
 import subprocess
 import sys
 import tempfile
+import time
 
 from . import edits, kit, source
+from .proofs import Built, Heard
 from .trial import Trial
 
 
 def main(given):
     os.chdir(kit.TOP)
-    folders = ["wrong-bodies"] if given.after_ci else ["must-fail", "wrong-bodies"]
     crates = kit.crates()
     unknown = [it for it in given.crates if it not in crates]
     if unknown:
@@ -21,8 +22,9 @@ def main(given):
     chosen = [it for name, it in crates.items() if not given.crates or name in given.crates]
     if given.since:
         chosen = [it for it in chosen if has_changed(it, given.since)]
-    files = {it: found for it in chosen if (found := edits.files_of(it, folders))}
-    trials = try_all(files, given.jobs, lambda it: tell(it, given.v), given.after_ci)
+    files = {it: found for it in chosen if (found := edits.files_of(it))}
+    proofs = Heard(given.jobs) if given.beside_ci else Built(files, given.jobs)
+    trials = try_all(files, proofs, given.jobs, lambda it: tell(it, given.v))
     verdicts = [well for trial in trials for well, _ in trial.said.values()]
     used = resource.getrusage(resource.RUSAGE_CHILDREN)
     print(f"{used.ru_utime + used.ru_stime:.0f} seconds of processor time")
@@ -37,29 +39,44 @@ def tell(trial, is_told_all):
         if is_told_all or not well:
             print(f"{trial.crate.name}/{edit.name}: {'refused' if well else 'FAILED'}: {said[:300]}")
     refused = [well for _, (well, _) in told].count(True)
-    print(f"{trial.crate.name}: {refused} of {len(told)} refused, in {trial.checks} checks of {trial.seconds:.0f} s", flush=True)
+    by_names = len([said for _, (_, said) in told if "only because a proof file names" in said])
+    print(
+        f"{trial.crate.name}: {refused} of {len(told)} refused, {by_names} of them only because a proof names what is gone, "
+        f"in {trial.checks} checks of {trial.seconds:.0f} s",
+        flush=True,
+    )
 
 
-def try_all(files, jobs, tell_end, after_ci=False):
-    """Tries the edits of each crate, as many checks at a time as there are jobs. A library is proved by its build."""
-    for it in dict.fromkeys(library for crate in files for library in [*crate.below(), crate] if kit.is_library(library)):
-        kit.build_library(it)
+def try_all(files, proofs, jobs, tell_end):
+    """Tries the edits of each crate that is proved, as many checks at a time as there is room."""
     with tempfile.TemporaryDirectory(prefix="wrong-bodies-") as room, concurrent.futures.ThreadPoolExecutor(jobs) as pool:
         # The largest first, so that none is left for the end.
         ordered = sorted(files, key=lambda it: -it.count(rb"\n"))
-        trials = [Trial(it, f"{room}/{it.name}", files[it], after_ci or kit.is_library(it)) for it in ordered]
-        running = {pool.submit(it.begin): it for it in trials}
-        while running:
-            done, _ = concurrent.futures.wait(running, return_when=concurrent.futures.FIRST_COMPLETED)
+        trials = [Trial(it, f"{room}/{it.name}", files[it], proofs.stands_for(it)) for it in ordered]
+        waiting, running = list(trials), {}
+        while waiting or running or not proofs.is_ended:
+            is_last = proofs.is_ended
+            for trial in [it for it in waiting if proofs.has(it.crate) or is_last]:
+                waiting.remove(trial)
+                start = trial.begin if proofs.has(trial.crate) else trial.give_up
+                running[pool.submit(start)] = trial
+            done, _ = concurrent.futures.wait(running, timeout=1, return_when=concurrent.futures.FIRST_COMPLETED)
             for future in done:
                 trial = running.pop(future)
                 future.result()
                 checks = next_checks(trial, [*running.values()].count(trial))
-                running.update({pool.submit(it): trial for it in checks})
+                running.update({pool.submit(in_turn, proofs.room, it): trial for it in checks})
                 if trial.is_ended:
                     tell_end(trial)
+            if not running:
+                time.sleep(1)
             tell_progress(trials)
     return trials
+
+
+def in_turn(room, check):
+    with room:
+        check()
 
 
 def next_checks(trial, at_work):

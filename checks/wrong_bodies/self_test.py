@@ -4,7 +4,7 @@ import glob
 import os
 import re
 
-from . import kit, run
+from . import kit, proofs, run
 
 PLANTED = os.path.join(os.path.dirname(os.path.abspath(__file__)), "planted")
 SAYS = {"refused": "refused, as it must be", "not refused": "NOT REFUSED", "bad edit": "BAD EDIT"}
@@ -14,7 +14,7 @@ def main(jobs):
     crates = kit.crates()
     files = {crates[name]: sorted(glob.glob(f"{PLANTED}/{name}/*.edit")) for name in sorted(os.listdir(PLANTED))}
     passed = failed = in_batches = 0
-    for trial in run.try_all(files, jobs, lambda it: None):
+    for trial in run.try_all(files, proofs.Built(files, jobs), jobs, lambda it: None):
         for edit, (refused, said) in trial.said.items():
             expected = re.search(r"^expected: (.*)$", kit.read(edit.file), re.M)[1]
             # What a batch refused has its function's own words; all else is in rt's words.

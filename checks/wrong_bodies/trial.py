@@ -13,6 +13,8 @@ MOST = 24
 CONTROLS = 8
 # An error of a proof file that names what the edit took away, which says little of the contract.
 GONE = re.compile(r"has no field|is not in scope|has no `|was not admitted")
+# What is said of an edit that no other error refuses.
+BY_NAMES = "only because a proof file names what the edit took away, so this says little of the contract"
 # What a function's line says of its own goals. What it says of its callees, as `it calls`, comes behind.
 OWN_GOALS = re.compile(r"no proof: expected .*`search` did not prove ")
 
@@ -35,6 +37,11 @@ class Trial:
                 self.alone.append((it, "it changes no body, or more than one"))
         self.controls = [*dict.fromkeys(it.function for it in self.waiting)][:CONTROLS]
 
+    def give_up(self):
+        """Says that none was tried, where the crate isn't proved."""
+        self.said = {edits.Edit(it, self.crate, set()): (False, "the crate is not proved") for it in self.files}
+        self.is_ended = True
+
     def check(self, texts, only):
         began = time.monotonic()
         status, lines = kit.check(self.crate, texts, self.kept, only)
@@ -51,14 +58,18 @@ class Trial:
         self.is_ended = True
 
     def batch(self):
-        """The next edits to try together: one of a function, first those of functions that have the most left."""
+        """The next edits to try together: one of a function, first those of functions that have the most left, and none
+        beside an edit that hid it before."""
         with self.lock:
             left = {}
             for it in self.waiting:
                 left.setdefault(it.function, []).append(it)
-            chosen = [its[0] for its in sorted(left.values(), key=len, reverse=True)[:MOST]]
-            self.waiting = [it for it in self.waiting if it not in chosen]
-            return chosen
+            chosen = {}
+            for its in sorted(left.values(), key=len, reverse=True):
+                fits = [it for it in its if not it.apart & chosen.keys() and not any(it.function in other.apart for other in chosen.values())]
+                chosen.update({it.function: it for it in fits[:1] if len(chosen) < MOST})
+            self.waiting = [it for it in self.waiting if it not in chosen.values()]
+            return [*chosen.values()]
 
     def taken_alone(self):
         """The edits that have to go alone and weren't tried yet, each with the reason."""
@@ -102,6 +113,9 @@ class Trial:
                 self.said[it] = True, own[0]
             elif OWN_GOALS.match(said):
                 self.said[it] = True, said
+            elif not it.apart and (hidden_by := called(it.function, says) & functions - {it.function}):
+                it.apart = hidden_by
+                self.waiting.append(it)
             else:
                 self.alone.append((it, f"its line in a check with others: {said}"))
 
@@ -123,12 +137,25 @@ class Trial:
         status, lines = self.check(texts, [edit.refused_by])
         says = {it[2]: it[3] for it in map(kit.LINE.fullmatch, lines) if it}
         said = says.get(edit.refused_by, "")
-        errors = [it[0] for it in map(kit.PLACE.match, lines) if it and not GONE.search(it[3])]
-        errors += [it[0] for it in map(kit.OPEN_GOAL.match, lines) if it]
-        is_judged = status == 1 and lines[-1].startswith("only=") and not any(kit.is_front_end_error(it, texts) for it in lines)
-        if is_judged and OWN_GOALS.match(said):
+        if status != 1 or not lines[-1].startswith("only=") or any(kit.is_front_end_error(it, texts) for it in lines):
+            return None
+        if OWN_GOALS.match(said):
             return said
-        return errors[0] if is_judged and said.startswith("not proved") and errors else None
+        places = [it for it in map(kit.PLACE.match, lines) if it]
+        errors = [it[0] for it in places if not GONE.search(it[3])] + [it[0] for it in map(kit.OPEN_GOAL.match, lines) if it]
+        # A check of the whole crate has this error too, so `rt must-fail` would call the edit refused, with these words.
+        errors += [f"{BY_NAMES}: {it[0]}" for it in places]
+        return errors[0] if said.startswith("not proved") and errors else None
+
+
+def called(name, says):
+    """The functions that a function's line blames, those that their lines blame, and so on."""
+    found, left = set(), [name]
+    while left:
+        blamed = re.findall(r"`([^`]+)`", says.get(left.pop(), "").partition("it calls ")[2])
+        left += [it for it in blamed if it not in found]
+        found.update(blamed)
+    return found
 
 
 def is_well(name, said, errors):

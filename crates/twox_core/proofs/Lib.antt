@@ -9,8 +9,6 @@ pub mod MixFacts
 pub mod OneshotLaws
 pub mod OutsideVectors128
 pub mod OutsideVectors64
-pub mod VectorBytes
-pub mod VectorWords
 pub mod PartFacts
 pub mod ShortLaws
 pub mod StepLaws
@@ -18,4 +16,6 @@ pub mod StreamFacts
 pub mod StripeFacts
 pub mod TakenFacts
 pub mod ValueLaws
+pub mod VectorBytes
+pub mod VectorWords
 pub mod Vectors
