@@ -17,23 +17,10 @@ pub word_after : (done m : List ℕ) (a j : ℕ) → length done ≡ a → word6
 word_after done m a j len =
     ap (λ (i : ℕ). word64 (done ++ drop a m) (i + j)) (sym len) ∙ word_at-append_right w64 done (drop a m) j ∙ word_at-drop w64 a m j
 
--- the pair of words at byte i of l, of which the first gains the seed and the second loses it
-abbrev pub changed_pair : ℕ → List ℕ → ℕ → List ℕ
-changed_pair seed l i = to_le_bytes w64 (add64 (word64 l i) seed) ++ to_le_bytes w64 (sub64 (word64 l (i + 8)) seed)
-
--- the pair at byte j of what follows the `a` bytes that are done
-changed_pair_after : (seed : ℕ) (done m : List ℕ) (a j : ℕ) → length done ≡ a → changed_pair seed (done ++ drop a m) (a + j) ≡ changed_pair seed m (a + j)
-changed_pair_after seed done m a j len =
-    let place : a + j + 8 ≡ a + (j + 8) = omega arith in
-    let second : word64 (done ++ drop a m) (a + j + 8) ≡ word64 m (a + j + 8) =
-    ap (word64 (done ++ drop a m)) place ∙ word_after done m a (j + 8) len ∙ ap (word64 m) (sym place) in
-    ap₂ (λ (x y : ℕ). to_le_bytes w64 (add64 x seed) ++ to_le_bytes w64 (sub64 y seed)) (word_after done m a j len) second
-
-derived_pairs-next : (seed : ℕ) (s : List ℕ) (k : ℕ) → derived_pairs seed s (k + 1) ≡ derived_pairs seed s k ++ changed_pair seed s (16 * k)
+pub derived_pairs-next : (seed : ℕ) (s : List ℕ) (k : ℕ) → derived_pairs seed s (k + 1)
+    ≡ derived_pairs seed s k ++ to_le_bytes w64 (add64 (word64 s (16 * k)) seed) ++ to_le_bytes w64 (sub64 (word64 s (16 * k + 8)) seed)
 unfolding derived_pairs
-derived_pairs-next seed s k =
-    ap (derived_pairs seed s) (add-one k)
-    ∙ append_assoc (derived_pairs seed s k) (to_le_bytes w64 (add64 (word64 s (16 * k)) seed)) (to_le_bytes w64 (sub64 (word64 s (16 * k + 8)) seed))
+derived_pairs-next seed s k = ap (derived_pairs seed s) (add-one k)
 
 pub derived_pairs-length : (seed : ℕ) (s : List ℕ) (k : ℕ) → length (derived_pairs seed s k) ≡ 16 * k
 unfolding derived_pairs
@@ -46,34 +33,23 @@ derived_pairs-length seed s (suc k) =
     let gl : length g ≡ 8 = refl in
     omega (arith, length-append (derived_pairs seed s k ++ f) g, length-append (derived_pairs seed s k) f)
 
--- two pairs more
-derived_pairs-next_two : (seed : ℕ) (s : List ℕ) (k : ℕ) → derived_pairs seed s (2 * (k + 1))
-    ≡ derived_pairs seed s (2 * k) ++ (changed_pair seed s (32 * k) ++ changed_pair seed s (32 * k + 16))
-derived_pairs-next_two seed s k =
-    let count : 2 * (k + 1) ≡ 2 * k + 1 + 1 = omega arith in
-    let first : 16 * (2 * k) ≡ 32 * k = omega arith in
-    let second : 16 * (2 * k + 1) ≡ 32 * k + 16 = omega arith in
-    ap (derived_pairs seed s) count
-    ∙ derived_pairs-next seed s (2 * k + 1)
-    ∙ ap₂ (λ (l : List ℕ) (i : ℕ). l ++ changed_pair seed s i) (derived_pairs-next seed s (2 * k)) second
-    ∙ ap (λ (i : ℕ). (derived_pairs seed s (2 * k) ++ changed_pair seed s i) ++ changed_pair seed s (32 * k + 16)) first
-    ∙ append_assoc (derived_pairs seed s (2 * k)) (changed_pair seed s (32 * k)) (changed_pair seed s (32 * k + 16))
-
--- two pairs of words written over the old ones
-pub two_pairs_written : (seed : ℕ) (s cur : List ℕ) (k n : ℕ) (f : List ℕ) → n ≡ 32 → cur ≡ derived_pairs seed s (2 * k) ++ drop (32 * k) s
-    → f ≡ changed_pair seed cur (32 * k) ++ changed_pair seed cur (32 * k + 16)
-    → put_mid (32 * k) n cur f ≡ derived_pairs seed s (2 * (k + 1)) ++ drop (32 * (k + 1)) s
-two_pairs_written seed s cur k n f en ecur ef =
-    let done = derived_pairs seed s (2 * k) in
-    let len : length done ≡ 32 * k = omega (arith, derived_pairs-length seed s (2 * k)) in
-    let none : 32 * k ≡ 32 * k + 0 = sym (add-zero (32 * k)) in
-    let first : changed_pair seed cur (32 * k) ≡ changed_pair seed s (32 * k) =
-    ap₂ (changed_pair seed) ecur none ∙ changed_pair_after seed done s (32 * k) 0 len ∙ ap (changed_pair seed s) (sym none) in
-    let second : changed_pair seed cur (32 * k + 16) ≡ changed_pair seed s (32 * k + 16) =
-    ap (λ (l : List ℕ). changed_pair seed l (32 * k + 16)) ecur ∙ changed_pair_after seed done s (32 * k) 16 len in
-    let place : 32 * k + 32 ≡ 32 * (k + 1) = omega arith in
-    ap₂ (λ (a : ℕ) (l : List ℕ). put_mid (32 * k) a l f) en ecur
-    ∙ put_next (32 * k) 32 done (drop (32 * k) s) f len
+-- one pair of words written over the old ones
+pub pair_written : (seed : ℕ) (s cur : List ℕ) (k n : ℕ) (f : List ℕ) → n ≡ 16 → cur ≡ derived_pairs seed s k ++ drop (16 * k) s
+    → f ≡ to_le_bytes w64 (add64 (word64 cur (16 * k)) seed) ++ to_le_bytes w64 (sub64 (word64 cur (16 * k + 8)) seed)
+    → put_mid (16 * k) n cur f ≡ derived_pairs seed s (k + 1) ++ drop (16 * (k + 1)) s
+pair_written seed s cur k n f en ecur ef =
+    let done = derived_pairs seed s k in
+    let len = derived_pairs-length seed s k in
+    let w0 : word64 cur (16 * k) ≡ word64 s (16 * k) =
+    ap₂ word64 ecur (sym (add-zero (16 * k))) ∙ word_after done s (16 * k) 0 len ∙ ap (word64 s) (add-zero (16 * k)) in
+    let w8 : word64 cur (16 * k + 8) ≡ word64 s (16 * k + 8) =
+    ap (λ (l : List ℕ). word64 l (16 * k + 8)) ecur ∙ word_after done s (16 * k) 8 len in
+    let pair : ℕ → ℕ → List ℕ = λ x y. to_le_bytes w64 (add64 x seed) ++ to_le_bytes w64 (sub64 y seed) in
+    let place : 16 * k + 16 ≡ 16 * (k + 1) = omega arith in
+    ap₂ (λ (a : ℕ) (l : List ℕ). put_mid (16 * k) a l f) en ecur
+    ∙ put_next (16 * k) 16 done (drop (16 * k) s) f len
     ∙ ap₂ (λ (x y : List ℕ). x ++ y)
-    (ap (λ (x : List ℕ). done ++ x) (ef ∙ ap₂ (λ (x y : List ℕ). x ++ y) first second) ∙ sym (derived_pairs-next_two seed s k))
-    (drop-drop 32 (32 * k) s ∙ ap (λ (a : ℕ). drop a s) place)
+    (ap (λ (x : List ℕ). done ++ x) (ef ∙ ap₂ pair w0 w8)
+    ∙ sym (append_assoc done (to_le_bytes w64 (add64 (word64 s (16 * k)) seed)) (to_le_bytes w64 (sub64 (word64 s (16 * k + 8)) seed)))
+    ∙ sym (derived_pairs-next seed s k))
+    (drop-drop 16 (16 * k) s ∙ ap (λ (a : ℕ). drop a s) place)

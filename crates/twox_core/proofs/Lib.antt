@@ -9,6 +9,7 @@ pub mod MixFacts
 pub mod OneshotLaws
 pub mod OutsideVectors128
 pub mod OutsideVectors64
+pub mod PairBytes
 pub mod PartFacts
 pub mod ShortLaws
 pub mod StepLaws
@@ -16,6 +17,5 @@ pub mod StreamFacts
 pub mod StripeFacts
 pub mod TakenFacts
 pub mod ValueLaws
-pub mod VectorBytes
 pub mod VectorWords
 pub mod Vectors
