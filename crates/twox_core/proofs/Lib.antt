@@ -9,7 +9,7 @@ pub mod MixFacts
 pub mod OneshotLaws
 pub mod OutsideVectors128
 pub mod OutsideVectors64
-pub mod PairBytes
+pub mod VectorBytes
 pub mod PartFacts
 pub mod ShortLaws
 pub mod StepLaws

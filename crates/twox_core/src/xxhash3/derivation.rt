@@ -6,8 +6,7 @@ ghost use Rattle.twox_core.specs.Secret.{default_secret, derived_pairs, derived_
 ghost use Rattle.twox_core.specs.SecretBytes.{secret_bytes};
 
 use super::Secret;
-use std::simd::u64x2;
-use twox_words::words::u64_at;
+use std::simd::{u8x32, u64x4};
 
 /// The length of the default secret.
 pub const DEFAULT_SECRET_LENGTH: usize = 192;
@@ -47,12 +46,14 @@ pub fn derive_secret(seed: u64, secret: &mut DefaultSecret)
     ensures words { secret.new ≡ derived_pairs seed secret.old 12 }
     ensures default { secret.old ≡ default_secret → secret.new ≡ derived_secret seed }
 {
-    // A pair is changed as one vector, so that it is stored by 16 bytes, which later loads wait less for.
-    let change = u64x2::from_array([seed, seed.wrapping_neg()]);
-    for k in 0..12 {
-        let words = u64x2::from_array([u64_at(secret, 16 * k), u64_at(secret, 16 * k + 8)]);
-        let pair = (words + change).to_le_bytes().to_array();
-        secret[16 * k..16 * k + 16].copy_from_slice(&pair);
+    // Two pairs are changed as one vector, so that they are stored by 32 bytes where the processor can: what is stored
+    // by 16 can't be handed on to the loads of 32 bytes that come next.
+    let loss = seed.wrapping_neg();
+    let change = u64x4::from_array([seed, loss, seed, loss]);
+    for k in 0..6 {
+        let pairs = &mut secret[32 * k..32 * k + 32];
+        let words = u64x4::from_le_bytes(u8x32::from_slice(pairs));
+        (words + change).to_le_bytes().copy_to_slice(pairs);
     }
 }
 

@@ -1,4 +1,4 @@
--- The bytes of two words that stand in one number, as a vector of the words gives them.
+-- The bytes of four words that stand in one number, as a vector of the words gives them.
 use Rattle.std.proofs.Common.{◌≡◌, ℕ, zero, suc, ◌+◌, ◌*◌, ◌/◌, ◌%◌, ◌^◌, ◌<◌, List, [], ◌∷◌, ◌++◌, refl, arith, ap, ◌∙◌}
 use Rattle.std.specs.Int.{w64, to_le_bytes}
 
@@ -18,19 +18,17 @@ eight : (a b c d e f g h a' b' c' d' e' f' g' h' : ℕ) (rest rest' : List ℕ)
     → a ∷ b ∷ c ∷ d ∷ e ∷ f ∷ g ∷ h ∷ rest ≡ a' ∷ b' ∷ c' ∷ d' ∷ e' ∷ f' ∷ g' ∷ h' ∷ rest'
 eight a b c d e f g h a' b' c' d' e' f' g' h' rest rest' p q r s t u v w z = rw (p, q, r, s, t, u, v, w, z) refl
 
--- the word below r, and then r
-word_first : (a r : ℕ) (rest : List ℕ) → a < 2 ^ 64 → low_bytes 8 (without 8 (a + 2 ^ 64 * r)) ≡ rest
-    → low_bytes 16 (a + 2 ^ 64 * r) ≡ to_le_bytes w64 a ++ rest
-word_first a r rest small e =
-    eight _ _ _ _ _ _ _ _ _ _ _ _ _ _ _ _ _ _ (omega arith) (omega arith) (omega arith) (omega arith) (omega arith) (omega arith) (omega arith) (omega arith) e
-
-word_alone : (b : ℕ) → b < 2 ^ 64 → low_bytes 8 (b + 2 ^ 64 * 0) ≡ to_le_bytes w64 b
-word_alone b small =
-    eight _ _ _ _ _ _ _ _ _ _ _ _ _ _ _ _ [] [] (omega arith) (omega arith) (omega arith) (omega arith) (omega arith) (omega arith) (omega arith) (omega arith) refl
-
 -- one word more
 past_word : (a r : ℕ) → a < 2 ^ 64 → without 8 (a + 2 ^ 64 * r) ≡ r
 past_word a r small = omega arith
 
-pub pair_bytes : (a b : ℕ) → a < 2 ^ 64 → b < 2 ^ 64 → low_bytes 16 (a + 2 ^ 64 * (b + 2 ^ 64 * 0)) ≡ to_le_bytes w64 a ++ to_le_bytes w64 b
-pair_bytes a b p q = word_first a (b + 2 ^ 64 * 0) (to_le_bytes w64 b) p (ap (low_bytes 8) (past_word a (b + 2 ^ 64 * 0) p) ∙ word_alone b q)
+-- the word below r, and then r
+word_first : (k a r : ℕ) (rest : List ℕ) → a < 2 ^ 64 → low_bytes k r ≡ rest → low_bytes (suc (suc (suc (suc (suc (suc (suc (suc k)))))))) (a + 2 ^ 64 * r) ≡ to_le_bytes w64 a ++ rest
+word_first k a r rest small e =
+    eight _ _ _ _ _ _ _ _ _ _ _ _ _ _ _ _ _ _ (omega arith) (omega arith) (omega arith) (omega arith) (omega arith) (omega arith) (omega arith) (omega arith) (ap (low_bytes k) (past_word a r small) ∙ e)
+
+pub four_words_bytes : (a b c d : ℕ) → a < 2 ^ 64 → b < 2 ^ 64 → c < 2 ^ 64 → d < 2 ^ 64
+    → low_bytes 32 (a + 2 ^ 64 * (b + 2 ^ 64 * (c + 2 ^ 64 * (d + 2 ^ 64 * 0))))
+    ≡ to_le_bytes w64 a ++ (to_le_bytes w64 b ++ (to_le_bytes w64 c ++ to_le_bytes w64 d))
+four_words_bytes a b c d p q r s =
+    word_first 24 a _ _ p (word_first 16 b _ _ q (word_first 8 c _ _ r (word_first 0 d 0 [] s refl)))
