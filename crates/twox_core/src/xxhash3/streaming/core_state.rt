@@ -1,6 +1,6 @@
 //! What a stream holds beside its secret and its seed: the stripes taken, and the bytes after them.
 
-ghost use Rattle.std.specs.Prelude.{◌≡◌, ℕ, List, ◌++◌, ◌+◌, ◌-◌, ◌*◌, ◌/◌, ◌<◌, ◌≤◌, min, take, length};
+ghost use Rattle.std.specs.Prelude.{◌≡◌, ℕ, List, ◌++◌, ◌+◌, ◌-◌, ◌*◌, ◌/◌, ◌<◌, ◌≤◌, min, take, drop, length};
 ghost use Rattle.twox_core.specs.Long.{stripes_of};
 ghost use Rattle.twox_core.specs.SecretBytes.{secret_bytes};
 ghost use Rattle.twox_core.specs.Stripes.{current_stripe_of};
@@ -8,7 +8,7 @@ ghost use Rattle.twox_core.specs.Stripes.{current_stripe_of};
 use super::taken_stripes::TakenStripes;
 use crate::xxhash3::parts::array_at;
 use crate::xxhash3::{CUTOFF, DEFAULT_SEED, Finalize, Secret, Vector, default_secret};
-use twox_words::words::{IntoU64, copy_short};
+use twox_words::words::{IntoU64, copy_ends, copy_short};
 
 /// How many bytes a stream keeps for later: whole stripes, and more than the greatest length that is hashed
 /// with no stripes.
@@ -123,9 +123,12 @@ impl CoreState {
         requires { self.old.buffer_usage + length input.now ≤ 512 }
         ensures { self.new ≡ with_buffered self.old input.now }
     {
-        let used = self.buffer_usage;
-        self.buffer[used..used + input.len()].copy_from_slice(input);
-        self.buffer_usage = used + input.len();
+        // A call that moves no bytes takes longer than the test.
+        if !input.is_empty() {
+            let used = self.buffer_usage;
+            self.buffer[used..used + input.len()].copy_from_slice(input);
+            self.buffer_usage = used + input.len();
+        }
     }
 
     // The same of a whole piece. A few bytes are moved here, since a call takes longer.
@@ -182,7 +185,24 @@ impl CoreState {
         let count = rest.len().saturating_sub(64) / 64;
         let (whole, last) = rest.split_at(64 * count);
         self.taken.take::<V, MANY>(v, whole, secret);
-        self.buffer[..last.len()].copy_from_slice(last);
+        self.begin_with(last);
+    }
+
+    // Begins the buffer with `last`: 64 bytes or more are moved here, since a call takes longer.
+    #[inline(always)]
+    fn begin_with(&mut self, last: &[u8])
+        requires { length last.now ≤ 128 }
+        ensures { self.new ≡ record self.old {
+            buffer = last.now ++ drop (length last.now) self.old.buffer;
+            buffer_usage = length last.now;
+        } }
+    {
+        let front = &mut self.buffer[..last.len()];
+        if last.len() >= 64 {
+            copy_ends::<64>(front, last);
+        } else {
+            front.copy_from_slice(last);
+        }
         self.buffer_usage = last.len();
     }
 

@@ -17,4 +17,4 @@ returns-clause-exact g c =
     let back = rw c.saturating_sub-count.ensures at c.split_at.ensures.back in
     let taken : c.take.new.self ≡ after_taking s t r n =
     rw (part, width) at c.take.ensures.exact ∙ after_taking-take s t r (64 * n) n (omega arith) in
-    rw (taken, c.copy_from_slice.ensures.after, back, length-drop (64 * n) r) refl
+    rw (c.begin_with.ensures, taken, back, length-drop (64 * n) r) refl
