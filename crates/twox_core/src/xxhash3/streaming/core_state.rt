@@ -15,7 +15,7 @@ use twox_words::words::{IntoU64, copy_ends, copy_short};
 pub const BUFFERED_BYTES: usize = 512;
 
 /// Pieces of up to so many bytes are kept with no call.
-const FEW_BYTES: usize = 16;
+const FEW_BYTES: usize = 32;
 
 /// Stripes of pieces of so many bytes or more are taken out of line, in the way that is fastest for their number.
 const LONG_PIECE_BYTES: usize = 2_048;
@@ -147,7 +147,7 @@ impl CoreState {
     #[inline(always)]
     fn add_few(&mut self, input: &[u8])
         requires room { self.old.buffer_usage + length input.now ≤ 512 }
-        requires few { length input.now ≤ 16 }
+        requires few { length input.now ≤ 32 }
         ensures { self.new ≡ with_buffered self.old input.now }
     {
         let used = self.buffer_usage;
