@@ -193,8 +193,8 @@ impl CoreState {
     fn begin_with(&mut self, last: &[u8])
         requires { length last.now ≤ 128 }
         ensures { self.new ≡ record self.old {
-            buffer = last.now ++ drop (length last.now) self.old.buffer;
-            buffer_usage = length last.now;
+          buffer = last.now ++ drop (length last.now) self.old.buffer;
+          buffer_usage = length last.now;
         } }
     {
         let front = &mut self.buffer[..last.len()];
