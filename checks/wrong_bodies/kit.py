@@ -53,9 +53,10 @@ def check(crate, texts, kept, only=()):
 
 
 def try_alone(crate, edit_file, kept):
-    """Whether the prover refuses the edit, and what to say: over the kept work, and what passes there from nothing."""
+    """Whether the prover refuses the edit, and what to say: over kept work, if there is any, and what passes there from
+    nothing."""
     came_to, said = rt.must_fail(crate, edit_file, one_job(), kept)
-    if not is_refusal(came_to):
+    if kept and not is_refusal(came_to):
         came_to, said = rt.must_fail(crate, edit_file, one_job())
     return is_refusal(came_to), said.partition(": ")[2]
 

@@ -120,32 +120,34 @@ class Trial:
                 self.alone.append((it, f"its line in a check with others: {said}"))
 
     def try_alone(self, edit, why):
-        if edit.refused_by and (said := self.refusal_by_one(edit)):
+        status, said = self.by_one(edit) if edit.refused_by else (None, None)
+        if said:
             self.said[edit] = True, said
             return
         began = time.monotonic()
-        refused, said = kit.try_alone(self.crate, edit.file, self.kept)
+        # What its function's own check has let through is tried from nothing at once.
+        refused, said = kit.try_alone(self.crate, edit.file, None if status == 0 else self.kept)
         with self.lock:
             self.checks, self.seconds = self.checks + 1, self.seconds + time.monotonic() - began
             self.said[edit] = refused, f"{said} ({why})"
 
-    def refusal_by_one(self, edit):
-        """What refuses the edit, where a check of its function alone, or of the one that it names, does."""
+    def by_one(self, edit):
+        """The status of a check of the edit's function alone, or of the one that it names, and what refuses the edit there."""
         texts, _ = kit.rt.read_edit(edit.file, self.crate.folder)
         if not texts:
-            return None
+            return None, None
         status, lines = self.check(texts, [edit.refused_by])
         says = {it[2]: it[3] for it in map(kit.LINE.fullmatch, lines) if it}
         said = says.get(edit.refused_by, "")
         if status != 1 or not lines[-1].startswith("only=") or any(kit.is_front_end_error(it, texts) for it in lines):
-            return None
+            return status, None
         if OWN_GOALS.match(said):
-            return said
+            return status, said
         places = [it for it in map(kit.PLACE.match, lines) if it]
         errors = [it[0] for it in places if not GONE.search(it[3])] + [it[0] for it in map(kit.OPEN_GOAL.match, lines) if it]
         # A check of the whole crate has this error too, so `rt must-fail` would call the edit refused, with these words.
         errors += [f"{BY_NAMES}: {it[0]}" for it in places]
-        return errors[0] if said.startswith("not proved") and errors else None
+        return status, errors[0] if said.startswith("not proved") and errors else None
 
 
 def called(name, says):
