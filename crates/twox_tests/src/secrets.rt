@@ -40,50 +40,63 @@ fn short_inputs_use_the_default_secret(rt: HostRuntime) -> Result<(), Fail> {
 }
 
 // The secret that each constructor refuses and gives back.
-fn from_buffer_with_seed_and_secret(secret: Own) -> Result<Own, Fail> {
+fn from_buffer_with_seed_and_secret(secret: Own) -> Option<Own> {
     match SecretBuffer::allocate_with_seed_and_secret(1, secret) {
-        Ok(_) => Err("not refused".into()),
-        Err(e) => Ok(e.into_secret()),
+        Ok(_) => None,
+        Err(e) => Some(e.into_secret()),
     }
 }
 
-fn from_buffer_with_secret(secret: Own) -> Result<Own, Fail> {
+fn from_buffer_with_secret(secret: Own) -> Option<Own> {
     match SecretBuffer::allocate_with_secret(secret) {
-        Ok(_) => Err("not refused".into()),
-        Err(e) => Ok(e.into_secret()),
+        Ok(_) => None,
+        Err(e) => Some(e.into_secret()),
     }
 }
 
-fn from_core(secret: Own) -> Result<Own, Fail> {
+fn from_core(secret: Own) -> Option<Own> {
     match AllocRawHasher::allocate_with_secret(secret) {
-        Ok(_) => Err("not refused".into()),
-        Err(e) => Ok(e.into_secret()),
+        Ok(_) => None,
+        Err(e) => Some(e.into_secret()),
     }
 }
 
-fn from_stream(secret: Own) -> Result<Own, Fail> {
+fn from_stream(secret: Own) -> Option<Own> {
     match XxHash3_64::with_secret(secret) {
-        Ok(_) => Err("not refused".into()),
-        Err(e) => Ok(e.into_secret()),
+        Ok(_) => None,
+        Err(e) => Some(e.into_secret()),
     }
 }
 
-fn from_wide_stream(secret: Own) -> Result<Own, Fail> {
+fn from_wide_stream(secret: Own) -> Option<Own> {
     match XxHash3_128::with_secret(secret) {
-        Ok(_) => Err("not refused".into()),
-        Err(e) => Ok(e.into_secret()),
+        Ok(_) => None,
+        Err(e) => Some(e.into_secret()),
+    }
+}
+
+fn from_all(secret: Own) -> Option<Own> {
+    let secret = from_buffer_with_seed_and_secret(secret)?;
+    let secret = from_buffer_with_secret(secret)?;
+    let secret = from_core(secret)?;
+    let secret = from_stream(secret)?;
+    from_wide_stream(secret)
+}
+
+fn is_handed_back_by_all(secret: Option<Own>, bytes: &[u8]) -> bool {
+    let Some(secret) = secret else {
+        return false;
+    };
+    match from_all(secret) {
+        Some(secret) => is(secret, bytes),
+        None => false,
     }
 }
 
 #[test]
-fn refused_secrets_are_handed_back(rt: HostRuntime) -> Result<(), Fail> {
-    let secret = from_buffer_with_seed_and_secret(own(rt.alloc(), &[7; 135])?)?;
-    let secret = from_buffer_with_secret(secret)?;
-    let secret = from_core(secret)?;
-    let secret = from_stream(secret)?;
-    let secret = from_wide_stream(secret)?;
-    assert!(rt; is(secret, &[7; 135]));
-    Ok(())
+fn refused_secrets_are_handed_back(rt: HostRuntime) {
+    let bytes = [7; 135];
+    assert!(rt; is_handed_back_by_all(own(rt.alloc(), &bytes).ok(), &bytes));
 }
 
 fn keyed_core(alloc: Global, secret: &[u8]) -> Option<AllocRawHasher<Global>> {

@@ -5,6 +5,7 @@ ghost use Rattle.std.specs.Prelude.{◌≡◌, ◌≤◌};
 
 use crate::calls::{blocks_by, run_by};
 use crate::ends::{Offered, Taken};
+use crate::inputs::cycling;
 use crate::over_memory::run_line;
 use std::alloc::{AllocError, Global};
 use std::test::Fail;
@@ -166,15 +167,6 @@ fn a_sink_with_too_little_room(rt: HostRuntime) {
     for room in 0..150 {
         assert!(rt; fits(rt.alloc(), room), "{room}");
     }
-}
-
-/// The bytes 0 to 250 over and over.
-fn cycling(alloc: Global, len: usize) -> Result<Vec<u8>, AllocError> {
-    let mut bytes = Vec::new(alloc);
-    for i in 0..len {
-        bytes.push((i % 251) as u8)?;
-    }
-    Ok(bytes)
 }
 
 // Each line with the one-shot of its block.

@@ -5,7 +5,8 @@ ghost use Rattle.std.specs.Prelude.{◌≤◌};
 
 use crate::calls::{Way, digest_by};
 use crate::ends::{Offered, Taken};
-use std::alloc::{AllocError, Global};
+use crate::inputs::cycling;
+use std::alloc::Global;
 use std::test::Fail;
 use xxh_program::program::{
     DigestError, Kind, ScriptSink, ScriptSource, Sink, SliceSource, digest_of_bytes,
@@ -257,15 +258,6 @@ fn a_sink_with_too_little_room(rt: HostRuntime) {
             assert!(rt; fits(rt.alloc(), row, room), "{room}");
         }
     }
-}
-
-/// The bytes 0 to 250 over and over.
-fn cycling(alloc: Global, len: usize) -> Result<Vec<u8>, AllocError> {
-    let mut bytes = Vec::new(alloc);
-    for i in 0..len {
-        bytes.push((i % 251) as u8)?;
-    }
-    Ok(bytes)
 }
 
 // Whether the line is this, and each of four reads was offered the whole buffer.

@@ -17,6 +17,8 @@ mod ends;
 #[cfg(test)]
 mod goes_on;
 #[cfg(test)]
+mod inputs;
+#[cfg(test)]
 mod over_memory;
 #[cfg(test)]
 mod process;

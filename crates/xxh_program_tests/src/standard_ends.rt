@@ -1,7 +1,8 @@
 //! Digests over standard readers and writers.
 
 use crate::calls::{Way, digest_by};
-use std::alloc::{AllocError, Global};
+use crate::inputs::cycling;
+use std::alloc::Global;
 use std::io;
 use std::io::{ErrorKind, Read, Write};
 use std::test::Fail;
@@ -140,15 +141,6 @@ fn a_write_that_fails_once_is_a_failure(rt: HostRuntime) {
         assert!(rt; stops(kind, 5, 3, 3));
         assert!(rt; stops(kind, 8, 3, 3));
     }
-}
-
-/// The bytes 0 to 250 over and over.
-fn cycling(alloc: Global, len: usize) -> Result<Vec<u8>, AllocError> {
-    let mut bytes = Vec::new(alloc);
-    for i in 0..len {
-        bytes.push((i % 251) as u8)?;
-    }
-    Ok(bytes)
 }
 
 // Whether the bytes, behind a buffer of the program's size, have this line.

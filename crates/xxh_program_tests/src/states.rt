@@ -1,7 +1,8 @@
 //! Saved texts, and digests that go on from them.
 
 use crate::calls::{reads_on_32, reads_on_64, run_by};
-use crate::over_memory::{run_line, run_words};
+use crate::inputs::cycling;
+use crate::over_memory::{Ran, run_line, run_words};
 use std::alloc::{AllocError, Global};
 use std::str;
 use std::test::Fail;
@@ -27,19 +28,21 @@ fn two_parts(row: &str) -> (&str, &str) {
 }
 
 // Whether these words print this text and a line feed.
-fn prints(alloc: Global, words: &str, input: &[u8], text: &str) -> Result<bool, AllocError> {
-    Ok(run_line(alloc, words, input)?.printed_line(text))
+fn prints(alloc: Global, words: &str, input: &[u8], text: &str) -> bool {
+    match run_line(alloc, words, input) {
+        Ok(ran) => ran.printed_line(text),
+        Err(_) => false,
+    }
 }
 
 #[test]
-fn a_saved_text(rt: HostRuntime) -> Result<(), Fail> {
-    assert!(rt; prints(rt.alloc(), "save 32", HELLO, HELLO_32)?);
-    assert!(rt; prints(rt.alloc(), "save 64 0", HELLO, HELLO_64)?);
+fn a_saved_text(rt: HostRuntime) {
+    assert!(rt; prints(rt.alloc(), "save 32", HELLO, HELLO_32));
+    assert!(rt; prints(rt.alloc(), "save 64 0", HELLO, HELLO_64));
     for row in SAVED.lines() {
         let (words, text) = two_parts(row);
-        assert!(rt; prints(rt.alloc(), words, b"some bytes", text)?, "{row}");
+        assert!(rt; prints(rt.alloc(), words, b"some bytes", text), "{row}");
     }
-    Ok(())
 }
 
 // Whether the digest goes on from the text to this line, which has no line feed.
@@ -48,26 +51,28 @@ fn resumes(alloc: Global, kind: &str, text: &str, input: &[u8], line: &str) -> b
 }
 
 // The first part is saved by these words, and the second goes on to the line.
-fn two_runs(
-    alloc: Global,
-    words: &str,
-    kind: &str,
-    parts: (&[u8], &[u8]),
-    line: &str,
-) -> Result<bool, Fail> {
-    let saved = run_line(alloc, words, parts.0)?;
-    let text = str::from_utf8(saved.out.as_slice())?;
+fn two_runs(alloc: Global, words: &str, kind: &str, parts: (&[u8], &[u8]), line: &str) -> bool {
+    match run_line(alloc, words, parts.0) {
+        Ok(saved) => goes_on(alloc, &saved, kind, parts.1, line),
+        Err(_) => false,
+    }
+}
+
+// Whether a run saved a state, and the next one goes on from it to the line.
+fn goes_on(alloc: Global, saved: &Ran, kind: &str, input: &[u8], line: &str) -> bool {
     let quiet = saved.status == 0 && saved.err.is_empty() && saved.unread == 0;
-    Ok(quiet && resumes(alloc, kind, text, parts.1, line))
+    match str::from_utf8(saved.out.as_slice()) {
+        Ok(text) => quiet && resumes(alloc, kind, text, input, line),
+        Err(_) => false,
+    }
 }
 
 #[test]
-fn a_digest_over_two_runs(rt: HostRuntime) -> Result<(), Fail> {
+fn a_digest_over_two_runs(rt: HostRuntime) {
     let parts = (b"some".as_slice(), b" bytes".as_slice());
-    assert!(rt; two_runs(rt.alloc(), "save 32 1234", "32", parts, "92f68bd9")?);
-    assert!(rt; two_runs(rt.alloc(), "save 64 1234", "64", parts, "eab55659a496d78b")?);
+    assert!(rt; two_runs(rt.alloc(), "save 32 1234", "32", parts, "92f68bd9"));
+    assert!(rt; two_runs(rt.alloc(), "save 64 1234", "64", parts, "eab55659a496d78b"));
     assert!(rt; resumes(rt.alloc(), "64", HELLO_64, b"", "7b06c531ea43e89f"));
-    Ok(())
 }
 
 // A plain one, one in whose buffer a byte that is not read is other than zero, and one with its members in
@@ -169,28 +174,39 @@ fn ends_that_fail(rt: HostRuntime) {
 
 const MOST: u64 = u64::MAX;
 
-/// The bytes 0 to 250 over and over.
-fn cycling(alloc: Global, len: usize) -> Result<Vec<u8>, AllocError> {
-    let mut bytes = Vec::new(alloc);
-    for i in 0..len {
-        bytes.push((i % 251) as u8)?;
-    }
-    Ok(bytes)
+// Whether the line is that of all bytes at once, and of the first part saved and the second read on. The seeds are the
+// greatest, so that the accumulators have many digits.
+fn is_line_of_32(alloc: Global, bytes: &[u8], parts: (&[u8], &[u8]), line: &str) -> bool {
+    prints(alloc, "hash 32 4294967295", bytes, line)
+        && two_runs(alloc, "save 32 4294967295", "32", parts, line)
 }
 
-// Saved after the first part, resumed over the second: the line is that of the library's one-shot of both. The seeds
-// are the greatest, so that the accumulators have many digits.
-fn is_saved_and_resumed(alloc: Global, bytes: &[u8], cut: usize) -> Result<bool, Fail> {
-    let parts = bytes.split_at_checked(cut).unwrap_or((bytes, b""));
+fn is_line_of_64(alloc: Global, bytes: &[u8], parts: (&[u8], &[u8]), line: &str) -> bool {
+    prints(alloc, "hash 64 18446744073709551615", bytes, line)
+        && two_runs(alloc, "save 64 18446744073709551615", "64", parts, line)
+}
+
+fn line_32(alloc: Global, bytes: &[u8]) -> Result<String, AllocError> {
     let value = XxHash32::oneshot(u32::MAX, bytes);
-    let line = format!(in alloc; "{value:08x}")?;
-    let whole = prints(alloc, "hash 32 4294967295", bytes, line.as_str())?;
-    let first = whole && two_runs(alloc, "save 32 4294967295", "32", parts, line.as_str())?;
+    format!(in alloc; "{value:08x}")
+}
+
+fn line_64(alloc: Global, bytes: &[u8]) -> Result<String, AllocError> {
     let value = XxHash64::oneshot(u64::MAX, bytes);
-    let line = format!(in alloc; "{value:016x}")?;
-    let whole = prints(alloc, "hash 64 18446744073709551615", bytes, line.as_str())?;
-    let words = "save 64 18446744073709551615";
-    Ok(first && whole && two_runs(alloc, words, "64", parts, line.as_str())?)
+    format!(in alloc; "{value:016x}")
+}
+
+// Saved after the first part, resumed over the second: the line is that of the library's one-shot of both.
+fn is_saved_and_resumed(alloc: Global, bytes: &[u8], cut: usize) -> bool {
+    let parts = bytes.split_at_checked(cut).unwrap_or((bytes, b""));
+    let first = match line_32(alloc, bytes) {
+        Ok(line) => is_line_of_32(alloc, bytes, parts, line.as_str()),
+        Err(_) => false,
+    };
+    match line_64(alloc, bytes) {
+        Ok(line) => first && is_line_of_64(alloc, bytes, parts, line.as_str()),
+        Err(_) => false,
+    }
 }
 
 // The first bytes, this many.
@@ -227,8 +243,8 @@ fn lengths_up_to_5000(rt: HostRuntime) -> Result<(), Fail> {
     ] {
         for len in first..last + 1 {
             let bytes = front(all.as_slice(), len);
-            assert!(rt; is_saved_and_resumed(rt.alloc(), bytes, len)?, "{len}");
-            assert!(rt; is_saved_and_resumed(rt.alloc(), bytes, len / 2)?, "{len}");
+            assert!(rt; is_saved_and_resumed(rt.alloc(), bytes, len), "{len}");
+            assert!(rt; is_saved_and_resumed(rt.alloc(), bytes, len / 2), "{len}");
         }
     }
     Ok(())
@@ -249,7 +265,7 @@ fn a_million_bytes(rt: HostRuntime) -> Result<(), Fail> {
     assert!(rt; reads_on(bytes.as_slice()));
     for cut in [0, 31, 999999, 1000000] {
         assert!(rt;
-            is_saved_and_resumed(rt.alloc(), bytes.as_slice(), cut)?,
+            is_saved_and_resumed(rt.alloc(), bytes.as_slice(), cut),
             "{cut}"
         );
     }
@@ -258,10 +274,9 @@ fn a_million_bytes(rt: HostRuntime) -> Result<(), Fail> {
 
 // States past the first stripes, of bytes and accumulators with as many digits as there can be.
 #[test]
-fn a_digest_of_long_parts_over_two_runs(rt: HostRuntime) -> Result<(), Fail> {
+fn a_digest_of_long_parts_over_two_runs(rt: HostRuntime) {
     let input = [255; 100];
     for cut in [31, 63, 95] {
-        assert!(rt; is_saved_and_resumed(rt.alloc(), &input, cut)?, "{cut}");
+        assert!(rt; is_saved_and_resumed(rt.alloc(), &input, cut), "{cut}");
     }
-    Ok(())
 }
