@@ -1,4 +1,5 @@
 """The toolchain's program `rt` as a module: it knows how a crate is checked, and how an edit is tried alone."""
+import contextlib
 import glob
 import importlib.machinery
 import importlib.util
@@ -7,6 +8,7 @@ import os
 import re
 import shutil
 import sys
+import tempfile
 
 from . import source
 
@@ -50,6 +52,26 @@ def check(crate, texts, kept, only=()):
     words = [*one_job(), *(word for name in only for word in ("--only", name))]
     ran = rt.checked(crate, texts, words, kept)
     return ran.returncode, ran.stdout.rstrip("\n").split("\n")
+
+
+@contextlib.contextmanager
+def copy_of(kept):
+    """A copy of kept work. What was proved is linked: a check replaces such a file, and writes into none."""
+    with tempfile.TemporaryDirectory(dir=os.path.dirname(kept)) as room:
+        yield shutil.copytree(kept, f"{room}/kept", copy_function=linked_or_copied)
+
+
+def linked_or_copied(file, to):
+    try:
+        os.link(file, to) if file.endswith(".oantt") else shutil.copy2(file, to)
+    except OSError:
+        shutil.copy2(file, to)
+
+
+def listing(folder):
+    """What tells whether a file of the folder was changed, lost or added."""
+    files = [f"{at}/{name}" for at, _, names in os.walk(folder) for name in names]
+    return {it: (found.st_ino, found.st_size, found.st_mtime_ns) for it in files for found in [os.lstat(it)]}
 
 
 def try_alone(crate, edit_file, kept):

@@ -80,16 +80,16 @@ def in_turn(room, check):
 
 
 def next_checks(trial, at_work):
-    """The trial's next checks: batches, and before them the edits that go alone, each of which may take minutes; at last
-    the controls. The first batch goes by itself, since it keeps the lemmas that the others need too."""
-    started = []
-    while (trial.has_kept or not at_work and not started) and (batch := trial.batch()):
+    """The trial's next checks. First, by itself, that of the crate as it stands, since the others begin with what it
+    keeps; then those that go alone, each of which may take minutes, and the batches; at last the end."""
+    if trial.is_ended or at_work and trial.kept_files is None:
+        return []
+    if trial.kept_files is None:
+        return [trial.prove]
+    started = [functools.partial(trial.try_alone, *it) for it in trial.taken_alone()]
+    while batch := trial.batch():
         started.append(functools.partial(trial.try_batch, batch))
-    if trial.has_kept or not at_work and not started:
-        started = [functools.partial(trial.try_alone, *it) for it in trial.taken_alone()] + started
-    if not started and not at_work and not trial.is_ended:
-        started = [trial.end]
-    return started
+    return started or ([] if at_work else [trial.end])
 
 
 def tell_progress(trials):

@@ -8,9 +8,7 @@ import time
 from . import edits, kit
 
 # The most edits that share a check: a long batch fills one processor while others idle.
-MOST = 24
-# How many functions with an edit are proved without one at the end.
-CONTROLS = 8
+MOST = 40
 # An error of a proof file that names what the edit took away, which says little of the contract.
 GONE = re.compile(r"has no field|is not in scope|has no `|was not admitted")
 # What is said of an edit that no other error refuses.
@@ -24,7 +22,8 @@ class Trial:
         self.crate, self.kept, self.files, self.is_proved = crate, kept, files, is_proved
         self.lock = threading.Lock()
         self.waiting, self.alone, self.said, self.is_ended = [], [], {}, False
-        self.controls, self.has_kept = [], False
+        # What the check of the crate as it stands has kept, once it has ended.
+        self.kept_files = None
         self.checks, self.seconds = 0, 0
 
     def begin(self):
@@ -35,26 +34,44 @@ class Trial:
                 self.waiting.append(it)
             else:
                 self.alone.append((it, "it changes no body, or more than one"))
-        self.controls = [*dict.fromkeys(it.function for it in self.waiting)][:CONTROLS]
 
     def give_up(self):
         """Says that none was tried, where the crate isn't proved."""
         self.said = {edits.Edit(it, self.crate, set()): (False, "the crate is not proved") for it in self.files}
         self.is_ended = True
 
-    def check(self, texts, only):
-        began = time.monotonic()
-        status, lines = kit.check(self.crate, texts, self.kept, only)
-        with self.lock:
-            self.checks, self.seconds = self.checks + 1, self.seconds + time.monotonic() - began
-        return status, lines
+    def prove(self):
+        """Proves the functions that edits change, and all that they rest on, as they stand. Each edit is tried over a
+        copy of what this check keeps."""
+        changed = dict.fromkeys(it.refused_by for it in [*self.waiting, *(it for it, _ in self.alone)] if it.refused_by)
+        self.check_as_it_stands(changed)
+        self.kept_files = kit.listing(self.kept)
 
-    def end(self):
-        """Functions that were refused with an edit are proved without one, over the same kept work: some of them, or the
-        whole crate where nothing has proved it before."""
-        status, lines = self.check({}, self.controls if self.is_proved else ())
+    def check_as_it_stands(self, only):
+        os.makedirs(self.kept, exist_ok=True)
+        status, lines = self.timed(kit.check, self.crate, {}, self.kept, only)
         if status:
             sys.exit("\n".join([f"wrong-bodies: {self.crate.name} is not proved as it stands", *lines[-5:]]))
+
+    def check(self, texts, only):
+        """Checks the crate with these texts over a copy of the kept work."""
+        with kit.copy_of(self.kept) as kept:
+            return self.timed(kit.check, self.crate, texts, kept, only)
+
+    def timed(self, work, *words):
+        began = time.monotonic()
+        result = work(*words)
+        with self.lock:
+            self.checks, self.seconds = self.checks + 1, self.seconds + time.monotonic() - began
+        return result
+
+    def end(self):
+        """Sees that no check of an edit has changed the kept work, and proves the whole crate over it where nothing else
+        has."""
+        if kit.listing(self.kept) != self.kept_files:
+            sys.exit(f"wrong-bodies: {self.crate.name}: a check of an edit has changed the work that others begin with")
+        if not self.is_proved:
+            self.check_as_it_stands(())
         self.is_ended = True
 
     def batch(self):
@@ -81,7 +98,6 @@ class Trial:
         """Tries these edits in one check. What it can't judge waits again, or waits to be tried alone."""
         texts = edits.texts_with(self.crate, batch)
         status, lines = self.check(texts, [it.function for it in batch])
-        self.has_kept = True
         with self.lock:
             if status not in (0, 1) or not lines[-1].startswith("only=") or any(kit.is_front_end_error(it, texts) for it in lines):
                 self.without_verdict(batch, lines)
@@ -124,11 +140,10 @@ class Trial:
         if said:
             self.said[edit] = True, said
             return
-        began = time.monotonic()
         # What its function's own check has let through is tried from nothing at once.
-        refused, said = kit.try_alone(self.crate, edit.file, None if status == 0 else self.kept)
+        with kit.copy_of(self.kept) as kept:
+            refused, said = self.timed(kit.try_alone, self.crate, edit.file, None if status == 0 else kept)
         with self.lock:
-            self.checks, self.seconds = self.checks + 1, self.seconds + time.monotonic() - began
             self.said[edit] = refused, f"{said} ({why})"
 
     def by_one(self, edit):
