@@ -16,9 +16,13 @@ class Built:
     is_ended = True
 
     def __init__(self, crates, jobs):
-        self.room = threading.Semaphore(jobs)
+        self.jobs = jobs
         for it in dict.fromkeys(library for crate in crates for library in [*crate.below(), crate] if kit.is_library(library)):
             kit.build_library(it)
+
+    def at_a_time(self):
+        """How many checks may run."""
+        return self.jobs
 
     def has(self, crate):
         """Whether the edits of the crate may be tried."""
@@ -34,9 +38,7 @@ class Heard:
 
     def __init__(self, jobs):
         os.nice(19)
-        self.names, self.is_ended = set(), False
-        beside = max(jobs // 2, 1)
-        self.room, self.more = threading.Semaphore(beside), jobs - beside
+        self.jobs, self.names, self.is_ended = jobs, set(), False
         threading.Thread(target=self.read, daemon=True).start()
 
     def read(self):
@@ -44,8 +46,9 @@ class Heard:
             if proved := PROVED.match(line):
                 self.names.add(proved[1])
         self.is_ended = True
-        for _ in range(self.more):
-            self.room.release()
+
+    def at_a_time(self):
+        return self.jobs if self.is_ended else max(self.jobs // 2, 1)
 
     def has(self, crate):
         return crate.name in self.names

@@ -48,35 +48,34 @@ def tell(trial, is_told_all):
 
 
 def try_all(files, proofs, jobs, tell_end):
-    """Tries the edits of each crate that is proved, as many checks at a time as there is room."""
+    """Tries the edits of each crate that is proved, as many checks at a time as there is room. Of those that are ready, a
+    crate's first check comes before all others, since its edits wait for it; then those of crates that took the longest,
+    so that none is left for the end."""
     with tempfile.TemporaryDirectory(prefix="wrong-bodies-") as room, concurrent.futures.ThreadPoolExecutor(jobs) as pool:
-        # The largest first, so that none is left for the end.
         ordered = sorted(files, key=lambda it: -it.count(rb"\n"))
         trials = [Trial(it, f"{room}/{it.name}", files[it], proofs.stands_for(it)) for it in ordered]
-        waiting, running = list(trials), {}
-        while waiting or running or not proofs.is_ended:
+        waiting, ready, running = list(trials), [], {}
+        while waiting or ready or running or not proofs.is_ended:
             is_last = proofs.is_ended
             for trial in [it for it in waiting if proofs.has(it.crate) or is_last]:
                 waiting.remove(trial)
-                start = trial.begin if proofs.has(trial.crate) else trial.give_up
-                running[pool.submit(start)] = trial
+                ready.append((trial, trial.begin if proofs.has(trial.crate) else trial.give_up))
+            ready.sort(key=lambda it: (it[0].kept_files is not None, -it[0].seconds))
+            while ready and len(running) < proofs.at_a_time():
+                trial, check = ready.pop(0)
+                running[pool.submit(check)] = trial
             done, _ = concurrent.futures.wait(running, timeout=1, return_when=concurrent.futures.FIRST_COMPLETED)
             for future in done:
                 trial = running.pop(future)
                 future.result()
-                checks = next_checks(trial, [*running.values()].count(trial))
-                running.update({pool.submit(in_turn, proofs.room, it): trial for it in checks})
+                at_work = [*running.values(), *(it for it, _ in ready)].count(trial)
+                ready += [(trial, it) for it in next_checks(trial, at_work)]
                 if trial.is_ended:
                     tell_end(trial)
             if not running:
                 time.sleep(1)
             tell_progress(trials)
     return trials
-
-
-def in_turn(room, check):
-    with room:
-        check()
 
 
 def next_checks(trial, at_work):
