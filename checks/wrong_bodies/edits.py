@@ -26,6 +26,17 @@ class Edit:
             self.body, self.function = around[-1], around[-1].checked_name(names)
             self.refused_by = self.refused_by or self.function
 
+    def turn_to(self, copy, body, by):
+        """Has the edit change a copy of the function, so many characters below."""
+        self.function, self.body = copy, body
+        self.spots = [(at + by, old, new) for at, old, new in self.spots]
+
+
+def proof_module(function):
+    """What the names of a function's proofs begin with."""
+    crate, *path = function.split("::")
+    return f"Rattle.{crate}.proofs.{'.'.join(path)}."
+
 
 def proof_folder(function):
     """Where the answers of a function stand, as a check names it."""

@@ -47,6 +47,11 @@ def read(path):
         return file.read()
 
 
+def write(path, text):
+    with open(path, "w", encoding="utf-8") as file:
+        file.write(text)
+
+
 def check(crate, texts, kept, only=()):
     """Checks the crate with these texts in place of its own, over the kept work: its status and its lines."""
     words = [*one_job(), *(word for name in only for word in ("--only", name))]

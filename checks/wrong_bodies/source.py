@@ -1,19 +1,34 @@
 """The functions of a source file: where their bodies stand, and how a check names them.
 
 It reads files as `rt fmt` lays them out, where an item ends with the brace in the column in which it starts."""
+import itertools
 import re
 
 HEAD = re.compile(r'( *)(?:pub(?:\([^)]*\))? |const |unsafe |extern "C" )*(fn|impl|mod|trait)\b(.*)')
 
 
 class Function:
-    """A function with a body, from its brace's line to its brace's line, both counted from 0."""
+    """A function with a body: the line of its `fn`, and those of the two braces around its body, all counted from 0."""
 
-    def __init__(self, module, owner, name, first, last):
-        self.module, self.owner, self.name, self.first, self.last = module, owner, name, first, last
+    def __init__(self, module, owners, name, head, first, last):
+        self.module, self.owners, self.name, self.head, self.first, self.last = module, owners, name, head, first, last
+        self.owner = "".join(it.name for it in owners)
 
     def has_inside(self, line):
         return self.first < line < self.last
+
+    def copied(self, lines, name):
+        """The function under another name at the end of its file's lines, and these with it. Or None: the methods of a trait
+        stand in one block, and a symbol is exported once."""
+        attributes = list(itertools.takewhile(lambda it: it.lstrip().startswith(("#[", "//")), reversed(lines[:self.head])))
+        if not all(it.header for it in self.owners) or len(self.owners) > 1 or "no_mangle" in "".join(attributes):
+            return None
+        before = [*lines, *(self.owners[0].header if self.owners else ()), *reversed(attributes)]
+        down = len(before) - self.head
+        copy = Function(self.module, self.owners, name, self.head + down, self.first + down, self.last + down)
+        head = re.sub(rf"\bfn {self.name}\b", f"fn {name}", lines[self.head], count=1)
+        after = ["}"] if self.owners else []
+        return copy, [*before, head, *lines[self.head + 1:self.last + 1], *after]
 
     def checked_name(self, names):
         """Its name in a check, if one alone of `names` fits. A method stands in the module of its type, maybe above."""
@@ -53,6 +68,14 @@ def owner_of_impl(text):
     return name_of_type(type_, variables, bool(trait)) + (name_of_type(trait, variables, False) if trait else "") + "::"
 
 
+class Owner:
+    """A block around functions: what stands for it in their names, its last line, and its first lines where it is that of a
+    type's own methods."""
+
+    def __init__(self, name, last, header=()):
+        self.name, self.last, self.header = name, last, header
+
+
 def functions(path, lines):
     """The functions of the file that have a body."""
     module = [it for it in path[len("src/"):-len(".rt")].split("/") if it not in ("lib", "main", "mod")]
@@ -62,15 +85,20 @@ def functions(path, lines):
         last = next((i for i in range(at + 1, len(lines)) if head and lines[i] == head[1] + "}"), None)
         if last is None or line.endswith((";", "}")):
             continue
-        owners = [it for it in owners if it[1] > at]
+        owners = [it for it in owners if it.last > at]
         word = re.match(r"\s*(\w*)", head[3])[1]
         if head[2] == "fn":
             opening = [i for i in range(at, last) if lines[i] == head[1] + "{"] or [i for i in range(at, last) if lines[i].endswith("{")]
-            yield Function(module, "".join(it[0] for it in owners), word, opening[0], last)
+            yield Function(module, owners, word, at, opening[0], last)
         elif head[2] == "impl":
-            owners.append((owner_of_impl(" ".join([head[3], *lines[at + 1:at + 9]])), last))
+            opening = next(i for i in range(at, last) if lines[i].endswith("{"))
+            # What the block brings into scope stands first in it.
+            inside = itertools.takewhile(lambda it: it.startswith(head[1] + "    ghost use "), lines[opening + 1:])
+            header = [*lines[at:opening + 1], *inside]
+            is_of_trait = re.search(r" for \w", " ".join(header).partition(" where ")[0])
+            owners = [*owners, Owner(owner_of_impl(" ".join([head[3], *lines[at + 1:at + 9]])), last, () if is_of_trait else header)]
         else:
-            owners.append((word + "::", last))
+            owners = [*owners, Owner(word + "::", last)]
 
 
 def without_bodies(path, text):

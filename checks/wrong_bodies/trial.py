@@ -6,6 +6,7 @@ import threading
 import time
 
 from . import edits, kit
+from .copies import with_copies
 
 # The most edits that share a check: a long batch fills one processor while others idle.
 MOST = 40
@@ -18,8 +19,11 @@ OWN_GOALS = re.compile(r"no proof: expected .*`search` did not prove ")
 
 
 class Trial:
-    def __init__(self, crate, kept, files, is_proved):
-        self.crate, self.kept, self.files, self.is_proved = crate, kept, files, is_proved
+    def __init__(self, crate, room, files, is_proved):
+        self.crate, self.room, self.files, self.is_proved = crate, room, files, is_proved
+        self.kept = f"{room}/kept"
+        # The crate with its copies, and one copy of each function that has any.
+        self.twin, self.copies = None, []
         self.lock = threading.Lock()
         self.waiting, self.alone, self.said, self.is_ended = [], [], {}, False
         # What the check of the crate as it stands has kept, once it has ended.
@@ -34,6 +38,7 @@ class Trial:
                 self.waiting.append(it)
             else:
                 self.alone.append((it, "it changes no body, or more than one"))
+        self.twin, self.copies = with_copies(self.crate, self.waiting, f"{self.room}/crate")
 
     def give_up(self):
         """Says that none was tried, where the crate isn't proved."""
@@ -41,22 +46,23 @@ class Trial:
         self.is_ended = True
 
     def prove(self):
-        """Proves the functions that edits change, and all that they rest on, as they stand. Each edit is tried over a
-        copy of what this check keeps."""
-        changed = dict.fromkeys(it.refused_by for it in [*self.waiting, *(it for it, _ in self.alone)] if it.refused_by)
-        self.check_as_it_stands(changed)
+        """Proves the functions that edits change, a copy of each that has any, and all that they rest on, as they stand.
+        Each edit is tried over a copy of what this check keeps."""
+        changed = [it.refused_by for it in [*self.waiting, *(it for it, _ in self.alone)] if it.refused_by]
+        self.check_as_it_stands(self.twin, dict.fromkeys([*changed, *self.copies]))
         self.kept_files = kit.listing(self.kept)
 
-    def check_as_it_stands(self, only):
+    def check_as_it_stands(self, crate, only):
         os.makedirs(self.kept, exist_ok=True)
-        status, lines = self.timed(kit.check, self.crate, {}, self.kept, only)
+        status, lines = self.timed(kit.check, crate, {}, self.kept, only)
         if status:
-            sys.exit("\n".join([f"wrong-bodies: {self.crate.name} is not proved as it stands", *lines[-5:]]))
+            why = [it for it in lines if kit.PLACE.match(it) or ": not proved" in it or ": no proof" in it] or lines[-5:]
+            sys.exit("\n".join([f"wrong-bodies: {crate.name} is not proved as it stands", *why[:5]]))
 
-    def check(self, texts, only):
+    def check(self, crate, texts, only):
         """Checks the crate with these texts over a copy of the kept work."""
         with kit.copy_of(self.kept) as kept:
-            return self.timed(kit.check, self.crate, texts, kept, only)
+            return self.timed(kit.check, crate, texts, kept, only)
 
     def timed(self, work, *words):
         began = time.monotonic()
@@ -71,7 +77,7 @@ class Trial:
         if kit.listing(self.kept) != self.kept_files:
             sys.exit(f"wrong-bodies: {self.crate.name}: a check of an edit has changed the work that others begin with")
         if not self.is_proved:
-            self.check_as_it_stands(())
+            self.check_as_it_stands(self.crate, ())
         self.is_ended = True
 
     def batch(self):
@@ -96,8 +102,8 @@ class Trial:
 
     def try_batch(self, batch):
         """Tries these edits in one check. What it can't judge waits again, or waits to be tried alone."""
-        texts = edits.texts_with(self.crate, batch)
-        status, lines = self.check(texts, [it.function for it in batch])
+        texts = edits.texts_with(self.twin, batch)
+        status, lines = self.check(self.twin, texts, [it.function for it in batch])
         with self.lock:
             if status not in (0, 1) or not lines[-1].startswith("only=") or any(kit.is_front_end_error(it, texts) for it in lines):
                 self.without_verdict(batch, lines)
@@ -151,7 +157,7 @@ class Trial:
         texts, _ = kit.rt.read_edit(edit.file, self.crate.folder)
         if not texts:
             return None, None
-        status, lines = self.check(texts, [edit.refused_by])
+        status, lines = self.check(self.crate, texts, [edit.refused_by])
         says = {it[2]: it[3] for it in map(kit.LINE.fullmatch, lines) if it}
         said = says.get(edit.refused_by, "")
         if status != 1 or not lines[-1].startswith("only=") or any(kit.is_front_end_error(it, texts) for it in lines):
