@@ -1,6 +1,4 @@
 """A crate's edits while they are tried: what waits, and what was said of each."""
-import contextlib
-import math
 import os
 import re
 import sys
@@ -11,7 +9,7 @@ from . import edits, kit
 from .copies import with_copies
 
 # The most edits that share a check: a long batch fills one processor while others idle.
-MOST = 60
+MOST = 40
 # An error of a proof file that names what the edit took away, which says little of the contract.
 GONE = re.compile(r"has no field|is not in scope|has no `|was not admitted")
 # What is said of an edit that no other error refuses.
@@ -84,17 +82,15 @@ class Trial:
 
     def batch(self):
         """The next edits to try together: one of a function, first those of functions that have the most left, and none
-        beside an edit that hid it before. Batches are as equal as they can be."""
+        beside an edit that hid it before."""
         with self.lock:
-            count = math.ceil(len(self.waiting) / MOST)
-            most = math.ceil(len(self.waiting) / count) if count else 0
             left = {}
             for it in self.waiting:
                 left.setdefault(it.function, []).append(it)
             chosen = {}
             for its in sorted(left.values(), key=len, reverse=True):
                 fits = [it for it in its if not it.apart & chosen.keys() and not any(it.function in other.apart for other in chosen.values())]
-                chosen.update({it.function: it for it in fits[:1] if len(chosen) < most})
+                chosen.update({it.function: it for it in fits[:1] if len(chosen) < MOST})
             self.waiting = [it for it in self.waiting if it not in chosen.values()]
             return [*chosen.values()]
 
@@ -151,8 +147,8 @@ class Trial:
             self.said[edit] = True, said
             return
         # What its function's own check has let through is tried from nothing at once.
-        with contextlib.nullcontext() if status == 0 else kit.copy_of(self.kept) as kept:
-            refused, said = self.timed(kit.try_alone, self.crate, edit.file, kept)
+        with kit.copy_of(self.kept) as kept:
+            refused, said = self.timed(kit.try_alone, self.crate, edit.file, None if status == 0 else kept)
         with self.lock:
             self.said[edit] = refused, f"{said} ({why})"
 
