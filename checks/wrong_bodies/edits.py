@@ -26,6 +26,10 @@ class Edit:
             self.body, self.function = around[-1], around[-1].checked_name(names)
             self.refused_by = self.refused_by or self.function
 
+    def fits_beside(self, chosen):
+        """Whether it and none of those chosen, by their functions, hid one another before."""
+        return not self.apart & chosen.keys() and not any(self.function in it.apart for it in chosen.values())
+
     def turn_to(self, copy, body, by):
         """Has the edit change a copy of the function, so many characters below."""
         self.function, self.body = copy, body

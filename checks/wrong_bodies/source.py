@@ -88,15 +88,17 @@ def functions(path, lines):
         owners = [it for it in owners if it.last > at]
         word = re.match(r"\s*(\w*)", head[3])[1]
         if head[2] == "fn":
-            opening = [i for i in range(at, last) if lines[i] == head[1] + "{"] or [i for i in range(at, last) if lines[i].endswith("{")]
-            yield Function(module, owners, word, at, opening[0], last)
+            openings = [i for i in range(at, last) if lines[i].endswith("{")]
+            opening = next((i for i in openings if lines[i] == head[1] + "{"), openings[0])
+            yield Function(module, owners, word, at, opening, last)
         elif head[2] == "impl":
             opening = next(i for i in range(at, last) if lines[i].endswith("{"))
             # What the block brings into scope stands first in it.
             inside = itertools.takewhile(lambda it: it.startswith(head[1] + "    ghost use "), lines[opening + 1:])
             header = [*lines[at:opening + 1], *inside]
             is_of_trait = re.search(r" for \w", " ".join(header).partition(" where ")[0])
-            owners = [*owners, Owner(owner_of_impl(" ".join([head[3], *lines[at + 1:at + 9]])), last, () if is_of_trait else header)]
+            name = owner_of_impl(" ".join([head[3], *lines[at + 1:at + 9]]))
+            owners = [*owners, Owner(name, last, () if is_of_trait else header)]
         else:
             owners = [*owners, Owner(word + "::", last)]
 

@@ -1,4 +1,6 @@
 """A crate's edits while they are tried: what waits, and what was said of each."""
+import contextlib
+import math
 import os
 import re
 import sys
@@ -9,7 +11,7 @@ from . import edits, kit
 from .copies import with_copies
 
 # The most edits that share a check: a long batch fills one processor while others idle.
-MOST = 40
+MOST = 60
 # An error of a proof file that names what the edit took away, which says little of the contract.
 GONE = re.compile(r"has no field|is not in scope|has no `|was not admitted")
 # What is said of an edit that no other error refuses.
@@ -87,10 +89,13 @@ class Trial:
             left = {}
             for it in self.waiting:
                 left.setdefault(it.function, []).append(it)
+            # As few batches as hold them all, of equal size.
+            batches = max(1, math.ceil(len(self.waiting) / MOST))
+            most = math.ceil(len(self.waiting) / batches)
             chosen = {}
             for its in sorted(left.values(), key=len, reverse=True):
-                fits = [it for it in its if not it.apart & chosen.keys() and not any(it.function in other.apart for other in chosen.values())]
-                chosen.update({it.function: it for it in fits[:1] if len(chosen) < MOST})
+                fits = [it for it in its if it.fits_beside(chosen)]
+                chosen.update({it.function: it for it in fits[:1] if len(chosen) < most})
             self.waiting = [it for it in self.waiting if it not in chosen.values()]
             return [*chosen.values()]
 
@@ -147,8 +152,8 @@ class Trial:
             self.said[edit] = True, said
             return
         # What its function's own check has let through is tried from nothing at once.
-        with kit.copy_of(self.kept) as kept:
-            refused, said = self.timed(kit.try_alone, self.crate, edit.file, None if status == 0 else kept)
+        with contextlib.nullcontext() if status == 0 else kit.copy_of(self.kept) as kept:
+            refused, said = self.timed(kit.try_alone, self.crate, edit.file, kept)
         with self.lock:
             self.said[edit] = refused, f"{said} ({why})"
 

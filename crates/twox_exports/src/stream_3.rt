@@ -14,7 +14,7 @@ ghost use Rattle.twox_exports.specs.Number.{number_of};
 ghost use Rattle.twox_core.specs.InRange.{IsInRange};
 
 use crate::{DONE, NOT_A_STREAM, SECRET_TOO_SHORT, Wide, halves};
-use twox_hash::words::{IntoU64, copy_ends, copy_short};
+use twox_hash::words::{IntoU64, copy_up_to_128};
 use twox_hash::xxhash3::{
     BUFFERED_BYTES, CUTOFF, CoreState, Finalize, Secret, Vector, default_secret,
 };
@@ -106,22 +106,8 @@ fn add_few(core: &mut CoreState, input: &[u8])
 {
     let used = core.buffer_usage;
     let end = used + input.len();
-    copy_few(&mut core.buffer[used..end], input);
+    copy_up_to_128(&mut core.buffer[used..end], input);
     core.buffer_usage = end;
-}
-
-// Copies a slice of at most 64 bytes over another of its length, with no call.
-#[inline(always)]
-fn copy_few(to: &mut [u8], from: &[u8])
-    requires same { length to.old ≡ length from.now }
-    requires few { length from.now ≤ 64 }
-    ensures { to.new ≡ from.now }
-{
-    if from.len() <= 32 {
-        copy_short(to, from);
-    } else {
-        copy_ends::<32>(to, from);
-    }
 }
 
 // Takes any other piece: a call of its own, so that those pay for no register that it keeps.

@@ -286,13 +286,22 @@ fn impl_oneshot_keyed_from_65(input: &[u8], secret: Secret<'_>) -> u128
 // A call of its own, so that short inputs pay nothing for the room that long ones take. No seed enters, so the
 // value is that of any.
 #[inline(never)]
-#[tactic(auto, using(twox_core::proofs::ValueLaws::long_128, twox_core::proofs::EndingFacts::block_both))]
 fn impl_oneshot_long(secret: Secret<'_>, input: &[u8]) -> u128
     requires { 240 < length input.now }
     ensures { (any : ℕ) → result ≡ xxh3_128 any (secret_bytes secret.entry) input.now }
 {
+    impl_oneshot_above_240::<false>(secret, input)
+}
+
+// `DERIVED` says that the secret was derived: see `Algorithm::oneshot_of`.
+#[inline(always)]
+#[tactic(auto, using(twox_core::proofs::ValueLaws::long_128, twox_core::proofs::EndingFacts::block_both))]
+fn impl_oneshot_above_240<const DERIVED: bool>(secret: Secret<'_>, input: &[u8]) -> u128
+    requires { 240 < length input.now }
+    ensures { (any : ℕ) → result ≡ xxh3_128 any (secret_bytes secret.entry) input.now }
+{
     if input.len() < MANY_BYTES {
-        Algorithm(Kernel {}).oneshot_of::<Finalize128, false>(secret, input, Finalize128)
+        Algorithm(Kernel {}).oneshot_of::<Finalize128, false, DERIVED>(secret, input, Finalize128)
     } else {
         impl_oneshot_many(secret, input)
     }
@@ -305,7 +314,7 @@ fn impl_oneshot_many(secret: Secret<'_>, input: &[u8]) -> u128
     requires { 240 < length input.now }
     ensures { (any : ℕ) → result ≡ xxh3_128 any (secret_bytes secret.entry) input.now }
 {
-    Algorithm(Kernel {}).oneshot_of::<Finalize128, true>(secret, input, Finalize128)
+    Algorithm(Kernel {}).oneshot_of::<Finalize128, true, false>(secret, input, Finalize128)
 }
 
 // The same with the secret that a seed derives. The seed 0 derives the default one.
@@ -322,14 +331,14 @@ fn impl_oneshot_long_seeded(seed: u64, input: &[u8]) -> u128
     }
 }
 
-// The derived secret stands on the stack.
+// The derived secret stands on the stack. Taken in place, it is known to have 192 bytes, so nothing is tested for that.
 #[inline(never)]
 fn impl_oneshot_long_derived(seed: u64, input: &[u8]) -> u128
     requires { 240 < length input.now }
     ensures { (any : ℕ) → result ≡ xxh3_128 any (derived_secret seed) input.now }
 {
     let secret = derived_secret(seed);
-    impl_oneshot_long(Secret::new(&secret).unwrap(), input)
+    impl_oneshot_above_240::<true>(Secret::new(&secret).unwrap(), input)
 }
 
 // The halves of a value.

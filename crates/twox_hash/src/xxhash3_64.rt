@@ -287,13 +287,22 @@ fn impl_oneshot_seeded(seed: u64, input: &[u8]) -> u64
 // A call of its own, so that short inputs pay nothing for the room that long ones take. No seed enters, so the
 // value is that of any.
 #[inline(never)]
-#[tactic(auto, using(twox_core::proofs::ValueLaws::long_64, twox_core::proofs::EndingFacts::block_low))]
 fn impl_oneshot_long(secret: Secret<'_>, input: &[u8]) -> u64
     requires { 240 < length input.now }
     ensures { (any : ℕ) → result ≡ xxh3_64 any (secret_bytes secret.entry) input.now }
 {
+    impl_oneshot_above_240::<false>(secret, input)
+}
+
+// `DERIVED` says that the secret was derived: see `Algorithm::oneshot_of`.
+#[inline(always)]
+#[tactic(auto, using(twox_core::proofs::ValueLaws::long_64, twox_core::proofs::EndingFacts::block_low))]
+fn impl_oneshot_above_240<const DERIVED: bool>(secret: Secret<'_>, input: &[u8]) -> u64
+    requires { 240 < length input.now }
+    ensures { (any : ℕ) → result ≡ xxh3_64 any (secret_bytes secret.entry) input.now }
+{
     if input.len() < MANY_BYTES {
-        Algorithm(Kernel {}).oneshot_of::<Finalize64, false>(secret, input, Finalize64)
+        Algorithm(Kernel {}).oneshot_of::<Finalize64, false, DERIVED>(secret, input, Finalize64)
     } else {
         impl_oneshot_many(secret, input)
     }
@@ -306,7 +315,7 @@ fn impl_oneshot_many(secret: Secret<'_>, input: &[u8]) -> u64
     requires { 240 < length input.now }
     ensures { (any : ℕ) → result ≡ xxh3_64 any (secret_bytes secret.entry) input.now }
 {
-    Algorithm(Kernel {}).oneshot_of::<Finalize64, true>(secret, input, Finalize64)
+    Algorithm(Kernel {}).oneshot_of::<Finalize64, true, false>(secret, input, Finalize64)
 }
 
 // The same with the secret that a seed derives. The seed 0 derives the default one.
@@ -323,14 +332,14 @@ fn impl_oneshot_long_seeded(seed: u64, input: &[u8]) -> u64
     }
 }
 
-// The derived secret stands on the stack.
+// The derived secret stands on the stack. Taken in place, it is known to have 192 bytes, so nothing is tested for that.
 #[inline(never)]
 fn impl_oneshot_long_derived(seed: u64, input: &[u8]) -> u64
     requires { 240 < length input.now }
     ensures { (any : ℕ) → result ≡ xxh3_64 any (derived_secret seed) input.now }
 {
     let secret = derived_secret(seed);
-    impl_oneshot_long(Secret::new(&secret).unwrap(), input)
+    impl_oneshot_above_240::<true>(Secret::new(&secret).unwrap(), input)
 }
 
 #[inline(always)]

@@ -82,16 +82,17 @@ impl<V: Vector> Algorithm<V> {
             result ≡ F.large_of finalize (block_accumulators s m) (last_block s m) (last_stripe m) s (length m) }
     {
         if input.len() < MANY_BYTES {
-            self.oneshot_of::<F, false>(secret, input, finalize)
+            self.oneshot_of::<F, false, false>(secret, input, finalize)
         } else {
-            self.oneshot_of::<F, true>(secret, input, finalize)
+            self.oneshot_of::<F, true, false>(secret, input, finalize)
         }
     }
 
     /// The same, where the caller says whether the bytes are many: those that are few then keep no register for a
-    /// call. The value doesn't depend on it.
+    /// call. `DERIVED` gives a caller with a derived secret code of its own, in which that secret's length is known.
+    /// The value depends on neither.
     #[inline(always)]
-    pub fn oneshot_of<F: Finalize + Drop, const MANY: bool>(
+    pub fn oneshot_of<F: Finalize + Drop, const MANY: bool, const DERIVED: bool>(
         &self,
         secret: Secret<'_>,
         input: &[u8],

@@ -25,10 +25,27 @@ pub fn copy_short(to: &mut [u8], from: &[u8])
     }
 }
 
-/// Copies a slice of `N` to `2 * N` bytes over another of its length: the first `N` bytes, then the last `N`, which may
-/// overlap them.
+/// The same of at most 128 bytes.
 #[inline(always)]
-pub fn copy_ends<const N: usize>(to: &mut [u8], from: &[u8])
+pub fn copy_up_to_128(to: &mut [u8], from: &[u8])
+    requires same { length to.old ≡ length from.now }
+    requires short { length from.now ≤ 128 }
+    ensures { to.new ≡ from.now }
+{
+    let n = from.len();
+    if n > 64 {
+        copy_ends::<64>(to, from);
+    } else if n > 32 {
+        copy_ends::<32>(to, from);
+    } else {
+        copy_short(to, from);
+    }
+}
+
+// Copies a slice of `N` to `2 * N` bytes over another of its length: the first `N` bytes, then the last `N`, which may
+// overlap them.
+#[inline(always)]
+fn copy_ends<const N: usize>(to: &mut [u8], from: &[u8])
     requires same { length to.old ≡ length from.now }
     requires long_enough { N ≤ length from.now }
     requires covered { length from.now ≤ N + N }

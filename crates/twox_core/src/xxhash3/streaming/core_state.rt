@@ -8,7 +8,7 @@ ghost use Rattle.twox_core.specs.Stripes.{current_stripe_of};
 use super::taken_stripes::TakenStripes;
 use crate::xxhash3::parts::array_at;
 use crate::xxhash3::{CUTOFF, DEFAULT_SEED, Finalize, Secret, Vector, default_secret};
-use twox_words::words::{IntoU64, copy_ends, copy_short};
+use twox_words::words::{IntoU64, copy_short, copy_up_to_128};
 
 /// How many bytes a stream keeps for later: whole stripes, and more than the greatest length that is hashed
 /// with no stripes.
@@ -112,48 +112,42 @@ impl CoreState {
             → (64 ≤ self.new.buffer_usage) × (self.new.buffer_usage ≤ 127) }
     {
         let (head, rest) = input.split_at((64 - self.buffer_usage % 64) % 64);
-        self.add(head);
+        self.fill_stripe(head);
         self.empty(v, secret);
         self.restart::<V, MANY>(v, rest, secret);
     }
 
-    // Puts `input` after the buffered bytes.
+    // Puts `head`, which may be empty, after the buffered bytes.
     #[inline(always)]
-    fn add(&mut self, input: &[u8])
-        requires { self.old.buffer_usage + length input.now ≤ 512 }
-        ensures { self.new ≡ with_buffered self.old input.now }
+    fn fill_stripe(&mut self, head: &[u8])
+        requires room { self.old.buffer_usage + length head.now ≤ 512 }
+        requires few { length head.now ≤ 64 }
+        ensures { self.new ≡ with_buffered self.old head.now }
     {
-        // A call that moves no bytes takes longer than the test.
-        if !input.is_empty() {
+        // Of a piece of whole stripes there are none.
+        if !head.is_empty() {
             let used = self.buffer_usage;
-            self.buffer[used..used + input.len()].copy_from_slice(input);
-            self.buffer_usage = used + input.len();
+            let end = used + head.len();
+            copy_up_to_128(&mut self.buffer[used..end], head);
+            self.buffer_usage = end;
         }
     }
 
-    // The same of a whole piece. A few bytes are moved here, since a call takes longer.
+    // Puts a piece after the buffered bytes. Their number is stored first: a call that moves bytes is the last step then,
+    // and `write` keeps no register for what comes after it.
     #[inline(always)]
     fn keep(&mut self, input: &[u8])
         requires { self.old.buffer_usage + length input.now ≤ 512 }
         ensures { self.new ≡ with_buffered self.old input.now }
     {
-        if input.len() > FEW_BYTES {
-            self.add(input);
-        } else {
-            self.add_few(input);
-        }
-    }
-
-    #[inline(always)]
-    fn add_few(&mut self, input: &[u8])
-        requires room { self.old.buffer_usage + length input.now ≤ 512 }
-        requires few { length input.now ≤ 32 }
-        ensures { self.new ≡ with_buffered self.old input.now }
-    {
         let used = self.buffer_usage;
-        let end = used + input.len();
-        copy_short(&mut self.buffer[used..end], input);
-        self.buffer_usage = end;
+        self.buffer_usage = used + input.len();
+        let place = &mut self.buffer[used..used + input.len()];
+        if input.len() > FEW_BYTES {
+            place.copy_from_slice(input);
+        } else {
+            copy_short(place, input);
+        }
     }
 
     // Takes the buffered stripes.
@@ -188,7 +182,7 @@ impl CoreState {
         self.begin_with(last);
     }
 
-    // Begins the buffer with `last`: 64 bytes or more are moved here, since a call takes longer.
+    // Begins the buffer with `last`.
     #[inline(always)]
     fn begin_with(&mut self, last: &[u8])
         requires { length last.now ≤ 128 }
@@ -197,12 +191,7 @@ impl CoreState {
           buffer_usage = length last.now;
         } }
     {
-        let front = &mut self.buffer[..last.len()];
-        if last.len() >= 64 {
-            copy_ends::<64>(front, last);
-        } else {
-            front.copy_from_slice(last);
-        }
+        copy_up_to_128(&mut self.buffer[..last.len()], last);
         self.buffer_usage = last.len();
     }
 
