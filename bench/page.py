@@ -212,7 +212,7 @@ A peer's time over ours: 1 is level, more is faster. A cell is the median over h
 ## The lowest rows, and what we want to reach
 
 #LOWEST
-What is known of them stands in [TUNING.md](TUNING.md).
+What is known of them, and what the code has gained since, stands in [TUNING.md](TUNING.md).
 
 #GOALS
 #TWOX_HASH
