@@ -4,8 +4,8 @@ room=$(mktemp -d)
 trap 'rm -rf "$room"' EXIT
 sets=(x86-64-v2 x86-64-v3)
 libraries=
-# Each function begins at a multiple of 64 bytes: the speed of a short call moves with the code before it.
-aligned=-falign-functions=64
+# The speed of a short call moves with the place where its code lies, so a run takes as many places as this.
+layouts=8
 debian_library=/usr/lib/x86_64-linux-gnu/libxxhash.so.0
 
 # Stops with a message.
@@ -45,26 +45,31 @@ our_library() {
         [ -f "${libraries[-1]}" ] || fail "rt lib made no library of $crate in $tree"
     done
     ld -r --whole-archive "${libraries[@]}" -o "$file"
-    # As c/build places them, and as the peers are compiled ($aligned).
-    objcopy --set-section-alignment '.text.*=64' "$file"
 }
 
-# link_layouts SET PEERS OBJECT..: links $room/SET/driver_1 to driver_5, the same objects in five orders, since a
-# short call moves with the place where its code lies: each round runs another. PEERS are the names of the peers in
-# the objects, and $libraries are linked beside them.
+# link_layouts SET PEERS OBJECT..: links $room/SET/driver_1 to driver_8. In driver_N each function of the objects begins
+# 12 N bytes behind a multiple of 64: eight places within 32 bytes, the window of older processors, and within 64, that
+# of newer ones. The objects' order changes too. The driver stays where it is, and no jump of its loops crosses 32
+# bytes, which would slow all peers at once. PEERS are the names of the peers in the objects, whose functions lie in
+# sections of their own; $libraries are linked beside them.
 link_layouts() {
-    local set=$1 peers=$2 objects=("${@:3}") place
+    local folder=$room/$1 peers=$2 objects=("${@:3}") layout place found
     {
         echo '#include "peer.h"'
         for peer in $peers; do echo "extern const struct peer $peer;"; done
         echo "const struct peer *const peers[] = { $(printf '&%s, ' $peers)};"
         echo 'const size_t peer_count = sizeof peers / sizeof peers[0];'
-    } > "$room/$set/peers.c"
-    gcc -O3 -I. -c "$room/$set/peers.c" -o "$room/$set/peers.o"
-    gcc -O3 -Wall -Wextra -c driver.c -o "$room/$set/driver.o"
-    for place in 1 2 3 4 5; do
-        gcc "${objects[@]}" "$room/$set/driver.o" "$room/$set/peers.o" $libraries -o "$room/$set/driver_$place" \
-            || fail "the driver was not linked"
+    } > "$folder/peers.c"
+    gcc -O3 -I. -c "$folder/peers.c" -o "$folder/peers.o"
+    gcc -O3 -Wall -Wextra -Wa,-mbranches-within-32B-boundaries -c driver.c -o "$folder/driver.o"
+    for ((layout = 1; layout <= layouts; layout++)); do
+        place=$((12 * layout % 64))
+        ld -r -T places.ld "${objects[@]}" -o "$folder/functions.o"
+        objcopy --set-section-alignment .text=4 "$folder/functions.o"
+        echo "asm(\".balign 64; .skip $place\");" | gcc -x c -c - -o "$folder/place.o"
+        gcc "$folder"/{driver,peers,place,functions}.o $libraries -o "$folder/driver_$layout" || fail "the driver was not linked"
+        found=$(nm "$folder/driver_$layout" | awk '$3 == "twox_xxh3_64" { print $1 }')
+        ((0x$found % 64 == place)) || fail "a function lies at $found, not $place bytes behind a multiple of 64"
         objects=("${objects[@]:1}" "${objects[0]}")
     done
 }
@@ -72,7 +77,7 @@ link_layouts() {
 # one_round SET ROUND WORDS..: runs the layout of that round with these words; its lines lie in
 # $room/SET/round_ROUND.
 one_round() {
-    "$room/$1/driver_$((($2 - 1) % 5 + 1))" "${@:3}" > "$room/$1/round_$2" || fail "the driver stopped"
+    "$room/$1/driver_$((($2 - 1) % layouts + 1))" "${@:3}" > "$room/$1/round_$2" || fail "the driver stopped"
 }
 
 # build_shared: proves and builds the library for C, and the driver that measures it beside Debian's.

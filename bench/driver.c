@@ -19,7 +19,7 @@
 #include "peer.h"
 
 #define MOST_PEERS 8
-#define TURNS 11
+#define TURNS 7
 #define SLICE 1200000.0 /* nanoseconds that a peer is timed for, a turn */
 #define MIB ((size_t)1 << 20)
 #define SECRET 192
@@ -142,7 +142,7 @@ static void measure(struct row r)
     const struct peer *those[MOST_PEERS];
     double best[MOST_PEERS], slice = quick ? SLICE / 3 : SLICE;
     long times[MOST_PEERS];
-    int turns = quick ? 8 : TURNS;
+    int turns = quick ? 5 : TURNS;
     size_t count = offering(r, those);
     if (count < 2) return;
     for (size_t p = 0; p < count; p++) {

@@ -244,8 +244,8 @@ Instructions of the reference's header, by gcc 12 -O3, over ours for one call, c
 ## How it was measured
 
 #SAID
-- One process measures all peers in turns, by processor time. A figure is the median of five rounds apart in time, and a round the best of eleven turns.
-- *By best times* is a peer's best of all rounds over our best: a virtual machine slows for minutes, and a median mixes both. *Spread* is how far the rounds of a ratio lie apart.
+- One process measures all peers in turns, by processor time. A figure is the median of eight rounds apart in time, and a round the best of seven turns.
+- *By best times* is a peer's best of all rounds over our best, each at the place that suits it: a virtual machine slows for minutes, and a median mixes both. *Spread* is how far the rounds of a ratio lie apart.
 - Each peer is called through a pointer to one function of the same signature. The header's code is compiled into it, with the seed 0 and the default secret; Debian's library is one call further away, and built for plain x86-64.
 - Ours takes an address in a room of 64 MiB and a length, and compares it with the room. The peers' one-shots make that comparison too: of 16 to 32 bytes it is a tenth of a call.
 """

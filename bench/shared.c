@@ -20,7 +20,7 @@
 #include <time.h>
 #include "../c/include/xxhash.h"
 
-#define TURNS 11
+#define TURNS 7
 #define SLICE 1000000.0 /* nanoseconds that a library is timed for, a turn */
 #define MIB ((size_t)1 << 20)
 #define ROOM (64 * MIB)
@@ -167,7 +167,7 @@ static void measure(struct row r)
         exit(1);
     }
     for (int k = 0; k < 2; k++) times[k] = times_of(&libraries[k], r);
-    for (int turn = 0; turn < (quick ? 8 : TURNS); turn++)
+    for (int turn = 0; turn < (quick ? 5 : TURNS); turn++)
         for (int k = 0; k < 2; k++) {
             int which = (k + turn) % 2;
             double taken = timed(&libraries[which], r, times[which]);

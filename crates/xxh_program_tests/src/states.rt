@@ -174,39 +174,43 @@ fn ends_that_fail(rt: HostRuntime) {
 
 const MOST: u64 = u64::MAX;
 
-// Whether the line is that of all bytes at once, and of the first part saved and the second read on. The seeds are the
-// greatest, so that the accumulators have many digits.
-fn is_line_of_32(alloc: Global, bytes: &[u8], parts: (&[u8], &[u8]), line: &str) -> bool {
-    prints(alloc, "hash 32 4294967295", bytes, line)
-        && two_runs(alloc, "save 32 4294967295", "32", parts, line)
-}
+// The words that hash all bytes at once and those that save the first part, under the greatest seed, so that the
+// accumulators have many digits; and the kind that reads the second part on.
+const WORDS_32: [&str; 3] = ["hash 32 4294967295", "save 32 4294967295", "32"];
 
-fn is_line_of_64(alloc: Global, bytes: &[u8], parts: (&[u8], &[u8]), line: &str) -> bool {
-    prints(alloc, "hash 64 18446744073709551615", bytes, line)
-        && two_runs(alloc, "save 64 18446744073709551615", "64", parts, line)
-}
+const WORDS_64: [&str; 3] = [
+    "hash 64 18446744073709551615",
+    "save 64 18446744073709551615",
+    "64",
+];
 
-fn line_32(alloc: Global, bytes: &[u8]) -> Result<String, AllocError> {
-    let value = XxHash32::oneshot(u32::MAX, bytes);
-    format!(in alloc; "{value:08x}")
-}
-
-fn line_64(alloc: Global, bytes: &[u8]) -> Result<String, AllocError> {
-    let value = XxHash64::oneshot(u64::MAX, bytes);
-    format!(in alloc; "{value:016x}")
+// Whether these words print the line in both ways.
+fn is_line(
+    alloc: Global,
+    words: [&str; 3],
+    bytes: &[u8],
+    parts: (&[u8], &[u8]),
+    line: Result<String, AllocError>,
+) -> bool {
+    let [hash, save, kind] = words;
+    match line {
+        Ok(line) => {
+            prints(alloc, hash, bytes, line.as_str())
+                && two_runs(alloc, save, kind, parts, line.as_str())
+        }
+        Err(_) => false,
+    }
 }
 
 // Saved after the first part, resumed over the second: the line is that of the library's one-shot of both.
 fn is_saved_and_resumed(alloc: Global, bytes: &[u8], cut: usize) -> bool {
     let parts = bytes.split_at_checked(cut).unwrap_or((bytes, b""));
-    let first = match line_32(alloc, bytes) {
-        Ok(line) => is_line_of_32(alloc, bytes, parts, line.as_str()),
-        Err(_) => false,
-    };
-    match line_64(alloc, bytes) {
-        Ok(line) => first && is_line_of_64(alloc, bytes, parts, line.as_str()),
-        Err(_) => false,
-    }
+    let value = XxHash32::oneshot(u32::MAX, bytes);
+    let line = format!(in alloc; "{value:08x}");
+    let first = is_line(alloc, WORDS_32, bytes, parts, line);
+    let value = XxHash64::oneshot(u64::MAX, bytes);
+    let line = format!(in alloc; "{value:016x}");
+    first && is_line(alloc, WORDS_64, bytes, parts, line)
 }
 
 // The first bytes, this many.

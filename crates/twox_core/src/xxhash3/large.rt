@@ -189,7 +189,7 @@ impl<V: Vector> Algorithm<V> {
     // The accumulators with the first stripes of a block, from the secret's start on. No scramble follows, so this
     // loop has no test for one.
     #[inline(always)]
-    pub(super) fn accumulate_block(
+    fn accumulate_block(
         &self,
         acc: [u64; 8],
         block: &[u8],

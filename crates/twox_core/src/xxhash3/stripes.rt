@@ -15,8 +15,12 @@ use super::{INITIAL_ACCUMULATORS, Secret, Vector};
 use twox_words::words::{bp_as_chunks, u64_at};
 
 /// From how many bytes on a one-shot takes its stripes out of line, in the way that is fastest for their number, and
-/// whole blocks are written out.
-pub const MANY_BYTES: usize = 16_384;
+/// whole blocks are written out: 32 KiB without the last block, which a one-shot takes by itself.
+pub const MANY_BYTES: usize = 31 * BYTES_IN_BLOCK;
+
+/// From how many bytes on, and up to how many, four stripes are taken at a time all the same: from 2 MiB without the
+/// last block on, up to 8 MiB. So many lie in the third cache, where reading ahead costs more than it saves.
+const IN_THIRD_CACHE: (usize, usize) = (2_047 * BYTES_IN_BLOCK, 8_192 * BYTES_IN_BLOCK);
 
 /// From how many bytes on a stripe further on is read ahead, where whole blocks aren't taken.
 const BYTES_TO_READ_AHEAD: usize = 49_152;
@@ -185,15 +189,22 @@ fn take_many_stripes<V: Vector>(
     ensures { AfterStripes (secret_bytes secret.entry) from bytes.now result }
 {
     let has_blocks = secret.n_stripes() == STRIPES_IN_BLOCK && bytes.len() >= BYTES_IN_BLOCK;
-    if has_blocks && bytes.len() < MANY_BYTES {
-        take_stripes_by_fours(from, v, bytes, secret)
-    } else if has_blocks {
+    if has_blocks && pays_by_blocks(bytes.len()) {
         take_stripes_by_blocks(from, v, bytes, secret)
+    } else if has_blocks {
+        take_stripes_by_fours(from, v, bytes, secret)
     } else if bytes.len() < BYTES_TO_READ_AHEAD {
         take_stripes(from, v, bytes, secret)
     } else {
         take_stripes_reading_ahead(from, v, bytes, secret)
     }
+}
+
+// Whether so many bytes are taken faster by whole blocks, reading ahead, than four stripes at a time.
+#[inline(always)]
+fn pays_by_blocks(len: usize) -> bool {
+    let (from, to) = IN_THIRD_CACHE;
+    len >= MANY_BYTES && (len < from || len >= to)
 }
 
 // The same four stripes at a time.

@@ -236,8 +236,10 @@ pub(super) fn impl_oneshot(seed: u32, input: &[u8]) -> u32
 {
     if input.len() < BYTES_IN_STRIPE {
         impl_short(seed, input)
+    } else if input.len() < BYTES_IN_BLOCK {
+        impl_long::<false>(seed, input)
     } else {
-        impl_from_16(seed, input)
+        impl_from_128(seed, input)
     }
 }
 
@@ -254,17 +256,6 @@ pub(super) fn impl_short(seed: u32, input: &[u8]) -> u32
 }
 
 // Blocks are in a function of their own, so that shorter inputs keep no registers for its calls.
-#[inline(never)]
-fn impl_from_16(seed: u32, input: &[u8]) -> u32
-    ensures { result ≡ xxh32 seed input.now }
-{
-    if input.len() < BYTES_IN_BLOCK {
-        impl_long::<false>(seed, input)
-    } else {
-        impl_from_128(seed, input)
-    }
-}
-
 #[inline(never)]
 fn impl_from_128(seed: u32, input: &[u8]) -> u32
     ensures { result ≡ xxh32 seed input.now }

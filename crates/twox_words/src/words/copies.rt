@@ -25,7 +25,7 @@ pub fn copy_short(to: &mut [u8], from: &[u8])
     }
 }
 
-/// The same of at most 128 bytes.
+/// Copies a slice of at most 128 bytes over another of its length, with no call either.
 #[inline(always)]
 pub fn copy_up_to_128(to: &mut [u8], from: &[u8])
     requires same { length to.old ≡ length from.now }

@@ -8,7 +8,7 @@ ghost use Rattle.twox_core.specs.SecretBytes.{secret_bytes};
 ghost use Rattle.twox_core.specs.Stripes.{at_start, after_stripes};
 
 use crate::xxhash3::parts::array_at;
-use crate::xxhash3::{Algorithm, Secret, Vector};
+use crate::xxhash3::{Secret, Vector};
 use twox_words::words::{bp_as_chunks, u64_at};
 
 /// The stripes of a block.
@@ -44,8 +44,7 @@ pub(super) fn take_blocks<V: Vector>(
     (taken, seen)
 }
 
-// The accumulators after few whole blocks: the loop over a block's stripes has no test for its end, and nothing is read
-// ahead.
+// The accumulators after few whole blocks, of which nothing is read ahead.
 #[inline(always)]
 pub(super) fn take_few_blocks<V: Vector>(
     acc: [u64; 8],
@@ -60,8 +59,27 @@ pub(super) fn take_few_blocks<V: Vector>(
     let (blocks, _) = bp_as_chunks::<u8, 1024>(bytes);
     let mut taken = acc;
     'each: for i in 0..blocks.len() {
-        let mut sums = Algorithm(v).accumulate_block(taken, &blocks[i], STRIPES_IN_BLOCK, secret);
+        let mut sums = take_block_by_fours(taken, v, &blocks[i], secret);
         v.round_scramble(&mut sums, secret.last_stripe());
+        taken = sums;
+    }
+    taken
+}
+
+// The accumulators with the 16 stripes of a block, four at a time.
+#[inline(always)]
+fn take_block_by_fours<V: Vector>(
+    acc: [u64; 8],
+    v: V,
+    block: &[u8; 1024],
+    secret: Secret<'_>,
+) -> [u64; 8]
+    requires { stripes_of (secret_bytes secret) ≡ 16 }
+    ensures { result ≡ accumulate_block (secret_bytes secret.entry) acc block.now 16 }
+{
+    let mut taken = acc;
+    'fours: for i in 0..4 {
+        let sums = take_four_stripes(taken, v, block, 4 * i, secret);
         taken = sums;
     }
     taken
