@@ -74,10 +74,16 @@ link_layouts() {
     done
 }
 
+# passes PROGRAM WORDS..: runs a driver three times, since a neighbour of a virtual machine can slow a whole row.
+passes() {
+    local pass
+    for pass in 1 2 3; do "$@" || return; done
+}
+
 # one_round SET ROUND WORDS..: runs the layout of that round with these words; its lines lie in
 # $room/SET/round_ROUND.
 one_round() {
-    "$room/$1/driver_$((($2 - 1) % layouts + 1))" "${@:3}" > "$room/$1/round_$2" || fail "the driver stopped"
+    passes "$room/$1/driver_$((($2 - 1) % layouts + 1))" "${@:3}" > "$room/$1/round_$2" || fail "the driver stopped"
 }
 
 # build_shared: proves and builds the library for C, and the driver that measures it beside Debian's.
@@ -90,6 +96,6 @@ build_shared() {
 # shared_round ROUND WORDS..: measures it with these words; its lines lie in $room/shared/round_ROUND. The loader
 # chooses the file of ours, as it does for any program.
 shared_round() {
-    LD_LIBRARY_PATH=$top/c/out/lib "$room/shared_driver" libxxhash.so.0 "$debian_library" "${@:2}" \
+    LD_LIBRARY_PATH=$top/c/out/lib passes "$room/shared_driver" libxxhash.so.0 "$debian_library" "${@:2}" \
         > "$room/shared/round_$1" 2> "$room/shared_files" || fail "the driver of the shared libraries stopped: $(cat "$room/shared_files")"
 }

@@ -3,8 +3,9 @@
  *     FORM NAME SIZE PEER NANOSECONDS
  *
  * FORM is oneshot, inlined or called (streams), kernel or kernel_stream; SIZE is the input's length, or of a
- * stream the length of its pieces. NANOSECONDS, of processor time, is what a call of a one-shot takes, or what
- * a stream takes for 1 MiB: the best of TURNS turns. Before a row is timed its peers have to agree; status 1
+ * stream the length of its pieces. NANOSECONDS is what a call of a one-shot takes, or what a stream takes for
+ * 1 MiB: the best of many short turns, since a virtual machine's neighbours slow it for milliseconds: a call
+ * through a pointer then takes 39 cycles in place of 10. Before a row is timed its peers have to agree; status 1
  * if they do not.
  *
  *     driver [--quick] [--only WORD]..
@@ -19,8 +20,9 @@
 #include "peer.h"
 
 #define MOST_PEERS 8
-#define TURNS 7
-#define SLICE 1200000.0 /* nanoseconds that a peer is timed for, a turn */
+#define TURN 25000.0 /* nanoseconds that a peer is timed for, a turn, or a call's where that takes longer */
+#define TURNS 6000000.0 /* nanoseconds of a peer's turns together */
+#define LEAST_TURNS 3
 #define MIB ((size_t)1 << 20)
 #define SECRET 192
 
@@ -45,8 +47,8 @@ static int quick;
 /* Of 128 bits the sum of the halves is answered. */
 static uint64_t both(struct halves h) { return h.low + h.high; }
 
-/* A stream takes 1 MiB in large pieces, and a part of it in small ones. */
-static size_t stream_length(struct row r) { return r.size < 1000 ? MIB / 4 : MIB; }
+/* A stream takes 1 MiB in large pieces, and a part of it in small ones, so that a turn is short. */
+static size_t stream_length(struct row r) { return r.size < 24 ? MIB / 64 : r.size < 1000 ? MIB / 16 : MIB; }
 
 static const struct streams *streams_of(const struct peer *p, enum form form) { return form == INLINED ? &p->inlined : &p->called; }
 
@@ -106,11 +108,11 @@ static uint64_t called(const struct peer *p, struct row r, long times)
     }
 }
 
-/* Processor time, so that waiting for a processor does not count. */
+/* The clock that is read the fastest. That a turn may wait for a processor doesn't matter, since the best one counts. */
 static double now(void)
 {
     struct timespec t;
-    clock_gettime(CLOCK_THREAD_CPUTIME_ID, &t);
+    clock_gettime(CLOCK_MONOTONIC, &t);
     return 1e9 * (double)t.tv_sec + (double)t.tv_nsec;
 }
 
@@ -121,6 +123,18 @@ static double timed(const struct peer *p, struct row r, long times)
     double start = now();
     sink += called(p, r, times);
     return (now() - start) / (double)times;
+}
+
+/* How long a call takes, roughly: the best of three, of which the first is slow. */
+static double roughly(const struct peer *p, struct row r)
+{
+    double best = timed(p, r, 1);
+    long times = best < 100000 ? 100 : 1;
+    for (int i = 0; i < 2; i++) {
+        double taken = timed(p, r, times);
+        if (taken < best) best = taken;
+    }
+    return best;
 }
 
 /* The peers that offer the row, which have to agree on it. */
@@ -140,17 +154,18 @@ static size_t offering(struct row r, const struct peer **those)
 static void measure(struct row r)
 {
     const struct peer *those[MOST_PEERS];
-    double best[MOST_PEERS], slice = quick ? SLICE / 3 : SLICE;
+    double best[MOST_PEERS], longest = TURN;
     long times[MOST_PEERS];
-    int turns = quick ? 5 : TURNS;
     size_t count = offering(r, those);
     if (count < 2) return;
     for (size_t p = 0; p < count; p++) {
-        double once = timed(those[p], r, 1);
-        if (once < 2000) once = timed(those[p], r, 1000);
-        times[p] = once > slice ? 1 : (long)(slice / once) + 1;
+        double once = roughly(those[p], r);
+        times[p] = (long)(TURN / once) + 1;
         best[p] = 1e18;
+        if (once > longest) longest = once;
     }
+    int turns = (int)((quick ? TURNS / 4 : TURNS) / longest);
+    if (turns < LEAST_TURNS) turns = LEAST_TURNS;
     for (int turn = 0; turn < turns; turn++)
         for (size_t k = 0; k < count; k++) {
             size_t p = (k + (size_t)turn) % count;

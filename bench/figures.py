@@ -1,15 +1,20 @@
 """Reads what the driver wrote in each round."""
+import math
 import statistics
 
 
 def rows(files):
-    """(form, name, size) to peer to its times, one a round: nanoseconds a call, or for 1 MiB of a stream."""
+    """(form, name, size) to peer to its times: nanoseconds a call, or for 1 MiB of a stream. A file is a round, of whose
+    passes the best time counts."""
     table = {}
     for file in files:
+        best = {}
         for line in open(file):
             form, name, size, peer, time = line.split()
-            row = table.setdefault((form, name, int(size)), {})
-            row.setdefault(peer, []).append(float(time))
+            key = (form, name, int(size)), peer
+            best[key] = min(float(time), best.get(key, math.inf))
+        for (row, peer), time in best.items():
+            table.setdefault(row, {}).setdefault(peer, []).append(time)
     return table
 
 

@@ -71,6 +71,12 @@ def best(row):
     return row.best_peer(PEERS)[1].median
 
 
+def by_best_times(row):
+    """The lowest ratio of best times, or that of the medians on an older page."""
+    ratios = [row.peers[peer] for peer in PEERS if peer in row.peers]
+    return min(it.median if it.best is None else it.best for it in ratios)
+
+
 def chosen(rows, forms, low, high, names=None):
     return [it for it in rows if it.form in forms and low <= it.size <= high and (not names or it.name in names)]
 
@@ -106,11 +112,14 @@ def goals(parts):
     for name, forms, names, low, high, least in GOALS:
         line = [name, f"{least:.2f}"]
         for part in SETS:
-            values = [best(it) for it in chosen(parts[part], forms, low, high, names)]
-            fewer = sum(round(it, 2) < least for it in values)
-            line.append(f"{fewer} of {len(values)}, lowest {min(values):.2f}")
+            rows = chosen(parts[part], forms, low, high, names)
+            for ratio in (best, by_best_times):
+                values = [ratio(it) for it in rows]
+                fewer = sum(round(it, 2) < least for it in values)
+                line.append(f"{fewer} of {len(values)}, lowest {min(values):.2f}")
         lines.append(line)
-    return markdown(["what", "to reach", "below it at x86-64-v2", "below it at x86-64-v3"], lines)
+    heads = [f"below it at {it}{how}" for it in SETS for how in ("", ", by best times")]
+    return markdown(["what", "to reach", *heads], lines)
 
 
 def shared(rows):
@@ -244,7 +253,7 @@ Instructions of the reference's header, by gcc 12 -O3, over ours for one call, c
 ## How it was measured
 
 #SAID
-- One process measures all peers in turns, by processor time. A figure is the median of eight rounds apart in time, and a round the best of seven turns.
+- One process measures all peers in turns. A figure is the median of eight rounds apart in time, and a round the best of many turns of 0.025 ms or of one call, in three passes over all rows.
 - *By best times* is a peer's best of all rounds over our best, each at the place that suits it: a virtual machine slows for minutes, and a median mixes both. *Spread* is how far the rounds of a ratio lie apart.
 - Each peer is called through a pointer to one function of the same signature. The header's code is compiled into it, with the seed 0 and the default secret; Debian's library is one call further away, and built for plain x86-64.
 - Ours takes an address in a room of 64 MiB and a length, and compares it with the room. The peers' one-shots make that comparison too: of 16 to 32 bytes it is a tenth of a call.

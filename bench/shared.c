@@ -7,9 +7,9 @@
  *
  *     FORM NAME SIZE LIBRARY NANOSECONDS
  *
- * FORM is oneshot or stream; SIZE is the input's length, or of a stream the length of its pieces. NANOSECONDS, of
- * processor time, is what a call takes, or what a stream takes for 1 MiB with its reset and its digest: the best of
- * TURNS turns. Before a row is timed both have to agree; status 1 if they do not.
+ * FORM is oneshot or stream; SIZE is the input's length, or of a stream the length of its pieces. NANOSECONDS is what
+ * a call takes, or what a stream takes for 1 MiB with its reset and its digest: the best of many short turns, as in
+ * driver.c. Before a row is timed both have to agree; status 1 if they do not.
  */
 #define _GNU_SOURCE
 #include <dlfcn.h>
@@ -20,8 +20,9 @@
 #include <time.h>
 #include "../c/include/xxhash.h"
 
-#define TURNS 7
-#define SLICE 1000000.0 /* nanoseconds that a library is timed for, a turn */
+#define TURN 25000.0 /* nanoseconds that a library is timed for, a turn, or a call's where that takes longer */
+#define TURNS 6000000.0 /* nanoseconds of a library's turns together */
+#define LEAST_TURNS 3
 #define MIB ((size_t)1 << 20)
 #define ROOM (64 * MIB)
 #define SECRET 192
@@ -100,8 +101,8 @@ static uint64_t oneshots(const struct library *l, enum hash hash, size_t n, long
     }
 }
 
-/* A stream takes 1 MiB in large pieces, and a part of it in small ones. */
-static size_t stream_length(size_t piece) { return piece < 1000 ? MIB / 4 : MIB; }
+/* A stream takes 1 MiB in large pieces, and a part of it in small ones, so that a turn is short. */
+static size_t stream_length(size_t piece) { return piece < 24 ? MIB / 64 : piece < 1000 ? MIB / 16 : MIB; }
 
 /* The sum of the answers of so many streams. */
 static uint64_t streams(const struct library *l, enum hash hash, size_t piece, long times)
@@ -135,7 +136,7 @@ static uint64_t called(const struct library *l, struct row r, long times)
 static double now(void)
 {
     struct timespec t;
-    clock_gettime(CLOCK_THREAD_CPUTIME_ID, &t);
+    clock_gettime(CLOCK_MONOTONIC, &t);
     return 1e9 * (double)t.tv_sec + (double)t.tv_nsec;
 }
 
@@ -150,24 +151,34 @@ static double timed(const struct library *l, struct row r, long times)
 
 static int quick;
 
-/* How many calls fill a slice. */
-static long times_of(const struct library *l, struct row r)
+/* How long a call takes, roughly: the best of three, of which the first is slow. */
+static double roughly(const struct library *l, struct row r)
 {
-    double slice = quick ? SLICE / 3 : SLICE, once = timed(l, r, 1);
-    if (once < 2000) once = timed(l, r, 1000);
-    return once > slice ? 1 : (long)(slice / once) + 1;
+    double best = timed(l, r, 1);
+    long times = best < 100000 ? 100 : 1;
+    for (int i = 0; i < 2; i++) {
+        double taken = timed(l, r, times);
+        if (taken < best) best = taken;
+    }
+    return best;
 }
 
 static void measure(struct row r)
 {
-    double best[2] = { 1e18, 1e18 };
+    double best[2] = { 1e18, 1e18 }, longest = TURN;
     long times[2];
     if (called(&libraries[0], r, 1) != called(&libraries[1], r, 1)) {
         fprintf(stderr, "the libraries disagree: %s %s %zu\n", forms[r.form], hashes[r.hash], r.size);
         exit(1);
     }
-    for (int k = 0; k < 2; k++) times[k] = times_of(&libraries[k], r);
-    for (int turn = 0; turn < (quick ? 5 : TURNS); turn++)
+    for (int k = 0; k < 2; k++) {
+        double taken = roughly(&libraries[k], r);
+        times[k] = (long)(TURN / taken) + 1;
+        if (taken > longest) longest = taken;
+    }
+    int turns = (int)((quick ? TURNS / 4 : TURNS) / longest);
+    if (turns < LEAST_TURNS) turns = LEAST_TURNS;
+    for (int turn = 0; turn < turns; turn++)
         for (int k = 0; k < 2; k++) {
             int which = (k + turn) % 2;
             double taken = timed(&libraries[which], r, times[which]);
