@@ -8,8 +8,8 @@
 
 struct halves { uint64_t low, high; };
 
-/* The bytes of the room that holds the input. Our exports compare a length with it, which no caller in Rattle has
- * to: so that this counts for nobody, the one-shots of every peer do. */
+/* The bytes of the room that holds the input. Our exports compare a length with it, and a secret's with its room,
+ * which no caller in Rattle has to: so that this counts for nobody, the one-shots of every peer do. */
 #define ROOM ((size_t)64 << 20)
 #define IN_ROOM(length) ((length) < ROOM ? (length) : ROOM)
 

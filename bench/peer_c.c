@@ -13,7 +13,7 @@ static uint32_t xxh32(uint32_t seed, const void *p, size_t n) { return XXH32(p, 
 static uint64_t xxh64(uint64_t seed, const void *p, size_t n) { return XXH64(p, IN_ROOM(n), seed); }
 static uint64_t xxh3_64(const void *p, size_t n) { return XXH3_64bits(p, IN_ROOM(n)); }
 static uint64_t xxh3_64_seeded(uint64_t seed, const void *p, size_t n) { return XXH3_64bits_withSeed(p, IN_ROOM(n), seed); }
-static uint64_t xxh3_64_keyed(const void *s, size_t m, const void *p, size_t n) { return XXH3_64bits_withSecret(p, IN_ROOM(n), s, m); }
+static uint64_t xxh3_64_keyed(const void *s, size_t m, const void *p, size_t n) { return XXH3_64bits_withSecret(p, IN_ROOM(n), s, IN_ROOM(m)); }
 static struct halves xxh3_128(const void *p, size_t n) { return halves(XXH3_128bits(p, IN_ROOM(n))); }
 static struct halves xxh3_128_seeded(uint64_t seed, const void *p, size_t n) { return halves(XXH3_128bits_withSeed(p, IN_ROOM(n), seed)); }
 

@@ -8,7 +8,7 @@ use Rattle.twox_words.proofs.OneToOne.{xor_shift-lt}
 use Rattle.twox_core.specs.Steps.{avalanche, avalanche_xxh64}
 use Rattle.twox_core.specs.Short.{value64_0, low_0, high_0, combined_bytes, low_1_to_3, high_1_to_3, value64_4_to_8, product_4_to_8, low_4_to_8, high_4_to_8, product_9_to_16}
 use Rattle.twox_core.specs.Long.{merge_accumulators, low_above_240, high_above_240}
-use Rattle.twox_core.specs.Value.{Bytes0, Bytes1To3, Bytes4To8, Bytes9To16, BytesAbove240, range_of, value64_in, low_in, high_in, xxh3_64, xxh3_128, effective_secret}
+use Rattle.twox_core.specs.Value.{Bytes0, Bytes1To3, Bytes4To8, Bytes9To16, Bytes17To128, Bytes129To240, BytesAbove240, range_of, value64_in, low_in, high_in, xxh3_64, xxh3_128, effective_secret}
 use Rattle.twox_core.specs.Secret.{default_secret}
 use Rattle.twox_core.specs.OtherBytes.{IsOtherShort64, IsOtherShort128}
 use Rattle.twox_core.proofs.ShortLaws.{empty64_in_seed, empty128_in_seed, tiny_one_to_one, tiny_in_seed, four64_one_to_one, four64_in_seed, four128_told, four128_in_seed, nine128_told, nine128_in_seed}
@@ -40,6 +40,25 @@ range_nine n low high =
     let b : nat_lt n 4 ≡ false = grind (arith, nat_tests) in
     let c : nat_lt n 9 ≡ false = grind (arith, nat_tests) in
     let d : nat_lt n 17 ≡ true = grind (arith, nat_tests) in rw (a, b, c, d) refl
+
+range_17_to_128 : (n : ℕ) → 17 ≤ n → n < 129 → range_of n ≡ Bytes17To128
+unfolding range_of
+range_17_to_128 n low high =
+    let a : nat_lt n 1 ≡ false = grind (arith, nat_tests) in
+    let b : nat_lt n 4 ≡ false = grind (arith, nat_tests) in
+    let c : nat_lt n 9 ≡ false = grind (arith, nat_tests) in
+    let d : nat_lt n 17 ≡ false = grind (arith, nat_tests) in
+    let e : nat_lt n 129 ≡ true = grind (arith, nat_tests) in rw (a, b, c, d, e) refl
+
+range_129_to_240 : (n : ℕ) → 129 ≤ n → n < 241 → range_of n ≡ Bytes129To240
+unfolding range_of
+range_129_to_240 n low high =
+    let a : nat_lt n 1 ≡ false = grind (arith, nat_tests) in
+    let b : nat_lt n 4 ≡ false = grind (arith, nat_tests) in
+    let c : nat_lt n 9 ≡ false = grind (arith, nat_tests) in
+    let d : nat_lt n 17 ≡ false = grind (arith, nat_tests) in
+    let e : nat_lt n 129 ≡ false = grind (arith, nat_tests) in
+    let f : nat_lt n 241 ≡ true = grind (arith, nat_tests) in rw (a, b, c, d, e, f) refl
 
 range_above_240 : (n : ℕ) → 240 < n → range_of n ≡ BytesAbove240
 unfolding range_of
@@ -137,6 +156,16 @@ nine_128 : (seed : ℕ) (s m : List ℕ) → 9 ≤ length m → length m < 17
     → xxh3_128 seed s m ≡ avalanche (product_9_to_16 seed s m / 2 ^ 64) * 2 ^ 64 + avalanche (product_9_to_16 seed s m % 2 ^ 64)
 unfolding xxh3_128 low_in high_in
 nine_128 seed s m low high = rw (range_nine (length m) low high) refl
+
+pub middle_17_to_128 : (seed : ℕ) (s m : List ℕ) → 17 ≤ length m → length m < 129
+    → xxh3_128 seed s m ≡ high_in Bytes17To128 seed s m * 2 ^ 64 + low_in Bytes17To128 seed s m
+unfolding xxh3_128
+middle_17_to_128 seed s m low high = rw (range_17_to_128 (length m) low high) refl
+
+pub middle_129_to_240 : (seed : ℕ) (s m : List ℕ) → 129 ≤ length m → length m < 241
+    → xxh3_128 seed s m ≡ high_in Bytes129To240 seed s m * 2 ^ 64 + low_in Bytes129To240 seed s m
+unfolding xxh3_128
+middle_129_to_240 seed s m low high = rw (range_129_to_240 (length m) low high) refl
 
 pub long_128 : (seed : ℕ) (s m : List ℕ) → 240 < length m → xxh3_128 seed s m ≡ high_above_240 s m * 2 ^ 64 + low_above_240 s m
 unfolding xxh3_128 low_in high_in

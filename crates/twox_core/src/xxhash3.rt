@@ -17,7 +17,7 @@ pub use derivation::{
     DEFAULT_SECRET_LENGTH, DEFAULT_SECRET_RAW, DefaultSecret, default_secret, derive_secret,
     derived_secret,
 };
-pub use large::{Algorithm, Finalize, Kernel};
+pub use large::{ANY_LENGTH, Algorithm, DEFAULT_LENGTH, DERIVED, Finalize, Kernel};
 pub use mixing::{
     avalanche, avalanche_xxh64, fold, full_product, impl_1_to_3_bytes_combined, mix_step,
     mix_words, to_u64s,

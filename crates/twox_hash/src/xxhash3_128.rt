@@ -1,18 +1,16 @@
 //! XXH3 of 128 bits.
 
-ghost use Rattle.std.specs.Prelude.{◌≡◌, ◌≢◌, ◌↔◌, ◌⊎◌, ◌+◌, ◌-◌, ◌*◌, ◌/◌, ◌^◌, ◌<◌, ◌≤◌, ℕ, List, bit_xor, length, MatchResult, IfOk, IsErr};
-ghost use Rattle.std.specs.Int.{w64};
+ghost use Rattle.std.specs.Prelude.{◌≡◌, ◌↔◌, ◌+◌, ◌-◌, ◌*◌, ◌/◌, ◌^◌, ◌<◌, ◌≤◌, ℕ, List, bit_xor, length, IfOk, IsErr};
 ghost use Rattle.twox_words.specs.Word.{low64, high64};
 ghost use Rattle.twox_core.specs.Laws.{TellsOthers128, HasLowHalf64};
 ghost use Rattle.twox_core.specs.Ending.{finalize_128};
-ghost use Rattle.twox_core.specs.Long.{low_above_240, high_above_240};
 ghost use Rattle.twox_core.specs.Middle.{merge_high, merge_low, first_17_to_128, second_17_to_128};
 ghost use Rattle.twox_core.specs.Primes.{prime64_1};
 ghost use Rattle.twox_core.specs.Secret.{default_secret, derived_secret};
 ghost use Rattle.twox_core.specs.SecretBytes.{secret_bytes};
 ghost use Rattle.twox_core.specs.Short.{combined_bytes, high_0, low_0, high_4_to_8, low_4_to_8, product_4_to_8, product_9_to_16, high_1_to_3, low_1_to_3};
 ghost use Rattle.twox_core.specs.Steps.{add64, avalanche, mix, mul64, word64};
-ghost use Rattle.twox_core.specs.Value.{effective_secret, high_in, low_in, range_of, steps_of, xxh3_64, xxh3_128, Range};
+ghost use Rattle.twox_core.specs.Value.{effective_secret, high_in, low_in, range_of, steps_of, xxh3_128};
 
 use crate::streams::{BoxedStream, RawStream};
 use std::alloc::{Allocator, Global};
@@ -22,9 +20,10 @@ pub use twox_core::xxhash3::{
     SECRET_MINIMUM_LENGTH, SecretBuffer, SecretTooShortError, SecretWithSeedError,
 };
 use twox_core::xxhash3::{
-    Algorithm, CUTOFF, DEFAULT_SEED, Finalize, Kernel, MANY_BYTES, Secret, Vector, avalanche,
-    avalanche_xxh64, chunks_17_to_128, default_secret, derived_secret, full_product,
-    impl_1_to_3_bytes_combined, mix_step, pairs_of_u64_bytes, to_u64s,
+    ANY_LENGTH, Algorithm, CUTOFF, DEFAULT_LENGTH, DEFAULT_SEED, DERIVED, Finalize, Kernel,
+    MANY_BYTES, Secret, Vector, avalanche, avalanche_xxh64, chunks_17_to_128, default_secret,
+    derived_secret, full_product, impl_1_to_3_bytes_combined, mix_step, pairs_of_u64_bytes,
+    to_u64s,
 };
 use twox_words::words::{Halves, IntoU64, IntoU128, bp_as_chunks, u32_at, u64_at};
 
@@ -61,7 +60,7 @@ impl Hasher<Global> {
         ensures tells_others { TellsOthers128 0 default_secret input.now result }
         ensures low_half { HasLowHalf64 0 default_secret input.now result }
     {
-        impl_oneshot_default(input)
+        impl_oneshot_default(input).into_u128()
     }
 
     /// The hash of all bytes at once, with a seed: up to 240 bytes with the default secret, above with the
@@ -74,7 +73,7 @@ impl Hasher<Global> {
         ensures low_half { let s = effective_secret (derived_secret seed) input.now in
             HasLowHalf64 seed s input.now result }
     {
-        impl_oneshot_seeded(seed, input)
+        impl_oneshot_seeded(seed, input).into_u128()
     }
 
     /// The hash of all bytes at once, with a secret and the seed 0, at every length.
@@ -90,7 +89,7 @@ impl Hasher<Global> {
         ensures low_half { IfOk result (λ x. HasLowHalf64 0 secret.now input.now x) }
     {
         let secret = Secret::new(secret)?;
-        Ok(impl_oneshot_keyed(secret, input))
+        Ok(impl_oneshot_keyed(secret, input).into_u128())
     }
 
     /// The hash of all bytes at once, with a seed and a secret. Only one of the two has an effect: up to 240
@@ -114,10 +113,10 @@ impl Hasher<Global> {
             IfOk result (λ x. HasLowHalf64 seed s input.now x) }
     {
         if input.len() <= CUTOFF {
-            return Ok(impl_oneshot(default_secret(), seed, input));
+            return Ok(impl_oneshot(default_secret(), seed, input).into_u128());
         }
         let own = Secret::new(secret)?;
-        Ok(impl_oneshot_long(own, input))
+        Ok(impl_oneshot_long(own, input).into_u128())
     }
 }
 
@@ -176,7 +175,7 @@ impl Finalize for Finalize128 {
 
     #[inline(always)]
     fn small(&self, secret: Secret<'_>, seed: u64, input: &[u8]) -> u128 {
-        impl_oneshot(secret, seed, input)
+        impl_oneshot(secret, seed, input).into_u128()
     }
 
     #[inline(always)]
@@ -196,28 +195,29 @@ impl Finalize for Finalize128 {
 // Inputs above 64 bytes are a call of their own: they need more registers than there are to spare, and the shortest
 // inputs then save none.
 #[inline(always)]
-fn impl_oneshot_default(input: &[u8]) -> u128
-    ensures { result ≡ xxh3_128 0 default_secret input.now }
+fn impl_oneshot_default(input: &[u8]) -> X128
+    ensures { result.high * 2 ^ 64 + result.low
+        ≡ xxh3_128 0 default_secret input.now }
 {
     if input.len() <= 16 {
-        impl_oneshot_0_to_16(default_secret(), DEFAULT_SEED, input)
+        impl_0_to_16_bytes(default_secret(), DEFAULT_SEED, input)
     } else if input.len() <= 64 {
-        impl_oneshot_17_to_64(default_secret(), DEFAULT_SEED, input)
+        impl_17_to_64_bytes(default_secret(), DEFAULT_SEED, input)
     } else {
         impl_oneshot_default_from_65(input)
     }
 }
 
 #[inline(never)]
-#[tactic(auto, unfolding(twox_core::specs::Value::xxh3_128, twox_core::specs::Value::range_of, twox_core::specs::Value::low_in, twox_core::specs::Value::high_in))]
-fn impl_oneshot_default_from_65(input: &[u8]) -> u128
+fn impl_oneshot_default_from_65(input: &[u8]) -> X128
     requires { 64 < length input.now }
-    ensures { result ≡ xxh3_128 0 default_secret input.now }
+    ensures { result.high * 2 ^ 64 + result.low
+        ≡ xxh3_128 0 default_secret input.now }
 {
     if input.len() <= 128 {
-        impl_65_to_128_bytes(default_secret(), DEFAULT_SEED, input).into_u128()
+        impl_65_to_128_bytes(default_secret(), DEFAULT_SEED, input)
     } else if input.len() <= CUTOFF {
-        impl_129_to_240_bytes(default_secret(), DEFAULT_SEED, input).into_u128()
+        impl_129_to_240_bytes(default_secret(), DEFAULT_SEED, input)
     } else {
         impl_oneshot_long(default_secret(), input)
     }
@@ -226,13 +226,14 @@ fn impl_oneshot_default_from_65(input: &[u8]) -> u128
 // The same order, with a seed.
 #[inline(always)]
 #[tactic(auto, unfolding(twox_core::specs::Value::effective_secret))]
-fn impl_oneshot_seeded(seed: u64, input: &[u8]) -> u128
-    ensures { result ≡ xxh3_128 seed (effective_secret (derived_secret seed) input.now) input.now }
+fn impl_oneshot_seeded(seed: u64, input: &[u8]) -> X128
+    ensures { result.high * 2 ^ 64 + result.low
+        ≡ xxh3_128 seed (effective_secret (derived_secret seed) input.now) input.now }
 {
     if input.len() <= 16 {
-        impl_oneshot_0_to_16(default_secret(), seed, input)
+        impl_0_to_16_bytes(default_secret(), seed, input)
     } else if input.len() <= 64 {
-        impl_oneshot_17_to_64(default_secret(), seed, input)
+        impl_17_to_64_bytes(default_secret(), seed, input)
     } else {
         impl_oneshot_seeded_from_65(input, seed)
     }
@@ -240,15 +241,16 @@ fn impl_oneshot_seeded(seed: u64, input: &[u8]) -> u128
 
 // The seed comes last, where C's calls have it: no register then changes its place on the way.
 #[inline(never)]
-#[tactic(auto, unfolding(twox_core::specs::Value::effective_secret, twox_core::specs::Value::xxh3_128, twox_core::specs::Value::range_of, twox_core::specs::Value::low_in, twox_core::specs::Value::high_in))]
-fn impl_oneshot_seeded_from_65(input: &[u8], seed: u64) -> u128
+#[tactic(auto, unfolding(twox_core::specs::Value::effective_secret))]
+fn impl_oneshot_seeded_from_65(input: &[u8], seed: u64) -> X128
     requires { 64 < length input.now }
-    ensures { result ≡ xxh3_128 seed (effective_secret (derived_secret seed) input.now) input.now }
+    ensures { result.high * 2 ^ 64 + result.low
+        ≡ xxh3_128 seed (effective_secret (derived_secret seed) input.now) input.now }
 {
     if input.len() <= 128 {
-        impl_65_to_128_bytes(default_secret(), seed, input).into_u128()
+        impl_65_to_128_bytes(default_secret(), seed, input)
     } else if input.len() <= CUTOFF {
-        impl_129_to_240_bytes(default_secret(), seed, input).into_u128()
+        impl_129_to_240_bytes(default_secret(), seed, input)
     } else {
         impl_oneshot_long_seeded(seed, input)
     }
@@ -256,52 +258,70 @@ fn impl_oneshot_seeded_from_65(input: &[u8], seed: u64) -> u128
 
 // With a secret of the caller's and the seed 0.
 #[inline(always)]
-fn impl_oneshot_keyed(secret: Secret<'_>, input: &[u8]) -> u128
-    ensures { result ≡ xxh3_128 0 (secret_bytes secret.entry) input.now }
+fn impl_oneshot_keyed(secret: Secret<'_>, input: &[u8]) -> X128
+    ensures { result.high * 2 ^ 64 + result.low
+        ≡ xxh3_128 0 (secret_bytes secret.entry) input.now }
 {
     if input.len() <= 16 {
-        impl_oneshot_0_to_16(secret, DEFAULT_SEED, input)
+        impl_0_to_16_bytes(secret, DEFAULT_SEED, input)
     } else if input.len() <= 64 {
-        impl_oneshot_17_to_64(secret, DEFAULT_SEED, input)
+        impl_17_to_64_bytes(secret, DEFAULT_SEED, input)
     } else {
         impl_oneshot_keyed_from_65(input, secret)
     }
 }
 
 #[inline(never)]
-#[tactic(auto, unfolding(twox_core::specs::Value::xxh3_128, twox_core::specs::Value::range_of, twox_core::specs::Value::low_in, twox_core::specs::Value::high_in))]
-fn impl_oneshot_keyed_from_65(input: &[u8], secret: Secret<'_>) -> u128
+fn impl_oneshot_keyed_from_65(input: &[u8], secret: Secret<'_>) -> X128
     requires { 64 < length input.now }
-    ensures { result ≡ xxh3_128 0 (secret_bytes secret.entry) input.now }
+    ensures { result.high * 2 ^ 64 + result.low
+        ≡ xxh3_128 0 (secret_bytes secret.entry) input.now }
 {
     if input.len() <= 128 {
-        impl_65_to_128_bytes(secret, DEFAULT_SEED, input).into_u128()
+        impl_65_to_128_bytes(secret, DEFAULT_SEED, input)
     } else if input.len() <= CUTOFF {
-        impl_129_to_240_bytes(secret, DEFAULT_SEED, input).into_u128()
+        impl_129_to_240_bytes(secret, DEFAULT_SEED, input)
     } else {
         impl_oneshot_long(secret, input)
     }
 }
 
 // A call of its own, so that short inputs pay nothing for the room that long ones take. No seed enters, so the
-// value is that of any.
+// value is that of any. Where the secret's length is known, nothing is divided or tested for it.
 #[inline(never)]
-fn impl_oneshot_long(secret: Secret<'_>, input: &[u8]) -> u128
+fn impl_oneshot_long(secret: Secret<'_>, input: &[u8]) -> X128
     requires { 240 < length input.now }
-    ensures { (any : ℕ) → result ≡ xxh3_128 any (secret_bytes secret.entry) input.now }
+    ensures { (any : ℕ) → result.high * 2 ^ 64 + result.low
+        ≡ xxh3_128 any (secret_bytes secret.entry) input.now }
 {
-    impl_oneshot_above_240::<false>(secret, input)
+    if secret.len() == DEFAULT_SECRET_LENGTH {
+        impl_oneshot_above_240::<DEFAULT_LENGTH>(secret, input)
+    } else {
+        impl_oneshot_long_of_any_length(secret, input)
+    }
 }
 
-// `DERIVED` says that the secret was derived: see `Algorithm::oneshot_of`.
+// As a last call, so that the default's length keeps no register for the division.
+#[inline(never)]
+fn impl_oneshot_long_of_any_length(secret: Secret<'_>, input: &[u8]) -> X128
+    requires { 240 < length input.now }
+    ensures { (any : ℕ) → result.high * 2 ^ 64 + result.low
+        ≡ xxh3_128 any (secret_bytes secret.entry) input.now }
+{
+    impl_oneshot_above_240::<ANY_LENGTH>(secret, input)
+}
+
+// `CALLER` has code of its own: see `Algorithm::oneshot_of`.
 #[inline(always)]
 #[tactic(auto, using(twox_core::proofs::ValueLaws::long_128, twox_core::proofs::EndingFacts::block_both))]
-fn impl_oneshot_above_240<const DERIVED: bool>(secret: Secret<'_>, input: &[u8]) -> u128
+fn impl_oneshot_above_240<const CALLER: usize>(secret: Secret<'_>, input: &[u8]) -> X128
     requires { 240 < length input.now }
-    ensures { (any : ℕ) → result ≡ xxh3_128 any (secret_bytes secret.entry) input.now }
+    ensures { (any : ℕ) → result.high * 2 ^ 64 + result.low
+        ≡ xxh3_128 any (secret_bytes secret.entry) input.now }
 {
     if input.len() < MANY_BYTES {
-        Algorithm(Kernel {}).oneshot_of::<Finalize128, false, DERIVED>(secret, input, Finalize128)
+        let algorithm = Algorithm(Kernel {});
+        X128::of(algorithm.oneshot_of::<Finalize128, false, CALLER>(secret, input, Finalize128))
     } else {
         impl_oneshot_many(secret, input)
     }
@@ -310,19 +330,22 @@ fn impl_oneshot_above_240<const DERIVED: bool>(secret: Secret<'_>, input: &[u8])
 // The same of many bytes, as the last call of the one above, which so keeps no register for it.
 #[inline(never)]
 #[tactic(auto, using(twox_core::proofs::ValueLaws::long_128, twox_core::proofs::EndingFacts::block_both))]
-fn impl_oneshot_many(secret: Secret<'_>, input: &[u8]) -> u128
+fn impl_oneshot_many(secret: Secret<'_>, input: &[u8]) -> X128
     requires { 240 < length input.now }
-    ensures { (any : ℕ) → result ≡ xxh3_128 any (secret_bytes secret.entry) input.now }
+    ensures { (any : ℕ) → result.high * 2 ^ 64 + result.low
+        ≡ xxh3_128 any (secret_bytes secret.entry) input.now }
 {
-    Algorithm(Kernel {}).oneshot_of::<Finalize128, true, false>(secret, input, Finalize128)
+    let algorithm = Algorithm(Kernel {});
+    X128::of(algorithm.oneshot_of::<Finalize128, true, ANY_LENGTH>(secret, input, Finalize128))
 }
 
 // The same with the secret that a seed derives. The seed 0 derives the default one.
 #[inline(always)]
 #[tactic(auto, using(twox_core::proofs::Vectors::derived_secret_none))]
-fn impl_oneshot_long_seeded(seed: u64, input: &[u8]) -> u128
+fn impl_oneshot_long_seeded(seed: u64, input: &[u8]) -> X128
     requires { 240 < length input.now }
-    ensures { (any : ℕ) → result ≡ xxh3_128 any (derived_secret seed) input.now }
+    ensures { (any : ℕ) → result.high * 2 ^ 64 + result.low
+        ≡ xxh3_128 any (derived_secret seed) input.now }
 {
     if seed == DEFAULT_SEED {
         impl_oneshot_long(default_secret(), input)
@@ -333,19 +356,34 @@ fn impl_oneshot_long_seeded(seed: u64, input: &[u8]) -> u128
 
 // The derived secret stands on the stack. Taken in place, it is known to have 192 bytes, so nothing is tested for that.
 #[inline(never)]
-fn impl_oneshot_long_derived(seed: u64, input: &[u8]) -> u128
+fn impl_oneshot_long_derived(seed: u64, input: &[u8]) -> X128
     requires { 240 < length input.now }
-    ensures { (any : ℕ) → result ≡ xxh3_128 any (derived_secret seed) input.now }
+    ensures { (any : ℕ) → result.high * 2 ^ 64 + result.low
+        ≡ xxh3_128 any (derived_secret seed) input.now }
 {
     let secret = derived_secret(seed);
-    impl_oneshot_above_240::<true>(Secret::new(&secret).unwrap(), input)
+    impl_oneshot_above_240::<DERIVED>(Secret::new(&secret).unwrap(), input)
 }
 
-// The halves of a value.
+// The halves of a value. Only the public functions make one number of them: whoever wants the halves again, as the
+// exports for C do, then jumps to the call that answers them.
 #[derive(Clone, Copy)]
 struct X128 {
     low: u64,
     high: u64,
+}
+
+impl X128 {
+    // The halves of the value.
+    #[inline(always)]
+    fn of(value: u128) -> X128
+        ensures { result.high * 2 ^ 64 + result.low ≡ value }
+    {
+        X128 {
+            low: value.lower_half(),
+            high: value.upper_half(),
+        }
+    }
 }
 
 impl IntoU128 for X128 {
@@ -358,61 +396,28 @@ impl IntoU128 for X128 {
 }
 
 #[inline(always)]
-fn impl_oneshot(secret: Secret<'_>, seed: u64, input: &[u8]) -> u128
+fn impl_oneshot(secret: Secret<'_>, seed: u64, input: &[u8]) -> X128
     requires { length input.now ≤ 240 }
-    ensures { result ≡ xxh3_128 seed (secret_bytes secret.entry) input.now }
+    ensures { result.high * 2 ^ 64 + result.low
+        ≡ xxh3_128 seed (secret_bytes secret.entry) input.now }
 {
     if input.len() <= 16 {
-        impl_oneshot_0_to_16(secret, seed, input)
+        impl_0_to_16_bytes(secret, seed, input)
     } else if input.len() <= 64 {
-        impl_oneshot_17_to_64(secret, seed, input)
+        impl_17_to_64_bytes(secret, seed, input)
+    } else if input.len() <= 128 {
+        impl_65_to_128_bytes(secret, seed, input)
     } else {
-        impl_oneshot_65_to_240(secret, seed, input)
+        impl_129_to_240_bytes(secret, seed, input)
     }
 }
 
 #[inline(always)]
 #[tactic(auto, unfolding(twox_core::specs::Value::xxh3_128, twox_core::specs::Value::range_of, twox_core::specs::Value::low_in, twox_core::specs::Value::high_in))]
-fn impl_oneshot_0_to_16(secret: Secret<'_>, seed: u64, input: &[u8]) -> u128
-    requires { length input.now ≤ 16 }
-    ensures { result ≡ xxh3_128 seed (secret_bytes secret.entry) input.now }
-{
-    impl_0_to_16_bytes(secret, seed, input).into_u128()
-}
-
-#[inline(always)]
-#[tactic(auto, unfolding(twox_core::specs::Value::xxh3_128, twox_core::specs::Value::range_of, twox_core::specs::Value::low_in, twox_core::specs::Value::high_in))]
-fn impl_oneshot_17_to_64(secret: Secret<'_>, seed: u64, input: &[u8]) -> u128
-    requires above { 16 < length input.now }
-    requires up_to { length input.now ≤ 64 }
-    ensures { result ≡ xxh3_128 seed (secret_bytes secret.entry) input.now }
-{
-    impl_17_to_64_bytes(secret, seed, input).into_u128()
-}
-
-#[inline(always)]
-#[tactic(auto, unfolding(twox_core::specs::Value::xxh3_128, twox_core::specs::Value::range_of, twox_core::specs::Value::low_in, twox_core::specs::Value::high_in))]
-fn impl_oneshot_65_to_240(secret: Secret<'_>, seed: u64, input: &[u8]) -> u128
-    requires above { 64 < length input.now }
-    requires up_to { length input.now ≤ 240 }
-    ensures { result ≡ xxh3_128 seed (secret_bytes secret.entry) input.now }
-{
-    let halves = if input.len() <= 128 {
-        impl_65_to_128_bytes(secret, seed, input)
-    } else {
-        impl_129_to_240_bytes(secret, seed, input)
-    };
-    halves.into_u128()
-}
-
-#[inline(always)]
-#[tactic(auto, unfolding(twox_core::specs::Value::range_of, twox_core::specs::Value::low_in, twox_core::specs::Value::high_in))]
 fn impl_0_to_16_bytes(secret: Secret<'_>, seed: u64, input: &[u8]) -> X128
     requires { length input.now ≤ 16 }
-    ensures low { result.low
-        ≡ low_in (range_of (length input.now)) seed (secret_bytes secret.entry) input.now }
-    ensures high { result.high
-        ≡ high_in (range_of (length input.now)) seed (secret_bytes secret.entry) input.now }
+    ensures { result.high * 2 ^ 64 + result.low
+        ≡ xxh3_128 seed (secret_bytes secret.entry) input.now }
 {
     if input.len() >= 9 {
         impl_9_to_16_bytes(secret, seed, input)
@@ -591,10 +596,8 @@ fn mix_two_chunks(
 fn impl_17_to_64_bytes(secret: Secret<'_>, seed: u64, input: &[u8]) -> X128
     requires some { 17 ≤ length input.now }
     requires few { length input.now ≤ 64 }
-    ensures low { result.low
-        ≡ low_in Range.Bytes17To128 seed (secret_bytes secret.entry) input.now }
-    ensures high { result.high
-        ≡ high_in Range.Bytes17To128 seed (secret_bytes secret.entry) input.now }
+    ensures { result.high * 2 ^ 64 + result.low
+        ≡ xxh3_128 seed (secret_bytes secret.entry) input.now }
 {
     let accumulators = mix_two_chunks(initial_accumulators(input), secret, seed, input, 1);
     mix_last(accumulators, secret, seed, input)
@@ -604,10 +607,8 @@ fn impl_17_to_64_bytes(secret: Secret<'_>, seed: u64, input: &[u8]) -> X128
 fn impl_65_to_128_bytes(secret: Secret<'_>, seed: u64, input: &[u8]) -> X128
     requires some { 65 ≤ length input.now }
     requires few { length input.now ≤ 128 }
-    ensures low { result.low
-        ≡ low_in Range.Bytes17To128 seed (secret_bytes secret.entry) input.now }
-    ensures high { result.high
-        ≡ high_in Range.Bytes17To128 seed (secret_bytes secret.entry) input.now }
+    ensures { result.high * 2 ^ 64 + result.low
+        ≡ xxh3_128 seed (secret_bytes secret.entry) input.now }
 {
     let accumulators = mix_above_32(initial_accumulators(input), secret, seed, input);
     mix_last(accumulators, secret, seed, input)
@@ -639,16 +640,12 @@ fn mix_above_32(initial: Accumulators, secret: Secret<'_>, seed: u64, input: &[u
 fn mix_last(accumulators: Accumulators, secret: Secret<'_>, seed: u64, input: &[u8]) -> X128
     requires some { 17 ≤ length input.now }
     requires few { length input.now ≤ 128 }
-    ensures low { let s = secret_bytes secret.entry in
+    ensures { let s = secret_bytes secret.entry in
         let n = steps_of input.now in
         accumulators.first ≡ first_17_to_128 seed s input.now n (n - 1)
         → accumulators.second ≡ second_17_to_128 seed s input.now n (n - 1)
-        → result.low ≡ low_in Range.Bytes17To128 seed s input.now }
-    ensures high { let s = secret_bytes secret.entry in
-        let n = steps_of input.now in
-        accumulators.first ≡ first_17_to_128 seed s input.now n (n - 1)
-        → accumulators.second ≡ second_17_to_128 seed s input.now n (n - 1)
-        → result.high ≡ high_in Range.Bytes17To128 seed s input.now }
+        → result.high * 2 ^ 64 + result.low
+        ≡ xxh3_128 seed s input.now }
 {
     let accumulators = mix_two_chunks(accumulators, secret, seed, input, 0);
     finalize_medium(accumulators, input.len().into_u64(), seed)
@@ -658,10 +655,8 @@ fn mix_last(accumulators: Accumulators, secret: Secret<'_>, seed: u64, input: &[
 fn impl_129_to_240_bytes(secret: Secret<'_>, seed: u64, input: &[u8]) -> X128
     requires some { 129 ≤ length input.now }
     requires few { length input.now ≤ 240 }
-    ensures low { result.low
-        ≡ low_in Range.Bytes129To240 seed (secret_bytes secret.entry) input.now }
-    ensures high { result.high
-        ≡ high_in Range.Bytes129To240 seed (secret_bytes secret.entry) input.now }
+    ensures { result.high * 2 ^ 64 + result.low
+        ≡ xxh3_128 seed (secret_bytes secret.entry) input.now }
 {
     let pairs = pairs_of_u64_bytes(input);
     let Accumulators {

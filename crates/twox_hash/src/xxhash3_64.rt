@@ -1,10 +1,9 @@
 //! XXH3 of 64 bits.
 
-ghost use Rattle.std.specs.Prelude.{◌≡◌, ◌≢◌, ◌↔◌, ◌+◌, ◌-◌, ◌*◌, ◌/◌, ◌%◌, ◌^◌, ◌<◌, ◌≤◌, ℕ, List, length, drop, MatchResult, IfOk, IsErr};
+ghost use Rattle.std.specs.Prelude.{◌≡◌, ◌↔◌, ◌+◌, ◌-◌, ◌*◌, ◌/◌, ◌%◌, ◌^◌, ◌<◌, ◌≤◌, ℕ, List, length, drop, IfOk, IsErr};
 ghost use Rattle.twox_core.specs.Primes.{prime64_1};
 ghost use Rattle.twox_core.specs.Laws.{TellsOthers64};
 ghost use Rattle.twox_core.specs.Ending.{finalize_64};
-ghost use Rattle.twox_core.specs.Long.{low_above_240};
 ghost use Rattle.twox_core.specs.Middle.{both_ends, value64_129_to_240, value64_17_to_128};
 ghost use Rattle.twox_core.specs.Secret.{default_secret, derived_secret};
 ghost use Rattle.twox_core.specs.SecretBytes.{secret_bytes};
@@ -21,9 +20,9 @@ pub use twox_core::xxhash3::{
     SECRET_MINIMUM_LENGTH, SecretBuffer, SecretTooShortError, SecretWithSeedError,
 };
 use twox_core::xxhash3::{
-    Algorithm, CUTOFF, DEFAULT_SEED, Finalize, Kernel, MANY_BYTES, Secret, Vector, avalanche,
-    avalanche_xxh64, chunks_17_to_128, default_secret, derived_secret, fold,
-    impl_1_to_3_bytes_combined, mix_step, mix_words,
+    ANY_LENGTH, Algorithm, CUTOFF, DEFAULT_LENGTH, DEFAULT_SEED, DERIVED, Finalize, Kernel,
+    MANY_BYTES, Secret, Vector, avalanche, avalanche_xxh64, chunks_17_to_128, default_secret,
+    derived_secret, fold, impl_1_to_3_bytes_combined, mix_step, mix_words,
 };
 use twox_words::words::{Halves, IntoU64, u32_at, u64_at};
 
@@ -285,24 +284,37 @@ fn impl_oneshot_seeded(seed: u64, input: &[u8]) -> u64
 }
 
 // A call of its own, so that short inputs pay nothing for the room that long ones take. No seed enters, so the
-// value is that of any.
+// value is that of any. Where the secret's length is known, nothing is divided or tested for it.
 #[inline(never)]
 fn impl_oneshot_long(secret: Secret<'_>, input: &[u8]) -> u64
     requires { 240 < length input.now }
     ensures { (any : ℕ) → result ≡ xxh3_64 any (secret_bytes secret.entry) input.now }
 {
-    impl_oneshot_above_240::<false>(secret, input)
+    if secret.len() == DEFAULT_SECRET_LENGTH {
+        impl_oneshot_above_240::<DEFAULT_LENGTH>(secret, input)
+    } else {
+        impl_oneshot_long_of_any_length(secret, input)
+    }
 }
 
-// `DERIVED` says that the secret was derived: see `Algorithm::oneshot_of`.
+// As a last call, so that the default's length keeps no register for the division.
+#[inline(never)]
+fn impl_oneshot_long_of_any_length(secret: Secret<'_>, input: &[u8]) -> u64
+    requires { 240 < length input.now }
+    ensures { (any : ℕ) → result ≡ xxh3_64 any (secret_bytes secret.entry) input.now }
+{
+    impl_oneshot_above_240::<ANY_LENGTH>(secret, input)
+}
+
+// `CALLER` has code of its own: see `Algorithm::oneshot_of`.
 #[inline(always)]
 #[tactic(auto, using(twox_core::proofs::ValueLaws::long_64, twox_core::proofs::EndingFacts::block_low))]
-fn impl_oneshot_above_240<const DERIVED: bool>(secret: Secret<'_>, input: &[u8]) -> u64
+fn impl_oneshot_above_240<const CALLER: usize>(secret: Secret<'_>, input: &[u8]) -> u64
     requires { 240 < length input.now }
     ensures { (any : ℕ) → result ≡ xxh3_64 any (secret_bytes secret.entry) input.now }
 {
     if input.len() < MANY_BYTES {
-        Algorithm(Kernel {}).oneshot_of::<Finalize64, false, DERIVED>(secret, input, Finalize64)
+        Algorithm(Kernel {}).oneshot_of::<Finalize64, false, CALLER>(secret, input, Finalize64)
     } else {
         impl_oneshot_many(secret, input)
     }
@@ -315,7 +327,7 @@ fn impl_oneshot_many(secret: Secret<'_>, input: &[u8]) -> u64
     requires { 240 < length input.now }
     ensures { (any : ℕ) → result ≡ xxh3_64 any (secret_bytes secret.entry) input.now }
 {
-    Algorithm(Kernel {}).oneshot_of::<Finalize64, true, false>(secret, input, Finalize64)
+    Algorithm(Kernel {}).oneshot_of::<Finalize64, true, ANY_LENGTH>(secret, input, Finalize64)
 }
 
 // The same with the secret that a seed derives. The seed 0 derives the default one.
@@ -339,7 +351,7 @@ fn impl_oneshot_long_derived(seed: u64, input: &[u8]) -> u64
     ensures { (any : ℕ) → result ≡ xxh3_64 any (derived_secret seed) input.now }
 {
     let secret = derived_secret(seed);
-    impl_oneshot_above_240::<true>(Secret::new(&secret).unwrap(), input)
+    impl_oneshot_above_240::<DERIVED>(Secret::new(&secret).unwrap(), input)
 }
 
 #[inline(always)]

@@ -61,6 +61,15 @@ pub trait Finalize {
             ≡ large_of self.now acc last_block.now last_stripe.now (secret_bytes secret.entry) len };
 }
 
+/// A caller of `Algorithm::oneshot_of` with a secret of any length.
+pub const ANY_LENGTH: usize = 0;
+
+/// One with a secret that is as long as the default one.
+pub const DEFAULT_LENGTH: usize = 1;
+
+/// One with a secret that it derived from a seed itself.
+pub const DERIVED: usize = 2;
+
 /// The hash of long inputs over a kernel.
 #[derive(Clone, Copy)]
 pub struct Algorithm<V>(pub V);
@@ -82,17 +91,17 @@ impl<V: Vector> Algorithm<V> {
             result ≡ F.large_of finalize (block_accumulators s m) (last_block s m) (last_stripe m) s (length m) }
     {
         if input.len() < MANY_BYTES {
-            self.oneshot_of::<F, false, false>(secret, input, finalize)
+            self.oneshot_of::<F, false, ANY_LENGTH>(secret, input, finalize)
         } else {
-            self.oneshot_of::<F, true, false>(secret, input, finalize)
+            self.oneshot_of::<F, true, ANY_LENGTH>(secret, input, finalize)
         }
     }
 
     /// The same, where the caller says whether the bytes are many: those that are few then keep no register for a
-    /// call. `DERIVED` gives a caller with a derived secret code of its own, in which that secret's length is known.
-    /// The value depends on neither.
+    /// call. Each `CALLER` has code of its own, in which its secret's length may be known. The value depends on
+    /// neither.
     #[inline(always)]
-    pub fn oneshot_of<F: Finalize + Drop, const MANY: bool, const DERIVED: bool>(
+    pub fn oneshot_of<F: Finalize + Drop, const MANY: bool, const CALLER: usize>(
         &self,
         secret: Secret<'_>,
         input: &[u8],

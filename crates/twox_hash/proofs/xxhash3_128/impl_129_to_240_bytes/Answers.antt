@@ -1,4 +1,4 @@
-use Rattle.std.proofs.Common.{◌≡◌, ℕ, List, [], get_or, ◌+◌, ◌*◌, ◌-◌, ◌/◌, ◌<◌, length, arith, refl, sym, ap, ap₂, ◌∙◌}
+use Rattle.std.proofs.Common.{◌≡◌, ℕ, List, [], get_or, ◌+◌, ◌*◌, ◌-◌, ◌/◌, ◌^◌, ◌<◌, length, arith, refl, sym, ap, ap₂, ◌∙◌}
 use Rattle.twox_core.specs.Parts.{chunk_at, pair_at, pairs_at}
 use Rattle.twox_core.specs.SecretBytes.{secret_bytes}
 use Rattle.twox_core.specs.Primes.{prime64_1}
@@ -6,6 +6,7 @@ use Rattle.twox_core.specs.Steps.{avalanche, mul64, sub64}
 use Rattle.twox_core.specs.Middle.{accumulator_step, merge_high, merge_low, first_129_to_240, second_129_to_240, pairs_first, pairs_second}
 use Rattle.twox_core.specs.Value.{high_in, low_in}
 use Rattle.twox_core.proofs.MixFacts.{accumulator_step-of_chunks, pairs_first-next, pairs_second-next}
+use Rattle.twox_core.proofs.ValueLaws.{middle_129_to_240}
 use Rattle.twox_core.proofs.PartFacts.{pairs_at-pair, last-pair}
 use Rattle.twox_hash.proofs.xxhash3_128.impl_129_to_240_bytes.Goals as goal
 
@@ -112,13 +113,16 @@ last_second c =
     (ap (λ l. get_or l 0 []) (tail_pair c)) (ap (λ l. get_or l 1 []) (tail_words c)) (last_chunk c)
     ∙ ap (λ (x : ℕ). accumulator_step x s m (pairs_second seed s m 128 3 start ((length m - 128) / 32)) (length m - 32) 119 (length m - 16)) negated
 
-pub returns-clause-low : goal.returns-clause-low
-unfolding low_in
-returns-clause-low c = c.finalize_medium.ensures.low ∙ ap₂ merge_low (last_first c) (last_second c)
-
-pub returns-clause-high : goal.returns-clause-high
-unfolding high_in
-returns-clause-high c =
-    c.finalize_medium.ensures.high
-    ∙ ap (λ len. merge_high c.args.seed len c.accumulator_step.result c.accumulator_step-2.result) c.into_u64.ensures
-    ∙ ap₂ (merge_high c.args.seed (length c.args.input.now)) (last_first c) (last_second c)
+pub returns : goal.returns
+unfolding low_in high_in
+returns c =
+    let m = c.args.input.now in
+    let seed = c.args.seed in
+    let a : ℕ = c.accumulator_step.result in
+    let b : ℕ = c.accumulator_step-2.result in
+    let low = c.finalize_medium.ensures.low ∙ ap₂ merge_low (last_first c) (last_second c) in
+    let high = c.finalize_medium.ensures.high
+    ∙ ap (λ len. merge_high seed len a b) c.into_u64.ensures
+    ∙ ap₂ (merge_high seed (length m)) (last_first c) (last_second c) in
+    ap₂ (λ (h : ℕ) (l : ℕ). h * 2 ^ 64 + l) high low
+    ∙ sym (middle_129_to_240 seed (secret_bytes c.args.secret) m (omega arith) (omega arith))

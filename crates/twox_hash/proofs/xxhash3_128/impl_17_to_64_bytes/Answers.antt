@@ -21,8 +21,5 @@ before_last_second c =
     c.mix_two_chunks-accumulators.ensures.second
     (c.initial_accumulators.ensures.second ∙ ap (second_17_to_128 c.args.seed (secret_bytes c.args.secret) c.args.input.now (steps_of c.args.input.now)) none)
 
-pub returns-clause-low : goal.returns-clause-low
-returns-clause-low c = c.mix_last.ensures.low (before_last_first c) (before_last_second c)
-
-pub returns-clause-high : goal.returns-clause-high
-returns-clause-high c = c.mix_last.ensures.high (before_last_first c) (before_last_second c)
+pub returns : goal.returns
+returns c = c.mix_last.ensures (before_last_first c) (before_last_second c)

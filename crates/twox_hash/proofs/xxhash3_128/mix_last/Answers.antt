@@ -1,7 +1,8 @@
-use Rattle.std.proofs.Common.{◌≡◌, ℕ, ◌-◌, length, arith, ap, ap₂, ◌∙◌}
+use Rattle.std.proofs.Common.{◌≡◌, ℕ, ◌+◌, ◌*◌, ◌-◌, ◌^◌, length, arith, sym, ap, ap₂, ◌∙◌}
 use Rattle.twox_core.specs.SecretBytes.{secret_bytes}
 use Rattle.twox_core.specs.Middle.{merge_high, merge_low, first_17_to_128, second_17_to_128}
 use Rattle.twox_core.specs.Value.{high_in, low_in, steps_of}
+use Rattle.twox_core.proofs.ValueLaws.{middle_17_to_128}
 use Rattle.twox_hash.proofs.xxhash3_128.mix_last.Goals as goal
 
 -- an accumulator y after the last of n steps, from x before it: F says what stands after each step
@@ -25,13 +26,15 @@ last_second c =
     let F = second_17_to_128 c.args.seed (secret_bytes c.args.secret) c.args.input.now (steps_of c.args.input.now) in
     last_step F (steps_of c.args.input.now) _ _ c.mix_two_chunks-accumulators.ensures.second
 
-pub returns-clause-low : goal.returns-clause-low
-unfolding low_in
-returns-clause-low c first second = c.finalize_medium.ensures.low ∙ ap₂ merge_low (last_first c first) (last_second c second)
-
-pub returns-clause-high : goal.returns-clause-high
-unfolding high_in
-returns-clause-high c first second =
-    c.finalize_medium.ensures.high
-    ∙ ap (λ len. merge_high c.args.seed len c.mix_two_chunks-accumulators.result.first c.mix_two_chunks-accumulators.result.second) c.into_u64.ensures
-    ∙ ap₂ (merge_high c.args.seed (length c.args.input.now)) (last_first c first) (last_second c second)
+pub returns : goal.returns
+unfolding low_in high_in
+returns c first second =
+    let m = c.args.input.now in
+    let seed = c.args.seed in
+    let a = c.mix_two_chunks-accumulators.result in
+    let low = c.finalize_medium.ensures.low ∙ ap₂ merge_low (last_first c first) (last_second c second) in
+    let high = c.finalize_medium.ensures.high
+    ∙ ap (λ len. merge_high seed len a.first a.second) c.into_u64.ensures
+    ∙ ap₂ (merge_high seed (length m)) (last_first c first) (last_second c second) in
+    ap₂ (λ (h : ℕ) (l : ℕ). h * 2 ^ 64 + l) high low
+    ∙ sym (middle_17_to_128 seed (secret_bytes c.args.secret) m (omega arith) (omega arith))
