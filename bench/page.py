@@ -88,7 +88,7 @@ def summary(parts, ratio):
 
 
 def twox_hash(parts):
-    """The same lines beside the Rust crate whose names ours has, where bench/run was given its sources."""
+    """The lines beside the Rust crate whose names ours has, where bench/run was given its sources."""
     rows = {s: [it for it in parts[s] if "twox_hash" in it.peers] for s in SETS}
     if not all(rows.values()):
         return []

@@ -132,7 +132,7 @@ static uint64_t called(const struct library *l, struct row r, long times)
     return r.form == ONESHOT ? oneshots(l, r.hash, r.size, times) : streams(l, r.hash, r.size, times);
 }
 
-/* Processor time, so that waiting for a processor does not count. */
+/* Wall time, in nanoseconds: a turn that had to wait for a processor is one of many, of which the best counts. */
 static double now(void)
 {
     struct timespec t;

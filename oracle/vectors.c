@@ -62,13 +62,14 @@ static void seeded(enum hash hash, uint64_t seed, size_t length, uint64_t start)
     }
 }
 
-/* The same with a random input, and with a random seed too. */
+/* A row with a random input. */
 static void seeded_input(enum hash hash, uint64_t seed, size_t length)
 {
     const uint64_t start = random_number();
     seeded(hash, seed, length, start);
 }
 
+/* A row with a random input and a random seed. */
 static void seeded_at_random(enum hash hash, size_t length)
 {
     const uint64_t start = random_number();
@@ -92,7 +93,7 @@ static void keyed(enum hash hash, int has_seed, uint64_t seed, size_t secret_len
                             : XXH3_128bits_withSecret(input, length, secret, secret_length));
 }
 
-/* The same with a random secret and input: alone, and with a random seed, which is drawn where it isn't used too. */
+/* A row with a random secret and input, and no seed. */
 static void keyed_alone(enum hash hash, size_t secret_length, size_t length)
 {
     const uint64_t start = random_number();
@@ -100,6 +101,7 @@ static void keyed_alone(enum hash hash, size_t secret_length, size_t length)
     keyed(hash, 0, 0, secret_length, secret_start, length, start);
 }
 
+/* A row with a random secret and input. The seed is drawn where it isn't used too, so that later rows stay as they are. */
 static void keyed_and_seeded(enum hash hash, int has_seed, size_t secret_length, size_t length)
 {
     const uint64_t start = random_number();

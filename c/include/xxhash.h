@@ -152,7 +152,7 @@ XXH128_hash_t XXH3_128bits_withSeed(const void *input, size_t length, XXH64_hash
 XXH128_hash_t XXH3_128bits_withSecret(const void *input, size_t length, const void *secret, size_t secret_length);
 XXH128_hash_t XXH3_128bits_withSecretandSeed(const void *input, size_t length, const void *secret,
                                              size_t secret_length, XXH64_hash_t seed);
-/* The same as XXH3_128bits_withSeed. */
+/* XXH3_128bits_withSeed by another name. */
 XXH128_hash_t XXH128(const void *input, size_t length, XXH64_hash_t seed);
 
 XXH_errorcode XXH3_128bits_reset(XXH3_state_t *state);

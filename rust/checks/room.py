@@ -125,7 +125,7 @@ class Room:
 
 
 class ArmRoom(Room):
-    """The same for 64-bit ARM: programs are built by Debian's compiler and run under qemu."""
+    """A room for 64-bit ARM: programs are built by Debian's compiler and run under qemu."""
 
     target = 'aarch64'
 

@@ -246,7 +246,7 @@ pub fn boxed_secret(seed: u64) -> Box<[u8; 192]> {
     unsafe { Box::from_raw(Box::into_raw(secret).cast()) }
 }
 
-/// The same over bytes that are there.
+/// Writes the secret that a seed derives over bytes that are there.
 #[inline(always)]
 pub fn overwrite_with_secret(room: &mut [u8; 192], seed: u64) {
     // SAFETY: the library writes bytes, and nothing that leaves the room unwritten.

@@ -15,7 +15,7 @@ fn main(rt: HostRuntime) -> io::Result<()> {
     prove!(pieces == whole); // by the contracts, and no code
     println!(rt; "{whole:016x} {pieces:016x}")?;
 
-    // The same with XXH3, which takes no memory here.
+    // XXH3, at once and in pieces. It takes no memory here.
     let whole = XxHash3_64::oneshot(b"some bytes");
     let mut hasher = RawHasher::new(SecretBuffer::default());
     hasher.write(b"some bytes");

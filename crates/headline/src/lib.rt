@@ -249,7 +249,7 @@ pub fn xxh3_64_boxed_of_pieces<A: Allocator>(
     Ok(answers(&mut hasher, first, rest))
 }
 
-/// The same by its other name.
+/// A stream of 64 bits in memory of its own, by `default`: the seed 0 and the default secret.
 pub fn xxh3_64_default_of_pieces<A: Allocator>(
     alloc: A,
     first: &[&[u8]],
@@ -373,7 +373,7 @@ pub fn xxh3_128_boxed_of_pieces<A: Allocator>(
     Ok(answers(&mut hasher, first, rest))
 }
 
-/// The same by its other name.
+/// A stream of 128 bits in memory of its own, by `default`: the seed 0 and the default secret.
 pub fn xxh3_128_default_of_pieces<A: Allocator>(
     alloc: A,
     first: &[&[u8]],
@@ -485,7 +485,7 @@ pub fn xxh3_64_by_standard_calls<S: FixedBuffer + Drop>(
     hash::Hasher::finish(&raw_hasher)
 }
 
-/// The same in memory of its own.
+/// One piece of XXH3, 64 bits, by the standard library's `Hasher`, in memory of its own.
 pub fn xxh3_64_boxed_by_standard_calls<A: Allocator>(
     alloc: A,
     seed: u64,

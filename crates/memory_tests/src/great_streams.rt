@@ -58,7 +58,7 @@ fn seeded_copies_go_on(
     )
 }
 
-// The same under the greatest seed.
+// Copies of a stream of five million bytes under the greatest seed.
 #[test]
 fn copies_after_five_million_bytes_under_the_greatest_seed(
     rt: HostRuntime,

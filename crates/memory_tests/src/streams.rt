@@ -141,7 +141,7 @@ pub(crate) fn seeded_128(seed: u64, input: &[u8]) -> u128 {
     XxHash3_128::oneshot_with_seed(seed, input)
 }
 
-// The same under a seed beside a secret that has its length, and under a secret alone.
+// One-shots under a seed beside a secret that has its length, and under a secret alone.
 pub(crate) fn beside_64(seed: u64, secret: &[u8], input: &[u8]) -> Option<u128> {
     let value = XxHash3_64::oneshot_with_seed_and_secret(seed, secret, input).ok()?;
     Some(u128::from(value))

@@ -162,7 +162,7 @@ pub extern "C" fn XXH3_128bits_digest(state: &Xxh3State) -> Xxh128Hash
     Xxh128Hash::of(state.finish(&Finalize128).unwrap_or(0))
 }
 
-/// The same as `XXH3_128bits`. In the C library it chooses among instruction sets when it runs.
+/// `XXH3_128bits` by another name. In the C library it chooses among instruction sets when it runs.
 #[unsafe(no_mangle)]
 pub extern "C" fn XXH3_128bits_dispatch(input: &[u8]) -> Xxh128Hash
     ensures { value_of result ≡ xxh3_128 0 default_secret input.now }
@@ -170,7 +170,7 @@ pub extern "C" fn XXH3_128bits_dispatch(input: &[u8]) -> Xxh128Hash
     XXH3_128bits(input)
 }
 
-/// The same as `XXH3_128bits_withSeed`. In the C library it chooses among instruction sets when it runs.
+/// `XXH3_128bits_withSeed` by another name. In the C library it chooses among instruction sets when it runs.
 #[unsafe(no_mangle)]
 pub extern "C" fn XXH3_128bits_withSeed_dispatch(input: &[u8], seed: u64) -> Xxh128Hash
     ensures { let s = effective_secret (derived_secret seed) input.now in
@@ -179,7 +179,7 @@ pub extern "C" fn XXH3_128bits_withSeed_dispatch(input: &[u8], seed: u64) -> Xxh
     XXH128(input, seed)
 }
 
-/// The same as `XXH3_128bits_withSecret`. In the C library it chooses among instruction sets when it runs.
+/// `XXH3_128bits_withSecret` by another name. In the C library it chooses among instruction sets when it runs.
 #[unsafe(no_mangle)]
 pub extern "C" fn XXH3_128bits_withSecret_dispatch(input: &[u8], secret: &[u8]) -> Xxh128Hash
     ensures value { 136 ≤ length secret.now → value_of result ≡ xxh3_128 0 secret.now input.now }
@@ -188,7 +188,7 @@ pub extern "C" fn XXH3_128bits_withSecret_dispatch(input: &[u8], secret: &[u8]) 
     XXH3_128bits_withSecret(input, secret)
 }
 
-/// The same as `XXH3_128bits_update`. In the C library it chooses among instruction sets when it runs.
+/// `XXH3_128bits_update` by another name. In the C library it chooses among instruction sets when it runs.
 #[unsafe(no_mangle)]
 pub extern "C" fn XXH3_128bits_update_dispatch(state: &mut Xxh3State, input: &[u8]) -> u32
     ensures message { (seed : Option ℕ) (s m : List ℕ)

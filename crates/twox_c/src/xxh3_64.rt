@@ -146,7 +146,7 @@ pub extern "C" fn XXH3_64bits_digest(state: &Xxh3State) -> u64
     state.finish(&Finalize64).unwrap_or(0)
 }
 
-/// The same as `XXH3_64bits`. In the C library it chooses among instruction sets when it runs.
+/// `XXH3_64bits` by another name. In the C library it chooses among instruction sets when it runs.
 #[unsafe(no_mangle)]
 pub extern "C" fn XXH3_64bits_dispatch(input: &[u8]) -> u64
     ensures { result ≡ xxh3_64 0 default_secret input.now }
@@ -154,7 +154,7 @@ pub extern "C" fn XXH3_64bits_dispatch(input: &[u8]) -> u64
     XXH3_64bits(input)
 }
 
-/// The same as `XXH3_64bits_withSeed`. In the C library it chooses among instruction sets when it runs.
+/// `XXH3_64bits_withSeed` by another name. In the C library it chooses among instruction sets when it runs.
 #[unsafe(no_mangle)]
 pub extern "C" fn XXH3_64bits_withSeed_dispatch(input: &[u8], seed: u64) -> u64
     ensures { let s = effective_secret (derived_secret seed) input.now in
@@ -163,7 +163,7 @@ pub extern "C" fn XXH3_64bits_withSeed_dispatch(input: &[u8], seed: u64) -> u64
     XXH3_64bits_withSeed(input, seed)
 }
 
-/// The same as `XXH3_64bits_withSecret`. In the C library it chooses among instruction sets when it runs.
+/// `XXH3_64bits_withSecret` by another name. In the C library it chooses among instruction sets when it runs.
 #[unsafe(no_mangle)]
 pub extern "C" fn XXH3_64bits_withSecret_dispatch(input: &[u8], secret: &[u8]) -> u64
     ensures value { 136 ≤ length secret.now → result ≡ xxh3_64 0 secret.now input.now }
@@ -172,7 +172,7 @@ pub extern "C" fn XXH3_64bits_withSecret_dispatch(input: &[u8], secret: &[u8]) -
     XXH3_64bits_withSecret(input, secret)
 }
 
-/// The same as `XXH3_64bits_update`. In the C library it chooses among instruction sets when it runs.
+/// `XXH3_64bits_update` by another name. In the C library it chooses among instruction sets when it runs.
 #[unsafe(no_mangle)]
 pub extern "C" fn XXH3_64bits_update_dispatch(state: &mut Xxh3State, input: &[u8]) -> u32
     ensures message { (seed : Option ℕ) (s m : List ℕ)

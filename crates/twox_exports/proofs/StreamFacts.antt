@@ -2,10 +2,10 @@
 use Rattle.std.proofs.Common.{◌≡◌, ℕ, Option, None, ◌+◌, ◌-◌, ◌*◌, ◌^◌, ◌<◌, ◌≤◌, min, List, [], ◌++◌, length, refl, sym, ap, ◌∙◌, arith, length-drop, zero, suc}
 use Rattle.std.proofs.lemmas.List.{length-take}
 use Rattle.twox_core.specs.CoreView.{CoreView}
-use Rattle.twox_core.specs.Ending.{finalize_64, finalize_128}
-use Rattle.twox_core.specs.Value.{xxh3_64, xxh3_128, stream_64, stream_128}
+use Rattle.twox_core.specs.Value.{stream_64, stream_128}
 use Rattle.twox_core.specs.AfterWrite.{empty_state, state_after_write, core_after_write}
-use Rattle.twox_core.specs.Finish.{state_finish, core_finish}
+use Rattle.twox_core.specs.Finish.{core_finish}
+use Rattle.twox_exports.specs.StateValue.{state_value_64, state_value_128}
 use Rattle.twox_core.specs.StandsFor.{Follows, StandsFor}
 use Rattle.twox_core.specs.declared.xxhash3.streaming.core_state.CoreState.{CoreState}
 use Rattle.twox_core.proofs.StreamFacts.{stands_fresh, stands_written, stands_finished_short, stands_finished_long}
@@ -59,7 +59,7 @@ follows_written s m d c enough size held =
 
 -- the values
 pub finished_64 : (s m : List ℕ) (c : CoreState) (seed : Option ℕ) (r : ℕ) → 136 ≤ length s → length c.buffer ≡ 512 → Follows s c m
-    → r ≡ state_finish (λ s seed m. xxh3_64 seed s m) finalize_64 seed s c → r ≡ stream_64 seed s m
+    → r ≡ state_value_64 seed s c → r ≡ stream_64 seed s m
 unfolding core_finish
 finished_64 s m c seed r enough size held exact =
     let within = (follows_in_range s m c enough size held).within in
@@ -69,7 +69,7 @@ finished_64 s m c seed r enough size held exact =
     (λ long. exact ∙ stands_finished_long _ _ own (view_of c seed s) seed s m (omega arith) size within stood long)
 
 pub finished_128 : (s m : List ℕ) (c : CoreState) (seed : Option ℕ) (r : ℕ) → 136 ≤ length s → length c.buffer ≡ 512 → Follows s c m
-    → r ≡ state_finish (λ s seed m. xxh3_128 seed s m) finalize_128 seed s c → r ≡ stream_128 seed s m
+    → r ≡ state_value_128 seed s c → r ≡ stream_128 seed s m
 unfolding core_finish
 finished_128 s m c seed r enough size held exact =
     let within = (follows_in_range s m c enough size held).within in

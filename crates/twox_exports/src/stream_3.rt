@@ -11,6 +11,7 @@ ghost use Rattle.twox_core.specs.AfterWrite.{state_after_write, with_buffered};
 ghost use Rattle.twox_core.specs.Finish.{state_finish};
 ghost use Rattle.twox_core.specs.StandsFor.{Follows};
 ghost use Rattle.twox_exports.specs.Number.{number_of};
+ghost use Rattle.twox_exports.specs.StateValue.{state_value_64, state_value_128};
 ghost use Rattle.twox_core.specs.InRange.{IsInRange};
 
 use crate::{DONE, NOT_A_STREAM, SECRET_TOO_SHORT, Wide, halves};
@@ -151,7 +152,7 @@ fn finish<V: Vector, F: Finalize>(
     finish_short(core, finalize, own)
 }
 
-// The same of up to 240 bytes, with the default secret and a seed.
+// The value of up to 240 bytes, with the default secret and a seed.
 #[inline(always)]
 fn finish_short<F: Finalize>(core: &CoreState, finalize: &F, seed: u64) -> F::Output
     requires { core.now.total_bytes ≤ 240 }
@@ -162,7 +163,7 @@ fn finish_short<F: Finalize>(core: &CoreState, finalize: &F, seed: u64) -> F::Ou
     finalize.small(default_secret(), seed, input)
 }
 
-// The same at every length, as a call of its own, so that short streams pay for no register that it keeps.
+// The value at every length, out of line, so that short streams pay for no register that it keeps.
 #[inline(never)]
 fn finish_far<V: Vector, F: Finalize>(
     core: &CoreState,
@@ -200,6 +201,7 @@ pub fn finish_64<V: Vector>(
         ↔ ((136 ≤ length secret.now) × (¬ IsInRange secret.now core.now)) }
     ensures message { (m : List ℕ) → Follows secret.now core.now m → 136 ≤ length secret.now
         → (result ≡ DONE) × (value.new ≡ stream_64 seed secret.now m) }
+    ensures exact { result ≡ DONE → value.new ≡ state_value_64 seed secret.now core.now }
     ensures kept { (¬ (result ≡ DONE)) → value.new ≡ value.old }
 {
     let Ok(secret) = Secret::new(secret) else {
@@ -212,7 +214,7 @@ pub fn finish_64<V: Vector>(
     DONE
 }
 
-/// The same with the hash of 128 bits.
+/// Writes the hash of 128 bits of all bytes so far. It refuses what the call of 64 bits above refuses.
 #[inline(always)]
 pub fn finish_128<V: Vector>(
     core: &CoreState,
@@ -227,6 +229,8 @@ pub fn finish_128<V: Vector>(
         ↔ ((136 ≤ length secret.now) × (¬ IsInRange secret.now core.now)) }
     ensures message { (m : List ℕ) → Follows secret.now core.now m → 136 ≤ length secret.now
         → (result ≡ DONE) × (number_of value.new ≡ stream_128 seed secret.now m) }
+    ensures exact { result ≡ DONE
+        → number_of value.new ≡ state_value_128 seed secret.now core.now }
     ensures kept { (¬ (result ≡ DONE)) → value.new ≡ value.old }
 {
     let Ok(secret) = Secret::new(secret) else {

@@ -130,7 +130,7 @@ impl<F: Finalize, A: Allocator> BoxedStream<F, A> {
         Ok(BoxedStream::over(AllocRawHasher::allocate_default(alloc)?))
     }
 
-    /// The same as `new`.
+    /// An empty stream with the default secret and the seed 0, as [`BoxedStream::new`] makes it.
     ///
     /// # Errors
     ///

@@ -223,7 +223,7 @@ fn impl_oneshot_default_from_65(input: &[u8]) -> X128
     }
 }
 
-// The same order, with a seed.
+// With a seed. The shortest inputs come first, as in the call without one.
 #[inline(always)]
 #[tactic(auto, unfolding(twox_core::specs::Value::effective_secret))]
 fn impl_oneshot_seeded(seed: u64, input: &[u8]) -> X128
@@ -327,7 +327,7 @@ fn impl_oneshot_above_240<const CALLER: usize>(secret: Secret<'_>, input: &[u8])
     }
 }
 
-// The same of many bytes, as the last call of the one above, which so keeps no register for it.
+// Many bytes, as a tail call of `impl_oneshot_above_240`, which so keeps no register for them.
 #[inline(never)]
 #[tactic(auto, using(twox_core::proofs::ValueLaws::long_128, twox_core::proofs::EndingFacts::block_both))]
 fn impl_oneshot_many(secret: Secret<'_>, input: &[u8]) -> X128
@@ -339,7 +339,7 @@ fn impl_oneshot_many(secret: Secret<'_>, input: &[u8]) -> X128
     X128::of(algorithm.oneshot_of::<Finalize128, true, ANY_LENGTH>(secret, input, Finalize128))
 }
 
-// The same with the secret that a seed derives. The seed 0 derives the default one.
+// Long inputs with the secret that a seed derives. The seed 0 derives the default one.
 #[inline(always)]
 #[tactic(auto, using(twox_core::proofs::Vectors::derived_secret_none))]
 fn impl_oneshot_long_seeded(seed: u64, input: &[u8]) -> X128
@@ -546,7 +546,7 @@ fn initial_accumulators(input: &[u8]) -> Accumulators
     }
 }
 
-// A accumulator after the 16 bytes `own` under the secret's, and then the words of the 16 bytes `other`.
+// An accumulator after the 16 bytes `own` under the secret's, and then the words of the 16 bytes `other`.
 #[inline(always)]
 fn accumulator_step(
     accumulator: u64,

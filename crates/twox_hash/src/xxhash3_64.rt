@@ -266,7 +266,7 @@ fn impl_oneshot_keyed(secret: Secret<'_>, input: &[u8]) -> u64
     }
 }
 
-// The same order, with a seed.
+// With a seed. The shortest inputs come first, as in the call without one.
 #[inline(always)]
 #[tactic(auto, unfolding(twox_core::specs::Value::effective_secret, twox_core::specs::Value::xxh3_64, twox_core::specs::Value::range_of, twox_core::specs::Value::value64_in))]
 fn impl_oneshot_seeded(seed: u64, input: &[u8]) -> u64
@@ -320,7 +320,7 @@ fn impl_oneshot_above_240<const CALLER: usize>(secret: Secret<'_>, input: &[u8])
     }
 }
 
-// The same of many bytes, as the last call of the one above, which so keeps no register for it.
+// Many bytes, as a tail call of `impl_oneshot_above_240`, which so keeps no register for them.
 #[inline(never)]
 #[tactic(auto, using(twox_core::proofs::ValueLaws::long_64, twox_core::proofs::EndingFacts::block_low))]
 fn impl_oneshot_many(secret: Secret<'_>, input: &[u8]) -> u64
@@ -330,7 +330,7 @@ fn impl_oneshot_many(secret: Secret<'_>, input: &[u8]) -> u64
     Algorithm(Kernel {}).oneshot_of::<Finalize64, true, ANY_LENGTH>(secret, input, Finalize64)
 }
 
-// The same with the secret that a seed derives. The seed 0 derives the default one.
+// Long inputs with the secret that a seed derives. The seed 0 derives the default one.
 #[inline(always)]
 #[tactic(auto, using(twox_core::proofs::Vectors::derived_secret_none))]
 fn impl_oneshot_long_seeded(seed: u64, input: &[u8]) -> u64

@@ -4,6 +4,7 @@ ghost use Rattle.std.specs.Prelude.{◌≡◌, ◌↔◌, ◌<◌, ◌≤◌, �
 ghost use Rattle.twox_hash.specs.Value.{stream_64, stream_128};
 ghost use Rattle.twox_core.specs.AfterWrite.{state_after_write};
 ghost use Rattle.twox_exports.specs.Number.{number_of};
+ghost use Rattle.twox_exports.specs.StateValue.{state_value_64, state_value_128};
 ghost use Rattle.twox_core.specs.InRange.{IsInRange};
 ghost use Rattle.twox_rust.specs.Stream.{StandsFor};
 
@@ -59,7 +60,7 @@ pub extern "C" fn twox_rust_xxh3_write(stream: &mut Stream, secret: &[u8], input
     write(&mut stream.core, Kernel {}, secret, input)
 }
 
-/// The same over a secret of 192 bytes, as the default one and each derived one has, which needs no test.
+/// Adds bytes to a stream over a secret of 192 bytes, as the default one and each derived one has: it needs no test.
 ///
 /// `NOT_A_STREAM`: the record's place in the secret and its number of bytes are none that calls leave. The record stays
 /// as it was.
@@ -94,6 +95,8 @@ pub extern "C" fn twox_rust_xxh3_64_finish(stream: &Stream, secret: &[u8]) -> An
     ensures message { (seed : ℕ) (m : List ℕ) → StandsFor stream.now secret.now seed m
         → 136 ≤ length secret.now
         → (result.code ≡ DONE) × (result.value ≡ stream_64 (Some seed) secret.now m) }
+    ensures exact { result.code ≡ DONE
+        → result.value ≡ state_value_64 (Some stream.now.seed) secret.now stream.now.core }
     ensures none { (¬ (result.code ≡ DONE)) → result.value ≡ 0 }
 {
     let mut value = 0;
@@ -123,6 +126,8 @@ pub extern "C" fn twox_rust_xxh3_128_finish(stream: &Stream, secret: &[u8], valu
     ensures message { (seed : ℕ) (m : List ℕ) → StandsFor stream.now secret.now seed m
         → 136 ≤ length secret.now
         → (result ≡ DONE) × (number_of value.new ≡ stream_128 (Some seed) secret.now m) }
+    ensures exact { result ≡ DONE
+        → number_of value.new ≡ state_value_128 (Some stream.now.seed) secret.now stream.now.core }
     ensures kept { (¬ (result ≡ DONE)) → value.new ≡ value.old }
 {
     finish_128(&stream.core, Kernel {}, Some(stream.seed), secret, value)

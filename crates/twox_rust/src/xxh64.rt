@@ -52,7 +52,7 @@ pub extern "C" fn twox_rust_xxh64_write(stream: &mut StateInMemory, input: &[u8]
     write_far(stream, input)
 }
 
-// The same of every piece: a call of its own, so that those that fill no stripe pay for no register that it keeps.
+// Adds a piece of any length, out of line, so that pieces that fill no stripe pay for no register that it keeps.
 #[inline(never)]
 fn write_far(stream: &mut StateInMemory, input: &[u8]) -> u32
     ensures done { result ≡ DONE ↔ (stream.old.buffer_usage < 32) }

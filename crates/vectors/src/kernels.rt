@@ -1,6 +1,7 @@
 //! XXH3 by each kernel by name, whichever kernel the one-shots and the hashers run.
 
 use crate::rows::{Kind, Row};
+use crate::ways::boxed;
 use std::alloc::{AllocError, Global};
 use twox_hash::xxhash3::large::{lanes2, lanes4, scalar, split2};
 use twox_hash::xxhash3::{
@@ -68,15 +69,9 @@ fn in_pieces<V: Vector>(
     secret: &[u8],
     pieces: &[&[u8]],
 ) -> Result<Option<u128>, AllocError> {
-    let seed = row.seed.unwrap_or(0);
-    let mut core = if row.secret.is_some() {
-        let boxed = secret.to_vec(alloc)?.into_boxed_slice();
-        match AllocRawHasher::allocate_with_seed_and_secret(seed, boxed) {
-            Ok(core) => core,
-            Err(_) => return Ok(None),
-        }
-    } else {
-        AllocRawHasher::allocate_with_seed(alloc, seed)?
+    let mut core = match empty_core(alloc, row, secret)? {
+        Some(core) => core,
+        None => return Ok(None),
     };
     for piece in pieces.iter() {
         core.write_with(kernel, piece);
@@ -85,5 +80,21 @@ fn in_pieces<V: Vector>(
         Kind::X3_64 => Some(u128::from(core.finish_with(kernel, Finalize64))),
         Kind::X3_128 => Some(core.finish_with(kernel, Finalize128)),
         Kind::X32 | Kind::X64 => None,
+    })
+}
+
+// By the constructor that the row's seed and secret ask for.
+fn empty_core(
+    alloc: Global,
+    row: &Row,
+    secret: &[u8],
+) -> Result<Option<AllocRawHasher<Global>>, AllocError> {
+    Ok(match (row.seed, row.secret) {
+        (None, None) => Some(AllocRawHasher::allocate_default(alloc)?),
+        (Some(seed), None) => Some(AllocRawHasher::allocate_with_seed(alloc, seed)?),
+        (None, Some(_)) => AllocRawHasher::allocate_with_secret(boxed(alloc, secret)?).ok(),
+        (Some(seed), Some(_)) => {
+            AllocRawHasher::allocate_with_seed_and_secret(seed, boxed(alloc, secret)?).ok()
+        }
     })
 }

@@ -3,6 +3,7 @@
 use crate::kernels;
 use crate::rows::{Kind, Recipe, Row, next_number};
 use std::alloc::{AllocError, Global};
+use std::boxed::BoxedSlice;
 use twox_hash::{XxHash3_64, XxHash3_128, XxHash32, XxHash64};
 
 /// Whether every way to compute the row's hash answers what the row does.
@@ -16,9 +17,6 @@ pub fn agree(alloc: Global, row: &Row) -> Result<bool, AllocError> {
     let answer = Some(row.answer);
     if at_once(row, &input, &secret) != answer || !kernels::agree_at_once(row, &input, &secret) {
         return Ok(false);
-    }
-    if has_no_stream(row) {
-        return Ok(true);
     }
     let bytes: Vec<&[u8]> = input.chunks(1).collect(alloc)?;
     let pieces = cut_at_random(alloc, &input)?;
@@ -61,11 +59,6 @@ fn at_once_128(row: &Row, input: &[u8], secret: &[u8]) -> Option<u128> {
             XxHash3_128::oneshot_with_seed_and_secret(seed, secret, input).ok()
         }
     }
-}
-
-// A secret alone takes effect on short inputs too, and no stream does that.
-fn has_no_stream(row: &Row) -> bool {
-    row.seed.is_none() && row.secret.is_some() && row.input.length <= 240
 }
 
 // Pieces of 0 to 299 bytes, as the input's length gives them.
@@ -121,20 +114,30 @@ fn stream_64(
     secret: &[u8],
     pieces: &[&[u8]],
 ) -> Result<Option<u128>, AllocError> {
-    let seed = row.seed.unwrap_or(0);
-    let mut hasher = if row.secret.is_some() {
-        let boxed = secret.to_vec(alloc)?.into_boxed_slice();
-        match XxHash3_64::with_seed_and_secret(seed, boxed) {
-            Ok(hasher) => hasher,
-            Err(_) => return Ok(None),
-        }
-    } else {
-        XxHash3_64::with_seed(alloc, seed)?
+    let mut hasher = match empty_stream_64(alloc, row, secret)? {
+        Some(hasher) => hasher,
+        None => return Ok(None),
     };
     for piece in pieces.iter() {
         hasher.write(piece);
     }
     Ok(Some(u128::from(hasher.finish())))
+}
+
+// By the constructor that the row's seed and secret ask for.
+fn empty_stream_64(
+    alloc: Global,
+    row: &Row,
+    secret: &[u8],
+) -> Result<Option<XxHash3_64>, AllocError> {
+    Ok(match (row.seed, row.secret) {
+        (None, None) => Some(XxHash3_64::new(alloc)?),
+        (Some(seed), None) => Some(XxHash3_64::with_seed(alloc, seed)?),
+        (None, Some(_)) => XxHash3_64::with_secret(boxed(alloc, secret)?).ok(),
+        (Some(seed), Some(_)) => {
+            XxHash3_64::with_seed_and_secret(seed, boxed(alloc, secret)?).ok()
+        }
+    })
 }
 
 fn stream_128(
@@ -143,18 +146,33 @@ fn stream_128(
     secret: &[u8],
     pieces: &[&[u8]],
 ) -> Result<Option<u128>, AllocError> {
-    let seed = row.seed.unwrap_or(0);
-    let mut hasher = if row.secret.is_some() {
-        let boxed = secret.to_vec(alloc)?.into_boxed_slice();
-        match XxHash3_128::with_seed_and_secret(seed, boxed) {
-            Ok(hasher) => hasher,
-            Err(_) => return Ok(None),
-        }
-    } else {
-        XxHash3_128::with_seed(alloc, seed)?
+    let mut hasher = match empty_stream_128(alloc, row, secret)? {
+        Some(hasher) => hasher,
+        None => return Ok(None),
     };
     for piece in pieces.iter() {
         hasher.write(piece);
     }
     Ok(Some(hasher.finish_128()))
+}
+
+// By the constructor that the row's seed and secret ask for.
+fn empty_stream_128(
+    alloc: Global,
+    row: &Row,
+    secret: &[u8],
+) -> Result<Option<XxHash3_128>, AllocError> {
+    Ok(match (row.seed, row.secret) {
+        (None, None) => Some(XxHash3_128::new(alloc)?),
+        (Some(seed), None) => Some(XxHash3_128::with_seed(alloc, seed)?),
+        (None, Some(_)) => XxHash3_128::with_secret(boxed(alloc, secret)?).ok(),
+        (Some(seed), Some(_)) => {
+            XxHash3_128::with_seed_and_secret(seed, boxed(alloc, secret)?).ok()
+        }
+    })
+}
+
+/// The secret in memory of its own, for a stream that owns it.
+pub fn boxed(alloc: Global, secret: &[u8]) -> Result<BoxedSlice<u8>, AllocError> {
+    Ok(secret.to_vec(alloc)?.into_boxed_slice())
 }

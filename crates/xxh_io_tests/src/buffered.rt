@@ -113,7 +113,7 @@ fn inputs_around_the_edge_of_a_small_buffer(rt: HostRuntime) -> Result<(), Fail>
     Ok(())
 }
 
-// The same with a buffer of the program's size.
+// Inputs around the edge of a buffer of the program's size.
 #[test]
 fn inputs_around_the_edge_of_a_large_buffer(rt: HostRuntime) -> Result<(), Fail> {
     for len in [65535, 65536, 65537, 131072, 200000] {

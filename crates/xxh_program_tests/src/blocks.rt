@@ -250,7 +250,7 @@ fn long_blocks(rt: HostRuntime) -> Result<(), Fail> {
     Ok(())
 }
 
-// The same blocks over a script source and sink: pieces that end before, at and after the end of a block, and reads
+// Long blocks over a script source and sink: pieces that end before, at and after the end of a block, and reads
 // that are offered less than the script has.
 #[test]
 fn long_blocks_by_script(rt: HostRuntime) -> Result<(), Fail> {

@@ -287,7 +287,7 @@ fn each_read_is_offered_the_whole_buffer(rt: HostRuntime) -> Result<(), Fail> {
     Ok(())
 }
 
-// The same over memory alone: no call of the digest is given an allocator, and so none can ask for memory.
+// Bytes in memory alone: no call of the digest is given an allocator, and so none can ask for memory.
 #[test]
 fn the_line_of_bytes_in_memory(rt: HostRuntime) {
     let mut sink = ScriptSink::<60>::new(7, 0);

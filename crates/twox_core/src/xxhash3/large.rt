@@ -97,8 +97,8 @@ impl<V: Vector> Algorithm<V> {
         }
     }
 
-    /// The same, where the caller says whether the bytes are many: those that are few then keep no register for a
-    /// call. Each `CALLER` has code of its own, in which its secret's length may be known. The value depends on
+    /// [`Algorithm::oneshot`], where the caller says whether the bytes are many: those that are few then keep no register
+    /// for a call. Each `CALLER` has code of its own, in which its secret's length may be known. The value depends on
     /// neither.
     #[inline(always)]
     pub fn oneshot_of<F: Finalize + Drop, const MANY: bool, const CALLER: usize>(

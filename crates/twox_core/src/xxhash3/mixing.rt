@@ -38,7 +38,7 @@ pub fn mix_step(bytes: &[u8; 16], secret: &[u8; 16], seed: u64) -> u64
     mix_words(first, second, secret, seed)
 }
 
-/// The same of 16 bytes that were read as their two words.
+/// One mixing step of 16 bytes that were read as their two words.
 #[inline(always)]
 #[tactic(auto, unfolding(crate::specs::Steps::mix))]
 pub fn mix_words(first: u64, second: u64, secret: &[u8; 16], seed: u64) -> u64

@@ -127,7 +127,7 @@ impl StripeAccumulator {
         }
     }
 
-    // The same of bytes that begin and end anywhere.
+    // Takes the whole stripes of bytes that begin and end anywhere in a block. The caller says whether the bytes are many.
     #[inline(always)]
     pub(crate) fn process<V: Vector, const MANY: bool>(
         &mut self,
@@ -177,7 +177,7 @@ fn take_stripes<V: Vector>(
     taken
 }
 
-// The same of many bytes.
+// The accumulators with the stripes of many bytes taken, out of line.
 #[inline(never)]
 fn take_many_stripes<V: Vector>(
     from: StripeAccumulator,
@@ -207,7 +207,7 @@ fn pays_by_blocks(len: usize) -> bool {
     len >= MANY_BYTES && (len < from || len >= to)
 }
 
-// The same four stripes at a time.
+// The accumulators with the stripes taken four at a time, under a secret of 192 bytes.
 #[inline(always)]
 fn take_stripes_by_fours<V: Vector>(
     from: StripeAccumulator,
@@ -225,8 +225,8 @@ fn take_stripes_by_fours<V: Vector>(
     taken
 }
 
-// The same by whole blocks, under a secret of 192 bytes: first the stripes to the end of a block, and last those of a
-// block that isn't whole.
+// The accumulators with the stripes taken by whole blocks, under a secret of 192 bytes: first the stripes to the end of
+// a block, and last those of a block that isn't whole.
 fn take_stripes_by_blocks<V: Vector>(
     from: StripeAccumulator,
     v: V,
@@ -249,8 +249,8 @@ fn take_stripes_by_blocks<V: Vector>(
     take_stripes(StripeAccumulator::starting_with(taken), v, rest, secret)
 }
 
-// The same of bytes that may lie outside the first cache: while a stripe is taken, a word of the stripe
-// `STRIPES_AHEAD` further on is read, so that it is there in time. What is read decides nothing but which of
+// The accumulators with the stripes taken of bytes that may lie outside the first-level cache: while a stripe is taken,
+// a word of the stripe `STRIPES_AHEAD` further on is read, so that it is there in time. What is read decides nothing but which of
 // two ways to the same accumulators is gone, since the compiler reads nothing that isn't needed. The loop has to
 // stand alone in a function that isn't inlined, over accumulators by value: at x86-64-v2 its code then has no
 // `imul`, `pinsrq` or `palignr`. Where it has one, LLVM has paired the accumulators wrongly.

@@ -129,8 +129,7 @@ impl StateInMemory {
         self.keep(core, kept);
     }
 
-    // The same of a piece that may hold blocks, in a function of its own, so that shorter pieces keep no registers for
-    // its calls.
+    // Takes a piece that may hold blocks, out of line, so that shorter pieces keep no registers for its calls.
     #[inline(never)]
     #[tactic(auto, unfolding(crate::specs::StateInMemory32::after_rest))]
     fn add_blocks(&mut self, input: &[u8])

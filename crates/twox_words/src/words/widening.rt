@@ -7,7 +7,7 @@ pub trait IntoU32 {
     // The number that is kept.
     ghost number: { Self → ℕ };
 
-    /// The same number as a `u32`.
+    /// This number as a `u32`.
     fn into_u32(self) -> u32
         ensures { result ≡ number self };
 }
@@ -26,7 +26,7 @@ pub trait IntoU64 {
     // The number that is kept.
     ghost number: { Self → ℕ };
 
-    /// The same number as a `u64`.
+    /// This number as a `u64`.
     fn into_u64(self) -> u64
         ensures { result ≡ number self };
 }
@@ -63,7 +63,7 @@ pub trait IntoU128 {
     // The number that is kept.
     ghost number: { Self → ℕ };
 
-    /// The same number as a `u128`.
+    /// This number as a `u128`.
     fn into_u128(self) -> u128
         ensures { result ≡ number self };
 }

@@ -128,7 +128,7 @@ impl CurrentBlock {
     }
 }
 
-// The same as `digest_blocks`, where each read is offered `READ` bytes, and the lines of the blocks that a
+// `digest_blocks` where each read is offered `READ` bytes, and the lines of the blocks that a
 // piece ends are gathered in a buffer of `LINES` bytes, which is written before the next read.
 pub(crate) fn digest_blocks_by<R: Source, W: Sink, const READ: usize, const LINES: usize>(
     r: &mut R,

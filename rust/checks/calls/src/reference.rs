@@ -1,4 +1,4 @@
-//! The same calls of the C library and of `xxhash-rust`: their one-shots, whatever way the bytes come in.
+//! The calls of `under_test` by the C library and by `xxhash-rust`: their one-shots, whatever way the bytes come in.
 
 use crate::case::{Case, Outcome};
 

@@ -228,7 +228,7 @@ impl CoreState {
         )
     }
 
-    // The same up to 240 bytes: with the default secret and the seed or, where there is none, with the secret.
+    // The value of up to 240 bytes: with the default secret and the seed or, where there is none, with the secret.
     #[inline(always)]
     fn finish_short<F: Finalize>(
         &self,

@@ -92,7 +92,7 @@ impl<S: FixedBuffer> RawHasherCore<S> {
         self.finish_with(Kernel {}, finalize)
     }
 
-    /// The same by a kernel. Each call may have another kernel.
+    /// [`RawHasherCore::finish`] by a kernel that the caller names. Each call may have another kernel.
     #[inline]
     pub fn finish_with<F: Finalize + Drop>(&self, v: impl Vector, finalize: F) -> F::Output
         ensures short { (seed : Option ℕ) (s m : List ℕ) → StandsFor S.bytes self.now seed s m

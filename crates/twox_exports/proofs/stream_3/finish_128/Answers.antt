@@ -12,3 +12,6 @@ pub returns-clause-message : goal.returns-clause-message
 returns-clause-message g c = λ m held enough.
     let exact = rw c.in-Ok.ensures.1 at c.finish.ensures.exact in
     (refl, c.halves.ensures ∙ finished_128 c.args.secret.now m c.args.core.now c.args.seed _ enough c.is_in_range.ensures.size held exact)
+
+pub returns-clause-exact : goal.returns-clause-exact
+returns-clause-exact g c = λ done. c.halves.ensures ∙ (rw c.in-Ok.ensures.1 at c.finish.ensures.exact)
