@@ -13,6 +13,8 @@ import tempfile
 from . import source
 
 TOP = os.path.dirname(os.path.dirname(os.path.dirname(os.path.abspath(__file__))))
+# What rt says of an edit at which the prover came to a limit of its own.
+BY_LIMIT = "only by a limit of the prover"
 # What this program calls of rt. A new kit may name these otherwise.
 USED = ("checked", "must_fail", "read_edit", "unread", "rtlib")
 
@@ -27,7 +29,18 @@ def load():
         sys.exit(f"wrong-bodies: this kit's rt has no {', '.join(lost)}")
     # Its first call sets a signal's handler, which only the main thread may.
     module.rtlib.guarded()
+    module.checked = with_whole_messages(module.checked)
     return module
+
+
+def with_whole_messages(checked):
+    """A check whose output has each message on one line. The prover goes on in a further line, which begins with a space,
+    where a message has a long name; rt reads line by line, and so does all that is here."""
+    def check(*words):
+        ran = checked(*words)
+        ran.stdout = re.sub(r"\n +", " ", ran.stdout)
+        return ran
+    return check
 
 
 rt = load()

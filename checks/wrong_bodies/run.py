@@ -10,7 +10,7 @@ import time
 
 from . import edits, kit, source
 from .proofs import Built, Heard
-from .trial import Trial
+from .trial import BY_NAMES, Trial
 
 
 def main(given):
@@ -39,10 +39,14 @@ def tell(trial, is_told_all):
         if is_told_all or not well:
             print(f"{trial.crate.name}/{edit.name}: {'refused' if well else 'FAILED'}: {said[:300]}")
     refused = [well for _, (well, _) in told].count(True)
-    by_names = len([said for _, (_, said) in told if "only because a proof file names" in said])
+    by_names = [edit.name for edit, (_, said) in told if BY_NAMES in said]
+    at_limits = [edit.name for edit, (_, said) in told if kit.BY_LIMIT in said]
     print(
-        f"{trial.crate.name}: {refused} of {len(told)} refused, {by_names} of them only because a proof names what is gone, "
-        f"in {trial.checks} checks of {trial.seconds:.0f} s",
+        f"{trial.crate.name}: {refused} of {len(told)} refused, {len(by_names)} of them only because a proof names what is "
+        f"gone, {len(at_limits)} only at a limit of the prover, in {trial.checks} checks of {trial.seconds:.0f} s",
+        *(f"  only by a name: {name}" for name in by_names),
+        *(f"  only at a limit: {name}" for name in at_limits),
+        sep="\n",
         flush=True,
     )
 

@@ -14,8 +14,8 @@ from .copies import with_copies
 MOST = 60
 # An error of a proof file that names what the edit took away, which says little of the contract.
 GONE = re.compile(r"has no field|is not in scope|has no `|was not admitted")
-# What is said of an edit that no other error refuses.
-BY_NAMES = "only because a proof file names what the edit took away, so this says little of the contract"
+# What is said of an edit that no other error refuses, here and by rt.
+BY_NAMES = "only because a proof file names what the edit took away"
 # What a function's line says of its own goals. What it says of its callees, as `it calls`, comes behind.
 OWN_GOALS = re.compile(r"no proof: expected .*`search` did not prove ")
 
