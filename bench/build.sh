@@ -30,21 +30,21 @@ need_file() {
 # set, as one object. An older build is removed first, so that what is measured is what was proved. A tree may
 # lack all crates but the first.
 our_library() {
-    local tree=$1 set=$2 file=$3 crate libraries=() cpu=()
+    local tree=$1 set=$2 file=$3 crate archives=() cpu=()
     [ -d "$tree/crates/bench_exports" ] || fail "$tree has no crate bench_exports"
     [ "$set" = x86-64-v2 ] || cpu=(--cpu="$set")
     for crate in bench_exports bench_calls bench_kernels; do
         [ -d "$tree/crates/$crate/src" ] || continue
-        libraries+=("$tree/crates/$crate/out/lib$crate.a")
-        rm -f "${libraries[-1]}"
+        archives+=("$tree/crates/$crate/out/lib$crate.a")
+        rm -f "${archives[-1]}"
         (cd "$tree/crates/$crate" && rt lib "${cpu[@]}") > "$room/lib.log" 2>&1 || {
             grep -E 'error|^[a-z]+ \S+::' "$room/lib.log" | grep -v ': proved' | head -n 20 >&2
             cp "$room/lib.log" "${TMPDIR:-/tmp}/bench-lib.log"
             fail "$crate of $tree is not proved or not built for $set: ${TMPDIR:-/tmp}/bench-lib.log"
         }
-        [ -f "${libraries[-1]}" ] || fail "rt lib made no library of $crate in $tree"
+        [ -f "${archives[-1]}" ] || fail "rt lib made no library of $crate in $tree"
     done
-    ld -r --whole-archive "${libraries[@]}" -o "$file"
+    ld -r --whole-archive "${archives[@]}" -o "$file"
 }
 
 # link_layouts SET PEERS OBJECT..: links $room/SET/driver_1 to driver_8. In driver_N each function of the objects begins

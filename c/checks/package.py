@@ -9,7 +9,7 @@ import subprocess
 import clients
 from file_program import file_program_agrees
 from launcher import OLD, SETS
-from report import Fault, tail, want
+from report import tail, want
 from sides import THEIRS, Side, others, run
 from tools import C, TOP, must
 
@@ -18,10 +18,10 @@ PREFIX = '/usr/lib/twox-hash'
 FOLDER = os.path.join(PREFIX, 'lib')
 PLAIN, V3 = (os.path.join(FOLDER, part, 'libxxhash.so.0') for part in ('', 'glibc-hwcaps/x86-64-v3'))
 # What of lintian is left: the second `lib` of the folder is meant, as in those of LLVM; xxh is no C, whose calls gcc
-# could fortify; a word that it takes for a misspelled one is code; and what it takes for a library that needs no other
-# is a program, linked statically so that it starts without any.
+# could fortify; a word that it takes for a misspelled one is code; what it takes for a library that needs no other is a
+# program, linked statically so that it starts without any; and the section .comment names the logic of the proofs.
 LEFT = ('repeated-path-segment', 'hardening-no-fortify-functions', 'spelling-error-in-binary',
-        'shared-library-lacks-prerequisites')
+        'shared-library-lacks-prerequisites', 'binary-has-unneeded-section')
 EXAMPLE = os.path.join(TOP, 'examples', 'c', 'hash-file.c')
 
 
