@@ -170,7 +170,7 @@ class Text:
                 if body[slot * at:slot * (at + 1)] != row.raw.ljust(slot, b'\0')}
 
     def lines(self, title):
-        yield f'/* {title} Generated of what is proved: not to be changed by hand. MIT licence, see LICENSE. */'
+        yield f'/* {title} Generated of what is proved: not to be changed by hand. Licence: MIT. */'
         for name, head in self.sections.items():
             yield from self.lines_of_code(name) if head.flags & EXECUTED else self.lines_of_data(name, head)
         yield from ('\t.section .note.GNU-stack,"",@progbits', '\t.text')
