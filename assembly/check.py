@@ -90,6 +90,11 @@ class Rustc(As):
         run([*self.words, source, '-o', out])
 
 
+def assemblers_for(target, sysroot):
+    """Those that are on the machine."""
+    return [it for it in (kind(target, sysroot) for kind in (As, Clang, Rustc)) if it.is_there()]
+
+
 # ---- wrong texts ----
 
 # Where a text is made wrong: the pattern's group is what changes, and the other word that comes in its place.
@@ -154,16 +159,15 @@ def is_made_anew(text, made):
 
 
 def is_same(assembler, text, proved, room):
-    out = os.path.join(room, 'assembled.o')
-    assembler.assemble(text, out)
-    found = compare(proved, out) + compare_sums(sums_beside(text), out)
+    has_sums(assembler, text, room)
+    found = compare(proved, os.path.join(room, 'assembled.o'))
     want(not found, ' / '.join(line[:200] for line in found[:3]))
 
 
 def check_texts(report, library, target, sysroot=None):
     """The texts of a library that was proved and built."""
     out = os.path.join(TOP, library, 'out')
-    assemblers = [it for it in (kind(target, sysroot) for kind in (As, Clang, Rustc)) if it.is_there()]
+    assemblers = assemblers_for(target, sysroot)
     for name in SETS[library, target]:
         text, proved = os.path.join(TOP, library, 'asm', f'{name}.s'), os.path.join(out, 'proved', f'{name}.o')
         shown = os.path.relpath(text, TOP)
@@ -172,6 +176,22 @@ def check_texts(report, library, target, sysroot=None):
             for assembler in assemblers:
                 report.attempt(f'{shown} by {assembler.name}', is_same, assembler, text, proved, room)
             report.attempt(f'{shown} made wrong is noticed', wrong_texts_are_noticed, text, proved, target, room)
+
+
+def has_sums(assembler, text, room):
+    out = os.path.join(room, 'assembled.o')
+    assembler.assemble(text, out)
+    found = compare_sums(sums_beside(text), out)
+    want(not found, ' / '.join(line[:200] for line in found[:3]))
+
+
+def check_sums(report, folder, sets):
+    """Texts for x86-64 beside their sums, where no object that was proved is at hand."""
+    with tempfile.TemporaryDirectory() as room:
+        for assembler in assemblers_for('x86-64', None):
+            for name in sets:
+                report.attempt(f'the sums of {name}.s by {assembler.name}', has_sums, assembler,
+                               os.path.join(folder, f'{name}.s'), room)
 
 
 def main():
