@@ -1,9 +1,9 @@
 #!/usr/bin/env python3
 """Checks the assembly text of the library for C and of the cargo crate beside what is proved:
 
-    assembly/check.py [--target aarch64] [c] [rust]
+    assembly/check.py [--target aarch64] [--of-ci] [c] [rust]
 
-It proves and builds both, or the one that is named. Of each text it wants that
+It proves and builds both, or the one that is named; with --of-ci over the libraries that `rt ci` left in this tree. Of each text it wants that
 
 - text and sums made anew of the object that was proved are those that are committed;
 - each assembler on the machine (GNU as, clang, rustc) makes that object of the text, as same_bytes.py compares two;
@@ -197,13 +197,14 @@ def check_sums(report, folder, sets):
 def main():
     words = argparse.ArgumentParser(prog='assembly/check.py')
     words.add_argument('--target', choices=('x86-64', 'aarch64'), default='x86-64')
+    words.add_argument('--of-ci', action='store_true')
     words.add_argument('libraries', nargs='*', metavar='c|rust')
     chosen, report = words.parse_args(), Report()
     for library in chosen.libraries or list(BUILDS):
         if library not in BUILDS:
             words.error(f'{library} is neither c nor rust')
         report.attempt(f'{BUILDS[library]} --target {chosen.target}', run,
-                       [os.path.join(TOP, BUILDS[library]), '--target', chosen.target])
+                       [os.path.join(TOP, BUILDS[library]), '--target', chosen.target, *['--of-ci'] * chosen.of_ci])
         check_texts(report, library, chosen.target)
     print(f'{report.passed} passed, {report.failed} failed')
     sys.exit(1 if report.failed else 0)

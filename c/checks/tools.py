@@ -43,12 +43,13 @@ def hide_rt(room):
 
 
 def clean_copy(folder):
-    """Copies the repository without what was built in it: the files that git knows, or where there is no git all."""
+    """Copies the repository without what was built in it, and without what rt alone reads: the files that git knows, or
+    where there is no git all."""
     if not os.path.exists(os.path.join(TOP, '.git')):
-        ignored = shutil.ignore_patterns('out', 'target', '__pycache__')
+        ignored = shutil.ignore_patterns('out', 'target', '__pycache__', 'crates')
         shutil.copytree(TOP, folder, symlinks=True, ignore=ignored)
         return
-    for name in must(['git', '-C', TOP, 'ls-files', '-z']).split('\0')[:-1]:
+    for name in must(['git', '-C', TOP, 'ls-files', '-z', '--', ':!crates']).split('\0')[:-1]:
         path = os.path.join(folder, name)
         os.makedirs(os.path.dirname(path), exist_ok=True)
         shutil.copy(os.path.join(TOP, name), path, follow_symlinks=False)
