@@ -1,4 +1,5 @@
 /* The functions below the cargo crate, for aarch64. Generated of what is proved: not to be changed by hand. Licence: MIT. */
+	.ifndef twox_rust_2_xxh64_start
 	.section .text.twox_plain.xxhash32.rounds.products_of_block.i2,"ax",@progbits
 	.p2align 6
 	.type twox_plain.xxhash32.rounds.products_of_block.i2,@function
@@ -8343,7 +8344,7 @@ twox_rust.xxh64.write_far.i2:
 	.size twox_rust.xxh64.write_far.i2,.-twox_rust.xxh64.write_far.i2
 	.section .text.twox_rust_2_derive_secret,"ax",@progbits
 	.p2align 6
-	.globl twox_rust_2_derive_secret
+	.weak twox_rust_2_derive_secret
 	.hidden twox_rust_2_derive_secret
 	.type twox_rust_2_derive_secret,@function
 twox_rust_2_derive_secret:
@@ -8400,7 +8401,7 @@ twox_rust_2_derive_secret:
 	.size twox_rust_2_derive_secret,.-twox_rust_2_derive_secret
 	.section .text.twox_rust_2_interface,"ax",@progbits
 	.p2align 6
-	.globl twox_rust_2_interface
+	.weak twox_rust_2_interface
 	.hidden twox_rust_2_interface
 	.type twox_rust_2_interface,@function
 twox_rust_2_interface:
@@ -8409,7 +8410,7 @@ twox_rust_2_interface:
 	.size twox_rust_2_interface,.-twox_rust_2_interface
 	.section .text.twox_rust_2_xxh32,"ax",@progbits
 	.p2align 6
-	.globl twox_rust_2_xxh32
+	.weak twox_rust_2_xxh32
 	.hidden twox_rust_2_xxh32
 	.type twox_rust_2_xxh32,@function
 twox_rust_2_xxh32:
@@ -8576,7 +8577,7 @@ twox_rust_2_xxh32:
 	.size twox_rust_2_xxh32,.-twox_rust_2_xxh32
 	.section .text.twox_rust_2_xxh32_finish,"ax",@progbits
 	.p2align 6
-	.globl twox_rust_2_xxh32_finish
+	.weak twox_rust_2_xxh32_finish
 	.hidden twox_rust_2_xxh32_finish
 	.type twox_rust_2_xxh32_finish,@function
 twox_rust_2_xxh32_finish:
@@ -8655,7 +8656,7 @@ twox_rust_2_xxh32_finish:
 	.size twox_rust_2_xxh32_finish,.-twox_rust_2_xxh32_finish
 	.section .text.twox_rust_2_xxh32_start,"ax",@progbits
 	.p2align 6
-	.globl twox_rust_2_xxh32_start
+	.weak twox_rust_2_xxh32_start
 	.hidden twox_rust_2_xxh32_start
 	.type twox_rust_2_xxh32_start,@function
 twox_rust_2_xxh32_start:
@@ -8681,7 +8682,7 @@ twox_rust_2_xxh32_start:
 	.size twox_rust_2_xxh32_start,.-twox_rust_2_xxh32_start
 	.section .text.twox_rust_2_xxh32_test,"ax",@progbits
 	.p2align 6
-	.globl twox_rust_2_xxh32_test
+	.weak twox_rust_2_xxh32_test
 	.hidden twox_rust_2_xxh32_test
 	.type twox_rust_2_xxh32_test,@function
 twox_rust_2_xxh32_test:
@@ -8730,7 +8731,7 @@ twox_rust_2_xxh32_test:
 	.size twox_rust_2_xxh32_test,.-twox_rust_2_xxh32_test
 	.section .text.twox_rust_2_xxh32_write,"ax",@progbits
 	.p2align 6
-	.globl twox_rust_2_xxh32_write
+	.weak twox_rust_2_xxh32_write
 	.hidden twox_rust_2_xxh32_write
 	.type twox_rust_2_xxh32_write,@function
 twox_rust_2_xxh32_write:
@@ -8961,7 +8962,7 @@ twox_rust_2_xxh32_write:
 	.size twox_rust_2_xxh32_write,.-twox_rust_2_xxh32_write
 	.section .text.twox_rust_2_xxh3_128,"ax",@progbits
 	.p2align 6
-	.globl twox_rust_2_xxh3_128
+	.weak twox_rust_2_xxh3_128
 	.hidden twox_rust_2_xxh3_128
 	.type twox_rust_2_xxh3_128,@function
 twox_rust_2_xxh3_128:
@@ -9216,7 +9217,7 @@ twox_rust_2_xxh3_128:
 	.size twox_rust_2_xxh3_128,.-twox_rust_2_xxh3_128
 	.section .text.twox_rust_2_xxh3_128_finish,"ax",@progbits
 	.p2align 6
-	.globl twox_rust_2_xxh3_128_finish
+	.weak twox_rust_2_xxh3_128_finish
 	.hidden twox_rust_2_xxh3_128_finish
 	.type twox_rust_2_xxh3_128_finish,@function
 twox_rust_2_xxh3_128_finish:
@@ -9741,7 +9742,7 @@ twox_rust_2_xxh3_128_finish:
 	.size twox_rust_2_xxh3_128_finish,.-twox_rust_2_xxh3_128_finish
 	.section .text.twox_rust_2_xxh3_128_with_secret,"ax",@progbits
 	.p2align 6
-	.globl twox_rust_2_xxh3_128_with_secret
+	.weak twox_rust_2_xxh3_128_with_secret
 	.hidden twox_rust_2_xxh3_128_with_secret
 	.type twox_rust_2_xxh3_128_with_secret,@function
 twox_rust_2_xxh3_128_with_secret:
@@ -9986,7 +9987,7 @@ twox_rust_2_xxh3_128_with_secret:
 	.size twox_rust_2_xxh3_128_with_secret,.-twox_rust_2_xxh3_128_with_secret
 	.section .text.twox_rust_2_xxh3_128_with_seed,"ax",@progbits
 	.p2align 6
-	.globl twox_rust_2_xxh3_128_with_seed
+	.weak twox_rust_2_xxh3_128_with_seed
 	.hidden twox_rust_2_xxh3_128_with_seed
 	.type twox_rust_2_xxh3_128_with_seed,@function
 twox_rust_2_xxh3_128_with_seed:
@@ -10266,7 +10267,7 @@ twox_rust_2_xxh3_128_with_seed:
 	.size twox_rust_2_xxh3_128_with_seed,.-twox_rust_2_xxh3_128_with_seed
 	.section .text.twox_rust_2_xxh3_128_with_seed_and_secret,"ax",@progbits
 	.p2align 6
-	.globl twox_rust_2_xxh3_128_with_seed_and_secret
+	.weak twox_rust_2_xxh3_128_with_seed_and_secret
 	.hidden twox_rust_2_xxh3_128_with_seed_and_secret
 	.type twox_rust_2_xxh3_128_with_seed_and_secret,@function
 twox_rust_2_xxh3_128_with_seed_and_secret:
@@ -10775,7 +10776,7 @@ twox_rust_2_xxh3_128_with_seed_and_secret:
 	.size twox_rust_2_xxh3_128_with_seed_and_secret,.-twox_rust_2_xxh3_128_with_seed_and_secret
 	.section .text.twox_rust_2_xxh3_64,"ax",@progbits
 	.p2align 6
-	.globl twox_rust_2_xxh3_64
+	.weak twox_rust_2_xxh3_64
 	.hidden twox_rust_2_xxh3_64
 	.type twox_rust_2_xxh3_64,@function
 twox_rust_2_xxh3_64:
@@ -11025,7 +11026,7 @@ twox_rust_2_xxh3_64:
 	.size twox_rust_2_xxh3_64,.-twox_rust_2_xxh3_64
 	.section .text.twox_rust_2_xxh3_64_finish,"ax",@progbits
 	.p2align 6
-	.globl twox_rust_2_xxh3_64_finish
+	.weak twox_rust_2_xxh3_64_finish
 	.hidden twox_rust_2_xxh3_64_finish
 	.type twox_rust_2_xxh3_64_finish,@function
 twox_rust_2_xxh3_64_finish:
@@ -11344,7 +11345,7 @@ twox_rust_2_xxh3_64_finish:
 	.size twox_rust_2_xxh3_64_finish,.-twox_rust_2_xxh3_64_finish
 	.section .text.twox_rust_2_xxh3_64_with_secret,"ax",@progbits
 	.p2align 6
-	.globl twox_rust_2_xxh3_64_with_secret
+	.weak twox_rust_2_xxh3_64_with_secret
 	.hidden twox_rust_2_xxh3_64_with_secret
 	.type twox_rust_2_xxh3_64_with_secret,@function
 twox_rust_2_xxh3_64_with_secret:
@@ -11564,7 +11565,7 @@ twox_rust_2_xxh3_64_with_secret:
 	.size twox_rust_2_xxh3_64_with_secret,.-twox_rust_2_xxh3_64_with_secret
 	.section .text.twox_rust_2_xxh3_64_with_seed,"ax",@progbits
 	.p2align 6
-	.globl twox_rust_2_xxh3_64_with_seed
+	.weak twox_rust_2_xxh3_64_with_seed
 	.hidden twox_rust_2_xxh3_64_with_seed
 	.type twox_rust_2_xxh3_64_with_seed,@function
 twox_rust_2_xxh3_64_with_seed:
@@ -11853,7 +11854,7 @@ twox_rust_2_xxh3_64_with_seed:
 	.size twox_rust_2_xxh3_64_with_seed,.-twox_rust_2_xxh3_64_with_seed
 	.section .text.twox_rust_2_xxh3_64_with_seed_and_secret,"ax",@progbits
 	.p2align 6
-	.globl twox_rust_2_xxh3_64_with_seed_and_secret
+	.weak twox_rust_2_xxh3_64_with_seed_and_secret
 	.hidden twox_rust_2_xxh3_64_with_seed_and_secret
 	.type twox_rust_2_xxh3_64_with_seed_and_secret,@function
 twox_rust_2_xxh3_64_with_seed_and_secret:
@@ -12157,7 +12158,7 @@ twox_rust_2_xxh3_64_with_seed_and_secret:
 	.size twox_rust_2_xxh3_64_with_seed_and_secret,.-twox_rust_2_xxh3_64_with_seed_and_secret
 	.section .text.twox_rust_2_xxh3_start,"ax",@progbits
 	.p2align 6
-	.globl twox_rust_2_xxh3_start
+	.weak twox_rust_2_xxh3_start
 	.hidden twox_rust_2_xxh3_start
 	.type twox_rust_2_xxh3_start,@function
 twox_rust_2_xxh3_start:
@@ -12182,7 +12183,7 @@ twox_rust_2_xxh3_start:
 	.size twox_rust_2_xxh3_start,.-twox_rust_2_xxh3_start
 	.section .text.twox_rust_2_xxh3_write,"ax",@progbits
 	.p2align 6
-	.globl twox_rust_2_xxh3_write
+	.weak twox_rust_2_xxh3_write
 	.hidden twox_rust_2_xxh3_write
 	.type twox_rust_2_xxh3_write,@function
 twox_rust_2_xxh3_write:
@@ -12297,7 +12298,7 @@ twox_rust_2_xxh3_write:
 	.size twox_rust_2_xxh3_write,.-twox_rust_2_xxh3_write
 	.section .text.twox_rust_2_xxh3_write_192,"ax",@progbits
 	.p2align 6
-	.globl twox_rust_2_xxh3_write_192
+	.weak twox_rust_2_xxh3_write_192
 	.hidden twox_rust_2_xxh3_write_192
 	.type twox_rust_2_xxh3_write_192,@function
 twox_rust_2_xxh3_write_192:
@@ -12406,7 +12407,7 @@ twox_rust_2_xxh3_write_192:
 	.size twox_rust_2_xxh3_write_192,.-twox_rust_2_xxh3_write_192
 	.section .text.twox_rust_2_xxh64,"ax",@progbits
 	.p2align 6
-	.globl twox_rust_2_xxh64
+	.weak twox_rust_2_xxh64
 	.hidden twox_rust_2_xxh64
 	.type twox_rust_2_xxh64,@function
 twox_rust_2_xxh64:
@@ -12498,7 +12499,7 @@ twox_rust_2_xxh64:
 	.size twox_rust_2_xxh64,.-twox_rust_2_xxh64
 	.section .text.twox_rust_2_xxh64_finish,"ax",@progbits
 	.p2align 6
-	.globl twox_rust_2_xxh64_finish
+	.weak twox_rust_2_xxh64_finish
 	.hidden twox_rust_2_xxh64_finish
 	.type twox_rust_2_xxh64_finish,@function
 twox_rust_2_xxh64_finish:
@@ -12601,7 +12602,7 @@ twox_rust_2_xxh64_finish:
 	.size twox_rust_2_xxh64_finish,.-twox_rust_2_xxh64_finish
 	.section .text.twox_rust_2_xxh64_start,"ax",@progbits
 	.p2align 6
-	.globl twox_rust_2_xxh64_start
+	.weak twox_rust_2_xxh64_start
 	.hidden twox_rust_2_xxh64_start
 	.type twox_rust_2_xxh64_start,@function
 twox_rust_2_xxh64_start:
@@ -12631,7 +12632,7 @@ twox_rust_2_xxh64_start:
 	.size twox_rust_2_xxh64_start,.-twox_rust_2_xxh64_start
 	.section .text.twox_rust_2_xxh64_test,"ax",@progbits
 	.p2align 6
-	.globl twox_rust_2_xxh64_test
+	.weak twox_rust_2_xxh64_test
 	.hidden twox_rust_2_xxh64_test
 	.type twox_rust_2_xxh64_test,@function
 twox_rust_2_xxh64_test:
@@ -12686,7 +12687,7 @@ twox_rust_2_xxh64_test:
 	.size twox_rust_2_xxh64_test,.-twox_rust_2_xxh64_test
 	.section .text.twox_rust_2_xxh64_write,"ax",@progbits
 	.p2align 6
-	.globl twox_rust_2_xxh64_write
+	.weak twox_rust_2_xxh64_write
 	.hidden twox_rust_2_xxh64_write
 	.type twox_rust_2_xxh64_write,@function
 twox_rust_2_xxh64_write:
@@ -13127,5 +13128,6 @@ twox_rust_2_xxh64_write:
 	.quad 0x49daf0b751dd0d17,0x9e68d429265516d3
 	.quad 0xfca1477d58be162b,0xce31d07ad1b8f88f
 	.quad 0x280416958f3acb45,0x7e404bbbcafbd7af
+	.endif
 	.section .note.GNU-stack,"",@progbits
 	.text

@@ -1,4 +1,5 @@
 /* The functions below the cargo crate, for x86-64-v3. Generated of what is proved: not to be changed by hand. Licence: MIT. */
+	.ifndef twox_rust_2_xxh64_start_v3
 	.section .text.twox_plain.xxhash32.rounds.products_of_block.i2_v3,"ax",@progbits
 	.p2align 6
 	.type twox_plain.xxhash32.rounds.products_of_block.i2_v3,@function
@@ -6742,7 +6743,7 @@ twox_rust.xxh64.write_far.i2_v3:
 	.size twox_rust.xxh64.write_far.i2_v3,.-twox_rust.xxh64.write_far.i2_v3
 	.section .text.twox_rust_2_derive_secret_v3,"ax",@progbits
 	.p2align 6
-	.globl twox_rust_2_derive_secret_v3
+	.weak twox_rust_2_derive_secret_v3
 	.hidden twox_rust_2_derive_secret_v3
 	.type twox_rust_2_derive_secret_v3,@function
 twox_rust_2_derive_secret_v3:
@@ -6771,7 +6772,7 @@ twox_rust_2_derive_secret_v3:
 	.size twox_rust_2_derive_secret_v3,.-twox_rust_2_derive_secret_v3
 	.section .text.twox_rust_2_interface_v3,"ax",@progbits
 	.p2align 6
-	.globl twox_rust_2_interface_v3
+	.weak twox_rust_2_interface_v3
 	.hidden twox_rust_2_interface_v3
 	.type twox_rust_2_interface_v3,@function
 twox_rust_2_interface_v3:
@@ -6780,7 +6781,7 @@ twox_rust_2_interface_v3:
 	.size twox_rust_2_interface_v3,.-twox_rust_2_interface_v3
 	.section .text.twox_rust_2_xxh32_v3,"ax",@progbits
 	.p2align 6
-	.globl twox_rust_2_xxh32_v3
+	.weak twox_rust_2_xxh32_v3
 	.hidden twox_rust_2_xxh32_v3
 	.type twox_rust_2_xxh32_v3,@function
 twox_rust_2_xxh32_v3:
@@ -6993,7 +6994,7 @@ twox_rust_2_xxh32_v3:
 	.size twox_rust_2_xxh32_v3,.-twox_rust_2_xxh32_v3
 	.section .text.twox_rust_2_xxh32_finish_v3,"ax",@progbits
 	.p2align 6
-	.globl twox_rust_2_xxh32_finish_v3
+	.weak twox_rust_2_xxh32_finish_v3
 	.hidden twox_rust_2_xxh32_finish_v3
 	.type twox_rust_2_xxh32_finish_v3,@function
 twox_rust_2_xxh32_finish_v3:
@@ -7071,7 +7072,7 @@ twox_rust_2_xxh32_finish_v3:
 	.size twox_rust_2_xxh32_finish_v3,.-twox_rust_2_xxh32_finish_v3
 	.section .text.twox_rust_2_xxh32_start_v3,"ax",@progbits
 	.p2align 6
-	.globl twox_rust_2_xxh32_start_v3
+	.weak twox_rust_2_xxh32_start_v3
 	.hidden twox_rust_2_xxh32_start_v3
 	.type twox_rust_2_xxh32_start_v3,@function
 twox_rust_2_xxh32_start_v3:
@@ -7092,7 +7093,7 @@ twox_rust_2_xxh32_start_v3:
 	.size twox_rust_2_xxh32_start_v3,.-twox_rust_2_xxh32_start_v3
 	.section .text.twox_rust_2_xxh32_test_v3,"ax",@progbits
 	.p2align 6
-	.globl twox_rust_2_xxh32_test_v3
+	.weak twox_rust_2_xxh32_test_v3
 	.hidden twox_rust_2_xxh32_test_v3
 	.type twox_rust_2_xxh32_test_v3,@function
 twox_rust_2_xxh32_test_v3:
@@ -7131,7 +7132,7 @@ twox_rust_2_xxh32_test_v3:
 	.size twox_rust_2_xxh32_test_v3,.-twox_rust_2_xxh32_test_v3
 	.section .text.twox_rust_2_xxh32_write_v3,"ax",@progbits
 	.p2align 6
-	.globl twox_rust_2_xxh32_write_v3
+	.weak twox_rust_2_xxh32_write_v3
 	.hidden twox_rust_2_xxh32_write_v3
 	.type twox_rust_2_xxh32_write_v3,@function
 twox_rust_2_xxh32_write_v3:
@@ -7338,7 +7339,7 @@ twox_rust_2_xxh32_write_v3:
 	.size twox_rust_2_xxh32_write_v3,.-twox_rust_2_xxh32_write_v3
 	.section .text.twox_rust_2_xxh3_128_v3,"ax",@progbits
 	.p2align 6
-	.globl twox_rust_2_xxh3_128_v3
+	.weak twox_rust_2_xxh3_128_v3
 	.hidden twox_rust_2_xxh3_128_v3
 	.type twox_rust_2_xxh3_128_v3,@function
 twox_rust_2_xxh3_128_v3:
@@ -7555,7 +7556,7 @@ twox_rust_2_xxh3_128_v3:
 	.size twox_rust_2_xxh3_128_v3,.-twox_rust_2_xxh3_128_v3
 	.section .text.twox_rust_2_xxh3_128_finish_v3,"ax",@progbits
 	.p2align 6
-	.globl twox_rust_2_xxh3_128_finish_v3
+	.weak twox_rust_2_xxh3_128_finish_v3
 	.hidden twox_rust_2_xxh3_128_finish_v3
 	.type twox_rust_2_xxh3_128_finish_v3,@function
 twox_rust_2_xxh3_128_finish_v3:
@@ -7993,7 +7994,7 @@ twox_rust_2_xxh3_128_finish_v3:
 	.size twox_rust_2_xxh3_128_finish_v3,.-twox_rust_2_xxh3_128_finish_v3
 	.section .text.twox_rust_2_xxh3_128_with_secret_v3,"ax",@progbits
 	.p2align 6
-	.globl twox_rust_2_xxh3_128_with_secret_v3
+	.weak twox_rust_2_xxh3_128_with_secret_v3
 	.hidden twox_rust_2_xxh3_128_with_secret_v3
 	.type twox_rust_2_xxh3_128_with_secret_v3,@function
 twox_rust_2_xxh3_128_with_secret_v3:
@@ -8270,7 +8271,7 @@ twox_rust_2_xxh3_128_with_secret_v3:
 	.size twox_rust_2_xxh3_128_with_secret_v3,.-twox_rust_2_xxh3_128_with_secret_v3
 	.section .text.twox_rust_2_xxh3_128_with_seed_v3,"ax",@progbits
 	.p2align 6
-	.globl twox_rust_2_xxh3_128_with_seed_v3
+	.weak twox_rust_2_xxh3_128_with_seed_v3
 	.hidden twox_rust_2_xxh3_128_with_seed_v3
 	.type twox_rust_2_xxh3_128_with_seed_v3,@function
 twox_rust_2_xxh3_128_with_seed_v3:
@@ -8538,7 +8539,7 @@ twox_rust_2_xxh3_128_with_seed_v3:
 	.size twox_rust_2_xxh3_128_with_seed_v3,.-twox_rust_2_xxh3_128_with_seed_v3
 	.section .text.twox_rust_2_xxh3_128_with_seed_and_secret_v3,"ax",@progbits
 	.p2align 6
-	.globl twox_rust_2_xxh3_128_with_seed_and_secret_v3
+	.weak twox_rust_2_xxh3_128_with_seed_and_secret_v3
 	.hidden twox_rust_2_xxh3_128_with_seed_and_secret_v3
 	.type twox_rust_2_xxh3_128_with_seed_and_secret_v3,@function
 twox_rust_2_xxh3_128_with_seed_and_secret_v3:
@@ -8969,7 +8970,7 @@ twox_rust_2_xxh3_128_with_seed_and_secret_v3:
 	.size twox_rust_2_xxh3_128_with_seed_and_secret_v3,.-twox_rust_2_xxh3_128_with_seed_and_secret_v3
 	.section .text.twox_rust_2_xxh3_64_v3,"ax",@progbits
 	.p2align 6
-	.globl twox_rust_2_xxh3_64_v3
+	.weak twox_rust_2_xxh3_64_v3
 	.hidden twox_rust_2_xxh3_64_v3
 	.type twox_rust_2_xxh3_64_v3,@function
 twox_rust_2_xxh3_64_v3:
@@ -9142,7 +9143,7 @@ twox_rust_2_xxh3_64_v3:
 	.size twox_rust_2_xxh3_64_v3,.-twox_rust_2_xxh3_64_v3
 	.section .text.twox_rust_2_xxh3_64_finish_v3,"ax",@progbits
 	.p2align 6
-	.globl twox_rust_2_xxh3_64_finish_v3
+	.weak twox_rust_2_xxh3_64_finish_v3
 	.hidden twox_rust_2_xxh3_64_finish_v3
 	.type twox_rust_2_xxh3_64_finish_v3,@function
 twox_rust_2_xxh3_64_finish_v3:
@@ -9388,7 +9389,7 @@ twox_rust_2_xxh3_64_finish_v3:
 	.size twox_rust_2_xxh3_64_finish_v3,.-twox_rust_2_xxh3_64_finish_v3
 	.section .text.twox_rust_2_xxh3_64_with_secret_v3,"ax",@progbits
 	.p2align 6
-	.globl twox_rust_2_xxh3_64_with_secret_v3
+	.weak twox_rust_2_xxh3_64_with_secret_v3
 	.hidden twox_rust_2_xxh3_64_with_secret_v3
 	.type twox_rust_2_xxh3_64_with_secret_v3,@function
 twox_rust_2_xxh3_64_with_secret_v3:
@@ -9623,7 +9624,7 @@ twox_rust_2_xxh3_64_with_secret_v3:
 	.size twox_rust_2_xxh3_64_with_secret_v3,.-twox_rust_2_xxh3_64_with_secret_v3
 	.section .text.twox_rust_2_xxh3_64_with_seed_v3,"ax",@progbits
 	.p2align 6
-	.globl twox_rust_2_xxh3_64_with_seed_v3
+	.weak twox_rust_2_xxh3_64_with_seed_v3
 	.hidden twox_rust_2_xxh3_64_with_seed_v3
 	.type twox_rust_2_xxh3_64_with_seed_v3,@function
 twox_rust_2_xxh3_64_with_seed_v3:
@@ -9843,7 +9844,7 @@ twox_rust_2_xxh3_64_with_seed_v3:
 	.size twox_rust_2_xxh3_64_with_seed_v3,.-twox_rust_2_xxh3_64_with_seed_v3
 	.section .text.twox_rust_2_xxh3_64_with_seed_and_secret_v3,"ax",@progbits
 	.p2align 6
-	.globl twox_rust_2_xxh3_64_with_seed_and_secret_v3
+	.weak twox_rust_2_xxh3_64_with_seed_and_secret_v3
 	.hidden twox_rust_2_xxh3_64_with_seed_and_secret_v3
 	.type twox_rust_2_xxh3_64_with_seed_and_secret_v3,@function
 twox_rust_2_xxh3_64_with_seed_and_secret_v3:
@@ -10088,7 +10089,7 @@ twox_rust_2_xxh3_64_with_seed_and_secret_v3:
 	.size twox_rust_2_xxh3_64_with_seed_and_secret_v3,.-twox_rust_2_xxh3_64_with_seed_and_secret_v3
 	.section .text.twox_rust_2_xxh3_start_v3,"ax",@progbits
 	.p2align 6
-	.globl twox_rust_2_xxh3_start_v3
+	.weak twox_rust_2_xxh3_start_v3
 	.hidden twox_rust_2_xxh3_start_v3
 	.type twox_rust_2_xxh3_start_v3,@function
 twox_rust_2_xxh3_start_v3:
@@ -10105,7 +10106,7 @@ twox_rust_2_xxh3_start_v3:
 	.size twox_rust_2_xxh3_start_v3,.-twox_rust_2_xxh3_start_v3
 	.section .text.twox_rust_2_xxh3_write_v3,"ax",@progbits
 	.p2align 6
-	.globl twox_rust_2_xxh3_write_v3
+	.weak twox_rust_2_xxh3_write_v3
 	.hidden twox_rust_2_xxh3_write_v3
 	.type twox_rust_2_xxh3_write_v3,@function
 twox_rust_2_xxh3_write_v3:
@@ -10211,7 +10212,7 @@ twox_rust_2_xxh3_write_v3:
 	.size twox_rust_2_xxh3_write_v3,.-twox_rust_2_xxh3_write_v3
 	.section .text.twox_rust_2_xxh3_write_192_v3,"ax",@progbits
 	.p2align 6
-	.globl twox_rust_2_xxh3_write_192_v3
+	.weak twox_rust_2_xxh3_write_192_v3
 	.hidden twox_rust_2_xxh3_write_192_v3
 	.type twox_rust_2_xxh3_write_192_v3,@function
 twox_rust_2_xxh3_write_192_v3:
@@ -10313,7 +10314,7 @@ twox_rust_2_xxh3_write_192_v3:
 	.size twox_rust_2_xxh3_write_192_v3,.-twox_rust_2_xxh3_write_192_v3
 	.section .text.twox_rust_2_xxh64_v3,"ax",@progbits
 	.p2align 6
-	.globl twox_rust_2_xxh64_v3
+	.weak twox_rust_2_xxh64_v3
 	.hidden twox_rust_2_xxh64_v3
 	.type twox_rust_2_xxh64_v3,@function
 twox_rust_2_xxh64_v3:
@@ -10404,7 +10405,7 @@ twox_rust_2_xxh64_v3:
 	.size twox_rust_2_xxh64_v3,.-twox_rust_2_xxh64_v3
 	.section .text.twox_rust_2_xxh64_finish_v3,"ax",@progbits
 	.p2align 6
-	.globl twox_rust_2_xxh64_finish_v3
+	.weak twox_rust_2_xxh64_finish_v3
 	.hidden twox_rust_2_xxh64_finish_v3
 	.type twox_rust_2_xxh64_finish_v3,@function
 twox_rust_2_xxh64_finish_v3:
@@ -10501,7 +10502,7 @@ twox_rust_2_xxh64_finish_v3:
 	.size twox_rust_2_xxh64_finish_v3,.-twox_rust_2_xxh64_finish_v3
 	.section .text.twox_rust_2_xxh64_start_v3,"ax",@progbits
 	.p2align 6
-	.globl twox_rust_2_xxh64_start_v3
+	.weak twox_rust_2_xxh64_start_v3
 	.hidden twox_rust_2_xxh64_start_v3
 	.type twox_rust_2_xxh64_start_v3,@function
 twox_rust_2_xxh64_start_v3:
@@ -10525,7 +10526,7 @@ twox_rust_2_xxh64_start_v3:
 	.size twox_rust_2_xxh64_start_v3,.-twox_rust_2_xxh64_start_v3
 	.section .text.twox_rust_2_xxh64_test_v3,"ax",@progbits
 	.p2align 6
-	.globl twox_rust_2_xxh64_test_v3
+	.weak twox_rust_2_xxh64_test_v3
 	.hidden twox_rust_2_xxh64_test_v3
 	.type twox_rust_2_xxh64_test_v3,@function
 twox_rust_2_xxh64_test_v3:
@@ -10568,7 +10569,7 @@ twox_rust_2_xxh64_test_v3:
 	.size twox_rust_2_xxh64_test_v3,.-twox_rust_2_xxh64_test_v3
 	.section .text.twox_rust_2_xxh64_write_v3,"ax",@progbits
 	.p2align 6
-	.globl twox_rust_2_xxh64_write_v3
+	.weak twox_rust_2_xxh64_write_v3
 	.hidden twox_rust_2_xxh64_write_v3
 	.type twox_rust_2_xxh64_write_v3,@function
 twox_rust_2_xxh64_write_v3:
@@ -11014,5 +11015,6 @@ twox_rust_2_xxh64_write_v3:
 	.quad 0x49daf0b751dd0d17,0x9e68d429265516d3
 	.quad 0xfca1477d58be162b,0xce31d07ad1b8f88f
 	.quad 0x280416958f3acb45,0x7e404bbbcafbd7af
+	.endif
 	.section .note.GNU-stack,"",@progbits
 	.text

@@ -1,4 +1,5 @@
 /* The functions below the cargo crate, for x86-64. Generated of what is proved: not to be changed by hand. Licence: MIT. */
+	.ifndef twox_rust_2_xxh64_start
 	.section .text.twox_plain.xxhash32.rounds.products_of_block.i2,"ax",@progbits
 	.p2align 6
 	.type twox_plain.xxhash32.rounds.products_of_block.i2,@function
@@ -9181,7 +9182,7 @@ twox_rust.xxh64.write_far.i2:
 	.size twox_rust.xxh64.write_far.i2,.-twox_rust.xxh64.write_far.i2
 	.section .text.twox_rust_2_derive_secret,"ax",@progbits
 	.p2align 6
-	.globl twox_rust_2_derive_secret
+	.weak twox_rust_2_derive_secret
 	.hidden twox_rust_2_derive_secret
 	.type twox_rust_2_derive_secret,@function
 twox_rust_2_derive_secret:
@@ -9229,7 +9230,7 @@ twox_rust_2_derive_secret:
 	.size twox_rust_2_derive_secret,.-twox_rust_2_derive_secret
 	.section .text.twox_rust_2_interface,"ax",@progbits
 	.p2align 6
-	.globl twox_rust_2_interface
+	.weak twox_rust_2_interface
 	.hidden twox_rust_2_interface
 	.type twox_rust_2_interface,@function
 twox_rust_2_interface:
@@ -9238,7 +9239,7 @@ twox_rust_2_interface:
 	.size twox_rust_2_interface,.-twox_rust_2_interface
 	.section .text.twox_rust_2_xxh32,"ax",@progbits
 	.p2align 6
-	.globl twox_rust_2_xxh32
+	.weak twox_rust_2_xxh32
 	.hidden twox_rust_2_xxh32
 	.type twox_rust_2_xxh32,@function
 twox_rust_2_xxh32:
@@ -9426,7 +9427,7 @@ twox_rust_2_xxh32:
 	.size twox_rust_2_xxh32,.-twox_rust_2_xxh32
 	.section .text.twox_rust_2_xxh32_finish,"ax",@progbits
 	.p2align 6
-	.globl twox_rust_2_xxh32_finish
+	.weak twox_rust_2_xxh32_finish
 	.hidden twox_rust_2_xxh32_finish
 	.type twox_rust_2_xxh32_finish,@function
 twox_rust_2_xxh32_finish:
@@ -9522,7 +9523,7 @@ twox_rust_2_xxh32_finish:
 	.size twox_rust_2_xxh32_finish,.-twox_rust_2_xxh32_finish
 	.section .text.twox_rust_2_xxh32_start,"ax",@progbits
 	.p2align 6
-	.globl twox_rust_2_xxh32_start
+	.weak twox_rust_2_xxh32_start
 	.hidden twox_rust_2_xxh32_start
 	.type twox_rust_2_xxh32_start,@function
 twox_rust_2_xxh32_start:
@@ -9545,7 +9546,7 @@ twox_rust_2_xxh32_start:
 	.size twox_rust_2_xxh32_start,.-twox_rust_2_xxh32_start
 	.section .text.twox_rust_2_xxh32_test,"ax",@progbits
 	.p2align 6
-	.globl twox_rust_2_xxh32_test
+	.weak twox_rust_2_xxh32_test
 	.hidden twox_rust_2_xxh32_test
 	.type twox_rust_2_xxh32_test,@function
 twox_rust_2_xxh32_test:
@@ -9585,7 +9586,7 @@ twox_rust_2_xxh32_test:
 	.size twox_rust_2_xxh32_test,.-twox_rust_2_xxh32_test
 	.section .text.twox_rust_2_xxh32_write,"ax",@progbits
 	.p2align 6
-	.globl twox_rust_2_xxh32_write
+	.weak twox_rust_2_xxh32_write
 	.hidden twox_rust_2_xxh32_write
 	.type twox_rust_2_xxh32_write,@function
 twox_rust_2_xxh32_write:
@@ -9792,7 +9793,7 @@ twox_rust_2_xxh32_write:
 	.size twox_rust_2_xxh32_write,.-twox_rust_2_xxh32_write
 	.section .text.twox_rust_2_xxh3_128,"ax",@progbits
 	.p2align 6
-	.globl twox_rust_2_xxh3_128
+	.weak twox_rust_2_xxh3_128
 	.hidden twox_rust_2_xxh3_128
 	.type twox_rust_2_xxh3_128,@function
 twox_rust_2_xxh3_128:
@@ -10010,7 +10011,7 @@ twox_rust_2_xxh3_128:
 	.size twox_rust_2_xxh3_128,.-twox_rust_2_xxh3_128
 	.section .text.twox_rust_2_xxh3_128_finish,"ax",@progbits
 	.p2align 6
-	.globl twox_rust_2_xxh3_128_finish
+	.weak twox_rust_2_xxh3_128_finish
 	.hidden twox_rust_2_xxh3_128_finish
 	.type twox_rust_2_xxh3_128_finish,@function
 twox_rust_2_xxh3_128_finish:
@@ -10448,7 +10449,7 @@ twox_rust_2_xxh3_128_finish:
 	.size twox_rust_2_xxh3_128_finish,.-twox_rust_2_xxh3_128_finish
 	.section .text.twox_rust_2_xxh3_128_with_secret,"ax",@progbits
 	.p2align 6
-	.globl twox_rust_2_xxh3_128_with_secret
+	.weak twox_rust_2_xxh3_128_with_secret
 	.hidden twox_rust_2_xxh3_128_with_secret
 	.type twox_rust_2_xxh3_128_with_secret,@function
 twox_rust_2_xxh3_128_with_secret:
@@ -10720,7 +10721,7 @@ twox_rust_2_xxh3_128_with_secret:
 	.size twox_rust_2_xxh3_128_with_secret,.-twox_rust_2_xxh3_128_with_secret
 	.section .text.twox_rust_2_xxh3_128_with_seed,"ax",@progbits
 	.p2align 6
-	.globl twox_rust_2_xxh3_128_with_seed
+	.weak twox_rust_2_xxh3_128_with_seed
 	.hidden twox_rust_2_xxh3_128_with_seed
 	.type twox_rust_2_xxh3_128_with_seed,@function
 twox_rust_2_xxh3_128_with_seed:
@@ -10987,7 +10988,7 @@ twox_rust_2_xxh3_128_with_seed:
 	.size twox_rust_2_xxh3_128_with_seed,.-twox_rust_2_xxh3_128_with_seed
 	.section .text.twox_rust_2_xxh3_128_with_seed_and_secret,"ax",@progbits
 	.p2align 6
-	.globl twox_rust_2_xxh3_128_with_seed_and_secret
+	.weak twox_rust_2_xxh3_128_with_seed_and_secret
 	.hidden twox_rust_2_xxh3_128_with_seed_and_secret
 	.type twox_rust_2_xxh3_128_with_seed_and_secret,@function
 twox_rust_2_xxh3_128_with_seed_and_secret:
@@ -11419,7 +11420,7 @@ twox_rust_2_xxh3_128_with_seed_and_secret:
 	.size twox_rust_2_xxh3_128_with_seed_and_secret,.-twox_rust_2_xxh3_128_with_seed_and_secret
 	.section .text.twox_rust_2_xxh3_64,"ax",@progbits
 	.p2align 6
-	.globl twox_rust_2_xxh3_64
+	.weak twox_rust_2_xxh3_64
 	.hidden twox_rust_2_xxh3_64
 	.type twox_rust_2_xxh3_64,@function
 twox_rust_2_xxh3_64:
@@ -11599,7 +11600,7 @@ twox_rust_2_xxh3_64:
 	.size twox_rust_2_xxh3_64,.-twox_rust_2_xxh3_64
 	.section .text.twox_rust_2_xxh3_64_finish,"ax",@progbits
 	.p2align 6
-	.globl twox_rust_2_xxh3_64_finish
+	.weak twox_rust_2_xxh3_64_finish
 	.hidden twox_rust_2_xxh3_64_finish
 	.type twox_rust_2_xxh3_64_finish,@function
 twox_rust_2_xxh3_64_finish:
@@ -11851,7 +11852,7 @@ twox_rust_2_xxh3_64_finish:
 	.size twox_rust_2_xxh3_64_finish,.-twox_rust_2_xxh3_64_finish
 	.section .text.twox_rust_2_xxh3_64_with_secret,"ax",@progbits
 	.p2align 6
-	.globl twox_rust_2_xxh3_64_with_secret
+	.weak twox_rust_2_xxh3_64_with_secret
 	.hidden twox_rust_2_xxh3_64_with_secret
 	.type twox_rust_2_xxh3_64_with_secret,@function
 twox_rust_2_xxh3_64_with_secret:
@@ -12087,7 +12088,7 @@ twox_rust_2_xxh3_64_with_secret:
 	.size twox_rust_2_xxh3_64_with_secret,.-twox_rust_2_xxh3_64_with_secret
 	.section .text.twox_rust_2_xxh3_64_with_seed,"ax",@progbits
 	.p2align 6
-	.globl twox_rust_2_xxh3_64_with_seed
+	.weak twox_rust_2_xxh3_64_with_seed
 	.hidden twox_rust_2_xxh3_64_with_seed
 	.type twox_rust_2_xxh3_64_with_seed,@function
 twox_rust_2_xxh3_64_with_seed:
@@ -12315,7 +12316,7 @@ twox_rust_2_xxh3_64_with_seed:
 	.size twox_rust_2_xxh3_64_with_seed,.-twox_rust_2_xxh3_64_with_seed
 	.section .text.twox_rust_2_xxh3_64_with_seed_and_secret,"ax",@progbits
 	.p2align 6
-	.globl twox_rust_2_xxh3_64_with_seed_and_secret
+	.weak twox_rust_2_xxh3_64_with_seed_and_secret
 	.hidden twox_rust_2_xxh3_64_with_seed_and_secret
 	.type twox_rust_2_xxh3_64_with_seed_and_secret,@function
 twox_rust_2_xxh3_64_with_seed_and_secret:
@@ -12557,7 +12558,7 @@ twox_rust_2_xxh3_64_with_seed_and_secret:
 	.size twox_rust_2_xxh3_64_with_seed_and_secret,.-twox_rust_2_xxh3_64_with_seed_and_secret
 	.section .text.twox_rust_2_xxh3_start,"ax",@progbits
 	.p2align 6
-	.globl twox_rust_2_xxh3_start
+	.weak twox_rust_2_xxh3_start
 	.hidden twox_rust_2_xxh3_start
 	.type twox_rust_2_xxh3_start,@function
 twox_rust_2_xxh3_start:
@@ -12585,7 +12586,7 @@ twox_rust_2_xxh3_start:
 	.size twox_rust_2_xxh3_start,.-twox_rust_2_xxh3_start
 	.section .text.twox_rust_2_xxh3_write,"ax",@progbits
 	.p2align 6
-	.globl twox_rust_2_xxh3_write
+	.weak twox_rust_2_xxh3_write
 	.hidden twox_rust_2_xxh3_write
 	.type twox_rust_2_xxh3_write,@function
 twox_rust_2_xxh3_write:
@@ -12694,7 +12695,7 @@ twox_rust_2_xxh3_write:
 	.size twox_rust_2_xxh3_write,.-twox_rust_2_xxh3_write
 	.section .text.twox_rust_2_xxh3_write_192,"ax",@progbits
 	.p2align 6
-	.globl twox_rust_2_xxh3_write_192
+	.weak twox_rust_2_xxh3_write_192
 	.hidden twox_rust_2_xxh3_write_192
 	.type twox_rust_2_xxh3_write_192,@function
 twox_rust_2_xxh3_write_192:
@@ -12799,7 +12800,7 @@ twox_rust_2_xxh3_write_192:
 	.size twox_rust_2_xxh3_write_192,.-twox_rust_2_xxh3_write_192
 	.section .text.twox_rust_2_xxh64,"ax",@progbits
 	.p2align 6
-	.globl twox_rust_2_xxh64
+	.weak twox_rust_2_xxh64
 	.hidden twox_rust_2_xxh64
 	.type twox_rust_2_xxh64,@function
 twox_rust_2_xxh64:
@@ -12932,7 +12933,7 @@ twox_rust_2_xxh64:
 	.size twox_rust_2_xxh64,.-twox_rust_2_xxh64
 	.section .text.twox_rust_2_xxh64_finish,"ax",@progbits
 	.p2align 6
-	.globl twox_rust_2_xxh64_finish
+	.weak twox_rust_2_xxh64_finish
 	.hidden twox_rust_2_xxh64_finish
 	.type twox_rust_2_xxh64_finish,@function
 twox_rust_2_xxh64_finish:
@@ -13064,7 +13065,7 @@ twox_rust_2_xxh64_finish:
 	.size twox_rust_2_xxh64_finish,.-twox_rust_2_xxh64_finish
 	.section .text.twox_rust_2_xxh64_start,"ax",@progbits
 	.p2align 6
-	.globl twox_rust_2_xxh64_start
+	.weak twox_rust_2_xxh64_start
 	.hidden twox_rust_2_xxh64_start
 	.type twox_rust_2_xxh64_start,@function
 twox_rust_2_xxh64_start:
@@ -13088,7 +13089,7 @@ twox_rust_2_xxh64_start:
 	.size twox_rust_2_xxh64_start,.-twox_rust_2_xxh64_start
 	.section .text.twox_rust_2_xxh64_test,"ax",@progbits
 	.p2align 6
-	.globl twox_rust_2_xxh64_test
+	.weak twox_rust_2_xxh64_test
 	.hidden twox_rust_2_xxh64_test
 	.type twox_rust_2_xxh64_test,@function
 twox_rust_2_xxh64_test:
@@ -13131,7 +13132,7 @@ twox_rust_2_xxh64_test:
 	.size twox_rust_2_xxh64_test,.-twox_rust_2_xxh64_test
 	.section .text.twox_rust_2_xxh64_write,"ax",@progbits
 	.p2align 6
-	.globl twox_rust_2_xxh64_write
+	.weak twox_rust_2_xxh64_write
 	.hidden twox_rust_2_xxh64_write
 	.type twox_rust_2_xxh64_write,@function
 twox_rust_2_xxh64_write:
@@ -13568,5 +13569,6 @@ twox_rust_2_xxh64_write:
 	.quad 0x49daf0b751dd0d17,0x9e68d429265516d3
 	.quad 0xfca1477d58be162b,0xce31d07ad1b8f88f
 	.quad 0x280416958f3acb45,0x7e404bbbcafbd7af
+	.endif
 	.section .note.GNU-stack,"",@progbits
 	.text
