@@ -195,7 +195,7 @@ class SourceRoom(Room):
                   '-C link-arg=-lgcc')
         return super().environment(f'{native} {flags}', **{
             # The switch for `-Z build-std`, which a released compiler has too.
-            'RUSTC_BOOTSTRAP': '1', 'RUSTC': '/usr/bin/rustc',
+            'RUSTC_BOOTSTRAP': '1', 'RUSTC': '/usr/bin/rustc', 'RUSTDOC': '/usr/bin/rustdoc',
             **for_target(self.target, LINKER=self.linker, RUNNER=self.runner), **more})
 
     def cargo(self, folder, command, *words, environment=None):
