@@ -1,0 +1,58 @@
+#include "functions.h"
+
+#include "arguments.h"
+#include "kinds.h"
+#include "values.h"
+
+/* Hashes what `name(input, seed=0, *, secret=None)` is given into `value`. Answers 0 with an exception where it isn't
+ * right. Bytes alone, as most calls have them, are taken as they are. */
+static inline int oneshot(value *value, const struct kind *kind, const char *name, PyObject *const *args,
+                          Py_ssize_t count, PyObject *names)
+{
+    if (count == 1 && !names && PyBytes_CheckExact(args[0])) {
+        const struct key key = {0};
+        char *start;
+        Py_ssize_t length;
+        PyBytes_AsStringAndSize(args[0], &start, &length);
+        *value = hash_of(kind, start, (size_t)length, &key);
+        return 1;
+    }
+    struct arguments arguments;
+    if (!open_arguments(&arguments, kind, name, args, count, names)) return 0;
+    *value = hash_of(kind, arguments.input.start, arguments.input.length, &arguments.key);
+    close_arguments(&arguments);
+    return 1;
+}
+
+#define FUNCTION(kind, form) \
+    static PyObject *kind##_##form(PyObject *module, PyObject *const *args, Py_ssize_t count, PyObject *names) \
+    { \
+        value value; \
+        (void)module; \
+        if (!oneshot(&value, &kind##_kind, #kind "_" #form, args, count, names)) return NULL; \
+        return as_##form(&kind##_kind, value); \
+    }
+
+#define FUNCTIONS(kind) FUNCTION(kind, digest) FUNCTION(kind, hexdigest) FUNCTION(kind, intdigest)
+
+FUNCTIONS(xxh32)
+FUNCTIONS(xxh64)
+FUNCTIONS(xxh3_64)
+FUNCTIONS(xxh3_128)
+
+#define ROW(kind, form, signature, does) \
+    {#kind "_" #form, (PyCFunction)(void (*)(void))kind##_##form, METH_FASTCALL | METH_KEYWORDS, \
+     #kind "_" #form signature "\n--\n\n" does " of the whole input."},
+
+#define ROWS(kind, signature) \
+    ROW(kind, digest, signature, "The digest, as bytes,") \
+    ROW(kind, hexdigest, signature, "The digest, as hexadecimal digits,") \
+    ROW(kind, intdigest, signature, "The value, as a number,")
+
+PyMethodDef functions[] = {
+    ROWS(xxh32, "(input, seed=0)")
+    ROWS(xxh64, "(input, seed=0)")
+    ROWS(xxh3_64, "(input, seed=0, *, secret=None)")
+    ROWS(xxh3_128, "(input, seed=0, *, secret=None)")
+    {0},
+};

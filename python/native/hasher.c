@@ -1,0 +1,271 @@
+#include "hasher.h"
+
+#include <string.h>
+
+#include "arguments.h"
+#include "many.h"
+#include "saved.h"
+#include "state_sizes.h"
+#include "values.h"
+
+void enter(struct hasher *hasher)
+{
+    if (!hasher->lock || PyThread_acquire_lock(hasher->lock, NOWAIT_LOCK)) return;
+    Py_BEGIN_ALLOW_THREADS
+    PyThread_acquire_lock(hasher->lock, WAIT_LOCK);
+    Py_END_ALLOW_THREADS
+}
+
+void leave(struct hasher *hasher)
+{
+    if (hasher->lock) PyThread_release_lock(hasher->lock);
+}
+
+/* Takes a piece while other threads run. The lock is there. */
+static void take_long(struct hasher *hasher, const void *start, size_t length)
+{
+    Py_BEGIN_ALLOW_THREADS
+    PyThread_acquire_lock(hasher->lock, WAIT_LOCK);
+    hasher->kind->take(hasher->state, start, length);
+    PyThread_release_lock(hasher->lock);
+    Py_END_ALLOW_THREADS
+}
+
+/* Takes a piece. Without memory for a lock no other thread runs meanwhile. */
+static void take(struct hasher *hasher, const void *start, size_t length)
+{
+    hasher->is_new = 0;
+    if (length >= LONG_INPUT && !hasher->lock) hasher->lock = PyThread_allocate_lock();
+    if (length >= LONG_INPUT && hasher->lock) {
+        take_long(hasher, start, length);
+        return;
+    }
+    enter(hasher);
+    hasher->kind->take(hasher->state, start, length);
+    leave(hasher);
+}
+
+static void start(struct hasher *hasher, const struct key *key)
+{
+    enter(hasher);
+    hasher->kind->start(hasher->state, key);
+    leave(hasher);
+}
+
+/* ---- Making and ending ---- */
+
+/* An object whose state is not written yet. */
+static struct hasher *unwritten(PyTypeObject *type, const struct kind *kind)
+{
+    struct hasher *hasher = PyObject_New(struct hasher, type);
+    if (!hasher) return NULL;
+    hasher->kind = kind;
+    hasher->lock = NULL;
+    hasher->is_new = 0;
+    return hasher;
+}
+
+static PyObject *new_of(PyTypeObject *type, const struct kind *kind)
+{
+    struct hasher *hasher = unwritten(type, kind);
+    if (!hasher) return NULL;
+    kind->start(hasher->state, &(struct key){0});
+    hasher->is_new = 1;
+    return (PyObject *)hasher;
+}
+
+/* Begins anew with the key, and takes the input if there is one. */
+static int begin(struct hasher *hasher, const struct arguments *arguments)
+{
+    const struct key *key = &arguments->key;
+    if (key->secret && key->secret_length > GREATEST_SECRET) {
+        PyErr_Format(PyExc_ValueError, "The secret of an object must have at most %d bytes", GREATEST_SECRET);
+        return 0;
+    }
+    if (!hasher->is_new || key->seed || key->secret) start(hasher, key);
+    hasher->is_new = 0;
+    if (arguments->has_input) take(hasher, arguments->input.start, arguments->input.length);
+    return 1;
+}
+
+static int hasher_init(struct hasher *hasher, PyObject *args, PyObject *keywords)
+{
+    struct arguments arguments;
+    if (!open_arguments_of_tuple(&arguments, hasher->kind, "__init__", args, keywords)) return -1;
+    const int begun = begin(hasher, &arguments);
+    close_arguments(&arguments);
+    return begun ? 0 : -1;
+}
+
+static void hasher_dealloc(struct hasher *hasher)
+{
+    PyTypeObject *type = type_of(hasher);
+    if (hasher->lock) PyThread_free_lock(hasher->lock);
+    PyObject_Free(hasher);
+    Py_DECREF(type);
+}
+
+/* ---- What an object does ---- */
+
+static PyObject *hasher_update(struct hasher *hasher, PyObject *input)
+{
+    struct bytes bytes;
+    if (!open_bytes(&bytes, input)) return NULL;
+    take(hasher, bytes.start, bytes.length);
+    close_bytes(&bytes);
+    Py_RETURN_NONE;
+}
+
+static value finished(struct hasher *hasher)
+{
+    enter(hasher);
+    const value value = hasher->kind->finish(hasher->state);
+    leave(hasher);
+    return value;
+}
+
+static PyObject *hasher_digest(struct hasher *hasher, PyObject *none)
+{
+    (void)none;
+    return as_digest(hasher->kind, finished(hasher));
+}
+
+static PyObject *hasher_hexdigest(struct hasher *hasher, PyObject *none)
+{
+    (void)none;
+    return as_hexdigest(hasher->kind, finished(hasher));
+}
+
+static PyObject *hasher_intdigest(struct hasher *hasher, PyObject *none)
+{
+    (void)none;
+    return as_intdigest(hasher->kind, finished(hasher));
+}
+
+static PyObject *hasher_copy(struct hasher *hasher, PyObject *none)
+{
+    struct hasher *copy = unwritten(type_of(hasher), hasher->kind);
+    (void)none;
+    if (!copy) return NULL;
+    enter(hasher);
+    memcpy(copy->state, hasher->state, hasher->kind->state_bytes);
+    leave(hasher);
+    return (PyObject *)copy;
+}
+
+static PyObject *hasher_reset(struct hasher *hasher, PyObject *none)
+{
+    unsigned char secret[GREATEST_SECRET];
+    (void)none;
+    enter(hasher);
+    struct key key = hasher->kind->key_of(hasher->state);
+    /* A start takes no secret that lies in the state which it writes. */
+    if (key.secret) key.secret = memcpy(secret, key.secret, key.secret_length);
+    hasher->kind->start(hasher->state, &key);
+    leave(hasher);
+    Py_RETURN_NONE;
+}
+
+static PyObject *hasher_seed(struct hasher *hasher, void *none)
+{
+    (void)none;
+    enter(hasher);
+    const uint64_t seed = hasher->kind->key_of(hasher->state).seed;
+    leave(hasher);
+    return PyLong_FromUnsignedLongLong(seed);
+}
+
+static PyObject *hasher_name(struct hasher *hasher, void *none)
+{
+    (void)none;
+    return PyUnicode_FromString(hasher->kind->title);
+}
+
+static PyObject *hasher_digest_size(struct hasher *hasher, void *none)
+{
+    (void)none;
+    return PyLong_FromLong(hasher->kind->digest_bytes);
+}
+
+static PyObject *hasher_block_size(struct hasher *hasher, void *none)
+{
+    (void)none;
+    return PyLong_FromLong(hasher->kind->block_bytes);
+}
+
+/* ---- The types ---- */
+
+#define METHOD(name, call, flags, text) {name, (PyCFunction)(void (*)(void))call, flags, text}
+
+static PyMethodDef methods[] = {
+    METHOD("update", hasher_update, METH_O,
+           "update($self, input, /)\n--\n\nTakes more bytes, or a str in UTF-8, after those before."),
+    METHOD("digest", hasher_digest, METH_NOARGS,
+           "digest($self, /)\n--\n\nThe digest of all bytes so far, as bytes. More may follow."),
+    METHOD("hexdigest", hasher_hexdigest, METH_NOARGS,
+           "hexdigest($self, /)\n--\n\nThe digest of all bytes so far, as hexadecimal digits."),
+    METHOD("intdigest", hasher_intdigest, METH_NOARGS,
+           "intdigest($self, /)\n--\n\nThe value of all bytes so far, as a number."),
+    METHOD("copy", hasher_copy, METH_NOARGS, "copy($self, /)\n--\n\nAn equal object, which goes on alone."),
+    METHOD("reset", hasher_reset, METH_NOARGS,
+           "reset($self, /)\n--\n\nForgets all bytes, and keeps the seed and the secret."),
+    METHOD("state", hasher_state, METH_NOARGS,
+           "state($self, /)\n--\n\nAll that the object holds, as JSON. from_state goes on from it."),
+    METHOD("from_state", hasher_from_state, METH_O | METH_CLASS,
+           "from_state($type, state, /)\n--\n\nThe object that was saved. A text that is no saved state, or one that no "
+           "bytes lead to, is refused by ValueError."),
+    METHOD("__reduce__", hasher_reduce, METH_NOARGS, "__reduce__($self, /)\n--\n\nFor pickle: from_state and the state."),
+    METHOD("_memory", hasher_memory, METH_NOARGS, "The state as it lies in memory."),
+    METHOD("_set_memory", hasher_set_memory, METH_O, "Puts back what _memory answered."),
+    METHOD("_many", hasher_many, METH_FASTCALL, "Digests of the rows of a tuple."),
+    METHOD("_many_of_width", hasher_many_of_width, METH_FASTCALL, "Digests of the rows of a buffer."),
+    {0},
+};
+
+#define ATTRIBUTE(name, get, text) {name, (getter)(void (*)(void))get, NULL, text, NULL}
+
+static PyGetSetDef attributes[] = {
+    ATTRIBUTE("name", hasher_name, "The name of the hash, as XXH64."),
+    ATTRIBUTE("seed", hasher_seed, "The seed, as a number of the hash's width. 0 where there is a secret alone."),
+    ATTRIBUTE("digest_size", hasher_digest_size, "The bytes of a digest."),
+    ATTRIBUTE("digestsize", hasher_digest_size, "The bytes of a digest."),
+    ATTRIBUTE("block_size", hasher_block_size, "The bytes of the hash's inner block."),
+    {0},
+};
+
+#define TYPE(kind, bytes, signature) \
+    static PyObject *kind##_new(PyTypeObject *type, PyObject *args, PyObject *keywords) \
+    { \
+        (void)args, (void)keywords; \
+        return new_of(type, &kind##_kind); \
+    } \
+    static PyType_Slot kind##_slots[] = { \
+        {Py_tp_new, (void *)kind##_new}, \
+        {Py_tp_init, (void *)hasher_init}, \
+        {Py_tp_dealloc, (void *)hasher_dealloc}, \
+        {Py_tp_methods, methods}, \
+        {Py_tp_getset, attributes}, \
+        {Py_tp_doc, #kind signature "\n--\n\nA stream of bytes, and their hash so far."}, \
+        {0}, \
+    }; \
+    static PyType_Spec kind##_spec = { \
+        .name = "twox_hash." #kind, .basicsize = sizeof(struct hasher) + (bytes), \
+        .flags = Py_TPFLAGS_DEFAULT | Py_TPFLAGS_IMMUTABLETYPE, .slots = kind##_slots, \
+    };
+
+TYPE(xxh32, XXH32_STATE_BYTES, "(input=b'', seed=0)")
+TYPE(xxh64, XXH64_STATE_BYTES, "(input=b'', seed=0)")
+TYPE(xxh3_64, XXH3_STATE_BYTES, "(input=b'', seed=0, *, secret=None)")
+TYPE(xxh3_128, XXH3_STATE_BYTES, "(input=b'', seed=0, *, secret=None)")
+
+int add_types(PyObject *module)
+{
+    PyType_Spec *specs[] = {&xxh32_spec, &xxh64_spec, &xxh3_64_spec, &xxh3_128_spec};
+    for (size_t i = 0; i < sizeof specs / sizeof *specs; i++) {
+        PyObject *type = PyType_FromModuleAndSpec(module, specs[i], NULL);
+        const int added = type && !PyModule_AddType(module, (PyTypeObject *)type);
+        Py_XDECREF(type);
+        if (!added) return 0;
+    }
+    return 1;
+}
