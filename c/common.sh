@@ -29,7 +29,8 @@ proving() {
 }
 
 # read_target WORDS: takes --target NAME off the words, and leaves the others in `words`. `target` is then the
-# processor that is built for, `tools` begins the names of its gcc and binutils, and `lib` is where its library goes.
+# processor that is built for, `tools` begins the names of its gcc and binutils, `lib` is where its library goes, `asm`
+# where its text does, and `made` runs make over both.
 read_target() {
     target=x86-64
     if [ "${1:-}" = --target ]; then
@@ -42,6 +43,8 @@ read_target() {
     aarch64) tools=aarch64-linux-gnu- lib=$out/aarch64 ;;
     *) fail "no target '$target': there are x86-64 and aarch64" ;;
     esac
+    asm=$out/asm/$target
+    made=(make -s CC="${tools}gcc" CFLAGS='-O2 -Werror' asm="$asm" out="$out/made/$target" lib="$lib")
 }
 
 # read_cpu WORDS: takes --cpu NAME off the words, and leaves the others in `words`. `cpu` is then the set of

@@ -1,7 +1,7 @@
 /* Memory for states, which the crate twox_c cannot hand to C: an export of it has no raw pointer. All else is
  * there, and proved. A state is aligned to 8 bytes, as malloc aligns it. */
 #include <stdlib.h>
-#include "state_sizes.h" /* c/build writes it: the sizes that twox_c proves its states to have */
+#include "state_sizes.h" /* the sizes that twox_c proves its states to have */
 #include "xxhash.h"
 
 XXH32_state_t *XXH32_createState(void)

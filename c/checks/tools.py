@@ -75,5 +75,5 @@ class Built:
         shutil.copy(self.archive, archive)
         self.tool('ar', 'd', archive, 'states.o')
         states = self.object('sanitized', os.path.join(C, 'states.c'), '-fsanitize=address',
-                             '-I', os.path.join(C, 'out'))
+                             '-I', os.path.join(C, 'asm'))
         return self.link('sanitized', archive, '-fsanitize=address', states)

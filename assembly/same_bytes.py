@@ -1,0 +1,171 @@
+#!/usr/bin/env python3
+"""Says whether two objects are the same code and data for the linker. This is what has to be believed of the assembly text:
+
+    assembly/same_bytes.py PROVED OURS             compares an object with the one that was proved
+    assembly/same_bytes.py --sums OBJECT           prints a sum for each part of an object
+    assembly/same_bytes.py --against SUMS OBJECT   compares an object with such sums of the one that was proved
+
+The parts of an object are its loaded sections and `names`.
+
+- Of a section its name, kind, flags, alignment, bytes and relocations count. A relocation counts by its place, its kind
+  and what it leads to: a global name, or a section and an offset in it.
+- `names` is the processor, the order of the sections, each global name with its place, size, kind, binding and
+  visibility, the names that are wanted from elsewhere, and whether the stack may be executed.
+
+Local names, notes and comments don't count: nothing that is linked depends on them. The last line is `same: ..`, or
+`differ: ..` with a line for each difference before it. The status is 0 where they are the same, 1 where they differ, and 2
+where a file is no object."""
+import hashlib
+import struct
+import sys
+from collections import namedtuple
+
+Head = namedtuple('Head', 'name kind flags address offset size link info align entry')
+Symbol = namedtuple('Symbol', 'name info other section value size')
+Part = namedtuple('Part', 'head body relocations')
+
+SYMTAB, RELA, NOTE, NOBITS, REL = 2, 4, 7, 8, 9
+LOADED, EXECUTED = 2, 4
+# A call of a local name: LLVM writes the one kind, GNU as the other, and the linker makes the same bytes of both.
+X86_64, PC32, PLT32 = 62, 2, 4
+
+
+class Object:
+    def __init__(self, path):
+        with open(path, 'rb') as file:
+            self.data = file.read()
+        if self.data[:6] != b'\x7fELF\x02\x01' or self.data[16] != 1:
+            raise ValueError(f'{path} is no object of ELF with 64 bits, the lowest byte first')
+        self.machine, = struct.unpack_from('<H', self.data, 18)
+        start, = struct.unpack_from('<Q', self.data, 40)
+        size, count, names = struct.unpack_from('<HHH', self.data, 58)
+        heads = [Head(*struct.unpack_from('<IIQQQQIIQQ', self.data, start + size * at)) for at in range(count)]
+        self.heads = [head._replace(name=self.text(heads[names], head.name)) for head in heads]
+        self.symbols = [symbol for head in self.heads if head.kind == SYMTAB for symbol in self.symbols_of(head)]
+
+    def body(self, head):
+        return b'' if head.kind == NOBITS else self.data[head.offset:head.offset + head.size]
+
+    def text(self, table, at):
+        start = table.offset + at
+        return self.data[start:self.data.index(b'\0', start)].decode()
+
+    def symbols_of(self, head):
+        for name, *rest in struct.iter_unpack('<IBBHQQ', self.body(head)):
+            yield Symbol(self.text(self.heads[head.link], name), *rest)
+
+    def loaded(self):
+        """The heads of what a program loads."""
+        return [head for head in self.heads if head.flags & LOADED and head.size and head.kind != NOTE]
+
+    def place(self, symbol, add=0):
+        """A section, and an offset in it."""
+        return f'{self.heads[symbol.section].name}{symbol.value + add:+#x}'
+
+    def relocations_of(self, section):
+        """Each relocation of a section: its place, its kind, and what it leads to."""
+        found = []
+        for head in self.heads:
+            if head.kind in (RELA, REL) and self.heads[head.info] is section:
+                if head.kind == REL:
+                    raise ValueError(f'{section.name} has relocations of a kind that is not read here')
+                found += [self.relocation(*row) for row in struct.iter_unpack('<QQq', self.body(head))]
+        return sorted(found)
+
+    def relocation(self, offset, info, add):
+        symbol, kind = self.symbols[info >> 32], info & 0xffffffff
+        if is_global(symbol):
+            return offset, kind, f'{symbol.name}{add:+#x}'
+        if self.machine == X86_64 and kind == PLT32:
+            kind = PC32
+        return offset, kind, self.place(symbol, add)
+
+    def parts(self):
+        found = {}
+        for head in self.loaded():
+            if head.name in found:
+                raise ValueError(f'two sections are named {head.name}')
+            found[head.name] = Part(head._replace(name='', address=0, offset=0, link=0, info=0), self.body(head),
+                                    self.relocations_of(head))
+        return {**found, 'names': self.names(list(found))}
+
+    def names(self, sections):
+        defined = sorted((symbol.name, self.place(symbol), symbol.size, symbol.info, symbol.other)
+                         for symbol in self.symbols if is_global(symbol) and symbol.section)
+        # LLVM names the table of the linker also where nothing leads to it.
+        wanted = sorted({symbol.name for symbol in self.symbols if is_global(symbol) and not symbol.section}
+                        - {'_GLOBAL_OFFSET_TABLE_'})
+        stack = [head.flags & EXECUTED for head in self.heads if head.name == '.note.GNU-stack']
+        return Part((self.machine, sections), b'', [*defined, *wanted, f'the stack may be executed: {stack != [0]}'])
+
+
+def is_global(symbol):
+    return symbol.info >> 4 != 0
+
+
+def sums(parts):
+    return {name: hashlib.sha256(repr(tuple(part)).encode()).hexdigest() for name, part in parts.items()}
+
+
+def read_sums(path):
+    with open(path) as file:
+        return {name: total for total, name in (line.rstrip('\n').split('  ', 1) for line in file)}
+
+
+def difference(proved, ours):
+    """What of a part differs, with an example."""
+    if proved.head != ours.head:
+        return f'proved {proved.head}, ours {ours.head}'
+    if proved.body != ours.body:
+        at = next((at for at, (a, b) in enumerate(zip(proved.body, ours.body)) if a != b), 'the end')
+        where = at if at == 'the end' else f'{at:#x}: {proved.body[at:at + 8].hex()}, ours {ours.body[at:at + 8].hex()}'
+        return f'other bytes, from {where}'
+    lost, found = ([row for row in a if row not in b] for a, b in ((proved.relocations, ours.relocations),
+                                                                   (ours.relocations, proved.relocations)))
+    return f'proved has {lost[:2]}, ours {found[:2]}'
+
+
+def differences(proved, ours, told):
+    """A line for each part that is on one side alone, or differs: then `told` says more of it."""
+    for name in {**proved, **ours}:
+        if name not in ours or name not in proved:
+            yield f'{name}: only in {"what is proved" if name in proved else "ours"}'
+        elif proved[name] != ours[name]:
+            yield f'{name}: {told(proved[name], ours[name])}'
+
+
+def compare(proved, ours):
+    """The lines for two objects."""
+    return list(differences(Object(proved).parts(), Object(ours).parts(), difference))
+
+
+def compare_sums(path, ours):
+    """The lines for the sums of an object, and an object."""
+    return list(differences(read_sums(path), sums(Object(ours).parts()), lambda *_: 'other than what was proved'))
+
+
+def main(words):
+    if len(words) == 2 and words[0] == '--sums':
+        for name, total in sums(Object(words[1]).parts()).items():
+            print(f'{total}  {name}')
+        return 0
+    if len(words) == 3 and words[0] == '--against':
+        found = compare_sums(*words[1:])
+    elif len(words) == 2:
+        found = compare(*words)
+    else:
+        print(__doc__, file=sys.stderr)
+        return 2
+    print(*found, sep='\n', end='\n' if found else '')
+    parts = Object(words[-1]).parts()
+    size = sum(len(part.body) for part in parts.values())
+    print(f'differ: {len(found)} parts' if found else f'same: {len(parts) - 1} sections, {size} bytes')
+    return 1 if found else 0
+
+
+if __name__ == '__main__':
+    try:
+        sys.exit(main(sys.argv[1:]))
+    except (OSError, ValueError, IndexError, struct.error) as fault:
+        print(f'same_bytes.py: {fault}', file=sys.stderr)
+        sys.exit(2)

@@ -1,0 +1,225 @@
+#!/usr/bin/env python3
+"""Prints assembly text of an object, of which every assembler makes its bytes again:
+
+    assembly/text.py OBJECT TITLE [TAG]
+
+It is made of the object alone, by binutils' objdump and as, for x86-64 and 64-bit ARM. As their bytes stand the filling
+before loops, of which each assembler has its own; instructions that GNU as would write otherwise than the compiler did;
+and long jumps where a short one would reach. TITLE is what the first line says of the functions. Labels end in .TAG.
+
+Nothing rests on this program: same_bytes.py compares what is made of the text with the object."""
+import os
+import re
+import subprocess
+import sys
+import tempfile
+from collections import defaultdict, namedtuple
+
+from names import FUNCTION, MERGED, TOOLS
+from same_bytes import EXECUTED, Object, is_global
+
+# An instruction: its place in its section, its bytes, and its text by objdump.
+Row = namedtuple('Row', 'at raw text')
+HIDDEN = 2
+
+
+class X86:
+    """What of a text depends on the processor: x86-64."""
+    comment = re.compile(r'\s#.*')
+    filling = re.compile(r'.*\bnop|data16|xchg %ax,%ax')
+    # What leads to another place, and has no meaning alone.
+    leads = re.compile(r'j|call|.*%rip')
+    # Of room for one instruction that is assembled alone.
+    slot, room = 16, '.balign 16,0'
+
+    def bytes(self, raw):
+        return '.byte ' + ','.join(map(str, raw))
+
+    def outside(self, name):
+        return f'{name}@PLT'
+
+    def end_of_relocation(self, row, at):
+        """The offset of a relocation counts from its own place, and that of an instruction from the instruction's end."""
+        return row.at + len(row.raw) - at
+
+    def relocated(self, text, there):
+        if self.leads.match(text) and '%rip' not in text:
+            return f'{text.split()[0]} {there}'
+        return text.replace('0x0(%rip)', f'{there}(%rip)')
+
+    def jump(self, row, end, label):
+        """A jump within a section. Where a short one reaches, an assembler takes that, and ahead it counts from behind the
+        jump."""
+        name = row.text.split()[0]
+        if len(row.raw) > 2 and name != 'call' and -126 <= end - row.at <= 127 + len(row.raw):
+            return f'{self.bytes(row.raw[:-4])}; .long {label}-.-4'
+        return f'{name} {label}'
+
+
+class Arm:
+    """And 64-bit ARM."""
+    comment = re.compile(r'//.*')
+    filling = re.compile('(?!)')
+    leads = re.compile(r'b |b\.|bl |[ct]bn?z|adrp? |.*:lo12:')
+    slot, room = 16, '.space 12'
+    # By these an instruction takes the lowest bits of an address: ADD, and a load or store of each size.
+    low_bits = (277, 278, 284, 285, 286, 299)
+
+    def bytes(self, raw):
+        return f'.inst 0x{raw[::-1].hex()}'
+
+    def outside(self, name):
+        return name
+
+    def end_of_relocation(self, row, at):
+        return 0
+
+    def relocated(self, text, there):
+        if self.leads.match(text):
+            return self.led(text, there)
+        if '#0x0' in text:
+            return text.replace('#0x0', f':lo12:{there}')
+        return f'{text[:-1]}, #:lo12:{there}]'
+
+    def jump(self, row, end, label):
+        return self.led(row.text, label)
+
+    def led(self, text, there):
+        return re.sub(r'[0-9a-f]+ <.*>$', '', text) + there
+
+
+PROCESSORS = {62: X86(), 183: Arm()}
+
+
+class Text:
+    def __init__(self, path, tag):
+        self.object = Object(path)
+        self.processor, self.tools = PROCESSORS[self.object.machine], TOOLS[self.object.machine]
+        self.tag = f'.{tag}' if tag else ''
+        self.sections = {head.name: head for head in self.object.loaded()}
+        self.numbers = {name: number for number, name in enumerate(self.sections, 1)}
+        self.functions = {(self.object.heads[symbol.section].name, symbol.value): symbol for symbol in self.object.symbols
+                          if symbol.info & 15 == FUNCTION and symbol.section}
+        # The places in each section that something leads to.
+        self.marks = defaultdict(set)
+        self.code = {name: self.written(name, rows) for name, rows in self.listing(path).items() if name in self.sections}
+        self.otherwise = self.written_otherwise()
+
+    def listing(self, path):
+        """The instructions of each section of code."""
+        words = [self.tools + 'objdump', '-d', '-w', '-z', '--no-show-raw-insn', path]
+        out = subprocess.run(words, check=True, stdout=subprocess.PIPE, text=True).stdout
+        found = {}
+        for section, lines in re.findall(r'^Disassembly of section (.*):\n((?:.*\n)*?)(?=Disassembly|\Z)', out, re.M):
+            head = self.sections.get(section)
+            body = self.object.body(head) if head else b''
+            rows = [(int(at, 16) - head.address, text) for at, text in re.findall(r'^ *([0-9a-f]+):\t(.*)', lines, re.M)]
+            ends = [at for at, _ in rows[1:]] + [len(body)]
+            found[section] = [Row(at, body[at:end], ' '.join(self.processor.comment.sub('', text).split()))
+                              for (at, text), end in zip(rows, ends)]
+        return found
+
+    def label(self, section, at):
+        self.marks[section].add(at)
+        return f'.L{self.numbers[section]}_{at:x}{self.tag}'
+
+    def target(self, where, offset):
+        """The name of a place: a local function, a label, or a global name."""
+        if where in self.sections:
+            function = self.functions.get((where, offset))
+            return function.name if function and not is_global(function) else self.label(where, offset)
+        name = where if where in self.globals() else self.processor.outside(where)
+        return name + (f'{offset:+#x}' if offset else '')
+
+    def globals(self):
+        return {symbol.name for symbol in self.object.symbols if is_global(symbol) and symbol.section}
+
+    def written(self, section, rows):
+        """The instructions as they are to be assembled. Without a text their bytes are to stand."""
+        hits = {at: re.fullmatch(r'(.*)([+-]0x[0-9a-f]+)', target).groups()
+                for at, _, target in self.object.relocations_of(self.sections[section])}
+        return [row._replace(text=self.assembled(section, row, hits)) for row in rows]
+
+    def assembled(self, section, row, hits):
+        hit = next((at for at in range(row.at, row.at + len(row.raw)) if at in hits), None)
+        if self.processor.filling.match(row.text):
+            return None
+        if hit is not None:
+            where, offset = hits[hit]
+            end = self.processor.end_of_relocation(row, hit)
+            return self.processor.relocated(row.text, self.target(where, int(offset, 16) + end))
+        jump = self.processor.leads.match(row.text) and re.search(r'\b([0-9a-f]+) <.*>$', row.text)
+        if jump:
+            end = int(jump[1], 16) - self.sections[section].address
+            return self.processor.jump(row, end, self.label(section, end))
+        return row.text
+
+    def written_otherwise(self):
+        """The instructions that GNU as writes otherwise than they are: each is assembled in a room of its own."""
+        alone = [(name, row) for name, rows in self.code.items() for row in rows
+                 if row.text and not row.text.startswith('.') and not self.processor.leads.match(row.text)]
+        with tempfile.TemporaryDirectory() as room:
+            source, made = os.path.join(room, 'alone.s'), os.path.join(room, 'alone.o')
+            with open(source, 'w') as file:
+                file.writelines(f'{row.text}\n{self.processor.room}\n' for _, row in alone)
+            subprocess.run([self.tools + 'as', source, '-o', made], check=True)
+            object_ = Object(made)
+        body = next(object_.body(head) for head in object_.heads if head.name == '.text')
+        slot = self.processor.slot
+        return {(name, row.at) for at, (name, row) in enumerate(alone)
+                if body[slot * at:slot * (at + 1)] != row.raw.ljust(slot, b'\0')}
+
+    def lines(self, title):
+        yield f'/* {title} Generated of what is proved: not to be changed by hand. MIT licence, see LICENSE. */'
+        for name, head in self.sections.items():
+            yield from self.lines_of_code(name) if head.flags & EXECUTED else self.lines_of_data(name, head)
+        yield from ('\t.section .note.GNU-stack,"",@progbits', '\t.text')
+
+    def lines_of_code(self, section):
+        yield from (f'\t.section {section},"ax",@progbits', aligned(self.sections[section]))
+        function = None
+        for row in self.code[section]:
+            begun = self.functions.get((section, row.at))
+            if begun:
+                function = begun
+                yield from self.lines_of_name(begun)
+            if row.at in self.marks[section]:
+                yield f'{self.label(section, row.at)}:'
+            as_bytes = row.text is None or (section, row.at) in self.otherwise
+            yield '\t' + (self.processor.bytes(row.raw) if as_bytes else row.text)
+        yield f'\t.size {function.name},.-{function.name}'
+
+    def lines_of_name(self, function):
+        if is_global(function):
+            yield f'\t.globl {function.name}'
+        if function.other == HIDDEN:
+            yield f'\t.hidden {function.name}'
+        yield from (f'\t.type {function.name},@function', f'{function.name}:')
+
+    def lines_of_data(self, section, head):
+        """The bytes in rows of 16, which end where a label is."""
+        yield f'\t.section {section},' + (f'"aM",@progbits,{head.entry}' if head.flags & MERGED else '"a",@progbits')
+        yield aligned(head)
+        data, marks = self.object.body(head), self.marks[section]
+        begins = sorted({*range(0, len(data), 16), *marks})
+        for at, end in zip(begins, [*begins[1:], len(data)]):
+            if at in marks:
+                yield f'{self.label(section, at)}:'
+            yield '\t' + words_of(data[at:end])
+
+
+def aligned(head):
+    return f'\t.p2align {head.align.bit_length() - 1}'
+
+
+def words_of(data):
+    if len(data) % 8:
+        return '.byte ' + ','.join(map(str, data))
+    return '.quad ' + ','.join(f'{int.from_bytes(data[at:at + 8], "little"):#x}' for at in range(0, len(data), 8))
+
+
+if __name__ == '__main__':
+    if len(sys.argv) not in (3, 4):
+        sys.exit(__doc__)
+    path, title, *tag = sys.argv[1:]
+    print('\n'.join(Text(path, *tag or ['']).lines(title)))
