@@ -1,15 +1,20 @@
 """Digests of files."""
 import os
-from typing import Any, BinaryIO, Union
+from typing import Any, BinaryIO, Union, overload
 
-from ._types import Algorithm, Hasher, type_of
+from ._types import Hasher, OneHasher, type_of
+
+Path = Union[str, bytes, 'os.PathLike[Any]']
 
 # So many bytes are read at once: reads and updates are long, so that other threads run, and stay in the second cache.
 PIECE_BYTES = 1 << 18
 
 
-def file_digest(file: Union[str, bytes, 'os.PathLike[Any]', BinaryIO], algorithm: Algorithm = 'xxh3_64',
-                **key: Any) -> Hasher:
+@overload
+def file_digest(file: Union[Path, BinaryIO], algorithm: str = ..., **key: Any) -> Hasher: ...
+@overload
+def file_digest(file: Union[Path, BinaryIO], algorithm: type[OneHasher], **key: Any) -> OneHasher: ...
+def file_digest(file: Union[Path, BinaryIO], algorithm: Any = 'xxh3_64', **key: Any) -> Hasher:
     """The hash of a file, as an object: `file_digest(path, "xxh3_128").hexdigest()`.
 
     `file` is a path, or a file that was opened for binary reading, which is read from its place to its end and stays

@@ -1,11 +1,20 @@
 """Digests of many inputs in one call."""
-from typing import Any, Optional
+from collections.abc import Iterable, Sized
+from typing import Any, Optional, TypeVar, Union, overload
 
-from ._types import Algorithm, type_of
+from ._types import HasherType, type_of
+
+Into = TypeVar('Into', bound=Sized)
 
 
-def many(rows: Any, algorithm: Algorithm = 'xxh3_64', *, width: Optional[int] = None, into: Any = None,
-         **key: Any) -> Any:
+@overload
+def many(rows: Iterable[Any], algorithm: Union[str, HasherType] = ..., *, width: Optional[int] = ...,
+         into: None = ..., **key: Any) -> list[bytes]: ...
+@overload
+def many(rows: Iterable[Any], algorithm: Union[str, HasherType] = ..., *, width: Optional[int] = ...,
+         into: Into, **key: Any) -> Into: ...
+def many(rows: Iterable[Any], algorithm: Union[str, HasherType] = 'xxh3_64', *, width: Optional[int] = None,
+         into: Any = None, **key: Any) -> Any:
     """The digests of many inputs, each what `<algorithm>_digest(row, ...)` answers, as a list of bytes.
 
     `rows` is an iterable of bytes-like objects or str, or a contiguous buffer of rows of one length: of two dimensions
@@ -44,7 +53,7 @@ def _count(view: memoryview, width: Optional[int]) -> int:
     if width is None:
         if view.ndim == 0 or view.ndim == 1 and view.itemsize == 1:
             raise ValueError('these bytes have no rows: width is the bytes of one')
-        return view.shape[0]
+        return len(view)
     if width <= 0 or view.nbytes % width:
         raise ValueError(f'{view.nbytes} bytes are no rows of {width} bytes')
     return view.nbytes // width

@@ -4,7 +4,7 @@ import struct
 from typing import Any, Optional, Union
 
 from ._native import xxh3_64, xxh3_128, xxh32, xxh64
-from ._types import Hasher
+from ._types import Hasher, HasherType
 
 WORD = 1 << 64
 USAGE = 'The buffer usage does not match the total length'
@@ -16,7 +16,7 @@ def text_of(hasher: Hasher) -> str:
     return json.dumps(record, separators=(',', ':'), sort_keys=True)
 
 
-def from_text(kind: type[Hasher], text: Union[str, bytes]) -> Hasher:
+def from_text(kind: HasherType, text: Union[str, bytes]) -> Hasher:
     """The object that was saved. ValueError: the text is no saved state, or no bytes lead to it."""
     if not isinstance(text, (str, bytes)):
         raise TypeError(f'a saved state is a str, not {type(text).__name__!r}')
@@ -145,7 +145,7 @@ class _Stream:
             raise ValueError('The place in the secret does not match the stripes')
 
 
-_FORMS: dict[type[Hasher], Union[_Plain, _Stream]] = {
+_FORMS: dict[HasherType, Union[_Plain, _Stream]] = {
     xxh32: _Plain(32, 16, '<IIIxxxxQIxxxxQI16s'), xxh64: _Plain(64, 32, '<QQQQQQQ32s'), xxh3_64: _Stream(),
     xxh3_128: _Stream(),
 }
