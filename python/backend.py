@@ -108,10 +108,11 @@ def metadata():
     return '\n'.join(lines).encode() + b'\n' + read(HERE, PROJECT['readme'])
 
 
-def sources(folder):
-    """A folder's own files by their names in the package: nothing that was built."""
-    names = (f'{folder}/{name}' for name in sorted(os.listdir(os.path.join(HERE, folder))))
-    return {name: read(HERE, name) for name in names if name.endswith(('.py', '.pyi', '.typed', '.c', '.h'))}
+def sources(folder, name):
+    """A folder's own files, by their names in a folder of a package: nothing that was built."""
+    found = sorted(os.listdir(os.path.join(HERE, folder)))
+    kinds = ('.py', '.pyi', '.typed', '.c', '.h')
+    return {f'{name}/{file}': read(HERE, folder, file) for file in found if file.endswith(kinds)}
 
 
 def licence():
@@ -144,16 +145,16 @@ def build_wheel(wheel_directory, config_settings=None, metadata_directory=None):
     with tempfile.TemporaryDirectory() as room:
         library = os.path.join(room, 'library.so')
         name = compile_extension(library)
-        return write_wheel(wheel_directory, name, sources('twox_hash') | {LIBRARY: read(library)})
+        return write_wheel(wheel_directory, name, sources('src/twox_hash', 'twox_hash') | {LIBRARY: read(library)})
 
 
 def build_editable(wheel_directory, config_settings=None, metadata_directory=None):
-    name = compile_extension(os.path.join(HERE, LIBRARY))
-    return write_wheel(wheel_directory, name, {'twox_hash.pth': f'{HERE}\n'.encode()})
+    name = compile_extension(os.path.join(HERE, 'src', LIBRARY))
+    return write_wheel(wheel_directory, name, {'twox_hash.pth': f'{HERE}/src\n'.encode()})
 
 
 def build_sdist(sdist_directory, config_settings=None):
-    files = {'PKG-INFO': metadata(), 'LICENSE': licence(), **sources('twox_hash'), **sources('native')}
+    files = {'PKG-INFO': metadata(), 'LICENSE': licence(), **sources('src/twox_hash', 'src/twox_hash'), **sources('native', 'native')}
     files |= {name: read(HERE, name) for name in ('README.md', 'backend.py', 'pyproject.toml')}
     files |= {f'proved/{os.path.basename(path)}': read(proved(path)) for path in PROVED}
     with tarfile.open(os.path.join(sdist_directory, f'{STEM}.tar.gz'), 'w:gz', format=tarfile.PAX_FORMAT) as archive:

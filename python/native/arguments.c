@@ -26,7 +26,7 @@ int open_bytes(struct bytes *bytes, PyObject *object)
 /* The objects of a call by parameter, each null where it wasn't given, and what is wrong with the call. */
 struct given {
     PyObject *input, *seed, *secret;
-    PyObject *unknown; /* a name that is no parameter's */
+    PyObject *unknown; /* the first name that is no parameter's */
     int twice;         /* the input came by name and by position */
 };
 
@@ -40,7 +40,7 @@ static void take_named(struct given *given, const struct kind *kind, PyObject *n
         given->input = given->input ? given->input : object;
     } else if (kind->has_secret && !PyUnicode_CompareWithASCIIString(name, "secret"))
         given->secret = object;
-    else
+    else if (!given->unknown)
         given->unknown = name;
 }
 

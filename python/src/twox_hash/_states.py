@@ -1,7 +1,7 @@
 """Saved objects: their JSON, which for XXH32 and XXH64 is that of the program `xxh`, and what is refused."""
 import json
 import struct
-from typing import Any, Optional, Union
+from typing import Any, Union
 
 from ._native import xxh3_64, xxh3_128, xxh32, xxh64
 from ._types import Hasher, HasherType
@@ -29,9 +29,9 @@ def _not_a_state() -> ValueError:
     return ValueError('The text is not a saved state')
 
 
-def _whole_number(digits: str) -> Optional[int]:
-    """A whole number of JSON. None below 0 has a place in a state."""
-    return None if digits.startswith('-') else int(digits)
+def _whole_number(digits: str) -> Union[int, float]:
+    """A whole number of JSON. One with a sign has no place in a state, and is none of the numbers there."""
+    return float(digits) if digits.startswith('-') else int(digits)
 
 
 def _constant(name: str) -> None:
