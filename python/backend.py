@@ -87,11 +87,11 @@ def compile_extension(path):
     name = machine()
     native = os.path.join(HERE, 'native')
     sources = sorted(os.path.join(native, file) for file in os.listdir(native) if file.endswith('.c'))
-    includes = [sysconfig.get_path('include'), *{os.path.dirname(proved(file)) for file in PROVED}]
+    includes = [sysconfig.get_path('include'), *dict.fromkeys(os.path.dirname(proved(file)) for file in PROVED)]
     flags = [*FLAGS, STABLE, *shlex.split(os.environ.get('CFLAGS', ''))]
     with tempfile.TemporaryDirectory() as room:
         done = subprocess.run([*compiler(), '-shared', *flags, *(f'-I{folder}' for folder in includes), *sources,
-                               *texts(room, name), '-Wl,-z,noexecstack',
+                               *texts(room, name), '-s', '-Wl,-z,noexecstack',
                                *shlex.split(os.environ.get('LDFLAGS', '')), '-o', path])
     if done.returncode:
         raise SystemExit('twox-hash: the extension was not compiled')
