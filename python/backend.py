@@ -24,9 +24,8 @@ SETS = {'x86_64': {'x86-64-v2': 'v2_', 'x86-64-v3': 'v3_'}, 'aarch64': {'aarch64
 PROVED = [*(f'asm/{name}.s' for sets in SETS.values() for name in sets), 'asm/state_sizes.h', 'include/xxhash.h']
 FLAGS = ['-std=c11', '-O2', '-g0', '-fPIC', '-fvisibility=hidden', '-Wall', '-Wextra', '-Wno-cast-function-type',
          '-Wno-missing-field-initializers']
-# CPython's stable interface of 3.11, the first one with buffers.
-STABLE = '-DPy_LIMITED_API=0x030B0000'
-LIBRARY = 'twox_hash/_native.abi3.so'
+# The interface of this Python, as tags of wheels name it: cp311, or cp311d of a debug build.
+ABI = 'cp' + sysconfig.get_config_var('SOABI').split('-')[1]
 
 with open(os.path.join(HERE, 'pyproject.toml'), 'rb') as _file:
     PROJECT = tomllib.load(_file)['project']
@@ -82,13 +81,18 @@ def texts(room, name):
     return paths
 
 
+def library(name):
+    """The extension's place in a package for a machine: Python finds the file by the end of its name."""
+    return 'twox_hash/_native' + sysconfig.get_config_var('EXT_SUFFIX').replace(os.uname().machine, name)
+
+
 def compile_extension(path):
     """Compiles the extension to a file, and answers the machine that it is for."""
     name = machine()
     native = os.path.join(HERE, 'native')
     sources = sorted(os.path.join(native, file) for file in os.listdir(native) if file.endswith('.c'))
     includes = [sysconfig.get_path('include'), *dict.fromkeys(os.path.dirname(proved(file)) for file in PROVED)]
-    flags = [*FLAGS, STABLE, *shlex.split(os.environ.get('CFLAGS', ''))]
+    flags = [*FLAGS, *shlex.split(os.environ.get('CFLAGS', ''))]
     with tempfile.TemporaryDirectory() as room:
         done = subprocess.run([*compiler(), '-shared', *flags, *(f'-I{folder}' for folder in includes), *sources,
                                *texts(room, name), '-s', '-Wl,-z,noexecstack',
@@ -123,7 +127,7 @@ def licence():
 def write_wheel(folder, name, files):
     """A wheel of the files by name, whose bytes depend on theirs alone. Answers its name."""
     about = f'{STEM}.dist-info'
-    tag = f'cp311-abi3-linux_{name}'
+    tag = f'{ABI.rstrip("dt")}-{ABI}-linux_{name}'
     files |= {f'{about}/METADATA': metadata(), f'{about}/LICENSE': licence(),
               f'{about}/WHEEL': f'Wheel-Version: 1.0\nGenerator: twox-hash\nRoot-Is-Purelib: false\nTag: {tag}\n'.encode()}
     record = io.StringIO()
@@ -143,13 +147,14 @@ def write_wheel(folder, name, files):
 
 def build_wheel(wheel_directory, config_settings=None, metadata_directory=None):
     with tempfile.TemporaryDirectory() as room:
-        library = os.path.join(room, 'library.so')
-        name = compile_extension(library)
-        return write_wheel(wheel_directory, name, sources('src/twox_hash', 'twox_hash') | {LIBRARY: read(library)})
+        path = os.path.join(room, 'library.so')
+        name = compile_extension(path)
+        return write_wheel(wheel_directory, name, sources('src/twox_hash', 'twox_hash') | {library(name): read(path)})
 
 
 def build_editable(wheel_directory, config_settings=None, metadata_directory=None):
-    name = compile_extension(os.path.join(HERE, 'src', LIBRARY))
+    name = machine()
+    compile_extension(os.path.join(HERE, 'src', library(name)))
     return write_wheel(wheel_directory, name, {'twox_hash.pth': f'{HERE}/src\n'.encode()})
 
 

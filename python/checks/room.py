@@ -1,4 +1,5 @@
 """What python/check and python/bench work with: a folder of their own, Debian's packages, and builds of the package."""
+import glob
 import os
 import shutil
 import subprocess
@@ -85,4 +86,4 @@ class Built:
         self.folder = copied(os.path.join(room, 'clone'))
         self.source, self.wheel = packed(self.folder)
         self.site = site(room, 'plain', self.wheel)
-        self.library = os.path.join(self.site, 'twox_hash', '_native.abi3.so')
+        self.library, = glob.glob(os.path.join(self.site, 'twox_hash', '_native*.so'))

@@ -67,15 +67,17 @@ def of_clang(built):
 
 
 def of_another_python(built, python):
-    """The tests pass in another Python, where the package stands in for the original too: of values that leaves the
-    reference library's table, and of the interface nothing."""
+    """The tests pass in another Python, over what it builds. The package stands in for the original there: of values that
+    leaves the reference library's table, and of the interface nothing."""
+    name = os.path.abspath(python).strip('/').replace('/', '-')
+    path = site(built.room, name, packed(copied(os.path.join(built.room, name)), python)[1])
     folder = os.path.join(built.room, 'stand-in')
     if not os.path.exists(folder):
         os.makedirs(folder)
         with open(os.path.join(folder, 'xxhash.py'), 'w') as file:
             file.write('import sys\n\nimport twox_hash\n\nsys.modules["xxhash"] = twox_hash\n')
     names = [name for name in ALL if name != 'interface']
-    return pass_all(f'{built.site}:{folder}', *names, python=(python,), TWOX_HASH_OBJECTS='200000')
+    return pass_all(f'{path}:{folder}', *names, python=(python,), TWOX_HASH_OBJECTS='200000')
 
 
 def with_xxh(built, xxh):

@@ -2,12 +2,15 @@
 
 #include <string.h>
 
+/* What an object's start is called in the words of an exception. */
+#define START "__init__"
+
 int open_bytes(struct bytes *bytes, PyObject *object)
 {
     bytes->is_view = 0;
     if (PyBytes_CheckExact(object)) {
-        bytes->start = PyBytes_AsString(object);
-        bytes->length = (size_t)PyBytes_Size(object);
+        bytes->start = PyBytes_AS_STRING(object);
+        bytes->length = (size_t)PyBytes_GET_SIZE(object);
         return 1;
     }
     if (PyUnicode_Check(object)) {
@@ -53,15 +56,6 @@ static int is_count_right(const struct given *given, const char *function, Py_ss
     return 0;
 }
 
-static const char *type_name(PyObject *object, PyObject **kept)
-{
-    const char *name = NULL;
-    *kept = PyType_GetName(Py_TYPE(object));
-    if (*kept) name = PyUnicode_AsUTF8AndSize(*kept, NULL);
-    if (!name) PyErr_Clear();
-    return object == Py_None ? "None" : name ? name : "that";
-}
-
 /* A seed: an integer, of which the lowest bits count. */
 static int read_seed(struct key *key, const struct kind *kind, const char *function, PyObject *seed)
 {
@@ -70,9 +64,8 @@ static int read_seed(struct key *key, const struct kind *kind, const char *funct
     else if (PyLong_Check(seed))
         key->seed = PyLong_AsUnsignedLongLongMask(seed);
     else {
-        PyObject *kept;
-        PyErr_Format(PyExc_TypeError, "%s() argument 2 must be int, not %s", function, type_name(seed, &kept));
-        Py_XDECREF(kept);
+        PyErr_Format(PyExc_TypeError, "%s() argument 2 must be int, not %s", function,
+                     seed == Py_None ? "None" : Py_TYPE(seed)->tp_name);
         return 0;
     }
     key->has_seed = 1;
@@ -93,7 +86,7 @@ static int open_secret(struct arguments *arguments, PyObject *secret)
 }
 
 /* Opens what was given, from left to right, and only then says what is wrong with the names, as the original does. */
-static int open_given(struct arguments *arguments, const struct kind *kind, const char *function,
+static int read_given(struct arguments *arguments, const struct kind *kind, const char *function,
                       const struct given *given)
 {
     struct key *key = &arguments->key;
@@ -112,47 +105,41 @@ static int open_given(struct arguments *arguments, const struct kind *kind, cons
     return 1;
 }
 
-/* Sets what is read of arguments that weren't opened. */
-static void clear(struct arguments *arguments)
+/* Opens what was given. Where it isn't right nothing stays open. */
+static int open_given(struct arguments *arguments, const struct kind *kind, const char *function,
+                      const struct given *given)
 {
     arguments->has_input = arguments->input.is_view = arguments->secret.is_view = 0;
     arguments->key = (struct key){0};
-}
-
-static int opened(struct arguments *arguments, const struct kind *kind, const char *function,
-                  const struct given *given)
-{
-    if (open_given(arguments, kind, function, given)) return 1;
+    if (read_given(arguments, kind, function, given)) return 1;
     close_arguments(arguments);
     return 0;
 }
 
-int open_arguments(struct arguments *arguments, const struct kind *kind, const char *function,
-                   PyObject *const *args, Py_ssize_t count, PyObject *names)
+int open_arguments(struct arguments *arguments, const struct kind *kind, const char *name, PyObject *const *args,
+                   Py_ssize_t count, PyObject *names)
 {
     struct given given = {.input = count > 0 ? args[0] : NULL, .seed = count > 1 ? args[1] : NULL};
-    const Py_ssize_t named = names ? PyTuple_Size(names) : 0;
-    clear(arguments);
-    for (Py_ssize_t i = 0; i < named; i++) take_named(&given, kind, PyTuple_GetItem(names, i), args[count + i]);
+    const Py_ssize_t named = names ? PyTuple_GET_SIZE(names) : 0;
+    const char *function = name ? name : START;
+    for (Py_ssize_t i = 0; i < named; i++) take_named(&given, kind, PyTuple_GET_ITEM(names, i), args[count + i]);
     if (!is_count_right(&given, function, count, named)) return 0;
-    if (!given.input) {
-        PyErr_Format(PyExc_TypeError, "%s() missing required argument 'input' (pos 1)", function);
+    if (name && !given.input) {
+        PyErr_Format(PyExc_TypeError, "%s() missing required argument 'input' (pos 1)", name);
         return 0;
     }
-    return opened(arguments, kind, function, &given);
+    return open_given(arguments, kind, function, &given);
 }
 
-int open_arguments_of_tuple(struct arguments *arguments, const struct kind *kind, const char *function,
-                            PyObject *args, PyObject *keywords)
+int open_arguments_of_tuple(struct arguments *arguments, const struct kind *kind, PyObject *args, PyObject *keywords)
 {
-    const Py_ssize_t count = PyTuple_Size(args), named = keywords ? PyDict_Size(keywords) : 0;
-    struct given given = {.input = count > 0 ? PyTuple_GetItem(args, 0) : NULL,
-                          .seed = count > 1 ? PyTuple_GetItem(args, 1) : NULL};
+    const Py_ssize_t count = PyTuple_GET_SIZE(args), named = keywords ? PyDict_Size(keywords) : 0;
+    struct given given = {.input = count > 0 ? PyTuple_GET_ITEM(args, 0) : NULL,
+                          .seed = count > 1 ? PyTuple_GET_ITEM(args, 1) : NULL};
     Py_ssize_t at = 0;
     PyObject *name, *object;
-    clear(arguments);
     while (named && PyDict_Next(keywords, &at, &name, &object)) take_named(&given, kind, name, object);
-    return is_count_right(&given, function, count, named) && opened(arguments, kind, function, &given);
+    return is_count_right(&given, START, count, named) && open_given(arguments, kind, START, &given);
 }
 
 void close_arguments(struct arguments *arguments)

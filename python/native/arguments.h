@@ -30,14 +30,14 @@ struct arguments {
     struct key key;
 };
 
-/* Reads the arguments of `function(input, seed=0, *, secret=None)`, of which only kinds with a secret have the last one.
- * Answers 0 with an exception where they aren't right; else close_arguments is to be called. */
-int open_arguments(struct arguments *arguments, const struct kind *kind, const char *function,
-                   PyObject *const *args, Py_ssize_t count, PyObject *names);
+/* Reads the arguments of `name(input, seed=0, *, secret=None)`, of which only kinds with a secret have the last one.
+ * Without a name they are those of an object's start, which may leave out the input. Answers 0 with an exception where
+ * they aren't right; else close_arguments is to be called. */
+int open_arguments(struct arguments *arguments, const struct kind *kind, const char *name, PyObject *const *args,
+                   Py_ssize_t count, PyObject *names);
 
-/* Does so of a tuple and a dictionary or null, and lets the input be left out. */
-int open_arguments_of_tuple(struct arguments *arguments, const struct kind *kind, const char *function,
-                            PyObject *args, PyObject *keywords);
+/* Does so of an object's start whose arguments are a tuple, and a dictionary or null. */
+int open_arguments_of_tuple(struct arguments *arguments, const struct kind *kind, PyObject *args, PyObject *keywords);
 
 void close_arguments(struct arguments *arguments);
 

@@ -11,10 +11,7 @@ static inline int oneshot(value *value, const struct kind *kind, const char *nam
 {
     if (count == 1 && !names && PyBytes_CheckExact(args[0])) {
         const struct key key = {0};
-        char *start;
-        Py_ssize_t length;
-        PyBytes_AsStringAndSize(args[0], &start, &length);
-        *value = hash_of(kind, start, (size_t)length, &key);
+        *value = hash_of(kind, PyBytes_AS_STRING(args[0]), (size_t)PyBytes_GET_SIZE(args[0]), &key);
         return 1;
     }
     struct arguments arguments;

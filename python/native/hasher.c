@@ -34,7 +34,6 @@ static void take_long(struct hasher *hasher, const void *start, size_t length)
 /* Takes a piece. Without memory for a lock no other thread runs meanwhile. */
 static void take(struct hasher *hasher, const void *start, size_t length)
 {
-    hasher->is_new = 0;
     if (length >= LONG_INPUT && !hasher->lock) hasher->lock = PyThread_allocate_lock();
     if (length >= LONG_INPUT && hasher->lock) {
         take_long(hasher, start, length);
@@ -61,16 +60,14 @@ static struct hasher *unwritten(PyTypeObject *type, const struct kind *kind)
     if (!hasher) return NULL;
     hasher->kind = kind;
     hasher->lock = NULL;
-    hasher->is_new = 0;
     return hasher;
 }
 
+/* An object without its start: one of no bytes, with the seed 0. */
 static PyObject *new_of(PyTypeObject *type, const struct kind *kind)
 {
     struct hasher *hasher = unwritten(type, kind);
-    if (!hasher) return NULL;
-    kind->start(hasher->state, &(struct key){0});
-    hasher->is_new = 1;
+    if (hasher) kind->start(hasher->state, &(struct key){0});
     return (PyObject *)hasher;
 }
 
@@ -82,8 +79,7 @@ static int begin(struct hasher *hasher, const struct arguments *arguments)
         PyErr_Format(PyExc_ValueError, "The secret of an object must have at most %d bytes", GREATEST_SECRET);
         return 0;
     }
-    if (!hasher->is_new || key->seed || key->secret) start(hasher, key);
-    hasher->is_new = 0;
+    start(hasher, key);
     if (arguments->has_input) take(hasher, arguments->input.start, arguments->input.length);
     return 1;
 }
@@ -91,10 +87,22 @@ static int begin(struct hasher *hasher, const struct arguments *arguments)
 static int hasher_init(struct hasher *hasher, PyObject *args, PyObject *keywords)
 {
     struct arguments arguments;
-    if (!open_arguments_of_tuple(&arguments, hasher->kind, "__init__", args, keywords)) return -1;
+    if (!open_arguments_of_tuple(&arguments, hasher->kind, args, keywords)) return -1;
     const int begun = begin(hasher, &arguments);
     close_arguments(&arguments);
     return begun ? 0 : -1;
+}
+
+/* What a call of a type answers, made and begun at once. */
+static PyObject *begun_of(PyTypeObject *type, const struct kind *kind, PyObject *const *args, size_t count,
+                          PyObject *names)
+{
+    struct arguments arguments;
+    if (!open_arguments(&arguments, kind, NULL, args, PyVectorcall_NARGS(count), names)) return NULL;
+    struct hasher *hasher = unwritten(type, kind);
+    if (hasher && !begin(hasher, &arguments)) Py_CLEAR(hasher);
+    close_arguments(&arguments);
+    return (PyObject *)hasher;
 }
 
 static void hasher_dealloc(struct hasher *hasher)
@@ -239,6 +247,10 @@ static PyGetSetDef attributes[] = {
         (void)args, (void)keywords; \
         return new_of(type, &kind##_kind); \
     } \
+    static PyObject *kind##_call(PyObject *type, PyObject *const *args, size_t count, PyObject *names) \
+    { \
+        return begun_of((PyTypeObject *)type, &kind##_kind, args, count, names); \
+    } \
     static PyType_Slot kind##_slots[] = { \
         {Py_tp_new, (void *)kind##_new}, \
         {Py_tp_init, (void *)hasher_init}, \
@@ -258,14 +270,18 @@ TYPE(xxh64, XXH64_STATE_BYTES, "(input=b'', seed=0)")
 TYPE(xxh3_64, XXH3_STATE_BYTES, "(input=b'', seed=0, *, secret=None)")
 TYPE(xxh3_128, XXH3_STATE_BYTES, "(input=b'', seed=0, *, secret=None)")
 
+static int add_type(PyObject *module, PyType_Spec *spec, vectorcallfunc call)
+{
+    PyTypeObject *type = (PyTypeObject *)PyType_FromModuleAndSpec(module, spec, NULL);
+    if (!type) return 0;
+    type->tp_vectorcall = call;
+    const int is_added = !PyModule_AddType(module, type);
+    Py_DECREF(type);
+    return is_added;
+}
+
 int add_types(PyObject *module)
 {
-    PyType_Spec *specs[] = {&xxh32_spec, &xxh64_spec, &xxh3_64_spec, &xxh3_128_spec};
-    for (size_t i = 0; i < sizeof specs / sizeof *specs; i++) {
-        PyObject *type = PyType_FromModuleAndSpec(module, specs[i], NULL);
-        const int added = type && !PyModule_AddType(module, (PyTypeObject *)type);
-        Py_XDECREF(type);
-        if (!added) return 0;
-    }
-    return 1;
+    return add_type(module, &xxh32_spec, xxh32_call) && add_type(module, &xxh64_spec, xxh64_call)
+        && add_type(module, &xxh3_64_spec, xxh3_64_call) && add_type(module, &xxh3_128_spec, xxh3_128_call);
 }

@@ -11,7 +11,6 @@ struct hasher {
     PyObject_HEAD
     const struct kind *kind;
     PyThread_type_lock lock; /* null until a thread lets others run while it uses the state */
-    int is_new;              /* the state began with the seed 0 and no secret, and has taken nothing */
     uint64_t state[];
 };
 

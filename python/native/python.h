@@ -1,4 +1,4 @@
-/* Python's header, with sizes of 64 bits and CPython's stable interface alone where setup.py says so. */
+/* Python's header, with lengths as Py_ssize_t, and what is long. */
 #ifndef TWOX_HASH_PYTHON_H
 #define TWOX_HASH_PYTHON_H
 

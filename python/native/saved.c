@@ -59,7 +59,6 @@ PyObject *hasher_set_memory(struct hasher *hasher, PyObject *memory)
     }
     enter(hasher);
     memcpy(hasher->state, bytes, hasher->kind->state_bytes);
-    hasher->is_new = 0;
     leave(hasher);
     Py_RETURN_NONE;
 }

@@ -44,28 +44,24 @@ PyObject *as_digest(const struct kind *kind, value value)
 PyObject *as_hexdigest(const struct kind *kind, value value)
 {
     char digits[32];
+    const size_t length = 2 * kind->digest_bytes;
+    PyObject *text = PyUnicode_New((Py_ssize_t)length, 127);
+    if (!text) return NULL;
     write_eight_digits(digits, value.high64 >> 32);
     write_eight_digits(digits + 8, (uint32_t)value.high64);
     write_eight_digits(digits + 16, value.low64 >> 32);
     write_eight_digits(digits + 24, (uint32_t)value.low64);
-    return PyUnicode_FromStringAndSize(digits + 32 - 2 * kind->digest_bytes, 2 * kind->digest_bytes);
-}
-
-/* The number of two halves: the stable interface makes none of more than 64 bits at once. */
-static PyObject *wide_number(value value)
-{
-    PyObject *high = PyLong_FromUnsignedLongLong(value.high64), *low = PyLong_FromUnsignedLongLong(value.low64);
-    PyObject *places = PyLong_FromLong(64), *shifted = NULL, *number = NULL;
-    if (high && low && places) shifted = PyNumber_Lshift(high, places);
-    if (shifted) number = PyNumber_Or(shifted, low);
-    Py_XDECREF(high);
-    Py_XDECREF(low);
-    Py_XDECREF(places);
-    Py_XDECREF(shifted);
-    return number;
+    memcpy(PyUnicode_1BYTE_DATA(text), digits + 32 - length, length);
+    return text;
 }
 
 PyObject *as_intdigest(const struct kind *kind, value value)
 {
-    return kind->digest_bytes <= 8 ? PyLong_FromUnsignedLongLong(value.low64) : wide_number(value);
+    if (kind->digest_bytes <= 8) return PyLong_FromUnsignedLongLong(value.low64);
+    const uint64_t halves[2] = {value.low64, value.high64};
+#if PY_VERSION_HEX >= 0x030D0000
+    return PyLong_FromUnsignedNativeBytes(halves, sizeof halves, Py_ASNATIVEBYTES_LITTLE_ENDIAN);
+#else
+    return _PyLong_FromByteArray((const unsigned char *)halves, sizeof halves, 1, 0);
+#endif
 }
