@@ -26,6 +26,10 @@ FLAGS = ['-std=c11', '-O2', '-g0', '-fPIC', '-fvisibility=hidden', '-Wall', '-We
          '-Wno-missing-field-initializers']
 # The interface of this Python, as tags of wheels name it: cp311, or cp311d of a debug build.
 ABI = 'cp' + sysconfig.get_config_var('SOABI').split('-')[1]
+# A debug build of Python tests in its own macros too.
+ASSERTIONS = [] if sysconfig.get_config_var('Py_DEBUG') else ['-DNDEBUG']
+# No name or number of the build's own stays in the file, so that one source makes one file.
+LINKS = ['-s', '-Wl,--build-id=none', '-Wl,-z,noexecstack']
 
 with open(os.path.join(HERE, 'pyproject.toml'), 'rb') as _file:
     PROJECT = tomllib.load(_file)['project']
@@ -92,10 +96,10 @@ def compile_extension(path):
     native = os.path.join(HERE, 'native')
     sources = sorted(os.path.join(native, file) for file in os.listdir(native) if file.endswith('.c'))
     includes = [sysconfig.get_path('include'), *dict.fromkeys(os.path.dirname(proved(file)) for file in PROVED)]
-    flags = [*FLAGS, *shlex.split(os.environ.get('CFLAGS', ''))]
+    flags = [*FLAGS, *ASSERTIONS, *shlex.split(os.environ.get('CFLAGS', ''))]
     with tempfile.TemporaryDirectory() as room:
         done = subprocess.run([*compiler(), '-shared', *flags, *(f'-I{folder}' for folder in includes), *sources,
-                               *texts(room, name), '-s', '-Wl,-z,noexecstack',
+                               *texts(room, name), *LINKS,
                                *shlex.split(os.environ.get('LDFLAGS', '')), '-o', path])
     if done.returncode:
         raise SystemExit('twox-hash: the extension was not compiled')

@@ -25,7 +25,10 @@ def pass_all(path, *names, **more):
 
 
 def first_failure(output):
-    """The first test that failed, and why."""
+    """The first test that failed, and why; or what valgrind reports first."""
+    report = re.search(r'^.*==\d+== (.*)', output, re.M)
+    if report:
+        return report[1]
     name = re.search(r'^(?:FAIL|ERROR): (\S+)', output, re.M)
     why = re.search(r'^(?:\w+\.)*(?:\w*(?:Error|Exception|Fault))\b.*', output[name.end():], re.M) if name else None
     return f'{name[1]}: {why[0][:200] if why else "failed"}' if name else tail(output)

@@ -18,7 +18,7 @@ static inline value hash_of(const struct kind *kind, const void *start, size_t l
 }
 
 /* Writes the kind's digest: the bytes of the value, the highest first. */
-void write_digest(unsigned char *digest, const struct kind *kind, value value);
+void write_digest(void *digest, const struct kind *kind, value value);
 
 /* New objects: the digest as bytes, its hexadecimal digits, and the value as a number. */
 PyObject *as_digest(const struct kind *kind, value value);

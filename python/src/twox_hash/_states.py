@@ -110,14 +110,15 @@ class _Stream:
     """XXH3 of both widths: a state is accepted where its parts fit each other and the secret, and where some bytes lead
     to it at least. `seed` is null in one that was made with its secret alone."""
     taken = struct.Struct('<8QQ64sQ512sQQ')
-    whole = struct.Struct('<8QQ64sQ512sQQ8xQQQ256s')
+    # The seed, the end of the buffer and that of the secret aren't written where they say nothing.
+    whole = struct.Struct('<8QQ64sQ512sQQ8xQ8sQ256s')
 
     def record_of(self, memory: bytes) -> dict[str, Any]:
         *accumulators, place, last, stripes, buffer, usage, total, has_seed, seed, length, secret = (
             self.whole.unpack(memory))
         return {'accumulators': accumulators, 'buffer': list(buffer[:usage]), 'last_stripe': list(last), 'place': place,
-                'secret': list(secret[:length]), 'seed': seed if has_seed else None, 'stripes': stripes,
-                'total_len': total}
+                'secret': list(secret[:length]), 'seed': int.from_bytes(seed, 'little') if has_seed else None,
+                'stripes': stripes, 'total_len': total}
 
     def hasher_of(self, kind: Any, record: dict[str, Any]) -> Hasher:
         accumulators = _numbers(record.get('accumulators'), 8, 8, WORD)
