@@ -84,10 +84,11 @@ def main():
     if '--all' in sys.argv:
         for row in rows:
             print(f'{row.name:9} {row.call:20} {row.length:7} {row.best[0]:10.1f} {row.best[1]:10.1f} {row.ratio():6.2f}')
-    print(f'| bytes | call | {" | ".join(NAMES)} |\n|---|---|{"---|" * len(NAMES)}')
-    for length in LENGTHS:
-        for call in CALLS:
-            print(f'| {length} | {call} | {" | ".join(f"{ratios[name, call, length]:.2f}" for name in NAMES)} |')
+    print(f'| call | bytes: | {" | ".join(LENGTHS)} |\n|---|---|{"---|" * len(LENGTHS)}')
+    for call in CALLS:
+        for name in NAMES:
+            print(f'| {call} | `{name}` | {" | ".join(f"{ratios[name, call, length]:.2f}" for length in LENGTHS)} |')
+    print()
     print(of_many(rounds))
     print(f'{datetime.date.today()}, {processor()}, {ours.instruction_set}, CPython {platform.python_version()}, '
           f'python3-xxhash over libxxhash {theirs.XXHASH_VERSION}.')
