@@ -69,7 +69,8 @@ def machine():
     except (OSError, subprocess.CalledProcessError) as fault:
         raise SystemExit(f'twox-hash: a C compiler is needed, as of Debian\'s package gcc: {fault}')
     name, system = done.stdout.strip().partition('-')[::2]
-    if name not in SETS or 'linux' not in system:
+    # Android keeps the register x18 for itself, and gnux32 has pointers of 32 bits.
+    if name not in SETS or 'linux' not in system or 'android' in system or 'gnux32' in system:
         raise SystemExit(f'twox-hash: there is no proved code for {done.stdout.strip()}: there is some for Linux on '
                          f'{" and ".join(SETS)}')
     return name

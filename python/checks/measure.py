@@ -9,6 +9,8 @@ import xxhash as theirs
 
 NAMES = ('xxh32', 'xxh64', 'xxh3_64', 'xxh3_128')
 LENGTHS = {'0': 0, '8': 8, '64': 64, '1 KiB': 1 << 10, '64 KiB': 1 << 16, '1 MiB': 1 << 20}
+# The page's columns, and the lengths of each.
+GROUPS = {'0, 8, 64 bytes': ('0', '8', '64'), '1 KiB': ('1 KiB',), '64 KiB': ('64 KiB',), '1 MiB': ('1 MiB',)}
 # About so long a turn takes, in seconds.
 TURN = 0.004
 
@@ -56,6 +58,17 @@ class Row:
         return self.best[0] / self.best[1]
 
 
+def print_ranges(rows):
+    """The table of the page: the least and the greatest ratio of the four hashes."""
+    print(f'| call | {" | ".join(GROUPS)} |\n|---|{"---|" * len(GROUPS)}')
+    for call in CALLS:
+        cells = []
+        for lengths in GROUPS.values():
+            found = [row.ratio() for row in rows if row.call == call and row.length in lengths]
+            cells.append(f'{min(found):.2f} to {max(found):.2f}')
+        print(f'| {call} | {" | ".join(cells)} |')
+
+
 def of_many(rounds):
     """The nanoseconds of a row of 16 bytes among 10,000: by `many` into a buffer, by `many` as a list, and by the
     original's function in a loop."""
@@ -80,14 +93,10 @@ def main():
     for _ in range(rounds):
         for row in rows:
             row.measure()
-    ratios = {(row.name, row.call, row.length): row.ratio() for row in rows}
     if '--all' in sys.argv:
         for row in rows:
             print(f'{row.name:9} {row.call:20} {row.length:7} {row.best[0]:10.1f} {row.best[1]:10.1f} {row.ratio():6.2f}')
-    print(f'| call | bytes: | {" | ".join(LENGTHS)} |\n|---|---|{"---|" * len(LENGTHS)}')
-    for call in CALLS:
-        for name in NAMES:
-            print(f'| {call} | `{name}` | {" | ".join(f"{ratios[name, call, length]:.2f}" for length in LENGTHS)} |')
+    print_ranges(rows)
     print()
     print(of_many(rounds))
     print(f'{datetime.date.today()}, {processor()}, {ours.instruction_set}, CPython {platform.python_version()}, '

@@ -37,19 +37,22 @@ FUNCTIONS(xxh64)
 FUNCTIONS(xxh3_64)
 FUNCTIONS(xxh3_128)
 
-#define ROW(kind, form, signature, does) \
-    {#kind "_" #form, (PyCFunction)(void (*)(void))kind##_##form, METH_FASTCALL | METH_KEYWORDS, \
-     #kind "_" #form signature "\n--\n\n" does " of the whole input."},
+#define LONG_SECRET " A secret may be longer here than an object's."
 
-#define ROWS(kind, signature) \
-    ROW(kind, digest, signature, "The digest, as bytes,") \
-    ROW(kind, hexdigest, signature, "The digest, as hexadecimal digits,") \
-    ROW(kind, intdigest, signature, "The value, as a number,")
+#define ROW(kind, form, signature, does, more) \
+    {#kind "_" #form, (PyCFunction)(void (*)(void))kind##_##form, METH_FASTCALL | METH_KEYWORDS, \
+     #kind "_" #form signature "\n--\n\n" does " of the whole input: what an object of the type " #kind \
+     " answers\nthat is made of these arguments." more},
+
+#define ROWS(kind, signature, more) \
+    ROW(kind, digest, signature, "The digest, as bytes,", more) \
+    ROW(kind, hexdigest, signature, "The digest, as hexadecimal digits,", more) \
+    ROW(kind, intdigest, signature, "The value, as a number,", more)
 
 PyMethodDef functions[] = {
-    ROWS(xxh32, "(input, seed=0)")
-    ROWS(xxh64, "(input, seed=0)")
-    ROWS(xxh3_64, "(input, seed=0, *, secret=None)")
-    ROWS(xxh3_128, "(input, seed=0, *, secret=None)")
+    ROWS(xxh32, "(input, seed=0)", "")
+    ROWS(xxh64, "(input, seed=0)", "")
+    ROWS(xxh3_64, "(input, seed=0, *, secret=None)", LONG_SECRET)
+    ROWS(xxh3_128, "(input, seed=0, *, secret=None)", LONG_SECRET)
     {0},
 };

@@ -241,7 +241,20 @@ static PyGetSetDef attributes[] = {
     {0},
 };
 
-#define TYPE(kind, bytes, signature) \
+#define INPUT_AND_SEED \
+    "A stream of bytes, and their hash so far. `input` begins it: a bytes-like object whose buffer is contiguous, or a str,\n" \
+    "which is taken in UTF-8. `seed` is an integer, of which the lowest bits count, as many as the hash's own seed has; a\n" \
+    "negative one too.\n\n"
+
+#define NO_SECRET \
+    "TypeError: the input has no bytes, or the seed is no integer. BufferError: the buffer isn't contiguous."
+
+#define SECRET \
+    "`secret` is bytes-like, of 136 to 256 bytes, and is copied. With a seed, the seed alone takes effect up to 240 bytes of\n" \
+    "input and the secret alone above; without one, the secret does at every length.\n\n" NO_SECRET \
+    " ValueError: the secret has\nanother length."
+
+#define TYPE(kind, bytes, signature, more) \
     static PyObject *kind##_new(PyTypeObject *type, PyObject *args, PyObject *keywords) \
     { \
         (void)args, (void)keywords; \
@@ -257,7 +270,7 @@ static PyGetSetDef attributes[] = {
         {Py_tp_dealloc, (void *)hasher_dealloc}, \
         {Py_tp_methods, methods}, \
         {Py_tp_getset, attributes}, \
-        {Py_tp_doc, #kind signature "\n--\n\nA stream of bytes, and their hash so far."}, \
+        {Py_tp_doc, #kind signature "\n--\n\n" INPUT_AND_SEED more}, \
         {0}, \
     }; \
     static PyType_Spec kind##_spec = { \
@@ -265,10 +278,10 @@ static PyGetSetDef attributes[] = {
         .flags = Py_TPFLAGS_DEFAULT | Py_TPFLAGS_IMMUTABLETYPE, .slots = kind##_slots, \
     };
 
-TYPE(xxh32, XXH32_STATE_BYTES, "(input=b'', seed=0)")
-TYPE(xxh64, XXH64_STATE_BYTES, "(input=b'', seed=0)")
-TYPE(xxh3_64, XXH3_STATE_BYTES, "(input=b'', seed=0, *, secret=None)")
-TYPE(xxh3_128, XXH3_STATE_BYTES, "(input=b'', seed=0, *, secret=None)")
+TYPE(xxh32, XXH32_STATE_BYTES, "(input=b'', seed=0)", NO_SECRET)
+TYPE(xxh64, XXH64_STATE_BYTES, "(input=b'', seed=0)", NO_SECRET)
+TYPE(xxh3_64, XXH3_STATE_BYTES, "(input=b'', seed=0, *, secret=None)", SECRET)
+TYPE(xxh3_128, XXH3_STATE_BYTES, "(input=b'', seed=0, *, secret=None)", SECRET)
 
 static int add_type(PyObject *module, PyType_Spec *spec, vectorcallfunc call)
 {
