@@ -1,10 +1,9 @@
 """The package for 64-bit ARM under qemu-aarch64, in Debian's Python for that processor."""
 import os
-import shutil
-import sys
 
+from aarch64 import debian_root
 from report import want
-from room import PYTHON, TOP, copied, packed, run, site
+from room import copied, packed, run, site
 from suite import pass_all
 
 PACKAGES = {'/usr/bin/aarch64-linux-gnu-gcc': 'gcc-aarch64-linux-gnu', '/usr/bin/qemu-aarch64': 'qemu-user',
@@ -22,7 +21,6 @@ def built_for_arm(room, root):
 def tests_pass(room, root):
     """Beside Debian's python3-xxhash for arm64. Fewer objects are made, since each step takes ten times as long."""
     path = built_for_arm(room, root)
-    # qemu hands its own environment on to the program.
     python = ('/usr/bin/qemu-aarch64', '-L', root, f'{root}/usr/bin/python3.11')
     done = run([*python, '-c', 'import platform, twox_hash; print(platform.machine(), twox_hash.instruction_set)'],
                PYTHONPATH=path)
@@ -31,9 +29,5 @@ def tests_pass(room, root):
 
 
 def check_all(report, room):
-    sys.path.insert(0, os.path.join(TOP, 'c', 'checks'))
-    from aarch64 import debian_root
-    folder = os.path.join(room, 'debian')
-    root = debian_root(folder, 'libc6', 'python3-xxhash', 'libpython3.11-dev')
+    root = debian_root(os.path.join(room, 'debian'), 'libc6', 'python3-xxhash', 'libpython3.11-dev')
     report.attempt('the tests on 64-bit ARM under qemu', tests_pass, room, root)
-    shutil.rmtree(folder)
