@@ -1,6 +1,17 @@
 # What c/build and rust/build-library share: sourced by each, with `fail` defined. $assembly is this folder.
 assembly=$(cd "$(dirname "${BASH_SOURCE[0]}")" && pwd)
 
+# read_build WORDS: sets `update` where the word is --update, and `static_library` to what builds one, which --of-ci changes.
+read_build() {
+    update='' static_library=(rt lib)
+    case $* in
+    '') ;;
+    --update) update=yes ;;
+    --of-ci) static_library=("$assembly/library_of_ci.py") ;;
+    *) return 1 ;;
+    esac
+}
+
 # write_text OBJECT FOLDER NAME TITLE [TAG]: gives the object's functions the text's names, and writes the text and its
 # sums to FOLDER/NAME.s and FOLDER/NAME.sums.
 write_text() {

@@ -20,7 +20,7 @@ from same_bytes import EXECUTED, Object, is_global
 
 # An instruction: its place in its section, its bytes, and its text by objdump.
 Row = namedtuple('Row', 'at raw text')
-HIDDEN = 2
+WEAK, HIDDEN = 2, 2
 
 
 class X86:
@@ -170,9 +170,13 @@ class Text:
                 if body[slot * at:slot * (at + 1)] != row.raw.ljust(slot, b'\0')}
 
     def lines(self, title):
-        yield f'/* {title} Generated of what is proved: not to be changed by hand. MIT licence, see LICENSE. */'
+        yield f'/* {title} Generated of what is proved: not to be changed by hand. Licence: MIT. */'
+        # A second text with weak names, which an optimizer has put into the same module, has nothing to add.
+        guard = next((symbol.name for symbol in self.functions.values() if symbol.info >> 4 == WEAK), None)
+        yield from [f'\t.ifndef {guard}'] if guard else []
         for name, head in self.sections.items():
             yield from self.lines_of_code(name) if head.flags & EXECUTED else self.lines_of_data(name, head)
+        yield from ['\t.endif'] if guard else []
         yield from ('\t.section .note.GNU-stack,"",@progbits', '\t.text')
 
     def lines_of_code(self, section):
@@ -191,7 +195,7 @@ class Text:
 
     def lines_of_name(self, function):
         if is_global(function):
-            yield f'\t.globl {function.name}'
+            yield f'\t.{"weak" if function.info >> 4 == WEAK else "globl"} {function.name}'
         if function.other == HIDDEN:
             yield f'\t.hidden {function.name}'
         yield from (f'\t.type {function.name},@function', f'{function.name}:')

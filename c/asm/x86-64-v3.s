@@ -1,4 +1,4 @@
-/* The functions of the library for C, for x86-64-v3. Generated of what is proved: not to be changed by hand. MIT licence, see LICENSE. */
+/* The functions of the library for C, for x86-64-v3. Generated of what is proved: not to be changed by hand. Licence: MIT. */
 	.section .text.XXH3_64bits_withSecret,"ax",@progbits
 	.p2align 6
 	.byte 102,46,15,31,132,0,0,0,0,0

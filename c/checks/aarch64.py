@@ -7,6 +7,7 @@ import clients
 import headers
 import package
 import values
+from check import check_texts
 from report import Fault, want
 from sides import EmulatedSide, run
 from tools import C, QUIET, TOP, Built, install_packages, must
@@ -40,6 +41,20 @@ def debian_root(folder, *packages):
         if name.endswith('.deb'):
             must(['dpkg-deb', '-x', os.path.join(archives, name), root])
     return root
+
+
+def musl_gcc(room):
+    """A compiler for musl on 64-bit ARM: Debian's cross compiler, over Debian's musl for that processor."""
+    root = debian_root(os.path.join(room, 'musl'), 'musl-dev')
+    specs, path = os.path.join(room, 'musl-gcc.specs'), os.path.join(room, 'aarch64-linux-musl-gcc')
+    with open(os.path.join(root, 'usr/lib/aarch64-linux-musl/musl-gcc.specs')) as file:
+        text = file.read()
+    with open(specs, 'w') as file:
+        file.write(text.replace('/usr/', root + '/usr/'))
+    with open(path, 'w') as file:
+        file.write(f'#!/bin/sh\nexec {TOOLS}gcc "$@" -specs {specs}\n')
+    os.chmod(path, 0o755)
+    return path
 
 
 def reference(built, name, change=('', ''), flags=('-O2',)):
@@ -97,6 +112,7 @@ def check_all(report, quick):
     install_packages(PACKAGES)
     with tempfile.TemporaryDirectory() as room:
         built = Built(room, 'aarch64', TOOLS)
+        check_texts(report, 'c', 'aarch64')
         root = debian_root(os.path.join(room, 'debian'), 'libc6', 'python3-xxhash')
         qemu, count = ['qemu-aarch64', '-L', root], 10000 if quick else 100000
         program = values.calls_program(built, 'calls')

@@ -88,7 +88,8 @@ def builds_by_pkg_config(package):
     """With the folder of pkg-config named, and a place for the loader in the program."""
     flags = must(['pkg-config', '--cflags', '--libs', 'libxxhash'],
                  env={**os.environ, 'PKG_CONFIG_PATH': os.path.join(FOLDER, 'pkgconfig')}).split()
-    want('-I' + PREFIX + '/include' in flags, f'the header of another library: {flags}')
+    folders = [os.path.normpath(flag[2:]) for flag in flags if flag.startswith('-I')]
+    want(folders == [PREFIX + '/include'], f'the header of another library: {flags}')
     path = os.path.join(package.room, 'by-pkg-config')
     must(['gcc', EXAMPLE, *flags, '-Wl,-rpath,' + FOLDER, '-o', path])
     hashes_file(Side('the installed package', None, package.ours), [path])

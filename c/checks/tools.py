@@ -25,13 +25,46 @@ def install_packages(packages):
         must(['apt-get', 'install', '-y', '-qq', '--no-install-recommends', *sorted(missing)], env=QUIET)
 
 
+def hide_rt(room):
+    """Takes rt off PATH: a folder that holds it gives way to one with links to all else in it."""
+    folders = []
+    for number, folder in enumerate(os.environ['PATH'].split(':')):
+        if os.path.lexists(os.path.join(folder, 'rt')):
+            links = os.path.join(room, f'commands-{number}')
+            os.mkdir(links)
+            for name in os.listdir(folder):
+                if name != 'rt':
+                    os.symlink(os.path.join(folder, name), os.path.join(links, name))
+            folder = links
+        folders.append(folder)
+    os.environ['PATH'] = ':'.join(folders)
+    if shutil.which('rt'):
+        sys.exit('rt is on PATH still')
+
+
+def clean_copy(folder):
+    """Copies the repository without what was built in it, and without what rt alone reads: the files that git knows, or
+    where there is no git all."""
+    if not os.path.exists(os.path.join(TOP, '.git')):
+        ignored = shutil.ignore_patterns('out', 'target', '__pycache__', 'crates')
+        shutil.copytree(TOP, folder, symlinks=True, ignore=ignored)
+        return
+    for name in must(['git', '-C', TOP, 'ls-files', '-z', '--', ':!crates']).split('\0')[:-1]:
+        path = os.path.join(folder, name)
+        os.makedirs(os.path.dirname(path), exist_ok=True)
+        shutil.copy(os.path.join(TOP, name), path, follow_symlinks=False)
+
+
 class Built:
     """What is checked: the installed library of a processor, and copies of it that are wrong."""
 
     def __init__(self, room, target='x86-64', tools=''):
-        self.room, self.prefix, self.tools = room, os.path.join(room, 'prefix'), tools
+        self.room, self.tools = room, tools
+        self.set_paths(os.path.join(room, 'prefix'))
         must([os.path.join(C, 'install'), '--target', target, self.prefix])
-        self.folder = os.path.join(self.prefix, 'lib')
+
+    def set_paths(self, prefix):
+        self.prefix, self.folder = prefix, os.path.join(prefix, 'lib')
         self.include = os.path.join(self.prefix, 'include')
         self.archive = os.path.join(self.folder, 'libtwox_hash.a')
         self.plain = os.path.join(self.folder, 'libxxhash.so.0')

@@ -1,4 +1,4 @@
-"""What rust/check and rust/bench work with: packages, and a folder in which cargo finds Debian's crates alone."""
+"""What rust/check, rust/bench and rust/count work with: packages, and a folder in which cargo finds Debian's crates alone."""
 import os
 import re
 import shutil
@@ -7,14 +7,14 @@ import sys
 
 RUST = os.path.dirname(os.path.dirname(os.path.abspath(__file__)))
 TOP = os.path.dirname(RUST)
-sys.path.insert(0, os.path.join(TOP, 'c', 'checks'))
+sys.path[:0] = [os.path.join(TOP, 'c', 'checks'), os.path.join(TOP, 'assembly')]
 
 import aarch64
 from report import tail, want
 
 CRATES = '/usr/share/cargo/registry'
-PACKAGES = {'gcc': 'gcc', 'objcopy': 'binutils', 'pkg-config': 'pkg-config', 'valgrind': 'valgrind',
-            'xxhsum': 'xxhash', '/usr/lib/x86_64-linux-gnu/libxxhash.so': 'libxxhash-dev',
+PACKAGES = {'gcc': 'gcc', 'nm': 'binutils', 'valgrind': 'valgrind', 'xxhsum': 'xxhash',
+            '/usr/lib/x86_64-linux-gnu/libxxhash.so': 'libxxhash-dev',
             f'{CRATES}/serde_derive-1.0.152': 'librust-serde-derive-dev',
             f'{CRATES}/serde-1.0.152': 'librust-serde-dev',
             f'{CRATES}/serde_json-1.0.87': 'librust-serde-json-dev',
@@ -22,11 +22,16 @@ PACKAGES = {'gcc': 'gcc', 'objcopy': 'binutils', 'pkg-config': 'pkg-config', 'va
             f'{CRATES}/xxhash-rust-0.8.5': 'librust-xxhash-rust-dev'}
 # Debian's newest cargo: its plain one is older than the crate's rust-version.
 CARGO = 'cargo-web'
+DEBIANS_RUST = {'/usr/bin/rustc': 'rustc-web', '/usr/bin/cargo': CARGO}
 # What builds and runs programs for 64-bit ARM: Debian's compiler for its standard library for that processor.
 ARM = 'aarch64-unknown-linux-gnu'
 ARM_PACKAGES = {'aarch64-linux-gnu-gcc': 'gcc-aarch64-linux-gnu', 'aarch64-linux-gnu-objcopy': 'binutils-aarch64-linux-gnu',
                 '/usr/aarch64-linux-gnu/include/stdio.h': 'libc6-dev-arm64-cross', 'qemu-aarch64': 'qemu-user',
-                '/usr/bin/rustc': 'rustc-web', '/usr/bin/cargo': CARGO}
+                **DEBIANS_RUST}
+# The sources of Rust's standard library, of which it is built for targets that Debian has none for.
+SOURCES = '/usr/lib/rustlib/src/rust/library'
+SOURCE_PACKAGES = {**DEBIANS_RUST, SOURCES: 'rust-web-src', 'musl-gcc': 'musl-tools', 'make': 'make',
+                   '/usr/lib/llvm-14/lib/libunwind.a': 'libunwind-14-dev'}
 # The original's manifest, for sources that come without one.
 ORIGINAL = '''[package]
 name = "twox-hash"
@@ -67,36 +72,35 @@ def install_packages(packages=PACKAGES):
         quiet = {**os.environ, 'DEBIAN_FRONTEND': 'noninteractive'}
         must(['apt-get', 'update', '-qq'], env=quiet)
         must(['apt-get', 'install', '-y', '-qq', '--no-install-recommends', *sorted(missing)], env=quiet)
-    if not shutil.which('rt'):
-        sys.exit(f'rust/{os.path.basename(sys.argv[0])}: no rt: the proofs need the Rattle kit')
 
 
 class Room:
-    """The check's own folder: the library, a copy of the crate's sources, and what cargo makes."""
+    """The check's own folder: a copy of the crate's sources and text, and what cargo makes."""
 
-    def __init__(self, path):
+    cargo_program = 'cargo'
+    target = None
+
+    def __init__(self, path, crate=RUST):
         self.path = path
-        self.library = os.path.join(path, 'library')
         # A copy, so that cargo's lock files stand in no folder of the repository.
         self.rust = os.path.join(path, 'rust')
-        shutil.copytree(RUST, self.rust, ignore=shutil.ignore_patterns('out', 'target', 'Cargo.lock'))
-        os.makedirs(os.path.join(path, '.cargo'))
-        with open(os.path.join(path, '.cargo', 'config.toml'), 'w') as file:
-            file.write(f'[source.crates-io]\nreplace-with = "debian"\n[source.debian]\ndirectory = "{CRATES}"\n')
+        shutil.copytree(crate, self.rust, ignore=shutil.ignore_patterns('out', 'target', 'Cargo.lock'))
+        self.use_registry(CRATES)
         os.makedirs(os.path.join(path, 'programs'))
-        must([os.path.join(RUST, 'build-library'), '--target', self.target, self.library])
 
-    target = 'x86-64'
+    def use_registry(self, folder):
+        os.makedirs(os.path.join(self.path, '.cargo'), exist_ok=True)
+        with open(os.path.join(self.path, '.cargo', 'config.toml'), 'w') as file:
+            file.write(f'[source.crates-io]\nreplace-with = "debian"\n[source.debian]\ndirectory = "{folder}"\n')
 
-    def environment(self, library=None, flags='', **more):
-        kept = {name: value for name, value in os.environ.items() if name not in ('RUSTFLAGS', 'TWOX_HASH_LIB_DIR')}
-        found = {'TWOX_HASH_LIB_DIR': library or self.library, 'CARGO_TARGET_DIR': os.path.join(self.path, 'target'),
-                 'CARGO_NET_OFFLINE': 'true'}
+    def environment(self, flags='', **more):
+        kept = {name: value for name, value in os.environ.items() if name != 'RUSTFLAGS'}
+        found = {'CARGO_TARGET_DIR': os.path.join(self.path, 'target'), 'CARGO_NET_OFFLINE': 'true'}
         return {**kept, **found, 'RUSTFLAGS': flags, **more}
 
-    def cargo(self, folder, *words, environment=None):
-        return subprocess.run(['cargo', *words], cwd=folder, env=environment or self.environment(), stdout=subprocess.PIPE,
-                              stderr=subprocess.STDOUT, text=True)
+    def cargo(self, folder, command, *words, environment=None):
+        return subprocess.run([self.cargo_program, command, *words], cwd=folder, env=environment or self.environment(),
+                              stdout=subprocess.PIPE, stderr=subprocess.STDOUT, text=True)
 
     def build(self, folder, name, *words, environment=None):
         """A program of a package, under a name of its own."""
@@ -108,7 +112,19 @@ class Room:
 
     @property
     def made(self):
-        return os.path.join(self.path, 'target', 'release')
+        return os.path.join(self.path, 'target', *([self.target] if self.target else []), 'release')
+
+    def changed(self, name, change):
+        """A copy of the crate whose text is changed: `change` answers the new text of a file."""
+        crate = os.path.join(self.path, name)
+        shutil.copytree(self.rust, crate, ignore=shutil.ignore_patterns('target', 'Cargo.lock'))
+        folder = os.path.join(crate, 'asm')
+        for file in os.listdir(folder):
+            with open(os.path.join(folder, file)) as text:
+                right = text.read()
+            with open(os.path.join(folder, file), 'w') as text:
+                text.write(change(right))
+        return crate
 
     def add_original(self, package, sources):
         """Makes the original, from its sources, a crate of a package."""
@@ -127,7 +143,8 @@ class Room:
 class ArmRoom(Room):
     """The same for 64-bit ARM: programs are built by Debian's compiler and run under qemu."""
 
-    target = 'aarch64'
+    cargo_program = '/usr/bin/cargo'
+    target = ARM
 
     def __init__(self, path):
         super().__init__(path)
@@ -136,25 +153,57 @@ class ArmRoom(Room):
         os.makedirs(os.path.join(self.sysroot, 'lib', 'rustlib'))
         os.symlink(os.path.join(self.root, 'usr', 'lib', 'rustlib', ARM),
                    os.path.join(self.sysroot, 'lib', 'rustlib', ARM))
+        self.runner = ['qemu-aarch64', '-L', self.root]
 
-    def environment(self, library=None, flags='', **more):
-        variables = f'CARGO_TARGET_{ARM.upper().replace("-", "_")}'
+    def environment(self, flags='', **more):
         libraries = os.path.join(self.root, 'usr', 'lib', 'aarch64-linux-gnu')
-        return super().environment(library, f'--sysroot {self.sysroot} -L native={libraries} {flags}', **{
-            'CARGO_BUILD_TARGET': ARM, 'RUSTC': '/usr/bin/rustc', f'{variables}_LINKER': 'aarch64-linux-gnu-gcc',
-            f'{variables}_RUNNER': ' '.join(self.runner), **more})
+        return super().environment(f'--sysroot {self.sysroot} -L native={libraries} {flags}', **{
+            'CARGO_BUILD_TARGET': ARM, 'RUSTC': '/usr/bin/rustc',
+            **for_target(ARM, LINKER='aarch64-linux-gnu-gcc', RUNNER=' '.join(self.runner)), **more})
 
-    def cargo(self, folder, *words, environment=None):
-        return subprocess.run(['/usr/bin/cargo', *words], cwd=folder, env=environment or self.environment(),
-                              stdout=subprocess.PIPE, stderr=subprocess.STDOUT, text=True)
 
-    @property
-    def runner(self):
-        return ['qemu-aarch64', '-L', self.root]
+class SourceRoom(Room):
+    """The same for a target that has its standard library of Debian's sources, as all have with musl. A program is linked
+    by `linker`, and run by `runner` where that isn't empty. Debian's static unwinder lies in the root that is named."""
 
-    @property
-    def made(self):
-        return os.path.join(self.path, 'target', ARM, 'release')
+    cargo_program = '/usr/bin/cargo'
+
+    def __init__(self, path, target, linker='false', runner='', root=''):
+        super().__init__(path)
+        self.target, self.linker, self.runner = target, linker, runner
+        self.libraries = os.path.join(path, 'native')
+        registry = os.path.join(path, 'registry')
+        for folder in (self.libraries, registry):
+            os.mkdir(folder)
+        for folder in (CRATES, os.path.join(SOURCES, 'vendor')):
+            for name in os.listdir(folder):
+                os.symlink(os.path.join(folder, name), os.path.join(registry, name))
+        self.use_registry(registry)
+        if linker != 'false':
+            self.add_unwinder(root)
+
+    def add_unwinder(self, root):
+        """Debian's unwinder is compiled for glibc, of which it wants one function, to say what is wrong before it stops."""
+        os.symlink(f'{root}/usr/lib/llvm-14/lib/libunwind.a', os.path.join(self.libraries, 'libunwind.a'))
+        must([self.linker, '-O2', '-x', 'c', '-', '-c', '-o', os.path.join(self.libraries, 'chk.o')],
+             input='void abort(void); int __fprintf_chk(void *f, int n, const char *s, ...) { abort(); }')
+
+    def environment(self, flags='', **more):
+        native = f'-C link-self-contained=no -L native={self.libraries} -C link-arg={self.libraries}/chk.o -C link-arg=-lgcc'
+        return super().environment(f'{native} {flags}', **{
+            # The switch for `-Z build-std`, which a released compiler has too.
+            'RUSTC_BOOTSTRAP': '1', 'RUSTC': '/usr/bin/rustc',
+            **for_target(self.target, LINKER=self.linker, RUNNER=self.runner), **more})
+
+    def cargo(self, folder, command, *words, environment=None):
+        parts = 'core' if self.linker == 'false' else 'std,panic_abort'
+        return super().cargo(folder, command, '-Z', f'build-std={parts}', '--target', self.target, *words,
+                             environment=environment)
+
+
+def for_target(target, **variables):
+    """cargo's variables for a target."""
+    return {f'CARGO_TARGET_{target.upper().replace("-", "_")}_{name}': value for name, value in variables.items() if value}
 
 
 def errors_of(text):

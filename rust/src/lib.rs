@@ -2,23 +2,13 @@
 #![cfg_attr(not(feature = "std"), no_std)]
 #![deny(missing_docs, rust_2018_idioms, unsafe_op_in_unsafe_fn)]
 
-#[cfg(not(all(
-    any(target_arch = "x86_64", target_arch = "aarch64"),
-    target_os = "linux",
-    target_pointer_width = "64",
-    target_endian = "little"
-)))]
-compile_error!(
-    "the proved library is for Linux on x86-64 and 64-bit ARM alone: x86_64-unknown-linux-gnu or -musl, \
-     aarch64-unknown-linux-gnu or -musl"
-);
-
 #[cfg(feature = "alloc")]
 extern crate alloc;
 
 mod library;
 #[cfg(target_arch = "x86_64")]
 mod processor;
+mod text;
 
 #[cfg(any(feature = "xxhash32", feature = "xxhash64"))]
 #[macro_use]

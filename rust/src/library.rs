@@ -1,7 +1,8 @@
-//! The proved library: its records, its calls, and which of its sets of instructions a call takes.
+//! The proved functions: their records, their calls, and which set of instructions a call takes.
 //!
 //! This file is what has to be believed of memory: each declaration says what the export of that name in
-//! `crates/twox_rust` takes, in the same order.
+//! `crates/twox_rust` takes, in the same order. The names have the number of the interface in them, which changes with
+//! every change of a call or of a record, so that two versions of this crate can stand in one program.
 #![allow(
     dead_code,
     reason = "each hash is a feature, and so are the calls that it makes"
@@ -137,7 +138,7 @@ macro_rules! exports {
         mod any_processor {
             use super::*;
             extern "C" {
-                $(#[link_name = concat!("twox_rust_", stringify!($name))]
+                $(#[link_name = concat!("twox_rust_2_", stringify!($name))]
                 pub fn $name($($argument: $kind),*) $(-> $answer)?;)*
             }
         }
@@ -146,7 +147,7 @@ macro_rules! exports {
         mod x86_64_v3 {
             use super::*;
             extern "C" {
-                $(#[link_name = concat!("twox_rust_", stringify!($name), "_v3")]
+                $(#[link_name = concat!("twox_rust_2_", stringify!($name), "_v3")]
                 pub fn $name($($argument: $kind),*) $(-> $answer)?;)*
             }
         }

@@ -1,0 +1,214 @@
+#!/usr/bin/env python3
+"""Checks the assembly text of the library for C and of the cargo crate beside what is proved:
+
+    assembly/check.py [--target aarch64] [--of-ci] [c] [rust]
+
+It proves and builds both, or the one that is named; with --of-ci over the libraries that `rt ci` left in this tree. Of each text it wants that
+
+- text and sums made anew of the object that was proved are those that are committed;
+- each assembler on the machine (GNU as, clang, rustc) makes that object of the text, as same_bytes.py compares two;
+- 15 wrong texts are noticed, by the object and by the sums: a constant, a register, an offset, a jump, a word of data.
+
+It needs rt, and takes what assemblers there are. One line a check; the status is 1 where one failed."""
+import argparse
+import os
+import random
+import re
+import shutil
+import subprocess
+import sys
+import tempfile
+
+ASSEMBLY = os.path.dirname(os.path.abspath(__file__))
+TOP = os.path.dirname(ASSEMBLY)
+sys.path[:0] = [ASSEMBLY, os.path.join(TOP, 'c', 'checks')]
+sys.dont_write_bytecode = True
+
+from report import Report, want
+from same_bytes import compare, compare_sums
+
+BUILDS = {'c': 'c/build', 'rust': 'rust/build-library'}
+SETS = {('c', 'x86-64'): ('x86-64-v2', 'x86-64-v3'), ('rust', 'x86-64'): ('x86-64', 'x86-64-v3'),
+        ('c', 'aarch64'): ('aarch64',), ('rust', 'aarch64'): ('aarch64',)}
+WRONG_TEXTS = 15
+
+
+def run(words, **more):
+    done = subprocess.run(words, stdout=subprocess.PIPE, stderr=subprocess.STDOUT, text=True, **more)
+    want(done.returncode == 0, f'{" ".join(words[:3])}: {done.stdout.strip()[-300:]}')
+    return done.stdout
+
+
+# ---- the assemblers ----
+
+class As:
+    name = 'GNU as'
+
+    def __init__(self, target, _):
+        self.words = ['as' if target == 'x86-64' else 'aarch64-linux-gnu-as']
+
+    def is_there(self):
+        return shutil.which(self.words[0])
+
+    def assemble(self, text, out):
+        run([*self.words, text, '-o', out])
+
+
+class Clang(As):
+    name = 'clang'
+
+    def __init__(self, target, _):
+        self.words = ['clang', '-c', f'--target={"x86_64" if target == "x86-64" else target}-linux-gnu']
+
+
+class Rustc(As):
+    name = 'rustc'
+
+    def __init__(self, target, sysroot):
+        arch, self.options = ('x86_64', 'att_syntax, raw') if target == 'x86-64' else (target, 'raw')
+        self.words = ['rustc', '--crate-type=lib', '--emit=obj', f'--target={arch}-unknown-linux-gnu']
+        if sysroot:
+            self.words += ['--sysroot', sysroot]
+
+    def is_there(self):
+        """With the library `core` of the target."""
+        if not super().is_there():
+            return False
+        with tempfile.TemporaryDirectory() as room:
+            empty = os.path.join(room, 'empty.s')
+            open(empty, 'w').close()
+            try:
+                self.assemble(empty, os.path.join(room, 'empty.o'))
+            except Exception:
+                return False
+        return True
+
+    def assemble(self, text, out):
+        source = os.path.splitext(out)[0] + '.rs'
+        with open(source, 'w') as file:
+            file.write(f'#![no_std]\ncore::arch::global_asm!(include_str!("{text}"), options({self.options}));\n')
+        run([*self.words, source, '-o', out])
+
+
+def assemblers_for(target, sysroot):
+    """Those that are on the machine."""
+    return [it for it in (kind(target, sysroot) for kind in (As, Clang, Rustc)) if it.is_there()]
+
+
+# ---- wrong texts ----
+
+# Where a text is made wrong: the pattern's group is what changes, and the other word that comes in its place.
+NEXT_HEX = (lambda word: hex(int(word, 16) ^ 1))
+NEXT_DIGIT = (lambda word: str((int(word) + 1) % 8))
+WRONG = {
+    'x86-64': {'a constant': (r'\tmovabs \$(0x[0-9a-f]+),', NEXT_HEX), 'a register': (r'\t\w+ .*%[xy]mm(\d)$', NEXT_DIGIT),
+               'an offset': (r'\t\w+ (0x[0-9a-f]+)\(%r', NEXT_HEX), 'a jump': (r'\tj\w+ (\.L\w+)', None),
+               'a word of data': (r'\t\.quad (0x[0-9a-f]+)', NEXT_HEX)},
+    'aarch64': {'a constant': (r'\tmovk? \w+, #(0x[0-9a-f]+)', NEXT_HEX), 'a register': (r'\t\w+ v(\d)\.', NEXT_DIGIT),
+                'an offset': (r'\tldp .*, #(\d+)\]', lambda word: str(int(word) + 32)), 'a jump': (r'\tb\.\w+ (\.L\w+)', None),
+                'a word of data': (r'\t\.quad (0x[0-9a-f]+)', NEXT_HEX)},
+}
+
+
+def other_label(label, lines):
+    """Another label of the same function."""
+    function = label.split('_')[0]
+    others = sorted({line[:-1] for line in lines if line.startswith(f'{function}_') and line[:-1] != label})
+    return others[0] if others else None
+
+
+def wrong_texts(lines, target, count):
+    """Texts with one word changed: what it is, the section that it lies in, and the lines. They are drawn at random, and
+    the same each time."""
+    draw = random.Random(1)
+    for turn in range(count):
+        kind, (pattern, change) = list(WRONG[target].items())[turn % len(WRONG[target])]
+        places = [at for at, line in enumerate(lines) if re.match(pattern, line)]
+        want(places, f'the text has no {kind}')
+        at = draw.choice(places)
+        found = re.match(pattern, lines[at])
+        word = change(found[1]) if change else other_label(found[1], lines) or found[1] + '+1'
+        line = lines[at][:found.start(1)] + word + lines[at][found.end(1):]
+        section = next(line.split()[1].split(',')[0] for line in reversed(lines[:at]) if line.startswith('\t.section'))
+        yield f'{kind}, line {at + 1}', section, [*lines[:at], line, *lines[at + 1:]]
+
+
+def wrong_texts_are_noticed(text, proved, target, room):
+    with open(text) as file:
+        lines = file.read().splitlines()
+    path, out = os.path.join(room, 'wrong.s'), os.path.join(room, 'wrong.o')
+    for what, section, wrong in wrong_texts(lines, target, WRONG_TEXTS):
+        with open(path, 'w') as file:
+            file.write('\n'.join(wrong) + '\n')
+        As(target, None).assemble(path, out)
+        for found in (compare(proved, out), compare_sums(sums_beside(text), out)):
+            want(any(line.startswith(f'{section}:') for line in found), f'{what}: it was not noticed in {section}')
+    return f'{WRONG_TEXTS} of {WRONG_TEXTS}'
+
+
+# ---- the checks ----
+
+def sums_beside(text):
+    return os.path.splitext(text)[0] + '.sums'
+
+
+def is_made_anew(text, made):
+    for path in (text, sums_beside(text)):
+        with open(path) as committed, open(os.path.join(made, os.path.basename(path))) as anew:
+            want(committed.read() == anew.read(), f'{os.path.relpath(path, TOP)} is another: {made} has it anew')
+
+
+def is_same(assembler, text, proved, room):
+    has_sums(assembler, text, room)
+    found = compare(proved, os.path.join(room, 'assembled.o'))
+    want(not found, ' / '.join(line[:200] for line in found[:3]))
+
+
+def check_texts(report, library, target, sysroot=None):
+    """The texts of a library that was proved and built."""
+    out = os.path.join(TOP, library, 'out')
+    assemblers = assemblers_for(target, sysroot)
+    for name in SETS[library, target]:
+        text, proved = os.path.join(TOP, library, 'asm', f'{name}.s'), os.path.join(out, 'proved', f'{name}.o')
+        shown = os.path.relpath(text, TOP)
+        report.attempt(f'{shown} and its sums, made anew', is_made_anew, text, os.path.join(out, 'asm', target))
+        with tempfile.TemporaryDirectory() as room:
+            for assembler in assemblers:
+                report.attempt(f'{shown} by {assembler.name}', is_same, assembler, text, proved, room)
+            report.attempt(f'{shown} made wrong is noticed', wrong_texts_are_noticed, text, proved, target, room)
+
+
+def has_sums(assembler, text, room):
+    out = os.path.join(room, 'assembled.o')
+    assembler.assemble(text, out)
+    found = compare_sums(sums_beside(text), out)
+    want(not found, ' / '.join(line[:200] for line in found[:3]))
+
+
+def check_sums(report, folder, sets):
+    """Texts for x86-64 beside their sums, where no object that was proved is at hand."""
+    with tempfile.TemporaryDirectory() as room:
+        for assembler in assemblers_for('x86-64', None):
+            for name in sets:
+                report.attempt(f'the sums of {name}.s by {assembler.name}', has_sums, assembler,
+                               os.path.join(folder, f'{name}.s'), room)
+
+
+def main():
+    words = argparse.ArgumentParser(prog='assembly/check.py')
+    words.add_argument('--target', choices=('x86-64', 'aarch64'), default='x86-64')
+    words.add_argument('--of-ci', action='store_true')
+    words.add_argument('libraries', nargs='*', metavar='c|rust')
+    chosen, report = words.parse_args(), Report()
+    for library in chosen.libraries or list(BUILDS):
+        if library not in BUILDS:
+            words.error(f'{library} is neither c nor rust')
+        report.attempt(f'{BUILDS[library]} --target {chosen.target}', run,
+                       [os.path.join(TOP, BUILDS[library]), '--target', chosen.target, *['--of-ci'] * chosen.of_ci])
+        check_texts(report, library, chosen.target)
+    print(f'{report.passed} passed, {report.failed} failed')
+    sys.exit(1 if report.failed else 0)
+
+
+if __name__ == '__main__':
+    main()
