@@ -133,8 +133,8 @@ def write_wheel(folder, name, files):
     """A wheel of the files by name, whose bytes depend on theirs alone. Answers its name."""
     about = f'{STEM}.dist-info'
     tag = f'{ABI.rstrip("dt")}-{ABI}-linux_{name}'
-    files |= {f'{about}/METADATA': metadata(), f'{about}/LICENSE': licence(),
-              f'{about}/WHEEL': f'Wheel-Version: 1.0\nGenerator: twox-hash\nRoot-Is-Purelib: false\nTag: {tag}\n'.encode()}
+    wheel = f'Wheel-Version: 1.0\nGenerator: twox-hash\nRoot-Is-Purelib: false\nTag: {tag}\n'
+    files |= {f'{about}/METADATA': metadata(), f'{about}/LICENSE': licence(), f'{about}/WHEEL': wheel.encode()}
     record = io.StringIO()
     rows = csv.writer(record, lineterminator='\n')
     for path, text in files.items():
@@ -142,11 +142,11 @@ def write_wheel(folder, name, files):
         rows.writerow([path, f'sha256={digest}', len(text)])
     rows.writerow([f'{about}/RECORD', '', ''])
     files[f'{about}/RECORD'] = record.getvalue().encode()
-    with zipfile.ZipFile(os.path.join(folder, f'{STEM}-{tag}.whl'), 'w', zipfile.ZIP_DEFLATED) as wheel:
+    with zipfile.ZipFile(os.path.join(folder, f'{STEM}-{tag}.whl'), 'w', zipfile.ZIP_DEFLATED) as archive:
         for path, text in files.items():
             entry = zipfile.ZipInfo(path)
             entry.external_attr, entry.compress_type = 0o100644 << 16, zipfile.ZIP_DEFLATED
-            wheel.writestr(entry, text)
+            archive.writestr(entry, text)
     return f'{STEM}-{tag}.whl'
 
 
@@ -164,7 +164,8 @@ def build_editable(wheel_directory, config_settings=None, metadata_directory=Non
 
 
 def build_sdist(sdist_directory, config_settings=None):
-    files = {'PKG-INFO': metadata(), 'LICENSE': licence(), **sources('src/twox_hash', 'src/twox_hash'), **sources('native', 'native')}
+    files = {'PKG-INFO': metadata(), 'LICENSE': licence(), **sources('src/twox_hash', 'src/twox_hash'),
+             **sources('native', 'native')}
     files |= {name: read(HERE, name) for name in ('README.md', 'backend.py', 'pyproject.toml')}
     files |= {f'proved/{os.path.basename(path)}': read(proved(path)) for path in PROVED}
     with tarfile.open(os.path.join(sdist_directory, f'{STEM}.tar.gz'), 'w:gz', format=tarfile.PAX_FORMAT) as archive:

@@ -82,7 +82,8 @@ def refusals(built):
     with open(compiler, 'w') as file:
         file.write('#!/bin/sh\necho riscv64-linux-gnu\n')
     os.chmod(compiler, 0o755)
-    for cc, words in (('/none/cc', 'a C compiler is needed'), (compiler, 'there is no proved code for riscv64-linux-gnu')):
+    for cc, words in (('/none/cc', 'a C compiler is needed'),
+                      (compiler, 'there is no proved code for riscv64-linux-gnu')):
         done = run([os.path.join(clone, 'build'), PYTHON], CC=cc)
         want(done.returncode and words in done.stdout, f'{cc}: {done.stdout[-200:]}')
         want('Traceback' not in done.stdout, f'{cc}: a traceback')

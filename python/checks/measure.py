@@ -77,8 +77,8 @@ def of_many(rounds):
     ways = (lambda: ours.many(rows, width=16, into=into), lambda: ours.many(pieces),
             lambda: [theirs.xxh3_64_digest(piece) for piece in pieces])
     best = [min(turn(way, None, 'call()', 1) for _ in range(rounds)) / len(pieces) for way in ways]
-    return f'`many` of 10,000 rows of 16 bytes: {best[0]:.1f} ns a row into a buffer, {best[1]:.0f} ns as a list; the ' \
-           f'original in a loop {best[2]:.0f} ns.'
+    return f'`many` of 10,000 rows of 16 bytes: {best[0]:.1f} ns a row into a buffer, {best[1]:.0f} ns as a list; ' \
+           f'the original in a loop {best[2]:.0f} ns.'
 
 
 def processor():
@@ -95,7 +95,8 @@ def main():
             row.measure()
     if '--all' in sys.argv:
         for row in rows:
-            print(f'{row.name:9} {row.call:20} {row.length:7} {row.best[0]:10.1f} {row.best[1]:10.1f} {row.ratio():6.2f}')
+            theirs_and_ours = f'{row.best[0]:10.1f} {row.best[1]:10.1f}'
+            print(f'{row.name:9} {row.call:20} {row.length:7} {theirs_and_ours} {row.ratio():6.2f}')
     print_ranges(rows)
     print()
     print(of_many(rounds))

@@ -8,9 +8,10 @@ from suite import first_failure, tests
 # What is wrong, in which file below a clone, the text that is there once, what takes its place, and the tests that
 # have to notice it.
 PLANTED = [
-    ('one function exchanged for another', 'python/native/kinds.c', '.hash = hash_3_##bits,', '.hash = hash_64,', 'values'),
-    ('a seed that has no effect', 'python/native/kinds.c', 'withSeed(input, length, key->seed)', 'withSeed(input, length, 0)',
+    ('one function exchanged for another', 'python/native/kinds.c', '.hash = hash_3_##bits,', '.hash = hash_64,',
      'values'),
+    ('a seed that has no effect', 'python/native/kinds.c', 'withSeed(input, length, key->seed)',
+     'withSeed(input, length, 0)', 'values'),
     ('halves of 128 bits exchanged', 'python/native/values.c', 'write_word(digest, value.high64);',
      'write_word(digest, value.low64);', 'values'),
     ('a secret that is never looked at', 'python/native/kinds.c', 'if (!key->secret) return as_##bits',
@@ -24,11 +25,12 @@ PLANTED = [
      'hasher->kind->start(hasher->state, &(struct key){0});', 'objects'),
     ('forged states are let through', 'python/src/twox_hash/_states.py',
      'if usage >= self.stripe or total < WORD - 1 and usage != total % self.stripe:', 'if False:', 'objects'),
-    ('buffers that are never given back', 'python/native/arguments.h', 'if (bytes->is_view) PyBuffer_Release', 'if (0) PyBuffer_Release',
-     'leaks'),
+    ('buffers that are never given back', 'python/native/arguments.h', 'if (bytes->is_view) PyBuffer_Release',
+     'if (0) PyBuffer_Release', 'leaks'),
     ('objects that are never freed', 'python/native/hasher.c', 'PyObject_Free(hasher);', '', 'leaks'),
     ('a reference that is never given back', 'python/native/saved.c', 'Py_XDECREF(state);', '', 'leaks'),
-    ('the interpreter is held in a long call', 'python/native/values.h', 'if (length < LONG_INPUT)', 'if (1)', 'threads'),
+    ('the interpreter is held in a long call', 'python/native/values.h', 'if (length < LONG_INPUT)', 'if (1)',
+     'threads'),
     ('an object is not locked in a long update', 'python/native/hasher.c',
      'PyThread_acquire_lock(hasher->lock, WAIT_LOCK);\n    hasher->kind->take(hasher->state, start, length);\n'
      '    PyThread_release_lock(hasher->lock);', 'hasher->kind->take(hasher->state, start, length);', 'threads'),

@@ -24,8 +24,8 @@ def environment(**more):
     """The environment of a user without the toolchain, a network and a taste for messages."""
     kept = {name: value for name, value in os.environ.items()
             if name in ('HOME', 'LANG', 'LC_ALL', 'TMPDIR', 'TERM', 'USER')}
-    return {**kept, 'PATH': PATH, 'PIP_NO_INDEX': '1', 'PIP_DISABLE_PIP_VERSION_CHECK': '1', 'PIP_ROOT_USER_ACTION': 'ignore',
-            'PYTHONDONTWRITEBYTECODE': '1', **more}
+    quiet = {'PIP_NO_INDEX': '1', 'PIP_DISABLE_PIP_VERSION_CHECK': '1', 'PIP_ROOT_USER_ACTION': 'ignore'}
+    return {**kept, 'PATH': PATH, 'PYTHONDONTWRITEBYTECODE': '1', **quiet, **more}
 
 
 def run(words, folder=None, timeout=1200, **more):
@@ -49,7 +49,8 @@ def install_packages(packages):
         return
     quiet = {**os.environ, 'DEBIAN_FRONTEND': 'noninteractive'}
     for words in (['update', '-qq'], ['install', '-y', '-qq', '--no-install-recommends', *missing]):
-        done = subprocess.run(['apt-get', *words], env=quiet, stdout=subprocess.PIPE, stderr=subprocess.STDOUT, text=True)
+        done = subprocess.run(['apt-get', *words], env=quiet, stdout=subprocess.PIPE, stderr=subprocess.STDOUT,
+                              text=True)
         if done.returncode:
             sys.exit(f'python/{os.path.basename(sys.argv[0])}: apt-get {" ".join(words)}:\n{done.stdout[-2000:]}')
 

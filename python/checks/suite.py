@@ -54,7 +54,7 @@ def leaks_under_valgrind(built):
 
 
 def of_debug_build(built):
-    """The tests pass over a build by Debian's debug build of Python, which tests its own rules and counts references."""
+    """The tests pass over a build by Debian's debug Python, which tests its own rules and counts references."""
     folder = copied(os.path.join(built.room, 'debug'))
     wheel = packed(folder, DEBUG)[1]
     counts = must([DEBUG, '-c', 'import sys; print(sys.gettotalrefcount() > 0)'])
@@ -70,8 +70,8 @@ def of_clang(built):
 
 
 def of_another_python(built, python):
-    """The tests pass in another Python, over what it builds. The package stands in for the original there: of values that
-    leaves the reference library's table, and of the interface nothing."""
+    """The tests pass in another Python, over what it builds. The package stands in for the original there: of values
+    that leaves the reference library's table, and of the interface nothing."""
     name = os.path.abspath(python).strip('/').replace('/', '-')
     path = site(built.room, name, packed(copied(os.path.join(built.room, name)), python)[1])
     folder = os.path.join(built.room, 'stand-in')

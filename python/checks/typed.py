@@ -26,7 +26,8 @@ names: list[str] = sorted(xxhash.algorithms_available) + [xxhash.VERSION, xxhash
 sizes: list[int] = [hasher.seed, hasher.digest_size, hasher.digestsize, hasher.block_size, *xxhash.VERSION_TUPLE]
 '''
 WRONG = ["xxhash.xxh64_digest(5)", "xxhash.xxh64_digest()", "xxhash.xxh64_digest(b'a', 'seed')",
-         "xxhash.xxh64_digest(b'a', secret=bytes(200))", "xxhash.xxh3_64(data=b'a')", "xxhash.xxh3_64(b'a', 1, bytes(200))",
+         "xxhash.xxh64_digest(b'a', secret=bytes(200))", "xxhash.xxh3_64(data=b'a')",
+         "xxhash.xxh3_64(b'a', 1, bytes(200))",
          "xxhash.xxh64().update(5)", "xxhash.xxh64().seed = 5", "number: int = xxhash.xxh64().digest()",
          "hasher: xxhash.xxh64 = xxhash.xxh32().copy()", "xxhash.many(5)", "class Mine(xxhash.xxh64): ...",
          "rows: list[str] = xxhash.many([b'a'])", "xxhash.file_digest(b'a', 5)"]

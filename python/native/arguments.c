@@ -1,7 +1,5 @@
 #include "arguments.h"
 
-#include <string.h>
-
 /* What an object's start is called in the words of an exception. */
 #define START "__init__"
 
@@ -52,7 +50,8 @@ static int is_count_right(const struct given *given, const char *function, Py_ss
 {
     const Py_ssize_t all = count + named - (given->secret != NULL);
     if (all <= 2) return 1;
-    PyErr_Format(PyExc_TypeError, "%s() takes at most 2 %sarguments (%zd given)", function, count ? "" : "keyword ", all);
+    PyErr_Format(PyExc_TypeError, "%s() takes at most 2 %sarguments (%zd given)", function, count ? "" : "keyword ",
+                 all);
     return 0;
 }
 

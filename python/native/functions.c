@@ -6,7 +6,7 @@
 
 /* Hashes what `name(input, seed=0, *, secret=None)` is given into `value`. Answers 0 with an exception where it isn't
  * right. Bytes alone, as most calls have them, are taken as they are. */
-static inline int oneshot(value *value, const struct kind *kind, const char *name, PyObject *const *args,
+static inline int oneshot(hash_value *value, const struct kind *kind, const char *name, PyObject *const *args,
                           Py_ssize_t count, PyObject *names)
 {
     if (count == 1 && !names && PyBytes_CheckExact(args[0])) {
@@ -24,7 +24,7 @@ static inline int oneshot(value *value, const struct kind *kind, const char *nam
 #define FUNCTION(kind, form) \
     static PyObject *kind##_##form(PyObject *module, PyObject *const *args, Py_ssize_t count, PyObject *names) \
     { \
-        value value; \
+        hash_value value; \
         (void)module; \
         if (!oneshot(&value, &kind##_kind, #kind "_" #form, args, count, names)) return NULL; \
         return as_##form(&kind##_kind, value); \

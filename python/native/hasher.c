@@ -124,10 +124,10 @@ static PyObject *hasher_update(struct hasher *hasher, PyObject *input)
     Py_RETURN_NONE;
 }
 
-static value finished(struct hasher *hasher)
+static hash_value finished(struct hasher *hasher)
 {
     enter(hasher);
-    const value value = hasher->kind->finish(hasher->state);
+    const hash_value value = hasher->kind->finish(hasher->state);
     leave(hasher);
     return value;
 }
@@ -220,9 +220,10 @@ static PyMethodDef methods[] = {
     METHOD("state", hasher_state, METH_NOARGS,
            "state($self, /)\n--\n\nAll that the object holds, as JSON. from_state goes on from it."),
     METHOD("from_state", hasher_from_state, METH_O | METH_CLASS,
-           "from_state($type, state, /)\n--\n\nThe object that was saved. A text that is no saved state, or one that no "
-           "bytes lead to, is refused by ValueError."),
-    METHOD("__reduce__", hasher_reduce, METH_NOARGS, "__reduce__($self, /)\n--\n\nFor pickle: from_state and the state."),
+           "from_state($type, state, /)\n--\n\nThe object that was saved. ValueError: the text is no saved state, "
+           "or no bytes lead to it."),
+    METHOD("__reduce__", hasher_reduce, METH_NOARGS,
+           "__reduce__($self, /)\n--\n\nfrom_state and the state, for pickle."),
     METHOD("_memory", hasher_memory, METH_NOARGS, "The state as it lies in memory."),
     METHOD("_set_memory", hasher_set_memory, METH_O, "Puts back what _memory answered."),
     METHOD("_many", hasher_many, METH_FASTCALL, "Digests of the rows of a tuple."),
@@ -242,16 +243,16 @@ static PyGetSetDef attributes[] = {
 };
 
 #define INPUT_AND_SEED \
-    "A stream of bytes, and their hash so far. `input` begins it: a bytes-like object whose buffer is contiguous, or a str,\n" \
-    "which is taken in UTF-8. `seed` is an integer, of which the lowest bits count, as many as the hash's own seed has; a\n" \
-    "negative one too.\n\n"
+    "A stream of bytes, and their hash so far. `input` begins it: a bytes-like object whose buffer is contiguous,\n" \
+    "or a str, which is taken in UTF-8. `seed` is an integer, of which the lowest bits count, as many as the hash's\n" \
+    "own seed has; a negative one too.\n\n"
 
 #define NO_SECRET \
     "TypeError: the input has no bytes, or the seed is no integer. BufferError: the buffer isn't contiguous."
 
 #define SECRET \
-    "`secret` is bytes-like, of 136 to 256 bytes, and is copied. With a seed, the seed alone takes effect up to 240 bytes of\n" \
-    "input and the secret alone above; without one, the secret does at every length.\n\n" NO_SECRET \
+    "`secret` is bytes-like, of 136 to 256 bytes, and is copied. With a seed, the seed alone takes effect up to 240\n" \
+    "bytes of input and the secret alone above; without one, the secret does at every length.\n\n" NO_SECRET \
     " ValueError: the secret has\nanother length."
 
 #define TYPE(kind, bytes, signature, more) \

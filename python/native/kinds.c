@@ -1,14 +1,12 @@
 /* The calls of each hash, by one form for all. */
 #include "kinds.h"
 
-#include <string.h>
-
 #include "proved.h"
 
 /* A 64-bit value, or a narrower one, as any value. */
-static inline value narrow(uint64_t low)
+static inline hash_value narrow(uint64_t low)
 {
-    return (value){.low64 = low, .high64 = 0};
+    return (hash_value){.low64 = low, .high64 = 0};
 }
 
 /* ---- XXH32 and XXH64 ---- */
@@ -34,7 +32,7 @@ _Static_assert(sizeof(struct xxh32_state) == XXH32_STATE_BYTES, "the state of XX
 _Static_assert(sizeof(struct xxh64_state) == XXH64_STATE_BYTES, "the state of XXH64 has another layout");
 
 #define PLAIN_KIND(bits, block) \
-    static value hash_##bits(const void *input, size_t length, const struct key *key) \
+    static hash_value hash_##bits(const void *input, size_t length, const struct key *key) \
     { \
         return narrow(proved.XXH##bits(input, length, (XXH##bits##_hash_t)key->seed)); \
     } \
@@ -46,7 +44,7 @@ _Static_assert(sizeof(struct xxh64_state) == XXH64_STATE_BYTES, "the state of XX
     { \
         proved.XXH##bits##_update(state, input, length); \
     } \
-    static value finish_##bits(const void *state) \
+    static hash_value finish_##bits(const void *state) \
     { \
         return narrow(proved.XXH##bits##_digest(state)); \
     } \
@@ -83,18 +81,18 @@ static struct key key_of_3(const void *memory)
     return (struct key){has_seed ? state->seed : 0, has_seed, state->secret, state->secret_length};
 }
 
-static value as_64(XXH64_hash_t hash)
+static hash_value as_64(XXH64_hash_t hash)
 {
     return narrow(hash);
 }
 
-static value as_128(XXH128_hash_t hash)
+static hash_value as_128(XXH128_hash_t hash)
 {
     return hash;
 }
 
 #define XXH3_KIND(bits, block) \
-    static value hash_3_##bits(const void *input, size_t length, const struct key *key) \
+    static hash_value hash_3_##bits(const void *input, size_t length, const struct key *key) \
     { \
         if (!key->secret) return as_##bits(proved.XXH3_##bits##bits_withSeed(input, length, key->seed)); \
         if (!key->has_seed) \
@@ -115,14 +113,14 @@ static value as_128(XXH128_hash_t hash)
     { \
         proved.XXH3_##bits##bits_update(state, input, length); \
     } \
-    static value finish_3_##bits(const void *state) \
+    static hash_value finish_3_##bits(const void *state) \
     { \
         return as_##bits(proved.XXH3_##bits##bits_digest(state)); \
     } \
     const struct kind xxh3_##bits##_kind = { \
-        .name = "xxh3_" #bits, .title = "XXH3_" #bits, .digest_bytes = bits / 8, .block_bytes = block, .has_secret = 1, \
-        .state_bytes = XXH3_STATE_BYTES, .hash = hash_3_##bits, .start = start_3_##bits, .take = take_3_##bits, \
-        .finish = finish_3_##bits, .key_of = key_of_3, \
+        .name = "xxh3_" #bits, .title = "XXH3_" #bits, .digest_bytes = bits / 8, .block_bytes = block, \
+        .has_secret = 1, .state_bytes = XXH3_STATE_BYTES, .hash = hash_3_##bits, .start = start_3_##bits, \
+        .take = take_3_##bits, .finish = finish_3_##bits, .key_of = key_of_3, \
     };
 
 XXH3_KIND(64, 32)

@@ -21,7 +21,7 @@ struct key {
 };
 
 /* A value of any hash: the low half alone of one that has 64 bits or fewer. */
-typedef XXH128_hash_t value;
+typedef XXH128_hash_t hash_value;
 
 struct kind {
     const char *name;  /* of the type, and what the functions' names begin with */
@@ -31,11 +31,11 @@ struct kind {
     unsigned char has_secret;      /* it takes a secret */
     unsigned char has_narrow_seed; /* of 32 bits */
     size_t state_bytes;
-    value (*hash)(const void *input, size_t length, const struct key *key);
+    hash_value (*hash)(const void *input, size_t length, const struct key *key);
     /* Of a state: begins anew, takes a piece, answers the value so far. */
     void (*start)(void *state, const struct key *key);
     void (*take)(void *state, const void *input, size_t length);
-    value (*finish)(const void *state);
+    hash_value (*finish)(const void *state);
     /* What the state began with. A secret that it answers lies in the state. */
     struct key (*key_of)(const void *state);
 };

@@ -1,7 +1,5 @@
 #include "many.h"
 
-#include <string.h>
-
 #include "arguments.h"
 #include "values.h"
 
@@ -79,8 +77,10 @@ struct rows {
 
 static void hash_rows(const struct kind *kind, const struct key *key, const struct rows *rows, unsigned char *digests)
 {
-    for (size_t i = 0; i < rows->count; i++)
-        write_digest(digests + i * kind->digest_bytes, kind, kind->hash(rows->start + i * rows->width, rows->width, key));
+    for (size_t i = 0; i < rows->count; i++) {
+        const hash_value value = kind->hash(rows->start + i * rows->width, rows->width, key);
+        write_digest(digests + i * kind->digest_bytes, kind, value);
+    }
 }
 
 /* Whether the digests would overwrite rows. */

@@ -2,8 +2,8 @@
 
 #include <string.h>
 
-/* Bytes of a number, the highest first. Each is stored where it stays: bytes that are copied from stores of other widths
- * wait for these. */
+/* Bytes of a number, the highest first. Each is stored where it stays: bytes that are copied from stores of another
+ * width wait for these. */
 static inline void write_word(void *bytes, uint64_t word)
 {
     word = __builtin_bswap64(word);
@@ -16,7 +16,7 @@ static inline void write_half_word(void *bytes, uint32_t half)
     memcpy(bytes, &half, sizeof half);
 }
 
-void write_digest(void *digest, const struct kind *kind, value value)
+void write_digest(void *digest, const struct kind *kind, hash_value value)
 {
     if (kind->digest_bytes == 4) {
         write_half_word(digest, (uint32_t)value.low64);
@@ -26,7 +26,7 @@ void write_digest(void *digest, const struct kind *kind, value value)
     if (kind->digest_bytes == 16) write_word(digest, value.high64);
 }
 
-PyObject *as_digest(const struct kind *kind, value value)
+PyObject *as_digest(const struct kind *kind, hash_value value)
 {
     PyObject *digest = PyBytes_FromStringAndSize(NULL, kind->digest_bytes);
     if (digest) write_digest(PyBytes_AS_STRING(digest), kind, value);
@@ -47,7 +47,7 @@ static inline char *write_digits(char *digits, uint32_t number)
     return digits + 8;
 }
 
-PyObject *as_hexdigest(const struct kind *kind, value value)
+PyObject *as_hexdigest(const struct kind *kind, hash_value value)
 {
     PyObject *text = PyUnicode_New(2 * kind->digest_bytes, 127);
     if (!text) return NULL;
@@ -61,7 +61,7 @@ PyObject *as_hexdigest(const struct kind *kind, value value)
     return text;
 }
 
-PyObject *as_intdigest(const struct kind *kind, value value)
+PyObject *as_intdigest(const struct kind *kind, hash_value value)
 {
     if (kind->digest_bytes <= 8) return PyLong_FromUnsignedLongLong(value.low64);
     const uint64_t halves[2] = {value.low64, value.high64};

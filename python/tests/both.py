@@ -9,7 +9,8 @@ WITH_SECRET = ('xxh3_64', 'xxh3_128', 'xxh128')
 FORMS = ('digest', 'hexdigest', 'intdigest')
 # Around the sizes at which the code changes its way, and around 64 KiB, from where on other threads run.
 LONG_LENGTHS = (1 << 11, 4095, 4096, 20000, 32768, 65535, 65536, 65537, 200000, 1 << 20)
-SEEDS = (0, 1, 0x9E3779B1, (1 << 32) - 1, 1 << 32, (1 << 64) - 1, 1 << 64, (1 << 70) + 9, -1, -(1 << 63), -(1 << 64) - 5)
+SEEDS = (0, 1, 0x9E3779B1, (1 << 32) - 1, 1 << 32, (1 << 64) - 1, 1 << 64, (1 << 70) + 9, -1, -(1 << 63),
+         -(1 << 64) - 5)
 
 
 def bytes_of(length, start=0):

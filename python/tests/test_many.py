@@ -48,7 +48,8 @@ class Many(unittest.TestCase):
         self.assertEqual(ours.many((ctypes.c_uint64 * 3)(*words)), want)
 
     def test_text_and_mixed_rows(self):
-        self.assertEqual(ours.many(['ä', b'b', bytearray(b'c')]), [ours.xxh3_64_digest(row) for row in ('ä', b'b', b'c')])
+        rows = ['ä', b'b', bytearray(b'c')]
+        self.assertEqual(ours.many(rows), [ours.xxh3_64_digest(row) for row in rows])
 
     def test_seeds_and_secrets(self):
         matrix = Matrix(50, 260)
@@ -89,7 +90,8 @@ class Many(unittest.TestCase):
         rows = Matrix(4, 8)
         for call, error in (
                 (lambda: ours.many('abc'), TypeError), (lambda: ours.many(b'abc'), ValueError),
-                (lambda: ours.many(bytearray(8), width=3), ValueError), (lambda: ours.many(b'abc', width=0), ValueError),
+                (lambda: ours.many(bytearray(8), width=3), ValueError),
+                (lambda: ours.many(b'abc', width=0), ValueError),
                 (lambda: ours.many(b'abc', width=-3), ValueError), (lambda: ours.many([b'a'], width=1), TypeError),
                 (lambda: ours.many(5), TypeError), (lambda: ours.many(None), TypeError),
                 (lambda: ours.many([b'a', 5]), TypeError), (lambda: ours.many([b'a', None]), TypeError),

@@ -210,7 +210,8 @@ class Forged(unittest.TestCase):
         for kind in (ours.xxh3_64, ours.xxh3_128):
             long = {'data': b'a' * 3000}
             self.changed(kind, usage, total_len=101)
-            self.changed(kind, usage, **long, buffer=[], total_len=64 * json.loads(kind(b'a' * 3000).state())['stripes'])
+            stripes = json.loads(kind(b'a' * 3000).state())['stripes']
+            self.changed(kind, usage, **long, buffer=[], total_len=64 * stripes)
             self.changed(kind, usage, **long, stripes=0)
             self.changed(kind, place, **long, place=1000)
             self.changed(kind, place, **long, place=json.loads(kind(b'a' * 3000).state())['place'] ^ 1)

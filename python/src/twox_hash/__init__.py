@@ -3,8 +3,8 @@
     import twox_hash as xxhash
 
 and what was written for the package `xxhash` runs on it. More than that package has: secrets (`secret=`), objects that
-are saved, loaded and pickled (`state`, `from_state`), `file_digest`, and `many`. None of these hashes is safe against an
-attacker who chooses the input."""
+are saved, loaded and pickled (`state`, `from_state`), `file_digest`, and `many`. None of these hashes is safe against
+an attacker who chooses the input."""
 from ._files import file_digest
 from ._many import many
 from ._native import (

@@ -24,8 +24,8 @@ def many(rows: Iterable[Any], algorithm: Union[str, HasherType] = 'xxh3_64', *, 
     With `into`, a contiguous buffer that can be written and has just the bytes of all digests, these go there one after
     another, no objects are made, and `into` is the answer. `seed` and `secret` are as the algorithm's type takes them.
 
-    ValueError: the lengths don't fit, or there is no such algorithm. BufferError: a buffer isn't contiguous, or can't be
-    written. TypeError: the rows are a str, or one of them has no bytes."""
+    ValueError: the lengths don't fit, or there is no such algorithm. BufferError: a buffer isn't contiguous, or can't
+    be written. TypeError: the rows are a str, or one of them has no bytes."""
     hasher = type_of(algorithm)(**key)
     if isinstance(rows, str):
         raise TypeError("rows are wanted, not 'str'")
