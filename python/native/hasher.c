@@ -186,7 +186,7 @@ static PyObject *hasher_seed(struct hasher *hasher, void *none)
 static PyObject *hasher_name(struct hasher *hasher, void *none)
 {
     (void)none;
-    return PyUnicode_FromString(hasher->kind->title);
+    return PyUnicode_FromString(hasher->kind->name);
 }
 
 static PyObject *hasher_digest_size(struct hasher *hasher, void *none)

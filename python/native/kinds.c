@@ -53,7 +53,7 @@ _Static_assert(sizeof(struct xxh64_state) == XXH64_STATE_BYTES, "the state of XX
         return (struct key){.seed = ((const struct xxh##bits##_state *)state)->seed, .has_seed = 1}; \
     } \
     const struct kind xxh##bits##_kind = { \
-        .name = "xxh" #bits, .title = "XXH" #bits, .digest_bytes = bits / 8, .block_bytes = block, \
+        .name = "XXH" #bits, .digest_bytes = bits / 8, .block_bytes = block, \
         .has_narrow_seed = bits == 32, .state_bytes = XXH##bits##_STATE_BYTES, .hash = hash_##bits, \
         .start = start_##bits, .take = take_##bits, .finish = finish_##bits, .key_of = key_of_##bits, \
     };
@@ -118,7 +118,7 @@ static hash_value as_128(XXH128_hash_t hash)
         return as_##bits(proved.XXH3_##bits##bits_digest(state)); \
     } \
     const struct kind xxh3_##bits##_kind = { \
-        .name = "xxh3_" #bits, .title = "XXH3_" #bits, .digest_bytes = bits / 8, .block_bytes = block, \
+        .name = "XXH3_" #bits, .digest_bytes = bits / 8, .block_bytes = block, \
         .has_secret = 1, .state_bytes = XXH3_STATE_BYTES, .hash = hash_3_##bits, .start = start_3_##bits, \
         .take = take_3_##bits, .finish = finish_3_##bits, .key_of = key_of_3, \
     };

@@ -24,8 +24,7 @@ struct key {
 typedef XXH128_hash_t hash_value;
 
 struct kind {
-    const char *name;  /* of the type, and what the functions' names begin with */
-    const char *title; /* what the attribute `name` says */
+    const char *name; /* what the attribute of this name says */
     unsigned char digest_bytes;
     unsigned char block_bytes;
     unsigned char has_secret;      /* it takes a secret */
