@@ -3,7 +3,8 @@
 
     assembly/check.py [--target aarch64] [--of-ci] [c] [rust]
 
-It proves and builds both, or the one that is named; with --of-ci over the libraries that `rt ci` left in this tree. Of each text it wants that
+It proves and builds both, or the one that is named; with --of-ci over the libraries that `rt ci` left in this tree. Of
+each text it wants that
 
 - text and sums made anew of the object that was proved are those that are committed;
 - each assembler on the machine (GNU as, clang, rustc) makes that object of the text, as same_bytes.py compares two;
@@ -24,7 +25,7 @@ TOP = os.path.dirname(ASSEMBLY)
 sys.path[:0] = [ASSEMBLY, os.path.join(TOP, 'c', 'checks')]
 sys.dont_write_bytecode = True
 
-from report import Report, want
+from report import Fault, Report, want
 from same_bytes import compare, compare_sums
 
 BUILDS = {'c': 'c/build', 'rust': 'rust/build-library'}
@@ -79,7 +80,7 @@ class Rustc(As):
             open(empty, 'w').close()
             try:
                 self.assemble(empty, os.path.join(room, 'empty.o'))
-            except Exception:
+            except Fault:
                 return False
         return True
 
@@ -98,15 +99,28 @@ def assemblers_for(target, sysroot):
 # ---- wrong texts ----
 
 # Where a text is made wrong: the pattern's group is what changes, and the other word that comes in its place.
-NEXT_HEX = (lambda word: hex(int(word, 16) ^ 1))
-NEXT_DIGIT = (lambda word: str((int(word) + 1) % 8))
+def other_number(word):
+    return hex(int(word, 16) ^ 1)
+
+
+def other_register(digit):
+    return str((int(digit) + 1) % 8)
+
+
+def other_offset(word):
+    return str(int(word) + 32)
+
+
+WORD_OF_DATA = r'\t\.quad (0x[0-9a-f]+)', other_number
 WRONG = {
-    'x86-64': {'a constant': (r'\tmovabs \$(0x[0-9a-f]+),', NEXT_HEX), 'a register': (r'\t\w+ .*%[xy]mm(\d)$', NEXT_DIGIT),
-               'an offset': (r'\t\w+ (0x[0-9a-f]+)\(%r', NEXT_HEX), 'a jump': (r'\tj\w+ (\.L\w+)', None),
-               'a word of data': (r'\t\.quad (0x[0-9a-f]+)', NEXT_HEX)},
-    'aarch64': {'a constant': (r'\tmovk? \w+, #(0x[0-9a-f]+)', NEXT_HEX), 'a register': (r'\t\w+ v(\d)\.', NEXT_DIGIT),
-                'an offset': (r'\tldp .*, #(\d+)\]', lambda word: str(int(word) + 32)), 'a jump': (r'\tb\.\w+ (\.L\w+)', None),
-                'a word of data': (r'\t\.quad (0x[0-9a-f]+)', NEXT_HEX)},
+    'x86-64': {'a constant': (r'\tmovabs \$(0x[0-9a-f]+),', other_number),
+               'a register': (r'\t\w+ .*%[xy]mm(\d)$', other_register),
+               'an offset': (r'\t\w+ (0x[0-9a-f]+)\(%r', other_number),
+               'a jump': (r'\tj\w+ (\.L[\w.]+)', None), 'a word of data': WORD_OF_DATA},
+    'aarch64': {'a constant': (r'\tmovk? \w+, #(0x[0-9a-f]+)', other_number),
+                'a register': (r'\t\w+ v(\d)\.', other_register),
+                'an offset': (r'\tldp .*, #(\d+)\]', other_offset),
+                'a jump': (r'\tb\.\w+ (\.L[\w.]+)', None), 'a word of data': WORD_OF_DATA},
 }
 
 
@@ -114,12 +128,12 @@ def other_label(label, lines):
     """Another label of the same function."""
     function = label.split('_')[0]
     others = sorted({line[:-1] for line in lines if line.startswith(f'{function}_') and line[:-1] != label})
-    return others[0] if others else None
+    return others[0] if others else f'{label}+1'
 
 
 def wrong_texts(lines, target, count):
-    """Texts with one word changed: what it is, the section that it lies in, and the lines. They are drawn at random, and
-    the same each time."""
+    """Texts with one word changed: what it is, the section that it lies in, and the lines. They are drawn at random,
+    and the same each time."""
     draw = random.Random(1)
     for turn in range(count):
         kind, (pattern, change) = list(WRONG[target].items())[turn % len(WRONG[target])]
@@ -127,7 +141,7 @@ def wrong_texts(lines, target, count):
         want(places, f'the text has no {kind}')
         at = draw.choice(places)
         found = re.match(pattern, lines[at])
-        word = change(found[1]) if change else other_label(found[1], lines) or found[1] + '+1'
+        word = change(found[1]) if change else other_label(found[1], lines)
         line = lines[at][:found.start(1)] + word + lines[at][found.end(1):]
         section = next(line.split()[1].split(',')[0] for line in reversed(lines[:at]) if line.startswith('\t.section'))
         yield f'{kind}, line {at + 1}', section, [*lines[:at], line, *lines[at + 1:]]

@@ -1,7 +1,8 @@
 # What c/build and rust/build-library share: sourced by each, with `fail` defined. $assembly is this folder.
 assembly=$(cd "$(dirname "${BASH_SOURCE[0]}")" && pwd)
 
-# read_build WORDS: sets `update` where the word is --update, and `static_library` to what builds one, which --of-ci changes.
+# read_build WORDS: sets `update` where the word is --update, and `static_library` to the command that builds one, which
+# --of-ci changes.
 read_build() {
     update='' static_library=(rt lib)
     case $* in
@@ -22,8 +23,8 @@ write_text() {
     python3 -B "$assembly/same_bytes.py" --sums "$object" > "$file.sums" || fail "$file.sums was not written"
 }
 
-# settle MADE COMMITTED UPDATE: says which files that were made aren't those that are committed. Where UPDATE isn't empty
-# it puts them there.
+# settle MADE COMMITTED UPDATE: says which files that were made aren't those that are committed. Where UPDATE isn't
+# empty it puts them there.
 settle() {
     local file other=()
     for file in "$1"/*; do

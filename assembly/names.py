@@ -4,9 +4,9 @@
     assembly/names.py OBJECT [TAG]
 
 A name of the toolchain, as `twox_core::xxhash3::stripes::take_stripes::<#ebc3218c48dd1f1e>`, becomes one that every
-assembler takes, `twox_core.xxhash3.stripes.take_stripes`: without the mark of a generic's arguments, which moves with the
-toolchain. Further functions of one name get .2, .3 and so on behind it. Each function's section has its name. Local names
-end in .TAG, so that texts of different tags can be assembled as one. Global names stay."""
+assembler takes, `twox_core.xxhash3.stripes.take_stripes`: without the mark of a generic's arguments, which moves with
+the toolchain. Further functions of one name get .2, .3 and so on behind it. Each function's section has its name. Local
+names end in .TAG, so that texts of different tags can be assembled as one. Global names stay."""
 import re
 import subprocess
 import sys

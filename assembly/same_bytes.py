@@ -1,5 +1,5 @@
 #!/usr/bin/env python3
-"""Says whether two objects are the same code and data for the linker. This is what has to be believed of the assembly text:
+"""Says whether two objects are the same to the linker. This is what has to be believed of the assembly text:
 
     assembly/same_bytes.py PROVED OURS             compares an object with the one that was proved
     assembly/same_bytes.py --sums OBJECT           prints a sum for each part of an object
@@ -13,8 +13,8 @@ The parts of an object are its loaded sections and `names`.
   visibility, the names that are wanted from elsewhere, and whether the stack may be executed.
 
 Local names, notes and comments don't count: nothing that is linked depends on them. The last line is `same: ..`, or
-`differ: ..` with a line for each difference before it. The status is 0 where they are the same, 1 where they differ, and 2
-where a file is no object."""
+`differ: ..` with a line for each difference before it. The status is 0 where they are the same, 1 where they differ,
+and 2 where a file is no object."""
 import hashlib
 import struct
 import sys

@@ -29,8 +29,8 @@ class X86:
     filling = re.compile(r'.*\bnop|data16|xchg %ax,%ax')
     # What leads to another place, and has no meaning alone.
     leads = re.compile(r'j|call|.*%rip')
-    # Of room for one instruction that is assembled alone.
-    slot, room = 16, '.balign 16,0'
+    # How many bytes an instruction that is assembled alone gets, and the directive that fills them.
+    slot, fill = 16, '.balign 16,0'
 
     def bytes(self, raw):
         return '.byte ' + ','.join(map(str, raw))
@@ -39,7 +39,7 @@ class X86:
         return f'{name}@PLT'
 
     def end_of_relocation(self, row, at):
-        """The offset of a relocation counts from its own place, and that of an instruction from the instruction's end."""
+        """An instruction's offset counts from its end, and a relocation's from the relocation."""
         return row.at + len(row.raw) - at
 
     def relocated(self, text, there):
@@ -48,8 +48,8 @@ class X86:
         return text.replace('0x0(%rip)', f'{there}(%rip)')
 
     def jump(self, row, end, label):
-        """A jump within a section. Where a short one reaches, an assembler takes that, and ahead it counts from behind the
-        jump."""
+        """A jump within a section. Where a short one reaches, an assembler takes that, and ahead it counts from behind
+        the jump."""
         name = row.text.split()[0]
         if len(row.raw) > 2 and name != 'call' and -126 <= end - row.at <= 127 + len(row.raw):
             return f'{self.bytes(row.raw[:-4])}; .long {label}-.-4'
@@ -61,9 +61,7 @@ class Arm:
     comment = re.compile(r'//.*')
     filling = re.compile('(?!)')
     leads = re.compile(r'b |b\.|bl |[ct]bn?z|adrp? |.*:lo12:')
-    slot, room = 16, '.space 12'
-    # By these an instruction takes the lowest bits of an address: ADD, and a load or store of each size.
-    low_bits = (277, 278, 284, 285, 286, 299)
+    slot, fill = 16, '.space 12'
 
     def bytes(self, raw):
         return f'.inst 0x{raw[::-1].hex()}'
@@ -75,6 +73,7 @@ class Arm:
         return 0
 
     def relocated(self, text, there):
+        """A whole address, or the lowest bits of one: of an ADD, or of a load or store."""
         if self.leads.match(text):
             return self.led(text, there)
         if '#0x0' in text:
@@ -98,11 +97,11 @@ class Text:
         self.tag = f'.{tag}' if tag else ''
         self.sections = {head.name: head for head in self.object.loaded()}
         self.numbers = {name: number for number, name in enumerate(self.sections, 1)}
-        self.functions = {(self.object.heads[symbol.section].name, symbol.value): symbol for symbol in self.object.symbols
-                          if symbol.info & 15 == FUNCTION and symbol.section}
+        self.functions = {(self.object.heads[symbol.section].name, symbol.value): symbol
+                          for symbol in self.object.symbols if symbol.info & 15 == FUNCTION and symbol.section}
         # The places in each section that something leads to.
         self.marks = defaultdict(set)
-        self.code = {name: self.written(name, rows) for name, rows in self.listing(path).items() if name in self.sections}
+        self.code = {name: self.written(name, rows) for name, rows in self.listing(path).items()}
         self.otherwise = self.written_otherwise()
 
     def listing(self, path):
@@ -111,9 +110,10 @@ class Text:
         out = subprocess.run(words, check=True, stdout=subprocess.PIPE, text=True).stdout
         found = {}
         for section, lines in re.findall(r'^Disassembly of section (.*):\n((?:.*\n)*?)(?=Disassembly|\Z)', out, re.M):
-            head = self.sections.get(section)
-            body = self.object.body(head) if head else b''
-            rows = [(int(at, 16) - head.address, text) for at, text in re.findall(r'^ *([0-9a-f]+):\t(.*)', lines, re.M)]
+            head = self.sections[section]
+            body = self.object.body(head)
+            rows = [(int(at, 16) - head.address, text)
+                    for at, text in re.findall(r'^ *([0-9a-f]+):\t(.*)', lines, re.M)]
             ends = [at for at, _ in rows[1:]] + [len(body)]
             found[section] = [Row(at, body[at:end], ' '.join(self.processor.comment.sub('', text).split()))
                               for (at, text), end in zip(rows, ends)]
@@ -161,7 +161,7 @@ class Text:
         with tempfile.TemporaryDirectory() as room:
             source, made = os.path.join(room, 'alone.s'), os.path.join(room, 'alone.o')
             with open(source, 'w') as file:
-                file.writelines(f'{row.text}\n{self.processor.room}\n' for _, row in alone)
+                file.writelines(f'{row.text}\n{self.processor.fill}\n' for _, row in alone)
             subprocess.run([self.tools + 'as', source, '-o', made], check=True)
             object_ = Object(made)
         body = next(object_.body(head) for head in object_.heads if head.name == '.text')
@@ -202,6 +202,8 @@ class Text:
 
     def lines_of_data(self, section, head):
         """The bytes in rows of 16, which end where a label is."""
+        if self.object.relocations_of(head):
+            raise ValueError(f'{section} has addresses in it, which is not written here')
         yield f'\t.section {section},' + (f'"aM",@progbits,{head.entry}' if head.flags & MERGED else '"a",@progbits')
         yield aligned(head)
         data, marks = self.object.body(head), self.marks[section]

@@ -1,5 +1,5 @@
-"""Checks the library for C as whoever has no toolchain makes it: from a clean copy of the repository, by make alone, with
-rt hidden. `c/check --without-rt` runs this."""
+"""Checks the library for C as whoever has no toolchain makes it: from a clean copy of the repository, by make alone,
+with rt hidden. `c/check --without-rt` runs this."""
 import os
 import re
 import shutil
@@ -14,8 +14,8 @@ from sides import THEIRS, Side
 from tools import Built, clean_copy, hide_rt, install_packages, must
 
 PACKAGES = {'gcc': 'gcc', '/usr/include/stdio.h': 'libc6-dev', 'nm': 'binutils', 'make': 'make', 'python3': 'python3',
-            'pkg-config': 'pkg-config', 'cmake': 'cmake', 'clang': 'clang', 'musl-gcc': 'musl-tools', 'xxhsum': 'xxhash',
-            THEIRS: 'libxxhash0', '/usr/lib/x86_64-linux-gnu/libxxhash.a': 'libxxhash-dev'}
+            'pkg-config': 'pkg-config', 'cmake': 'cmake', 'clang': 'clang', 'musl-gcc': 'musl-tools',
+            'xxhsum': 'xxhash', THEIRS: 'libxxhash0', '/usr/lib/x86_64-linux-gnu/libxxhash.a': 'libxxhash-dev'}
 ARM_PACKAGES = {**aarch64.PACKAGES, 'make': 'make', 'python3': 'python3'}
 # What stands in place of a constant of XXH64 in a text that is wrong.
 RIGHT, WRONG = '$0x9e3779b185ebca87', '$0x9e3779b185ebca89'
@@ -94,8 +94,8 @@ def static_table_agrees(copy, room, compiler, out, run=()):
     """The oracle's table by a static program, as musl's loader or none has it."""
     make(copy, f'CC={compiler}', f'out={out}')
     program = os.path.join(room, f'table-{os.path.basename(out)}')
-    must([compiler, '-O2', '-static', '-w', '-I', os.path.join(copy, 'c', 'include'),
-          os.path.join(copy, 'oracle', 'vectors.c'), os.path.join(copy, 'c', out, 'lib', 'libtwox_hash.a'), '-o', program])
+    source, library = os.path.join(copy, 'oracle', 'vectors.c'), os.path.join(copy, 'c', out, 'lib', 'libtwox_hash.a')
+    must([compiler, '-O2', '-static', '-w', '-I', os.path.join(copy, 'c', 'include'), source, library, '-o', program])
     headers = must(['readelf', '-lW', program])
     want('INTERP' not in headers, 'the program asks for a loader')
     done = subprocess.run([*run, program], stdout=subprocess.PIPE, timeout=300)
@@ -107,17 +107,19 @@ def static_table_agrees(copy, room, compiler, out, run=()):
 
 def check_refusals(report, copy, room):
     for machine in ('riscv64-linux-gnu', 'aarch64-linux-android', 'x86_64-linux-gnux32', 'arm64-apple-darwin22'):
-        report.attempt(f'{machine} is refused', is_refused, copy, f'there is no text for {machine}: there is for Linux on',
-                       f'CC={foreign_compiler(room, machine)}')
+        said = f'there is no text for {machine}: there is for Linux on'
+        report.attempt(f'{machine} is refused', is_refused, copy, said, f'CC={foreign_compiler(room, machine)}')
     report.attempt('no compiler', is_refused, copy, "no C compiler: CC is '/nowhere/cc'", 'CC=/nowhere/cc')
-    report.attempt('a PREFIX that is no whole path', is_refused, copy, 'PREFIX has to begin with /', 'install', 'PREFIX=here')
+    report.attempt('a PREFIX that is no whole path', is_refused, copy, 'PREFIX has to begin with /', 'install',
+                   'PREFIX=here')
 
 
 def check_x86(report, copy, room, has_v3, examples):
     report.attempt('make', is_made, copy)
     report.attempt('make check', passes_make_check, copy, 'cc', 'out')
     report.attempt('make check by clang', passes_make_check, copy, 'clang', 'out/clang')
-    report.attempt("musl: the oracle's table by a static program", static_table_agrees, copy, room, 'musl-gcc', 'out/musl')
+    report.attempt("musl: the oracle's table by a static program", static_table_agrees, copy, room, 'musl-gcc',
+                   'out/musl')
     report.attempt('a wrong text is noticed', wrong_text_is_noticed, copy)
     check_refusals(report, copy, room)
     made = Made(room, copy)
@@ -125,7 +127,8 @@ def check_x86(report, copy, room, has_v3, examples):
         report.attempt(f'names of {os.path.relpath(path, made.folder)}', values.names_are_theirs, path, THEIRS)
     program = values.calls_program(made, 'calls')
     for path in (made.plain, made.v3) if has_v3 else (made.plain,):
-        report.attempt(f'calls of {os.path.relpath(path, made.folder)}', values.calls_agree, [program], THEIRS, path, 10000)
+        report.attempt(f'calls of {os.path.relpath(path, made.folder)}', values.calls_agree, [program], THEIRS, path,
+                       10000)
     examples(report, made, Side('make install', made.folder, made.v3 if has_v3 else made.plain))
 
 

@@ -1,4 +1,5 @@
-"""What rust/check, rust/bench and rust/count work with: packages, and a folder in which cargo finds Debian's crates alone."""
+"""What rust/check, rust/bench and rust/count work with: packages, and a folder in which cargo finds Debian's crates
+alone."""
 import os
 import re
 import shutil
@@ -25,7 +26,8 @@ CARGO = 'cargo-web'
 DEBIANS_RUST = {'/usr/bin/rustc': 'rustc-web', '/usr/bin/cargo': CARGO}
 # What builds and runs programs for 64-bit ARM: Debian's compiler for its standard library for that processor.
 ARM = 'aarch64-unknown-linux-gnu'
-ARM_PACKAGES = {'aarch64-linux-gnu-gcc': 'gcc-aarch64-linux-gnu', 'aarch64-linux-gnu-objcopy': 'binutils-aarch64-linux-gnu',
+ARM_PACKAGES = {'aarch64-linux-gnu-gcc': 'gcc-aarch64-linux-gnu',
+                'aarch64-linux-gnu-objcopy': 'binutils-aarch64-linux-gnu',
                 '/usr/aarch64-linux-gnu/include/stdio.h': 'libc6-dev-arm64-cross', 'qemu-aarch64': 'qemu-user',
                 **DEBIANS_RUST}
 # The sources of Rust's standard library, of which it is built for targets that Debian has none for.
@@ -141,7 +143,7 @@ class Room:
 
 
 class ArmRoom(Room):
-    """The same for 64-bit ARM: programs are built by Debian's compiler and run under qemu."""
+    """A room for 64-bit ARM: programs are built by Debian's compiler and run under qemu."""
 
     cargo_program = '/usr/bin/cargo'
     target = ARM
@@ -163,8 +165,8 @@ class ArmRoom(Room):
 
 
 class SourceRoom(Room):
-    """The same for a target that has its standard library of Debian's sources, as all have with musl. A program is linked
-    by `linker`, and run by `runner` where that isn't empty. Debian's static unwinder lies in the root that is named."""
+    """A room for a target whose standard library is built of Debian's sources, as with musl. A program is linked by
+    `linker`, and run by `runner` where that isn't empty. Debian's static unwinder lies in the root that is named."""
 
     cargo_program = '/usr/bin/cargo'
 
@@ -183,16 +185,17 @@ class SourceRoom(Room):
             self.add_unwinder(root)
 
     def add_unwinder(self, root):
-        """Debian's unwinder is compiled for glibc, of which it wants one function, to say what is wrong before it stops."""
+        """Debian's unwinder, which is compiled for glibc, and what it wants of glibc: to say a word before it stops."""
         os.symlink(f'{root}/usr/lib/llvm-14/lib/libunwind.a', os.path.join(self.libraries, 'libunwind.a'))
         must([self.linker, '-O2', '-x', 'c', '-', '-c', '-o', os.path.join(self.libraries, 'chk.o')],
              input='void abort(void); int __fprintf_chk(void *f, int n, const char *s, ...) { abort(); }')
 
     def environment(self, flags='', **more):
-        native = f'-C link-self-contained=no -L native={self.libraries} -C link-arg={self.libraries}/chk.o -C link-arg=-lgcc'
+        native = (f'-C link-self-contained=no -L native={self.libraries} -C link-arg={self.libraries}/chk.o '
+                  '-C link-arg=-lgcc')
         return super().environment(f'{native} {flags}', **{
             # The switch for `-Z build-std`, which a released compiler has too.
-            'RUSTC_BOOTSTRAP': '1', 'RUSTC': '/usr/bin/rustc',
+            'RUSTC_BOOTSTRAP': '1', 'RUSTC': '/usr/bin/rustc', 'RUSTDOC': '/usr/bin/rustdoc',
             **for_target(self.target, LINKER=self.linker, RUNNER=self.runner), **more})
 
     def cargo(self, folder, command, *words, environment=None):
@@ -203,7 +206,8 @@ class SourceRoom(Room):
 
 def for_target(target, **variables):
     """cargo's variables for a target."""
-    return {f'CARGO_TARGET_{target.upper().replace("-", "_")}_{name}': value for name, value in variables.items() if value}
+    begin = f'CARGO_TARGET_{target.upper().replace("-", "_")}_'
+    return {begin + name: value for name, value in variables.items() if value}
 
 
 def errors_of(text):
