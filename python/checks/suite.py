@@ -4,7 +4,7 @@ import re
 import shutil
 
 from report import Fault, tail, want
-from room import DEBUG, PYTHON, PYTHON_FOLDER, TOP, copied, must, packed, run, site
+from room import DEBUG, PYTHON, PYTHON_FOLDER, copied, must, packed, run, site
 
 ALL = ('values', 'interface', 'objects', 'files', 'many', 'threads', 'leaks')
 

@@ -4,6 +4,8 @@ import random
 import twox_hash as ours
 import xxhash as theirs
 
+__all__ = ['FORMS', 'LONG_LENGTHS', 'NAMES', 'SEEDS', 'WITH_SECRET', 'bytes_of', 'ours', 'pieces_of', 'theirs']
+
 NAMES = ('xxh32', 'xxh64', 'xxh3_64', 'xxh3_128', 'xxh128')
 WITH_SECRET = ('xxh3_64', 'xxh3_128', 'xxh128')
 FORMS = ('digest', 'hexdigest', 'intdigest')
@@ -25,11 +27,3 @@ def pieces_of(data, draw, longest):
         length = draw.randint(0, longest)
         yield data[at:at + length]
         at += length
-
-
-def outcome(call, *args, **keywords):
-    """What a call answers, or the type and the text of its exception."""
-    try:
-        return 'answer', call(*args, **keywords)
-    except Exception as error:
-        return type(error), str(error)

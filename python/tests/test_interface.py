@@ -1,6 +1,5 @@
 """The interface of the package xxhash: each expression is evaluated over both modules, and has one outcome."""
 import array
-import copy
 import ctypes
 import io
 import mmap
@@ -47,6 +46,10 @@ def mapped():
     memory[:3] = b'abc'
     return memory
 
+
+# What the expressions below name.
+NAMED = {'VIEW': VIEW, 'Index': Index, 'Int': Int, 'Broken': Broken, 'Text': Text, 'Bytes': Bytes, 'released': released,
+         'mapped': mapped, 'array': array, 'ctypes': ctypes, 'io': io, 'pickle': pickle, 'weakref': weakref}
 
 # Arguments of a call that hashes something: positions and names.
 ARGUMENTS = '''
@@ -222,7 +225,7 @@ class Interface(unittest.TestCase):
         """The value of an expression over a module, or the type and words of its exception."""
         try:
             words = expression.replace('MODULE', module.__name__)
-            value = eval(words, {**globals(), 'module': module, **names})
+            value = eval(words, {**NAMED, 'module': module, **names})
             return 'value', value
         except Exception as error:
             words = '' if expression in OTHER_WORDS else str(error).replace(module.__name__ + '.', '')
