@@ -23,7 +23,7 @@ PATH = '/usr/bin:/bin'
 def environment(**more):
     """The environment of a user without the toolchain, a network and a taste for messages."""
     kept = {name: value for name, value in os.environ.items()
-            if name in ('HOME', 'LANG', 'LC_ALL', 'TMPDIR', 'TERM', 'USER')}
+            if name in ('HOME', 'LANG', 'LC_ALL', 'TMPDIR', 'TERM', 'USER') or name.lower().endswith('_proxy')}
     quiet = {'PIP_NO_INDEX': '1', 'PIP_DISABLE_PIP_VERSION_CHECK': '1', 'PIP_ROOT_USER_ACTION': 'ignore'}
     return {**kept, 'PATH': PATH, 'PYTHONDONTWRITEBYTECODE': '1', **quiet, **more}
 
