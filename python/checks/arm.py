@@ -2,6 +2,7 @@
 import os
 
 from aarch64 import debian_root
+from builds import text_is_proved
 from report import want
 from room import copied, packed, run, site
 from suite import pass_all
@@ -29,5 +30,7 @@ def tests_pass(room, root):
 
 
 def check_all(report, room):
+    report.attempt('what the assembler makes of the text, beside what was proved', text_is_proved, room, 'aarch64',
+                   'aarch64-linux-gnu-')
     root = debian_root(os.path.join(room, 'debian'), 'libc6', 'python3-xxhash', 'libpython3.11-dev')
     report.attempt('the tests on 64-bit ARM under qemu', tests_pass, room, root)

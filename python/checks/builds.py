@@ -1,11 +1,16 @@
 """The packages: built without rt and without a network, complete, and installed where there is no compiler."""
 import os
 import re
+import sys
 import tarfile
 import zipfile
 
 from report import want
-from room import DEBIANS, PATH, PYTHON, PYTHON_FOLDER, copied, must, run
+from room import DEBIANS, PATH, PYTHON, PYTHON_FOLDER, TOP, copied, must, run
+from same_bytes import Object, compare_sums
+
+sys.path.append(PYTHON_FOLDER)
+import backend
 
 OF_TABLE = '-m unittest tests.test_values tests.test_objects tests.test_many tests.test_files'.split()
 
@@ -101,6 +106,33 @@ def names_are_hidden(built):
     return f'1 name is shown, {len(asked)} are asked for'
 
 
+def parts_that_differ(room, tools, instructions, prefix, change=('', '')):
+    """The text of a set with its names changed as the build has it, assembled, with its names changed back: what of it
+    is other than what was proved, and its number of sections. `change` is a wrong word, once, in place of a right one."""
+    text = backend.read(backend.proved(f'asm/{instructions}.s')).decode()
+    path = os.path.join(room, f'renamed-{instructions}')
+    with open(f'{path}.s', 'w') as file:
+        file.write(backend.renamed(text, prefix).replace(*change, 1))
+    back = [f'{prefix}{name.removeprefix("proved_")}={name}' for name in re.findall(r'^\s*\.globl (\S+)$', text, re.M)]
+    must([f'/usr/bin/{tools}gcc', '-c', f'{path}.s', '-o', f'{path}.o'])
+    must([f'/usr/bin/{tools}objcopy', *(word for pair in back for word in ('--redefine-sym', pair)), f'{path}.o'])
+    sums = os.path.join(TOP, 'c', 'asm', f'{instructions}.sums')
+    return [line.split(':')[0] for line in compare_sums(sums, f'{path}.o')], len(Object(f'{path}.o').parts()) - 1
+
+
+def text_is_proved(room, machine, tools=''):
+    """Of the package's code each section is that of the object that was proved. The names are other in one thing alone:
+    they are hidden. A wrong constant is noticed."""
+    compared = 0
+    for instructions, prefix in backend.SETS[machine].items():
+        others, sections = parts_that_differ(room, tools, instructions, prefix)
+        want(others == ['names'], f'{instructions}: {others[:3]}')
+        wrong, _ = parts_that_differ(room, tools, instructions, prefix, ('0x9e3779b1', '0x9e3779b3'))
+        want(len(wrong) == 2, f'{instructions}: of a wrong constant {wrong}')
+        compared += sections
+    return f'{compared} sections'
+
+
 def sets_are_chosen(built):
     """The processor's best set runs, or the one that is named; one that isn't there is refused by name."""
     ask = [PYTHON, '-c', 'import twox_hash; print(twox_hash.instruction_set, twox_hash.xxh3_64_hexdigest(b"a" * 500))']
@@ -130,4 +162,5 @@ def check_all(report, built):
     report.attempt('the wheel where rt and compilers are hidden', wheel_installs, built)
     report.attempt('no compiler, and one for another machine', refusals, built)
     report.attempt('names of the extension', names_are_hidden, built)
+    report.attempt('what the assembler makes of the text, beside what was proved', text_is_proved, built.room, 'x86_64')
     report.attempt('the set of instructions', sets_are_chosen, built)
