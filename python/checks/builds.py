@@ -107,8 +107,8 @@ def names_are_hidden(built):
 
 
 def parts_that_differ(room, tools, instructions, prefix, change=('', '')):
-    """The text of a set with its names changed as the build has it, assembled, with its names changed back: what of it
-    is other than what was proved, and its number of sections. `change` is a wrong word, once, in place of a right one."""
+    """The text of a set with its names changed as the build has it, assembled, with its names changed back: what of
+    it is other than what was proved, and how many sections it has. `change` is a wrong word in place of a right one."""
     text = backend.read(backend.proved(f'asm/{instructions}.s')).decode()
     path = os.path.join(room, f'renamed-{instructions}')
     with open(f'{path}.s', 'w') as file:
