@@ -10,11 +10,12 @@ The parts of an object are its loaded sections and `names`.
 - Of a section its name, kind, flags, alignment, bytes and relocations count. A relocation counts by its place, its kind
   and what it leads to: a global name, or a section and an offset in it.
 - `names` is the processor, the order of the sections, each global name with its place, size, kind, binding and
-  visibility, the names that are wanted from elsewhere, and whether the stack may be executed.
+  visibility, the names that are wanted from elsewhere, sections for the linker alone, and whether the stack may be
+  executed.
 
-Local names, notes and comments don't count: nothing that is linked depends on them. The last line is `same: ..`, or
-`differ: ..` with a line for each difference before it. The status is 0 where they are the same, 1 where they differ,
-and 2 where a file is no object."""
+Local names, comments and an assembler's own notes don't count: no code and no data depend on them. The last line is
+`same: ..`, or `differ: ..` with a line for each difference before it. The status is 0 where they are the same, 1 where
+they differ, and 2 where a file is no object."""
 import hashlib
 import struct
 import sys
@@ -24,8 +25,10 @@ Head = namedtuple('Head', 'name kind flags address offset size link info align e
 Symbol = namedtuple('Symbol', 'name info other section value size')
 Part = namedtuple('Part', 'head body relocations')
 
-SYMTAB, RELA, NOTE, NOBITS, REL = 2, 4, 7, 8, 9
+NONE, SYMTAB, STRTAB, RELA, NOTE, NOBITS, REL = 0, 2, 3, 4, 7, 8, 9
 LOADED, EXECUTED = 2, 4
+# What no linker makes code or data of: how LLVM was called, and which functions it may fold.
+WITHOUT_MEANING = ('.comment', '.llvm_addrsig', '.note.GNU-stack')
 # A call of a local name: LLVM writes the one kind, GNU as the other, and the linker makes the same bytes of both.
 X86_64, PC32, PLT32 = 62, 2, 4
 
@@ -37,6 +40,7 @@ class Object:
         if self.data[:6] != b'\x7fELF\x02\x01' or self.data[16] != 1:
             raise ValueError(f'{path} is no object of ELF with 64 bits, the lowest byte first')
         self.machine, = struct.unpack_from('<H', self.data, 18)
+        self.flags, = struct.unpack_from('<I', self.data, 48)
         start, = struct.unpack_from('<Q', self.data, 40)
         size, count, names = struct.unpack_from('<HHH', self.data, 58)
         heads = [Head(*struct.unpack_from('<IIQQQQIIQQ', self.data, start + size * at)) for at in range(count)]
@@ -93,10 +97,13 @@ class Object:
         defined = sorted((symbol.name, self.place(symbol), symbol.size, symbol.info, symbol.other)
                          for symbol in self.symbols if is_global(symbol) and symbol.section)
         # LLVM names the table of the linker also where nothing leads to it.
-        wanted = sorted({symbol.name for symbol in self.symbols if is_global(symbol) and not symbol.section}
-                        - {'_GLOBAL_OFFSET_TABLE_'})
+        wanted = sorted((symbol.name, symbol.info, symbol.other) for symbol in self.symbols
+                        if is_global(symbol) and not symbol.section and symbol.name != '_GLOBAL_OFFSET_TABLE_')
+        for_linker = [head.name for head in self.heads if not head.flags & LOADED
+                      and head.kind not in (NONE, SYMTAB, STRTAB, RELA, REL) and head.name not in WITHOUT_MEANING]
         stack = [head.flags & EXECUTED for head in self.heads if head.name == '.note.GNU-stack']
-        return Part((self.machine, sections), b'', [*defined, *wanted, f'the stack may be executed: {stack != [0]}'])
+        return Part((self.machine, self.flags, sections), b'',
+                    [*defined, *wanted, *for_linker, f'the stack may be executed: {stack != [0]}'])
 
 
 def is_global(symbol):
@@ -115,7 +122,7 @@ def read_sums(path):
 def difference(proved, ours):
     """What of a part differs, with an example."""
     if proved.head != ours.head:
-        return f'proved {proved.head}, ours {ours.head}'
+        return f'proved {str(proved.head)[:200]}, ours {str(ours.head)[:200]}'
     if proved.body != ours.body:
         at = next((at for at, (a, b) in enumerate(zip(proved.body, ours.body)) if a != b), 'the end')
         where = at if at == 'the end' else f'{at:#x}: {proved.body[at:at + 8].hex()}, ours {ours.body[at:at + 8].hex()}'

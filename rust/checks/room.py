@@ -14,7 +14,7 @@ import aarch64
 from report import tail, want
 
 CRATES = '/usr/share/cargo/registry'
-PACKAGES = {'gcc': 'gcc', 'nm': 'binutils', 'valgrind': 'valgrind', 'xxhsum': 'xxhash',
+PACKAGES = {'gcc': 'gcc', 'nm': 'binutils', 'git': 'git', 'valgrind': 'valgrind', 'xxhsum': 'xxhash',
             '/usr/lib/x86_64-linux-gnu/libxxhash.so': 'libxxhash-dev',
             f'{CRATES}/serde_derive-1.0.152': 'librust-serde-derive-dev',
             f'{CRATES}/serde-1.0.152': 'librust-serde-dev',
