@@ -1,0 +1,176 @@
+"""The build of the package, as pip and build ask for it (PEP 517): it takes Python, a C compiler and nothing else, so
+`pip install .` works without a network.
+
+The proved code is assembly text. In the repository that is c/asm; a source package has copies in its folder proved/.
+CC, CFLAGS and LDFLAGS of the environment are heeded. What CC compiles for is what the wheel is for."""
+import base64
+import csv
+import hashlib
+import io
+import os
+import re
+import shlex
+import subprocess
+import sysconfig
+import tarfile
+import tempfile
+import tomllib
+import zipfile
+
+HERE = os.path.dirname(os.path.abspath(__file__))
+C = os.path.join(os.path.dirname(HERE), 'c')
+# The sets of instructions of each machine, and what is put before a set's names.
+SETS = {'x86_64': {'x86-64-v2': 'v2_', 'x86-64-v3': 'v3_'}, 'aarch64': {'aarch64': 'arm_'}}
+PROVED = [*(f'asm/{name}.s' for sets in SETS.values() for name in sets), 'asm/state_sizes.h', 'include/xxhash.h']
+FLAGS = ['-std=c11', '-O2', '-g0', '-fPIC', '-fvisibility=hidden', '-Wall', '-Wextra', '-Wno-cast-function-type',
+         '-Wno-missing-field-initializers']
+# The interface of this Python, as tags of wheels name it: cp311, or cp311d of a debug build.
+ABI = 'cp' + sysconfig.get_config_var('SOABI').split('-')[1]
+# A debug build of Python tests in its own macros too.
+ASSERTIONS = [] if sysconfig.get_config_var('Py_DEBUG') else ['-DNDEBUG']
+# No name or number of the build's own stays in the file, so that one source makes one file.
+LINKS = ['-s', '-Wl,--build-id=none', '-Wl,-z,noexecstack']
+
+with open(os.path.join(HERE, 'pyproject.toml'), 'rb') as _file:
+    PROJECT = tomllib.load(_file)['project']
+STEM = f'{PROJECT["name"].replace("-", "_")}-{PROJECT["version"]}'
+
+
+def read(*path):
+    with open(os.path.join(*path), 'rb') as file:
+        return file.read()
+
+
+def proved(path):
+    """Where a file of the proved library is: in a source package, or else in the repository."""
+    packed = os.path.join(HERE, 'proved', os.path.basename(path))
+    return packed if os.path.exists(packed) else os.path.join(C, path)
+
+
+# ---- the extension ----
+
+def renamed(text, prefix):
+    """The text with a prefix before each name that the linker sees, so that two sets have their place in one file, and
+    with these names hidden, so that no library in the process meets them. The names that c/guards.c guards lose their
+    mark: the extension hands over no null."""
+    names = {name: prefix + name.removeprefix('proved_') for name in re.findall(r'^\s*\.globl (\S+)$', text, re.M)}
+    text = re.sub(r'(?<![\w.$])[A-Za-z_]\w*(?![\w.$])', lambda word: names.get(word[0], word[0]), text)
+    return re.sub(r'^(\s*)\.globl (\S+)$', r'\1.globl \2\n\1.hidden \2', text, flags=re.M)
+
+
+def compiler():
+    return shlex.split(os.environ.get('CC') or 'cc')
+
+
+def machine():
+    """What the compiler compiles for, as Linux names it."""
+    try:
+        done = subprocess.run([*compiler(), '-dumpmachine'], stdout=subprocess.PIPE, text=True, check=True)
+    except (OSError, subprocess.CalledProcessError) as fault:
+        raise SystemExit(f'twox-hash: a C compiler is needed, as of Debian\'s package gcc: {fault}')
+    name, system = done.stdout.strip().partition('-')[::2]
+    # Android keeps the register x18 for itself, and gnux32 has pointers of 32 bits.
+    if name not in SETS or 'linux' not in system or 'android' in system or 'gnux32' in system:
+        raise SystemExit(f'twox-hash: there is no proved code for {done.stdout.strip()}: there is some for Linux on '
+                         f'{" and ".join(SETS)}')
+    return name
+
+
+def texts(room, name):
+    """The machine's sets of proved calls, as files of assembly text."""
+    paths = []
+    for instructions, prefix in SETS[name].items():
+        paths.append(os.path.join(room, f'{instructions}.s'))
+        with open(paths[-1], 'w') as file:
+            file.write(renamed(read(proved(f'asm/{instructions}.s')).decode(), prefix))
+    return paths
+
+
+def library(name):
+    """The extension's place in a package for a machine: Python finds the file by the end of its name."""
+    return 'twox_hash/_native' + sysconfig.get_config_var('EXT_SUFFIX').replace(os.uname().machine, name)
+
+
+def compile_extension(path):
+    """Compiles the extension to a file, and answers the machine that it is for."""
+    name = machine()
+    native = os.path.join(HERE, 'native')
+    sources = sorted(os.path.join(native, file) for file in os.listdir(native) if file.endswith('.c'))
+    includes = [sysconfig.get_path('include'), *dict.fromkeys(os.path.dirname(proved(file)) for file in PROVED)]
+    flags = [*FLAGS, *ASSERTIONS, *shlex.split(os.environ.get('CFLAGS', ''))]
+    with tempfile.TemporaryDirectory() as room:
+        done = subprocess.run([*compiler(), '-shared', *flags, *(f'-I{folder}' for folder in includes), *sources,
+                               *texts(room, name), *LINKS,
+                               *shlex.split(os.environ.get('LDFLAGS', '')), '-o', path])
+    if done.returncode:
+        raise SystemExit('twox-hash: the extension was not compiled')
+    return name
+
+
+# ---- packages ----
+
+def metadata():
+    lines = ['Metadata-Version: 2.1', f'Name: {PROJECT["name"]}', f'Version: {PROJECT["version"]}',
+             f'Summary: {PROJECT["description"]}', f'License: {PROJECT["license"]["text"]}',
+             f'Keywords: {",".join(PROJECT["keywords"])}', *(f'Classifier: {line}' for line in PROJECT['classifiers']),
+             f'Requires-Python: {PROJECT["requires-python"]}', 'Description-Content-Type: text/markdown', '']
+    return '\n'.join(lines).encode() + b'\n' + read(HERE, PROJECT['readme'])
+
+
+def sources(folder, name):
+    """A folder's own files, by their names in a folder of a package: nothing that was built."""
+    found = sorted(os.listdir(os.path.join(HERE, folder)))
+    kinds = ('.py', '.pyi', '.typed', '.c', '.h')
+    return {f'{name}/{file}': read(HERE, folder, file) for file in found if file.endswith(kinds)}
+
+
+def licence():
+    return read(next(path for path in (os.path.join(HERE, 'LICENSE'), os.path.join(HERE, '..', 'LICENSE'))
+                     if os.path.exists(path)))
+
+
+def write_wheel(folder, name, files):
+    """A wheel of the files by name, whose bytes depend on theirs alone. Answers its name."""
+    about = f'{STEM}.dist-info'
+    tag = f'{ABI.rstrip("dt")}-{ABI}-linux_{name}'
+    wheel = f'Wheel-Version: 1.0\nGenerator: twox-hash\nRoot-Is-Purelib: false\nTag: {tag}\n'
+    files |= {f'{about}/METADATA': metadata(), f'{about}/LICENSE': licence(), f'{about}/WHEEL': wheel.encode()}
+    record = io.StringIO()
+    rows = csv.writer(record, lineterminator='\n')
+    for path, text in files.items():
+        digest = base64.urlsafe_b64encode(hashlib.sha256(text).digest()).rstrip(b'=').decode()
+        rows.writerow([path, f'sha256={digest}', len(text)])
+    rows.writerow([f'{about}/RECORD', '', ''])
+    files[f'{about}/RECORD'] = record.getvalue().encode()
+    with zipfile.ZipFile(os.path.join(folder, f'{STEM}-{tag}.whl'), 'w', zipfile.ZIP_DEFLATED) as archive:
+        for path, text in files.items():
+            entry = zipfile.ZipInfo(path)
+            entry.external_attr, entry.compress_type = 0o100644 << 16, zipfile.ZIP_DEFLATED
+            archive.writestr(entry, text)
+    return f'{STEM}-{tag}.whl'
+
+
+def build_wheel(wheel_directory, config_settings=None, metadata_directory=None):
+    with tempfile.TemporaryDirectory() as room:
+        path = os.path.join(room, 'library.so')
+        name = compile_extension(path)
+        return write_wheel(wheel_directory, name, sources('src/twox_hash', 'twox_hash') | {library(name): read(path)})
+
+
+def build_editable(wheel_directory, config_settings=None, metadata_directory=None):
+    name = machine()
+    compile_extension(os.path.join(HERE, 'src', library(name)))
+    return write_wheel(wheel_directory, name, {'twox_hash.pth': f'{HERE}/src\n'.encode()})
+
+
+def build_sdist(sdist_directory, config_settings=None):
+    files = {'PKG-INFO': metadata(), 'LICENSE': licence(), **sources('src/twox_hash', 'src/twox_hash'),
+             **sources('native', 'native')}
+    files |= {name: read(HERE, name) for name in ('README.md', 'backend.py', 'pyproject.toml')}
+    files |= {f'proved/{os.path.basename(path)}': read(proved(path)) for path in PROVED}
+    with tarfile.open(os.path.join(sdist_directory, f'{STEM}.tar.gz'), 'w:gz', format=tarfile.PAX_FORMAT) as archive:
+        for path, text in files.items():
+            entry = tarfile.TarInfo(f'{STEM}/{path}')
+            entry.size, entry.mode = len(text), 0o644
+            archive.addfile(entry, io.BytesIO(text))
+    return f'{STEM}.tar.gz'

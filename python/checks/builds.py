@@ -1,0 +1,166 @@
+"""The packages: built without rt and without a network, complete, and installed where there is no compiler."""
+import os
+import re
+import sys
+import tarfile
+import zipfile
+
+from report import want
+from room import DEBIANS, PATH, PYTHON, PYTHON_FOLDER, TOP, copied, must, run
+from same_bytes import Object, compare_sums
+
+sys.path.append(PYTHON_FOLDER)
+import backend
+
+OF_TABLE = '-m unittest tests.test_values tests.test_objects tests.test_many tests.test_files'.split()
+
+
+def built_without_rt(built):
+    want(run(['/bin/sh', '-c', 'command -v rt']).returncode != 0, f'rt is in {PATH}')
+    return ', '.join(os.path.basename(path) for path in (built.source, built.wheel))
+
+
+def source_is_complete(built):
+    """The source package builds the same library in a folder of its own, and holds nothing that is built."""
+    folder = os.path.join(built.room, 'unpacked')
+    with tarfile.open(built.source) as archive:
+        names = archive.getnames()
+        archive.extractall(folder)
+    wrong = [name for name in names if name.endswith(('.so', '.pyc', '.o')) or name.count('/') > 3]
+    want(not wrong, f'it holds {wrong}')
+    top, = os.listdir(folder)
+    must([PYTHON, '-m', 'pip', 'wheel', '-q', '--no-deps', '-w', folder, os.path.join(folder, top)])
+    wheel = next(name for name in os.listdir(folder) if name.endswith('.whl'))
+    with zipfile.ZipFile(os.path.join(folder, wheel)) as one, zipfile.ZipFile(built.wheel) as other:
+        want(one.namelist() == other.namelist(), 'its wheel has other files')
+        for name in one.namelist():
+            want(one.read(name) == other.read(name), f'{name} is another')
+    return f'{len(names)} files, the same wheel'
+
+
+def venv(built, name):
+    folder = os.path.join(built.room, name)
+    must([PYTHON, '-m', 'venv', folder])
+    return os.path.join(folder, 'bin')
+
+
+def pip_builds(built):
+    """`pip install .` in a fresh environment, as a user types it, without a network."""
+    programs = venv(built, 'fresh-source')
+    clone = copied(os.path.join(built.room, 'for-pip'))
+    must([os.path.join(programs, 'pip'), 'install', '-q', '.'], clone)
+    found = must([os.path.join(programs, 'python'), '-c', 'import twox_hash; print(twox_hash.__file__)'], '/')
+    want(found.startswith(os.path.dirname(programs)), f'it is {found}')
+
+
+def pip_builds_in_place(built):
+    """`pip install -e .` imports the sources where they lie."""
+    programs = venv(built, 'fresh-editable')
+    clone = copied(os.path.join(built.room, 'for-pip-editable'))
+    must([os.path.join(programs, 'pip'), 'install', '-q', '-e', '.'], clone)
+    found = must([os.path.join(programs, 'python'), '-c', 'import twox_hash; print(twox_hash.__file__)'], '/')
+    want(found.startswith(clone), f'it is {found}')
+
+
+def wheel_installs(built):
+    """The wheel in a fresh environment whose PATH has neither rt nor a compiler: the tests pass there."""
+    programs = venv(built, 'fresh-wheel')
+    theirs = os.path.join(built.room, 'theirs')
+    os.makedirs(theirs)
+    os.symlink(f'{DEBIANS}/xxhash', os.path.join(theirs, 'xxhash'))
+    must([os.path.join(programs, 'pip'), 'install', '-q', built.wheel], PATH=programs)
+    want(run(['/bin/sh', '-c', 'command -v cc || command -v gcc || command -v rt'], PATH=programs).returncode != 0,
+         'there is a compiler')
+    done = run([os.path.join(programs, 'python'), *OF_TABLE], PYTHON_FOLDER, PATH=programs, PYTHONPATH=theirs)
+    ran = re.search(r'^Ran (\d+) tests', done.stdout, re.M)
+    want(done.returncode == 0 and ran, done.stdout[-300:])
+    must([os.path.join(programs, 'pip'), 'uninstall', '-q', '-y', 'twox-hash'], PATH=programs)
+    left = run([os.path.join(programs, 'python'), '-c', 'import twox_hash'], '/', PATH=programs)
+    want('ModuleNotFoundError' in left.stdout, 'it is still there after pip uninstall')
+    return f'{ran[1]} tests'
+
+
+def refusals(built):
+    """A build that can't be made says why in one line."""
+    clone = copied(os.path.join(built.room, 'refusals'))
+    compiler = os.path.join(built.room, 'foreign-cc')
+    with open(compiler, 'w') as file:
+        file.write('#!/bin/sh\necho riscv64-linux-gnu\n')
+    os.chmod(compiler, 0o755)
+    for cc, words in (('/none/cc', 'a C compiler is needed'),
+                      (compiler, 'there is no proved code for riscv64-linux-gnu')):
+        done = run([os.path.join(clone, 'build'), PYTHON], CC=cc)
+        want(done.returncode and words in done.stdout, f'{cc}: {done.stdout[-200:]}')
+        want('Traceback' not in done.stdout, f'{cc}: a traceback')
+
+
+def names_are_hidden(built):
+    """The file shows the linker its start and nothing else, and asks for no name of libxxhash."""
+    shown = must(['/usr/bin/nm', '-D', '--defined-only', built.library]).split()[2::3]
+    want(shown == ['PyInit__native'], f'it shows {shown}')
+    asked = [line.split()[-1] for line in must(['/usr/bin/nm', '-D', '-u', built.library]).splitlines()]
+    wrong = [name for name in asked if 'XXH' in name or not re.match(r'_?Py|_Py|mem|str|getenv|__|_ITM', name)]
+    want(not wrong, f'it asks for {wrong}')
+    stack = must(['/usr/bin/readelf', '-lW', built.library])
+    want(re.search(r'GNU_STACK.* RW ', stack), 'its stack is executable')
+    return f'1 name is shown, {len(asked)} are asked for'
+
+
+def parts_that_differ(room, tools, instructions, prefix, change=('', '')):
+    """The text of a set with its names changed as the build has it, assembled, with its names changed back: what of
+    it is other than what was proved, and how many sections it has. `change` is a wrong word in place of a right one."""
+    text = backend.read(backend.proved(f'asm/{instructions}.s')).decode()
+    path = os.path.join(room, f'renamed-{instructions}')
+    with open(f'{path}.s', 'w') as file:
+        file.write(backend.renamed(text, prefix).replace(*change, 1))
+    back = [f'{prefix}{name.removeprefix("proved_")}={name}' for name in re.findall(r'^\s*\.globl (\S+)$', text, re.M)]
+    must([f'/usr/bin/{tools}gcc', '-c', f'{path}.s', '-o', f'{path}.o'])
+    must([f'/usr/bin/{tools}objcopy', *(word for pair in back for word in ('--redefine-sym', pair)), f'{path}.o'])
+    sums = os.path.join(TOP, 'c', 'asm', f'{instructions}.sums')
+    return [line.split(':')[0] for line in compare_sums(sums, f'{path}.o')], len(Object(f'{path}.o').parts()) - 1
+
+
+def text_is_proved(room, machine, tools=''):
+    """Of the package's code each section is that of the object that was proved. The names are other in one thing alone:
+    they are hidden. A wrong constant is noticed."""
+    compared = 0
+    for instructions, prefix in backend.SETS[machine].items():
+        others, sections = parts_that_differ(room, tools, instructions, prefix)
+        want(others == ['names'], f'{instructions}: {others[:3]}')
+        wrong, _ = parts_that_differ(room, tools, instructions, prefix, ('0x9e3779b1', '0x9e3779b3'))
+        want(len(wrong) == 2, f'{instructions}: of a wrong constant {wrong}')
+        compared += sections
+    return f'{compared} sections'
+
+
+def sets_are_chosen(built):
+    """The processor's best set runs, or the one that is named; one that isn't there is refused by name."""
+    ask = [PYTHON, '-c', 'import twox_hash; print(twox_hash.instruction_set, twox_hash.xxh3_64_hexdigest(b"a" * 500))']
+    answers = set()
+    for processor, instructions in (('max', 'x86-64-v3'), ('Haswell', 'x86-64-v3'), ('Nehalem', 'x86-64-v2'),
+                                    ('max,avx2=off', 'x86-64-v2'), ('max,bmi2=off', 'x86-64-v2'),
+                                    ('max,movbe=off', 'x86-64-v2'), ('max,xsave=off', 'x86-64-v2')):
+        found = must(['/usr/bin/qemu-x86_64', '-cpu', processor, *ask], PYTHONPATH=built.site).split()
+        want(found[-2] == instructions, f'{processor}: {found}')
+        answers.add(found[-1])
+    want(len(answers) == 1, f'{answers}')
+    old = run(['/usr/bin/qemu-x86_64', '-cpu', 'core2duo', *ask], PYTHONPATH=built.site).stdout
+    want('ImportError: twox_hash: this processor lacks x86-64-v2' in old, old[-200:])
+    lacking = run(['/usr/bin/qemu-x86_64', '-cpu', 'Nehalem', *ask], PYTHONPATH=built.site,
+                  TWOX_HASH_INSTRUCTIONS='x86-64-v3').stdout
+    want('ImportError: twox_hash: x86-64-v3: this processor lacks it' in lacking, lacking[-200:])
+    unknown = run(ask, PYTHONPATH=built.site, TWOX_HASH_INSTRUCTIONS='sparc').stdout
+    want('ImportError: twox_hash: sparc: there is no such set' in unknown, unknown[-200:])
+    return '7 processors, and one that is too old'
+
+
+def check_all(report, built):
+    report.attempt('python/build without rt and without a network', built_without_rt, built)
+    report.attempt('the source package builds the same wheel', source_is_complete, built)
+    report.attempt('pip install . in a fresh environment', pip_builds, built)
+    report.attempt('pip install -e .', pip_builds_in_place, built)
+    report.attempt('the wheel where rt and compilers are hidden', wheel_installs, built)
+    report.attempt('no compiler, and one for another machine', refusals, built)
+    report.attempt('names of the extension', names_are_hidden, built)
+    report.attempt('what the assembler makes of the text, beside what was proved', text_is_proved, built.room, 'x86_64')
+    report.attempt('the set of instructions', sets_are_chosen, built)

@@ -1,0 +1,87 @@
+"""Wrong builds, each of which the tests have to notice."""
+import os
+
+from report import tail, want
+from room import copied, packed, site
+from suite import first_failure, tests
+
+# What is wrong, in which file below a clone, the text that is there once, what takes its place, and the tests that
+# have to notice it.
+PLANTED = [
+    ('one function exchanged for another', 'python/native/kinds.c', '.hash = hash_3_##bits,', '.hash = hash_64,',
+     'values'),
+    ('a seed that has no effect', 'python/native/kinds.c', 'withSeed(input, length, key->seed)',
+     'withSeed(input, length, 0)', 'values'),
+    ('halves of 128 bits exchanged', 'python/native/values.c', 'write_word(digest, value.high64);',
+     'write_word(digest, value.low64);', 'values'),
+    ('a secret that is never looked at', 'python/native/kinds.c', 'if (!key->secret) return as_##bits',
+     'if (1) return as_##bits', 'values'),
+    ('short secrets are let through', 'python/native/arguments.c', 'bytes->view.len >= LEAST_SECRET', '1', 'values'),
+    ('a seed that is a float', 'python/native/arguments.c', 'else if (PyLong_Check(seed))', 'else if (1)', 'interface'),
+    ('two names exchanged', 'python/native/arguments.c', '(name, "input")', '(name, "data")', 'interface'),
+    ('a copy that is the object itself', 'python/native/hasher.c', 'return (PyObject *)copy;',
+     'Py_DECREF(copy); return Py_NewRef((PyObject *)hasher);', 'objects'),
+    ('a reset that forgets the seed', 'python/native/hasher.c', 'hasher->kind->start(hasher->state, &key);',
+     'hasher->kind->start(hasher->state, &(struct key){0});', 'objects'),
+    ('forged states are let through', 'python/src/twox_hash/_states.py',
+     'if usage >= self.stripe or total < WORD - 1 and usage != total % self.stripe:', 'if False:', 'objects'),
+    ('buffers that are never given back', 'python/native/arguments.h', 'if (bytes->is_view) PyBuffer_Release',
+     'if (0) PyBuffer_Release', 'leaks'),
+    ('objects that are never freed', 'python/native/hasher.c', 'PyObject_Free(hasher);', '', 'leaks'),
+    ('a reference that is never given back', 'python/native/saved.c', 'Py_XDECREF(state);', '', 'leaks'),
+    ('the interpreter is held in a long call', 'python/native/values.h', 'if (length < LONG_INPUT)', 'if (1)',
+     'threads'),
+    ('an object is not locked in a long update', 'python/native/hasher.c',
+     'PyThread_acquire_lock(hasher->lock, WAIT_LOCK);\n    hasher->kind->take(hasher->state, start, length);\n'
+     '    PyThread_release_lock(hasher->lock);', 'hasher->kind->take(hasher->state, start, length);', 'threads'),
+    ('the last piece of a file is left out', 'python/src/twox_hash/_files.py', 'hasher.update(room[:length])',
+     'hasher.update(room[:length - 1])', 'files'),
+    ('rows without their odd byte', 'python/native/many.c', 'rows->width, rows->width, key)',
+     'rows->width, rows->width & ~(size_t)1, key)', 'many'),
+]
+
+
+def plant(folder, path, text, other):
+    """Puts another text where one stands exactly once."""
+    path = os.path.join(folder, path)
+    with open(path) as file:
+        whole = file.read()
+    want(whole.count(text) == 1, f'{path} has {text!r} {whole.count(text)} times')
+    with open(path, 'w') as file:
+        file.write(whole.replace(text, other))
+
+
+def noticed(done):
+    """The test that failed first, where one did."""
+    want(done.returncode == 1 and 'FAILED (' in done.stdout, f'no test fails: {tail(done.stdout)}')
+    return first_failure(done.stdout).split(':')[0]
+
+
+def notices(room, number, path, text, other, name):
+    """A build with another text there fails the tests of this name."""
+    clone = os.path.join(room, f'planted-{number}')
+    folder = copied(clone)
+    plant(clone, path, text, other)
+    wheel = packed(folder, CFLAGS='-Wno-unused-variable -Wno-unused-parameter')[1]
+    return noticed(tests(site(room, f'planted-{number}', wheel), name, TWOX_HASH_OBJECTS='200000'))
+
+
+def constant_is_noticed(room, instructions):
+    """The first prime of XXH64, changed in the assembly text of a set."""
+    clone = os.path.join(room, f'planted-{instructions}')
+    folder = copied(clone)
+    path = os.path.join(clone, 'c', 'asm', f'{instructions}.s')
+    with open(path) as file:
+        text = file.read()
+    want('0x9e3779b185ebca87' in text, f'{path} has no such constant')
+    with open(path, 'w') as file:
+        file.write(text.replace('0x9e3779b185ebca87', '0x9e3779b185ebca89'))
+    path = site(room, f'planted-{instructions}', packed(folder)[1])
+    return noticed(tests(path, 'values', TWOX_HASH_INSTRUCTIONS=instructions))
+
+
+def check_all(report, room, sets):
+    for number, (what, *plan) in enumerate(PLANTED):
+        report.attempt(f'noticed: {what}', notices, room, number, *plan)
+    for instructions in sets:
+        report.attempt(f'noticed: a constant of {instructions}', constant_is_noticed, room, instructions)

@@ -1,0 +1,79 @@
+"""Programs of Debian that import the module xxhash, on ours in its place and on the original."""
+import os
+import random
+import re
+
+from report import want
+from room import DEBIANS, PYTHON, must, run
+
+HERE = os.path.dirname(os.path.abspath(__file__))
+STAND_IN = 'import sys\n\nimport twox_hash\n\nsys.modules["xxhash"] = twox_hash\n'
+# Another module of that name, whose hashes are wrong: each program has to notice it.
+WRONG = STAND_IN + '''
+class Wrong(twox_hash.__class__):
+    def __getattr__(self, name):
+        made = getattr(twox_hash, name)
+        return (lambda *args, **keys: made(*args, seed=1, **keys)) if name.startswith('xxh') else made
+sys.modules["xxhash"] = Wrong('twox_hash')
+'''
+
+
+class Sides:
+    """What PYTHONPATH has to be for each module."""
+
+    def __init__(self, built):
+        self.theirs = DEBIANS
+        self.ours, self.wrong = (f'{self.folder(built, name, text)}:{built.site}'
+                                 for name, text in (('stand-in-clients', STAND_IN), ('wrong-clients', WRONG)))
+
+    @staticmethod
+    def folder(built, name, text):
+        path = os.path.join(built.room, name)
+        os.makedirs(path)
+        with open(os.path.join(path, 'xxhash.py'), 'w') as file:
+            file.write(text)
+        return path
+
+
+def agrees(sides, words, name_at=0):
+    """The program prints the same over both modules but for the module's name, and other lines over a wrong one."""
+    theirs, ours, wrong = (must([PYTHON, *words], PYTHONPATH=path).splitlines()
+                           for path in (sides.theirs, sides.ours, sides.wrong))
+    names = (theirs.pop(name_at), ours.pop(name_at), wrong.pop(name_at))
+    want(names[:2] == ('xxhash', 'twox_hash'), f'the modules are {names}')
+    want(theirs and ours == theirs, 'it prints other lines')
+    want(wrong != theirs, 'a wrong module is not noticed')
+    return f'{len(theirs)} lines are the same; a wrong module is noticed'
+
+
+def dasks_own_tests(sides):
+    """The tests that dask has of its hashing, over our module."""
+    done = run([PYTHON, '-m', 'pytest', '-q', '-p', 'no:cacheprovider', f'{DEBIANS}/dask/tests/test_hashing.py'], '/',
+               PYTHONPATH=sides.ours)
+    passed = re.search(r'(\d+) passed', done.stdout)
+    want(done.returncode == 0 and passed, done.stdout[-300:])
+    return f'{passed[1]} tests'
+
+
+def duplicates(sides, built):
+    """dupeGuru's search for files of equal contents."""
+    folder, package = os.path.join(built.room, 'files'), os.path.join(built.room, 'dupeguru')
+    os.makedirs(folder)
+    os.makedirs(package)
+    must(['/usr/bin/apt-get', 'download', '-qq', 'dupeguru'], package)
+    must(['/usr/bin/dpkg-deb', '-x', os.path.join(package, os.listdir(package)[0]), package])
+    draw = random.Random(1)
+    for number, length in enumerate((10, 1000, 70000, 4000000)):
+        data = draw.randbytes(length)
+        for name, text in (('one', data), ('two', data), ('other', data[:-1] + bytes([data[-1] ^ 1]))):
+            with open(os.path.join(folder, f'{number}-{name}'), 'wb') as file:
+                file.write(text)
+    words = [os.path.join(HERE, 'find_duplicates.py'), os.path.join(package, 'usr/share/dupeguru'), folder]
+    return agrees(sides, words)
+
+
+def check_all(report, built):
+    sides = Sides(built)
+    report.attempt('dask: tokens of arrays', agrees, sides, [os.path.join(HERE, 'dask_tokens.py')])
+    report.attempt("dask: its own tests of hashing", dasks_own_tests, sides)
+    report.attempt('dupeGuru: files of equal contents', duplicates, sides, built)

@@ -1,0 +1,90 @@
+"""What python/check and python/bench work with: a folder of their own, Debian's packages, and builds of the package."""
+import glob
+import os
+import shutil
+import subprocess
+import sys
+
+PYTHON_FOLDER = os.path.dirname(os.path.dirname(os.path.abspath(__file__)))
+TOP = os.path.dirname(PYTHON_FOLDER)
+sys.path[:0] = [os.path.join(TOP, 'c', 'checks'), os.path.join(TOP, 'assembly')]
+
+from report import Fault, tail, want
+
+PYTHON, DEBUG = '/usr/bin/python3', '/usr/bin/python3-dbg'
+DEBIANS = '/usr/lib/python3/dist-packages'
+PACKAGES = {'/usr/bin/gcc': 'gcc', '/usr/bin/nm': 'binutils', '/usr/include/stdio.h': 'libc6-dev', PYTHON: 'python3',
+            '/usr/include/python3.11/Python.h': 'python3-dev', f'{DEBIANS}/xxhash/__init__.py': 'python3-xxhash',
+            '/usr/share/doc/python3-venv': 'python3-venv', f'{DEBIANS}/pip/__init__.py': 'python3-pip'}
+# What a user's environment has: no rt, whatever the machine has.
+PATH = '/usr/bin:/bin'
+
+
+def environment(**more):
+    """The environment of a user without the toolchain, a network and a taste for messages."""
+    kept = {name: value for name, value in os.environ.items()
+            if name in ('HOME', 'LANG', 'LC_ALL', 'TMPDIR', 'TERM', 'USER') or name.lower().endswith('_proxy')}
+    quiet = {'PIP_NO_INDEX': '1', 'PIP_DISABLE_PIP_VERSION_CHECK': '1', 'PIP_ROOT_USER_ACTION': 'ignore'}
+    return {**kept, 'PATH': PATH, 'PYTHONDONTWRITEBYTECODE': '1', **quiet, **more}
+
+
+def run(words, folder=None, timeout=1200, **more):
+    """A program's status and its output of both kinds, in the environment of such a user."""
+    return subprocess.run(words, cwd=folder, env=environment(**more), stdout=subprocess.PIPE, stderr=subprocess.STDOUT,
+                          text=True, timeout=timeout)
+
+
+def must(words, folder=None, **more):
+    """The output of a program that has to work."""
+    done = run(words, folder, **more)
+    if done.returncode:
+        raise Fault(f'{" ".join(words)}: {tail(done.stdout)}')
+    return done.stdout
+
+
+def install_packages(packages):
+    """Installs the packages whose file is missing."""
+    missing = sorted({package for path, package in packages.items() if not os.path.exists(path)})
+    if not missing:
+        return
+    quiet = {**os.environ, 'DEBIAN_FRONTEND': 'noninteractive'}
+    for words in (['update', '-qq'], ['install', '-y', '-qq', '--no-install-recommends', *missing]):
+        done = subprocess.run(['apt-get', *words], env=quiet, stdout=subprocess.PIPE, stderr=subprocess.STDOUT,
+                              text=True)
+        if done.returncode:
+            sys.exit(f'python/{os.path.basename(sys.argv[0])}: apt-get {" ".join(words)}:\n{done.stdout[-2000:]}')
+
+
+def copied(folder):
+    """A copy of what the package is built of, as a clean clone has it: nothing is built in the repository."""
+    keep = shutil.ignore_patterns('out', '__pycache__', '*.so')
+    for part in ('python', 'c/asm', 'c/include'):
+        shutil.copytree(os.path.join(TOP, part), os.path.join(folder, part), ignore=keep)
+    shutil.copy(os.path.join(TOP, 'LICENSE'), folder)
+    return os.path.join(folder, 'python')
+
+
+def packed(folder, python=PYTHON, **more):
+    """The source package and the wheel that python/build makes in a copy."""
+    must([os.path.join(folder, 'build'), python], **more)
+    names = sorted(os.listdir(os.path.join(folder, 'out')), key=lambda name: name.endswith('.whl'))
+    want(len(names) == 2, f'python/build made {names}')
+    return [os.path.join(folder, 'out', name) for name in names]
+
+
+def site(room, name, wheel):
+    """A folder for PYTHONPATH that has the wheel's files."""
+    path = os.path.join(room, 'sites', name)
+    must([PYTHON, '-m', 'zipfile', '-e', wheel, path])
+    return path
+
+
+class Built:
+    """The package, built in the check's folder: `source`, `wheel`, and `site`, where the wheel's files lie."""
+
+    def __init__(self, room):
+        self.room = room
+        self.folder = copied(os.path.join(room, 'clone'))
+        self.source, self.wheel = packed(self.folder)
+        self.site = site(room, 'plain', self.wheel)
+        self.library, = glob.glob(os.path.join(self.site, 'twox_hash', '_native*.so'))

@@ -1,0 +1,90 @@
+"""The package's own tests, run by one Python or another over one build or another."""
+import os
+import re
+import shutil
+
+from report import Fault, tail, want
+from room import DEBUG, PYTHON, PYTHON_FOLDER, copied, must, packed, run, site
+
+ALL = ('values', 'interface', 'objects', 'files', 'many', 'threads', 'leaks')
+
+
+def tests(path, *names, python=(PYTHON,), **more):
+    """Runs tests, all without names, over the build in a folder."""
+    words = [*python, '-B', '-W', 'error', '-m', 'unittest', *(f'tests.test_{name}' for name in names or ALL)]
+    return run(words, PYTHON_FOLDER, PYTHONPATH=path, **more)
+
+
+def pass_all(path, *names, **more):
+    """The tests pass, and there are some."""
+    done = tests(path, *names, **more)
+    ran = re.search(r'^Ran (\d+) tests', done.stdout, re.M)
+    if done.returncode or not ran or not int(ran[1]):
+        raise Fault(first_failure(done.stdout))
+    return f'{ran[1]} tests'
+
+
+def first_failure(output):
+    """The first test that failed, and why; or what valgrind reports first."""
+    report = re.search(r'^.*==\d+== (.*)', output, re.M)
+    if report:
+        return report[1]
+    name = re.search(r'^(?:FAIL|ERROR): (\S+)', output, re.M)
+    why = re.search(r'^(?:\w+\.)*(?:\w*(?:Error|Exception|Fault))\b.*', output[name.end():], re.M) if name else None
+    return f'{name[1]}: {why[0][:200] if why else "failed"}' if name else tail(output)
+
+
+def of_set(built, instructions):
+    """The tests pass over one set of instructions."""
+    found = must([PYTHON, '-c', 'import twox_hash; print(twox_hash.instruction_set)'], PYTHONPATH=built.site,
+                 TWOX_HASH_INSTRUCTIONS=instructions)
+    want(found.strip() == instructions, f'{found.strip()} runs in place of {instructions}')
+    return pass_all(built.site, TWOX_HASH_INSTRUCTIONS=instructions)
+
+
+def under_valgrind(built):
+    """No call reads or writes what isn't its own. Fewer objects are made, since each step takes fifty times as long."""
+    valgrind = ('/usr/bin/valgrind', '-q', '--error-exitcode=9', PYTHON)
+    return pass_all(built.site, 'interface', 'objects', 'files', 'many', python=valgrind, PYTHONMALLOC='malloc')
+
+
+def leaks_under_valgrind(built):
+    valgrind = ('/usr/bin/valgrind', '-q', '--error-exitcode=9', PYTHON)
+    return pass_all(built.site, 'leaks', python=valgrind, PYTHONMALLOC='malloc', TWOX_HASH_OBJECTS='2000')
+
+
+def of_debug_build(built):
+    """The tests pass over a build by Debian's debug Python, which tests its own rules and counts references."""
+    folder = copied(os.path.join(built.room, 'debug'))
+    wheel = packed(folder, DEBUG)[1]
+    counts = must([DEBUG, '-c', 'import sys; print(sys.gettotalrefcount() > 0)'])
+    want(counts.strip() == 'True', f'{DEBUG} counts no references')
+    return pass_all(site(built.room, 'debug', wheel), python=(DEBUG,), TWOX_HASH_OBJECTS='100000')
+
+
+def of_clang(built):
+    """The tests of values pass over what clang compiles."""
+    folder = copied(os.path.join(built.room, 'clang'))
+    wheel = packed(folder, CC='clang')[1]
+    return pass_all(site(built.room, 'clang', wheel), 'values', 'objects')
+
+
+def of_another_python(built, python):
+    """The tests pass in another Python, over what it builds. The package stands in for the original there: of values
+    that leaves the reference library's table, and of the interface nothing."""
+    name = os.path.abspath(python).strip('/').replace('/', '-')
+    path = site(built.room, name, packed(copied(os.path.join(built.room, name)), python)[1])
+    folder = os.path.join(built.room, 'stand-in')
+    if not os.path.exists(folder):
+        os.makedirs(folder)
+        with open(os.path.join(folder, 'xxhash.py'), 'w') as file:
+            file.write('import sys\n\nimport twox_hash\n\nsys.modules["xxhash"] = twox_hash\n')
+    names = [name for name in ALL if name != 'interface']
+    return pass_all(f'{path}:{folder}', *names, python=(python,), TWOX_HASH_OBJECTS='200000')
+
+
+def with_xxh(built, xxh):
+    """States go to the program xxh and come back."""
+    found = shutil.which(xxh)
+    want(found, f'there is no program {xxh}')
+    return pass_all(built.site, 'objects', XXH=os.path.abspath(found))

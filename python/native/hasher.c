@@ -1,0 +1,301 @@
+#include "hasher.h"
+
+#include <string.h>
+
+#include "arguments.h"
+#include "many.h"
+#include "saved.h"
+#include "state_sizes.h"
+#include "values.h"
+
+void enter(struct hasher *hasher)
+{
+    if (!hasher->lock || PyThread_acquire_lock(hasher->lock, NOWAIT_LOCK)) return;
+    Py_BEGIN_ALLOW_THREADS
+    PyThread_acquire_lock(hasher->lock, WAIT_LOCK);
+    Py_END_ALLOW_THREADS
+}
+
+void leave(struct hasher *hasher)
+{
+    if (hasher->lock) PyThread_release_lock(hasher->lock);
+}
+
+/* Takes a piece while other threads run. The lock is there. */
+static void take_long(struct hasher *hasher, const void *start, size_t length)
+{
+    Py_BEGIN_ALLOW_THREADS
+    PyThread_acquire_lock(hasher->lock, WAIT_LOCK);
+    hasher->kind->take(hasher->state, start, length);
+    PyThread_release_lock(hasher->lock);
+    Py_END_ALLOW_THREADS
+}
+
+/* Takes a piece. Without memory for a lock no other thread runs meanwhile. */
+static void take(struct hasher *hasher, const void *start, size_t length)
+{
+    if (length >= LONG_INPUT && !hasher->lock) hasher->lock = PyThread_allocate_lock();
+    if (length >= LONG_INPUT && hasher->lock) {
+        take_long(hasher, start, length);
+        return;
+    }
+    enter(hasher);
+    hasher->kind->take(hasher->state, start, length);
+    leave(hasher);
+}
+
+static void start(struct hasher *hasher, const struct key *key)
+{
+    enter(hasher);
+    hasher->kind->start(hasher->state, key);
+    leave(hasher);
+}
+
+/* ---- Making and ending ---- */
+
+/* An object whose state is not written yet. */
+static struct hasher *unwritten(PyTypeObject *type, const struct kind *kind)
+{
+    struct hasher *hasher = PyObject_New(struct hasher, type);
+    if (!hasher) return NULL;
+    hasher->kind = kind;
+    hasher->lock = NULL;
+    return hasher;
+}
+
+/* An object without its start: one of no bytes, with the seed 0. */
+static PyObject *new_of(PyTypeObject *type, const struct kind *kind)
+{
+    struct hasher *hasher = unwritten(type, kind);
+    if (hasher) kind->start(hasher->state, &(struct key){0});
+    return (PyObject *)hasher;
+}
+
+/* Begins anew with the key, and takes the input if there is one. */
+static int begin(struct hasher *hasher, const struct arguments *arguments)
+{
+    const struct key *key = &arguments->key;
+    if (key->secret && key->secret_length > GREATEST_SECRET) {
+        PyErr_Format(PyExc_ValueError, "The secret of an object must have at most %d bytes", GREATEST_SECRET);
+        return 0;
+    }
+    start(hasher, key);
+    if (arguments->has_input) take(hasher, arguments->input.start, arguments->input.length);
+    return 1;
+}
+
+static int hasher_init(struct hasher *hasher, PyObject *args, PyObject *keywords)
+{
+    struct arguments arguments;
+    if (!open_arguments_of_tuple(&arguments, hasher->kind, args, keywords)) return -1;
+    const int begun = begin(hasher, &arguments);
+    close_arguments(&arguments);
+    return begun ? 0 : -1;
+}
+
+/* What a call of a type answers, made and begun at once. */
+static PyObject *begun_of(PyTypeObject *type, const struct kind *kind, PyObject *const *args, size_t count,
+                          PyObject *names)
+{
+    struct arguments arguments;
+    if (!open_arguments(&arguments, kind, NULL, args, PyVectorcall_NARGS(count), names)) return NULL;
+    struct hasher *hasher = unwritten(type, kind);
+    if (hasher && !begin(hasher, &arguments)) Py_CLEAR(hasher);
+    close_arguments(&arguments);
+    return (PyObject *)hasher;
+}
+
+static void hasher_dealloc(struct hasher *hasher)
+{
+    PyTypeObject *type = type_of(hasher);
+    if (hasher->lock) PyThread_free_lock(hasher->lock);
+    PyObject_Free(hasher);
+    Py_DECREF(type);
+}
+
+/* ---- What an object does ---- */
+
+static PyObject *hasher_update(struct hasher *hasher, PyObject *input)
+{
+    struct bytes bytes;
+    if (!open_bytes(&bytes, input)) return NULL;
+    take(hasher, bytes.start, bytes.length);
+    close_bytes(&bytes);
+    Py_RETURN_NONE;
+}
+
+static hash_value finished(struct hasher *hasher)
+{
+    enter(hasher);
+    const hash_value value = hasher->kind->finish(hasher->state);
+    leave(hasher);
+    return value;
+}
+
+static PyObject *hasher_digest(struct hasher *hasher, PyObject *none)
+{
+    (void)none;
+    return as_digest(hasher->kind, finished(hasher));
+}
+
+static PyObject *hasher_hexdigest(struct hasher *hasher, PyObject *none)
+{
+    (void)none;
+    return as_hexdigest(hasher->kind, finished(hasher));
+}
+
+static PyObject *hasher_intdigest(struct hasher *hasher, PyObject *none)
+{
+    (void)none;
+    return as_intdigest(hasher->kind, finished(hasher));
+}
+
+static PyObject *hasher_copy(struct hasher *hasher, PyObject *none)
+{
+    struct hasher *copy = unwritten(type_of(hasher), hasher->kind);
+    (void)none;
+    if (!copy) return NULL;
+    enter(hasher);
+    memcpy(copy->state, hasher->state, hasher->kind->state_bytes);
+    leave(hasher);
+    return (PyObject *)copy;
+}
+
+static PyObject *hasher_reset(struct hasher *hasher, PyObject *none)
+{
+    unsigned char secret[GREATEST_SECRET];
+    (void)none;
+    enter(hasher);
+    struct key key = hasher->kind->key_of(hasher->state);
+    /* A start takes no secret that lies in the state which it writes. */
+    if (key.secret) key.secret = memcpy(secret, key.secret, key.secret_length);
+    hasher->kind->start(hasher->state, &key);
+    leave(hasher);
+    Py_RETURN_NONE;
+}
+
+static PyObject *hasher_seed(struct hasher *hasher, void *none)
+{
+    (void)none;
+    enter(hasher);
+    const uint64_t seed = hasher->kind->key_of(hasher->state).seed;
+    leave(hasher);
+    return PyLong_FromUnsignedLongLong(seed);
+}
+
+static PyObject *hasher_name(struct hasher *hasher, void *none)
+{
+    (void)none;
+    return PyUnicode_FromString(hasher->kind->name);
+}
+
+static PyObject *hasher_digest_size(struct hasher *hasher, void *none)
+{
+    (void)none;
+    return PyLong_FromLong(hasher->kind->digest_bytes);
+}
+
+static PyObject *hasher_block_size(struct hasher *hasher, void *none)
+{
+    (void)none;
+    return PyLong_FromLong(hasher->kind->block_bytes);
+}
+
+/* ---- The types ---- */
+
+#define METHOD(name, call, flags, text) {name, (PyCFunction)(void (*)(void))call, flags, text}
+
+static PyMethodDef methods[] = {
+    METHOD("update", hasher_update, METH_O,
+           "update($self, input, /)\n--\n\nTakes more bytes, or a str in UTF-8, after those before."),
+    METHOD("digest", hasher_digest, METH_NOARGS,
+           "digest($self, /)\n--\n\nThe digest of all bytes so far, as bytes. More may follow."),
+    METHOD("hexdigest", hasher_hexdigest, METH_NOARGS,
+           "hexdigest($self, /)\n--\n\nThe digest of all bytes so far, as hexadecimal digits."),
+    METHOD("intdigest", hasher_intdigest, METH_NOARGS,
+           "intdigest($self, /)\n--\n\nThe value of all bytes so far, as a number."),
+    METHOD("copy", hasher_copy, METH_NOARGS, "copy($self, /)\n--\n\nAn equal object, which goes on alone."),
+    METHOD("reset", hasher_reset, METH_NOARGS,
+           "reset($self, /)\n--\n\nForgets all bytes, and keeps the seed and the secret."),
+    METHOD("state", hasher_state, METH_NOARGS,
+           "state($self, /)\n--\n\nAll that the object holds, as JSON. from_state goes on from it."),
+    METHOD("from_state", hasher_from_state, METH_O | METH_CLASS,
+           "from_state($type, state, /)\n--\n\nThe object that was saved. ValueError: the text is no saved state, "
+           "or no bytes lead to it."),
+    METHOD("__reduce__", hasher_reduce, METH_NOARGS,
+           "__reduce__($self, /)\n--\n\nfrom_state and the state, for pickle."),
+    METHOD("_memory", hasher_memory, METH_NOARGS, "The state as it lies in memory."),
+    METHOD("_set_memory", hasher_set_memory, METH_O, "Puts back what _memory answered."),
+    METHOD("_many", hasher_many, METH_FASTCALL, "Digests of the rows of a tuple."),
+    METHOD("_many_of_width", hasher_many_of_width, METH_FASTCALL, "Digests of the rows of a buffer."),
+    {0},
+};
+
+#define ATTRIBUTE(name, get, text) {name, (getter)(void (*)(void))get, NULL, text, NULL}
+
+static PyGetSetDef attributes[] = {
+    ATTRIBUTE("name", hasher_name, "The name of the hash, as XXH64."),
+    ATTRIBUTE("seed", hasher_seed, "The seed, as a number of the hash's width. 0 where there is a secret alone."),
+    ATTRIBUTE("digest_size", hasher_digest_size, "The bytes of a digest."),
+    ATTRIBUTE("digestsize", hasher_digest_size, "The bytes of a digest."),
+    ATTRIBUTE("block_size", hasher_block_size, "The bytes of the hash's inner block."),
+    {0},
+};
+
+#define INPUT_AND_SEED \
+    "A stream of bytes, and their hash so far. `input` begins it: a bytes-like object whose buffer is contiguous,\n" \
+    "or a str, which is taken in UTF-8. `seed` is an integer, of which the lowest bits count, as many as the hash's\n" \
+    "own seed has; a negative one too.\n\n"
+
+#define NO_SECRET \
+    "TypeError: the input has no bytes, or the seed is no integer. BufferError: the buffer isn't contiguous."
+
+#define SECRET \
+    "`secret` is bytes-like, of 136 to 256 bytes, and is copied. With a seed, the seed alone takes effect up to 240\n" \
+    "bytes of input and the secret alone above; without one, the secret does at every length.\n\n" NO_SECRET \
+    " ValueError: the secret has\nanother length."
+
+#define TYPE(kind, bytes, signature, more) \
+    static PyObject *kind##_new(PyTypeObject *type, PyObject *args, PyObject *keywords) \
+    { \
+        (void)args, (void)keywords; \
+        return new_of(type, &kind##_kind); \
+    } \
+    static PyObject *kind##_call(PyObject *type, PyObject *const *args, size_t count, PyObject *names) \
+    { \
+        return begun_of((PyTypeObject *)type, &kind##_kind, args, count, names); \
+    } \
+    static PyType_Slot kind##_slots[] = { \
+        {Py_tp_new, (void *)kind##_new}, \
+        {Py_tp_init, (void *)hasher_init}, \
+        {Py_tp_dealloc, (void *)hasher_dealloc}, \
+        {Py_tp_methods, methods}, \
+        {Py_tp_getset, attributes}, \
+        {Py_tp_doc, #kind signature "\n--\n\n" INPUT_AND_SEED more}, \
+        {0}, \
+    }; \
+    static PyType_Spec kind##_spec = { \
+        .name = "twox_hash." #kind, .basicsize = sizeof(struct hasher) + (bytes), \
+        .flags = Py_TPFLAGS_DEFAULT | Py_TPFLAGS_IMMUTABLETYPE, .slots = kind##_slots, \
+    };
+
+TYPE(xxh32, XXH32_STATE_BYTES, "(input=b'', seed=0)", NO_SECRET)
+TYPE(xxh64, XXH64_STATE_BYTES, "(input=b'', seed=0)", NO_SECRET)
+TYPE(xxh3_64, XXH3_STATE_BYTES, "(input=b'', seed=0, *, secret=None)", SECRET)
+TYPE(xxh3_128, XXH3_STATE_BYTES, "(input=b'', seed=0, *, secret=None)", SECRET)
+
+static int add_type(PyObject *module, PyType_Spec *spec, vectorcallfunc call)
+{
+    PyTypeObject *type = (PyTypeObject *)PyType_FromModuleAndSpec(module, spec, NULL);
+    if (!type) return 0;
+    type->tp_vectorcall = call;
+    const int is_added = !PyModule_AddType(module, type);
+    Py_DECREF(type);
+    return is_added;
+}
+
+int add_types(PyObject *module)
+{
+    return add_type(module, &xxh32_spec, xxh32_call) && add_type(module, &xxh64_spec, xxh64_call)
+        && add_type(module, &xxh3_64_spec, xxh3_64_call) && add_type(module, &xxh3_128_spec, xxh3_128_call);
+}

@@ -1,0 +1,85 @@
+/* Which set of proved calls runs. setup.py puts a prefix before each name of a set's text: v2_, v3_ or arm_. */
+#include "proved.h"
+
+#include <string.h>
+
+struct proved proved;
+
+/* A set: whether the processor has its instructions, and its calls. */
+struct set {
+    int (*is_there)(void);
+    struct proved calls;
+};
+
+#if defined(__x86_64__) && defined(__linux__)
+
+#include <cpuid.h>
+
+#define DECLARED(answer, name, parameters) \
+    answer v2_##name parameters; \
+    answer v3_##name parameters;
+#define IN_V2(answer, name, parameters) .name = v2_##name,
+#define IN_V3(answer, name, parameters) .name = v3_##name,
+EACH_PROVED_CALL(DECLARED)
+
+static int has_v2(void)
+{
+    unsigned a, b, c, d;
+    const unsigned wanted = bit_SSE3 | bit_SSSE3 | bit_CMPXCHG16B | bit_SSE4_1 | bit_SSE4_2 | bit_POPCNT;
+    return __get_cpuid(1, &a, &b, &c, &d) && (c & wanted) == wanted;
+}
+
+/* Whether the system keeps the wide registers of a thread. */
+static int keeps_wide_registers(void)
+{
+    unsigned low, high;
+    __asm__("xgetbv" : "=a"(low), "=d"(high) : "c"(0));
+    return (low & 6) == 6;
+}
+
+static int has_v3(void)
+{
+    unsigned a, b, c, d;
+    const unsigned wanted = bit_FMA | bit_MOVBE | bit_OSXSAVE | bit_AVX | bit_F16C;
+    const unsigned wanted_too = bit_BMI | bit_AVX2 | bit_BMI2;
+    if (!has_v2() || !__get_cpuid(1, &a, &b, &c, &d) || (c & wanted) != wanted || !keeps_wide_registers()) return 0;
+    if (!__get_cpuid_count(7, 0, &a, &b, &c, &d) || (b & wanted_too) != wanted_too) return 0;
+    return __get_cpuid(0x80000001, &a, &b, &c, &d) && (c & bit_LZCNT);
+}
+
+/* The best one first. */
+static const struct set sets[] = {
+    {has_v3, {EACH_PROVED_CALL(IN_V3).instructions = "x86-64-v3"}},
+    {has_v2, {EACH_PROVED_CALL(IN_V2).instructions = "x86-64-v2"}},
+};
+
+#elif defined(__aarch64__) && defined(__linux__)
+
+#define DECLARED(answer, name, parameters) answer arm_##name parameters;
+#define IN_ARM(answer, name, parameters) .name = arm_##name,
+EACH_PROVED_CALL(DECLARED)
+
+static int is_always(void)
+{
+    return 1;
+}
+
+static const struct set sets[] = {{is_always, {EACH_PROVED_CALL(IN_ARM).instructions = "aarch64"}}};
+
+#else
+#error "twox_hash has proved code for Linux on x86-64 and on 64-bit ARM, and for no other machine"
+#endif
+
+const char *choose_proved(const char *wanted)
+{
+    const char *fault = wanted ? "there is no such set of instructions" : "this processor lacks x86-64-v2";
+    for (size_t i = 0; i < sizeof(sets) / sizeof(*sets); i++) {
+        if (wanted && strcmp(wanted, sets[i].calls.instructions)) continue;
+        if (sets[i].is_there()) {
+            proved = sets[i].calls;
+            return NULL;
+        }
+        if (wanted) fault = "this processor lacks it";
+    }
+    return fault;
+}

@@ -1,0 +1,48 @@
+/* The proved calls that the package makes, of the set of instructions that the processor has. What each answers stands
+ * in xxhash.h, the header of the library for C. */
+#ifndef TWOX_HASH_PROVED_H
+#define TWOX_HASH_PROVED_H
+
+#include "state_sizes.h"
+#include "xxhash.h"
+
+/* EACH(answer, name, parameters): once for each call. */
+#define EACH_PROVED_CALL(EACH) \
+    EACH(XXH32_hash_t, XXH32, (const void *, size_t, XXH32_hash_t)) \
+    EACH(XXH_errorcode, XXH32_reset, (XXH32_state_t *, XXH32_hash_t)) \
+    EACH(XXH_errorcode, XXH32_update, (XXH32_state_t *, const void *, size_t)) \
+    EACH(XXH32_hash_t, XXH32_digest, (const XXH32_state_t *)) \
+    EACH(XXH64_hash_t, XXH64, (const void *, size_t, XXH64_hash_t)) \
+    EACH(XXH_errorcode, XXH64_reset, (XXH64_state_t *, XXH64_hash_t)) \
+    EACH(XXH_errorcode, XXH64_update, (XXH64_state_t *, const void *, size_t)) \
+    EACH(XXH64_hash_t, XXH64_digest, (const XXH64_state_t *)) \
+    EACH_OF_XXH3(EACH, 64, XXH64_hash_t) \
+    EACH_OF_XXH3(EACH, 128, XXH128_hash_t)
+
+#define EACH_OF_XXH3(EACH, bits, hash) \
+    EACH(hash, XXH3_##bits##bits_withSeed, (const void *, size_t, XXH64_hash_t)) \
+    EACH(hash, XXH3_##bits##bits_withSecret, (const void *, size_t, const void *, size_t)) \
+    EACH(hash, XXH3_##bits##bits_withSecretandSeed, (const void *, size_t, const void *, size_t, XXH64_hash_t)) \
+    EACH(XXH_errorcode, XXH3_##bits##bits_reset_withSeed, (XXH3_state_t *, XXH64_hash_t)) \
+    EACH(XXH_errorcode, XXH3_##bits##bits_reset_withSecret, (XXH3_state_t *, const void *, size_t)) \
+    EACH(XXH_errorcode, XXH3_##bits##bits_reset_withSecretandSeed, \
+         (XXH3_state_t *, const void *, size_t, XXH64_hash_t)) \
+    EACH(XXH_errorcode, XXH3_##bits##bits_update, (XXH3_state_t *, const void *, size_t)) \
+    EACH(hash, XXH3_##bits##bits_digest, (const XXH3_state_t *))
+
+struct proved {
+#define MEMBER(answer, name, parameters) answer(*name) parameters;
+    EACH_PROVED_CALL(MEMBER)
+#undef MEMBER
+    /* The set of instructions: "x86-64-v2", "x86-64-v3" or "aarch64". */
+    const char *instructions;
+};
+
+/* The calls that are made. choose_proved fills it before any is. */
+extern struct proved proved;
+
+/* Takes the best set that the processor has, or the one that is named where `wanted` isn't null. Answers null, or what
+ * is at fault: the processor has no such set, or there is none of that name. */
+const char *choose_proved(const char *wanted);
+
+#endif

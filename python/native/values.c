@@ -1,0 +1,73 @@
+#include "values.h"
+
+#include <string.h>
+
+/* Bytes of a number, the highest first. Each is stored where it stays: bytes that are copied from stores of another
+ * width wait for these. */
+static inline void write_word(void *bytes, uint64_t word)
+{
+    word = __builtin_bswap64(word);
+    memcpy(bytes, &word, sizeof word);
+}
+
+static inline void write_half_word(void *bytes, uint32_t half)
+{
+    half = __builtin_bswap32(half);
+    memcpy(bytes, &half, sizeof half);
+}
+
+void write_digest(void *digest, const struct kind *kind, hash_value value)
+{
+    if (kind->digest_bytes == 4) {
+        write_half_word(digest, (uint32_t)value.low64);
+        return;
+    }
+    write_word((char *)digest + kind->digest_bytes - 8, value.low64);
+    if (kind->digest_bytes == 16) write_word(digest, value.high64);
+}
+
+PyObject *as_digest(const struct kind *kind, hash_value value)
+{
+    PyObject *digest = PyBytes_FromStringAndSize(NULL, kind->digest_bytes);
+    if (digest) write_digest(PyBytes_AS_STRING(digest), kind, value);
+    return digest;
+}
+
+/* Writes the eight hexadecimal digits of a number, all at once: each half byte gets a byte of its own, the highest
+ * first. Answers where the next digits go. */
+static inline char *write_digits(char *digits, uint32_t number)
+{
+    const uint64_t ones = 0x0101010101010101;
+    uint64_t halves = number;
+    halves = (halves << 16 | halves) & 0x0000ffff0000ffff;
+    halves = (halves << 8 | halves) & 0x00ff00ff00ff00ff;
+    halves = (halves << 4 | halves) & 0x0f0f0f0f0f0f0f0f;
+    const uint64_t are_letters = (halves + 6 * ones) >> 4 & ones;
+    write_word(digits, halves + '0' * ones + are_letters * ('a' - '0' - 10));
+    return digits + 8;
+}
+
+PyObject *as_hexdigest(const struct kind *kind, hash_value value)
+{
+    PyObject *text = PyUnicode_New(2 * kind->digest_bytes, 127);
+    if (!text) return NULL;
+    char *digits = (char *)PyUnicode_1BYTE_DATA(text);
+    if (kind->digest_bytes == 16) {
+        digits = write_digits(digits, value.high64 >> 32);
+        digits = write_digits(digits, (uint32_t)value.high64);
+    }
+    if (kind->digest_bytes >= 8) digits = write_digits(digits, value.low64 >> 32);
+    write_digits(digits, (uint32_t)value.low64);
+    return text;
+}
+
+PyObject *as_intdigest(const struct kind *kind, hash_value value)
+{
+    if (kind->digest_bytes <= 8) return PyLong_FromUnsignedLongLong(value.low64);
+    const uint64_t halves[2] = {value.low64, value.high64};
+#if PY_VERSION_HEX >= 0x030D0000
+    return PyLong_FromUnsignedNativeBytes(halves, sizeof halves, Py_ASNATIVEBYTES_LITTLE_ENDIAN);
+#else
+    return _PyLong_FromByteArray((const unsigned char *)halves, sizeof halves, 1, 0);
+#endif
+}

@@ -1,0 +1,28 @@
+/* Values, and the three forms in which they are handed out. */
+#ifndef TWOX_HASH_VALUES_H
+#define TWOX_HASH_VALUES_H
+
+#include "python.h"
+
+#include "kinds.h"
+
+/* The value of an input that stays as it is. Other threads run meanwhile where it is long. */
+static inline hash_value hash_of(const struct kind *kind, const void *start, size_t length, const struct key *key)
+{
+    if (length < LONG_INPUT) return kind->hash(start, length, key);
+    hash_value value;
+    Py_BEGIN_ALLOW_THREADS
+    value = kind->hash(start, length, key);
+    Py_END_ALLOW_THREADS
+    return value;
+}
+
+/* Writes the kind's digest: the bytes of the value, the highest first. */
+void write_digest(void *digest, const struct kind *kind, hash_value value);
+
+/* New objects: the digest as bytes, its hexadecimal digits, and the value as a number. */
+PyObject *as_digest(const struct kind *kind, hash_value value);
+PyObject *as_hexdigest(const struct kind *kind, hash_value value);
+PyObject *as_intdigest(const struct kind *kind, hash_value value);
+
+#endif

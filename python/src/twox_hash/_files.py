@@ -1,0 +1,62 @@
+"""Digests of files."""
+import os
+from typing import Any, BinaryIO, Union, overload
+
+from ._types import Hasher, OneHasher, type_of
+
+Path = Union[str, bytes, 'os.PathLike[Any]']
+
+# So many bytes are read at once: reads and updates are long, so that other threads run, and stay in the second cache.
+PIECE_BYTES = 1 << 18
+
+
+@overload
+def file_digest(file: Union[Path, BinaryIO], algorithm: str = ..., **key: Any) -> Hasher: ...
+@overload
+def file_digest(file: Union[Path, BinaryIO], algorithm: type[OneHasher], **key: Any) -> OneHasher: ...
+def file_digest(file: Union[Path, BinaryIO], algorithm: Any = 'xxh3_64', **key: Any) -> Hasher:
+    """The hash of a file, as an object: `file_digest(path, "xxh3_128").hexdigest()`.
+
+    `file` is a path, or a file that was opened for binary reading, which is read from its place to its end and stays
+    open. `seed` and `secret` are as the algorithm's type takes them. Other threads run meanwhile.
+
+    The errors of the system come as they are: FileNotFoundError, IsADirectoryError, PermissionError and the others.
+    TypeError: `file` is neither, or is open for text. BlockingIOError: it has no bytes yet, and doesn't wait.
+    ValueError: there is no such algorithm, or the secret is too short."""
+    hasher = type_of(algorithm)(**key)
+    if isinstance(file, (str, bytes, os.PathLike)):
+        with open(file, 'rb', buffering=0) as opened:
+            _take_all(hasher, opened)
+    else:
+        _take_all(hasher, file)
+    return hasher
+
+
+def _take_all(hasher: Hasher, file: Any) -> None:
+    """Takes what is left of a file, into one buffer where it reads so."""
+    if not hasattr(file, 'readinto'):
+        _take_pieces(hasher, file)
+        return
+    room = memoryview(bytearray(PIECE_BYTES))
+    while True:
+        length = file.readinto(room)
+        if length is None:
+            raise BlockingIOError(f'{file!r} has no bytes yet')
+        if not length:
+            return
+        hasher.update(room[:length])
+
+
+def _take_pieces(hasher: Hasher, file: Any) -> None:
+    """Takes what is left of a file that hands out its bytes."""
+    if not hasattr(file, 'read'):
+        raise TypeError(f'a path or a file that is open for reading is wanted, not {type(file).__name__!r}')
+    while True:
+        piece = file.read(PIECE_BYTES)
+        if isinstance(piece, str):
+            raise TypeError(f'{file!r} is open for text, and its bytes are wanted')
+        if piece is None:
+            raise BlockingIOError(f'{file!r} has no bytes yet')
+        if not piece:
+            return
+        hasher.update(piece)

@@ -1,0 +1,152 @@
+"""Saved objects: their JSON, which for XXH32 and XXH64 is that of the program `xxh`, and what is refused."""
+import json
+import struct
+from typing import Any, Union
+
+from ._native import xxh3_64, xxh3_128, xxh32, xxh64
+from ._types import Hasher, HasherType
+
+WORD = 1 << 64
+USAGE = 'The buffer usage does not match the total length'
+
+
+def text_of(hasher: Hasher) -> str:
+    """All that the object holds, as JSON."""
+    record = _FORMS[type(hasher)].record_of(hasher._memory())
+    return json.dumps(record, separators=(',', ':'), sort_keys=True)
+
+
+def from_text(kind: HasherType, text: Union[str, bytes]) -> Hasher:
+    """The object that was saved. ValueError: the text is no saved state, or no bytes lead to it."""
+    if not isinstance(text, (str, bytes)):
+        raise TypeError(f'a saved state is a str, not {type(text).__name__!r}')
+    return _FORMS[kind].hasher_of(kind, _read(text))
+
+
+# ---- JSON ----
+
+def _not_a_state() -> ValueError:
+    return ValueError('The text is not a saved state')
+
+
+def _whole_number(digits: str) -> Union[int, float]:
+    """A whole number of JSON. One with a sign has no place in a state, and is none of the numbers there."""
+    return float(digits) if digits.startswith('-') else int(digits)
+
+
+def _constant(name: str) -> None:
+    raise ValueError(f'{name} is no JSON')
+
+
+def _read(text: Union[str, bytes]) -> dict[str, Any]:
+    """The members of a text's object."""
+    try:
+        words = text.decode() if isinstance(text, bytes) else text
+        record = json.loads(words, parse_int=_whole_number, parse_constant=_constant)
+    except (ValueError, RecursionError):
+        raise _not_a_state() from None
+    return _object(record)
+
+
+def _object(value: Any) -> dict[str, Any]:
+    if not isinstance(value, dict):
+        raise _not_a_state()
+    return value
+
+
+def _number(value: Any, limit: int = WORD) -> int:
+    """A whole number below the limit. True is none."""
+    if type(value) is not int or value >= limit:
+        raise _not_a_state()
+    return value
+
+
+def _numbers(value: Any, least: int, most: int, limit: int = 256) -> list[int]:
+    """A list of so many whole numbers below the limit."""
+    if not isinstance(value, list) or not least <= len(value) <= most:
+        raise _not_a_state()
+    return [_number(number, limit) for number in value]
+
+
+# ---- what lies in memory, and when bytes lead to it ----
+
+def _with_fields(hasher: Hasher, layout: struct.Struct, *fields: Any) -> Hasher:
+    """The object, which is new, with these fields at the start of its state."""
+    memory = bytearray(hasher._memory())
+    layout.pack_into(memory, 0, *fields)
+    hasher._set_memory(bytes(memory))
+    return hasher
+
+
+class _Plain:
+    """XXH32 and XXH64: a state stands for some bytes exactly where it is accepted, as `from_state` of the proved
+    hashers has it."""
+
+    def __init__(self, bits: int, stripe: int, layout: str):
+        self.limit, self.stripe, self.layout = 1 << bits, stripe, struct.Struct(layout)
+
+    def record_of(self, memory: bytes) -> dict[str, Any]:
+        v1, seed, v2, total, v3, usage, v4, buffer = self.layout.unpack_from(memory)
+        core = {'v1': v1, 'v2': v2, 'v3': v3, 'v4': v4}
+        return {'buffer': list(buffer), 'buffer_usage': usage, 'core': core, 'seed': seed, 'total_len': total}
+
+    def hasher_of(self, kind: Any, record: dict[str, Any]) -> Hasher:
+        buffer = bytes(_numbers(record.get('buffer'), self.stripe, self.stripe))
+        usage, total = _number(record.get('buffer_usage')), _number(record.get('total_len'))
+        members = _object(record.get('core'))
+        core = {name: _number(members.get(name), self.limit) for name in ('v1', 'v2', 'v3', 'v4')}
+        seed = _number(record.get('seed'), self.limit)
+        # A length from 2^64 - 1 on is counted as that, so it says nothing of the bytes that wait.
+        if usage >= self.stripe or total < WORD - 1 and usage != total % self.stripe:
+            raise ValueError(USAGE)
+        hasher = kind(seed=seed)
+        if total < self.stripe and core != self.record_of(hasher._memory())['core']:
+            raise ValueError('The core does not match the seed')
+        return _with_fields(hasher, self.layout, core['v1'], seed, core['v2'], total, core['v3'], usage, core['v4'],
+                            buffer)
+
+
+class _Stream:
+    """XXH3 of both widths: a state is accepted where its parts fit each other and the secret, and where some bytes lead
+    to it at least. `seed` is null in one that was made with its secret alone."""
+    taken = struct.Struct('<8QQ64sQ512sQQ')
+    # The seed, the end of the buffer and that of the secret aren't written where they say nothing.
+    whole = struct.Struct('<8QQ64sQ512sQQ8xQ8sQ256s')
+
+    def record_of(self, memory: bytes) -> dict[str, Any]:
+        *accumulators, place, last, stripes, buffer, usage, total, has_seed, seed, length, secret = (
+            self.whole.unpack(memory))
+        return {'accumulators': accumulators, 'buffer': list(buffer[:usage]), 'last_stripe': list(last), 'place': place,
+                'secret': list(secret[:length]), 'seed': int.from_bytes(seed, 'little') if has_seed else None,
+                'stripes': stripes, 'total_len': total}
+
+    def hasher_of(self, kind: Any, record: dict[str, Any]) -> Hasher:
+        accumulators = _numbers(record.get('accumulators'), 8, 8, WORD)
+        buffer = _numbers(record.get('buffer'), 0, 512)
+        last = _numbers(record.get('last_stripe'), 64, 64)
+        secret = bytes(_numbers(record.get('secret'), 136, 256))
+        place, stripes, total = (_number(record.get(name)) for name in ('place', 'stripes', 'total_len'))
+        seed = record.get('seed')
+        key = {} if seed is None else {'seed': _number(seed)}
+        hasher = kind(secret=secret, **key)
+        if total != min(64 * stripes + len(buffer), WORD - 1) or stripes and not buffer:
+            raise ValueError(USAGE)
+        self._test_place(place, stripes, secret)
+        if not stripes and accumulators != self.record_of(hasher._memory())['accumulators']:
+            raise ValueError('The accumulators are not those of no stripe')
+        return _with_fields(hasher, self.taken, *accumulators, place, bytes(last), stripes, bytes(buffer), len(buffer),
+                            total)
+
+    @staticmethod
+    def _test_place(place: int, stripes: int, secret: bytes) -> None:
+        """A stripe takes eight bytes of the secret further on, and after the last place comes the first one. From
+        2^64 - 1 stripes on they are counted as that."""
+        places = (len(secret) - 64) // 8
+        if place >= places or stripes < WORD - 1 and place != stripes % places:
+            raise ValueError('The place in the secret does not match the stripes')
+
+
+_FORMS: dict[HasherType, Union[_Plain, _Stream]] = {
+    xxh32: _Plain(32, 16, '<IIIxxxxQIxxxxQI16s'), xxh64: _Plain(64, 32, '<QQQQQQQ32s'), xxh3_64: _Stream(),
+    xxh3_128: _Stream(),
+}

@@ -1,0 +1,26 @@
+"""The hashes by their names."""
+from typing import TypeVar, Union
+
+from ._native import xxh3_64, xxh3_128, xxh32, xxh64
+
+Hasher = Union[xxh32, xxh64, xxh3_64, xxh3_128]
+HasherType = Union[type[xxh32], type[xxh64], type[xxh3_64], type[xxh3_128]]
+OneHasher = TypeVar('OneHasher', xxh32, xxh64, xxh3_64, xxh3_128)
+
+_BY_NAME: dict[str, HasherType] = {
+    'xxh32': xxh32, 'xxh64': xxh64, 'xxh3_64': xxh3_64, 'xxh3_128': xxh3_128, 'xxh128': xxh3_128,
+}
+algorithms_available: set[str] = set(_BY_NAME)
+
+
+def type_of(algorithm: Union[str, HasherType]) -> HasherType:
+    """The type of a hash that is named, or handed over itself.
+
+    ValueError: there is no hash of that name. TypeError: it is neither a name nor one of the types."""
+    if isinstance(algorithm, str):
+        if algorithm not in _BY_NAME:
+            raise ValueError(f'there is no algorithm {algorithm!r}: there are {", ".join(sorted(_BY_NAME))}')
+        return _BY_NAME[algorithm]
+    if algorithm not in _BY_NAME.values():
+        raise TypeError(f'an algorithm is a name or one of the types, not {algorithm!r}')
+    return algorithm

@@ -1,0 +1,5 @@
+"""Versions: of the package `xxhash` whose interface this is, and of this package."""
+
+VERSION = '3.2.0'
+VERSION_TUPLE = (3, 2, 0)
+__version__ = '2.1.5'

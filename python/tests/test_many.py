@@ -1,0 +1,130 @@
+"""Digests of many rows in one call."""
+import array
+import ctypes
+import unittest
+
+from .both import NAMES, WITH_SECRET, bytes_of, ours
+
+SECRET = bytes_of(200)
+
+
+class Matrix:
+    """Rows of bytes as a buffer of two dimensions, as numpy's arrays are."""
+
+    def __init__(self, rows, width):
+        self.data = bytes_of(rows * width, 7)
+        self.rows = [self.data[i * width:(i + 1) * width] for i in range(rows)]
+        self.view = memoryview(self.data).cast('B', (rows, width))
+
+
+class Many(unittest.TestCase):
+    def test_rows_of_one_length(self):
+        for name in NAMES:
+            digest = getattr(ours, name + '_digest')
+            for rows, width in ((1, 1), (3, 16), (1000, 8), (100, 300), (5, 100000)):
+                matrix = Matrix(rows, width)
+                want = [digest(row) for row in matrix.rows]
+                self.assertEqual(ours.many(matrix.view, name), want)
+                self.assertEqual(ours.many(matrix.data, name, width=width), want)
+                self.assertEqual(ours.many(bytearray(matrix.data), getattr(ours, name), width=width), want)
+                self.assertEqual(ours.many(matrix.rows, name), want)
+                into = bytearray(b''.join(want)[::-1])
+                self.assertIs(ours.many(matrix.view, name, into=into), into)
+                self.assertEqual(into, b''.join(want))
+
+    def test_rows_of_many_lengths(self):
+        rows = [bytes_of(length) for length in (*range(300), 70000, 200000)]
+        for name in NAMES:
+            want = [getattr(ours, name + '_digest')(row) for row in rows]
+            for given in (rows, tuple(rows), iter(rows), (bytearray(row) for row in rows), map(memoryview, rows)):
+                self.assertEqual(ours.many(given, name), want)
+            into = bytearray(len(want) * len(want[0]))
+            self.assertEqual(ours.many(rows, name, into=into), b''.join(want))
+
+    def test_items_of_several_bytes_are_rows(self):
+        words = array.array('Q', [1, 2, 1 << 60])
+        want = [ours.xxh3_64_digest(word.to_bytes(8, 'little')) for word in words]
+        self.assertEqual(ours.many(words), want)
+        self.assertEqual(ours.many((ctypes.c_uint64 * 3)(*words)), want)
+
+    def test_text_and_mixed_rows(self):
+        rows = ['ä', b'b', bytearray(b'c')]
+        self.assertEqual(ours.many(rows), [ours.xxh3_64_digest(row) for row in rows])
+
+    def test_seeds_and_secrets(self):
+        matrix = Matrix(50, 260)
+        short = [row[:20] for row in matrix.rows]
+        for rows in (matrix.rows, short):
+            for name in NAMES:
+                for key in [{'seed': -3}] + [{'secret': SECRET}, {'secret': SECRET, 'seed': 4}] * (name in WITH_SECRET):
+                    want = [getattr(ours, name + '_digest')(row, **key) for row in rows]
+                    self.assertEqual(ours.many(rows, name, **key), want)
+                    self.assertEqual(ours.many(b''.join(rows), name, width=len(rows[0]), **key), want)
+
+    def test_no_rows_and_rows_of_no_bytes(self):
+        self.assertEqual(ours.many([]), [])
+        self.assertEqual(ours.many(b'', width=5), [])
+        self.assertEqual(ours.many((ctypes.c_char * 0 * 4)()), [ours.xxh3_64_digest(b'')] * 4)
+        self.assertEqual(ours.many([], into=bytearray()), bytearray())
+
+    def test_numpy(self):
+        try:
+            import numpy
+        except ImportError:
+            self.skipTest('no numpy')
+        table = numpy.arange(600, dtype='u2').reshape(100, 6)
+        want = [ours.xxh64_digest(row.tobytes()) for row in table]
+        self.assertEqual(ours.many(table, 'xxh64'), want)
+        into = numpy.empty(100, '>u8')
+        self.assertIs(ours.many(table, 'xxh64', into=into), into)
+        self.assertEqual(into.tolist(), [ours.xxh64_intdigest(row.tobytes()) for row in table])
+        names = numpy.array([b'one', b'three'])
+        self.assertEqual(ours.many(names), [ours.xxh3_64_digest(name) for name in (b'one\0\0', b'three')])
+        objects = numpy.array([b'one', 'three'], dtype=object)
+        self.assertEqual(ours.many(objects), [ours.xxh3_64_digest(name) for name in (b'one', b'three')])
+        for wrong in (table[:, ::2], table.T, table[::2], numpy.asfortranarray(table)):
+            with self.assertRaises(BufferError):
+                ours.many(wrong)
+
+    def test_errors(self):
+        rows = Matrix(4, 8)
+        for call, error in (
+                (lambda: ours.many('abc'), TypeError), (lambda: ours.many(b'abc'), ValueError),
+                (lambda: ours.many(bytearray(8), width=3), ValueError),
+                (lambda: ours.many(b'abc', width=0), ValueError),
+                (lambda: ours.many(b'abc', width=-3), ValueError), (lambda: ours.many([b'a'], width=1), TypeError),
+                (lambda: ours.many(5), TypeError), (lambda: ours.many(None), TypeError),
+                (lambda: ours.many([b'a', 5]), TypeError), (lambda: ours.many([b'a', None]), TypeError),
+                (lambda: ours.many(['\ud800']), UnicodeEncodeError), (lambda: ours.many(rows.view[::2]), BufferError),
+                (lambda: ours.many([b'a'], 'md5'), ValueError), (lambda: ours.many([b'a'], int), TypeError),
+                (lambda: ours.many([b'a'], into=bytearray(7)), ValueError),
+                (lambda: ours.many([b'a'], into=bytes(8)), BufferError), (lambda: ours.many([b'a'], into=5), TypeError),
+                (lambda: ours.many(rows.view, into=bytearray(31)), ValueError),
+                (lambda: ours.many([b'a'], secret=b'short'), ValueError),
+                (lambda: ours.many([b'a'], 'xxh64', secret=SECRET), TypeError),
+                (lambda: ours.many([b'a'], seed=None), TypeError), (lambda: ours.many([b'a'], foo=1), TypeError)):
+            with self.assertRaises(error):
+                call()
+
+    def test_digests_over_their_own_rows(self):
+        """They would overwrite rows that aren't read yet."""
+        memory = bytearray(80)
+        with self.assertRaises(ValueError):
+            ours.many(memoryview(memory)[:40], width=8, into=memoryview(memory)[:40])
+        with self.assertRaises(ValueError):
+            ours.many(memoryview(memory)[:40], width=8, into=memoryview(memory)[39:79])
+        ours.many(memoryview(memory)[:40], width=8, into=memoryview(memory)[40:])
+
+    def test_rows_that_change_while_they_are_hashed(self):
+        """The rows of a list are taken together, before the first one is hashed."""
+        rows = [b'a', b'b', b'c']
+
+        def changing():
+            for row in list(rows):
+                rows.clear()
+                yield row
+        self.assertEqual(ours.many(changing()), [ours.xxh3_64_digest(row) for row in (b'a', b'b', b'c')])
+
+
+if __name__ == '__main__':
+    unittest.main()

@@ -1,0 +1,137 @@
+"""Threads: long inputs let others run, and an object that several threads use is still one."""
+import os
+import tempfile
+import threading
+import time
+import unittest
+from concurrent.futures import ThreadPoolExecutor
+
+from .both import NAMES, bytes_of, ours
+
+LONG = bytes_of(1 << 25)
+
+
+class Clock:
+    """A thread that counts as long as the interpreter lets it, about each millisecond."""
+
+    def __enter__(self):
+        self.ticks, self.ends = 0, False
+        self.thread = threading.Thread(target=self.tick)
+        self.thread.start()
+        return self
+
+    def tick(self):
+        while not self.ends:
+            time.sleep(0.001)
+            self.ticks += 1
+
+    def __exit__(self, *_):
+        self.ends = True
+        self.thread.join()
+
+
+class Threads(unittest.TestCase):
+    def lets_others_run(self, call):
+        """The clock goes on during one call: the call is made again where the machine was too busy to tell."""
+        with Clock() as clock:
+            for _ in range(50):
+                before, start = clock.ticks, time.monotonic()
+                call()
+                if time.monotonic() - start > 0.003 and clock.ticks > before + 1:
+                    return
+        self.fail('no other thread ran')
+
+    def test_others_run_meanwhile(self):
+        for name in NAMES:
+            hasher = getattr(ours, name)()
+            self.lets_others_run(lambda: getattr(ours, name + '_digest')(LONG))
+            self.lets_others_run(lambda: getattr(ours, name + '_hexdigest')(memoryview(LONG), 5))
+            self.lets_others_run(lambda: hasher.update(LONG))
+            self.lets_others_run(lambda: getattr(ours, name)(LONG))
+            self.lets_others_run(lambda: ours.many([LONG], name))
+            self.lets_others_run(lambda: ours.many(LONG, name, width=256))
+
+    def test_files_beside_each_other(self):
+        with tempfile.TemporaryDirectory() as folder:
+            paths = [os.path.join(folder, str(i)) for i in range(8)]
+            for i, path in enumerate(paths):
+                with open(path, 'wb') as file:
+                    file.write(bytes_of(3000000, i))
+            with ThreadPoolExecutor(8) as pool:
+                found = [hasher.hexdigest() for hasher in pool.map(ours.file_digest, paths)]
+        self.assertEqual(found, [ours.xxh3_64_hexdigest(bytes_of(3000000, i)) for i in range(8)])
+
+    def test_objects_beside_each_other(self):
+        def digest_of(number):
+            name = NAMES[number % len(NAMES)]
+            hasher, data = getattr(ours, name)(seed=number), bytes_of(300000, number)
+            for at in range(0, len(data), 70000):
+                hasher.update(data[at:at + 70000])
+            return hasher.digest() == getattr(ours, name + '_digest')(data, number)
+        with ThreadPoolExecutor(8) as pool:
+            self.assertTrue(all(pool.map(digest_of, range(200))))
+
+    def test_one_object_in_many_threads(self):
+        """Each piece is taken whole, in some order: pieces that are all alike have one hash whatever the order. Others
+        read, copy and save the object meanwhile."""
+        for name in NAMES:
+            piece, short, kind = b'ab' * 50000, b'ab' * 3, getattr(ours, name)
+            hasher, ends = kind(), threading.Event()
+            failed = []
+
+            def read():
+                while not ends.is_set():
+                    copy = hasher.copy()
+                    if kind.from_state(copy.state()).digest() != copy.digest():
+                        failed.append(name)
+                    hasher.digest(), hasher.seed
+            readers = [threading.Thread(target=read) for _ in range(2)]
+            writers = [threading.Thread(target=lambda: [hasher.update(one) for one in (piece, short) * 100])
+                       for _ in range(6)]
+            for thread in readers + writers:
+                thread.start()
+            for thread in writers:
+                thread.join()
+            ends.set()
+            for thread in readers:
+                thread.join()
+            self.assertEqual(failed, [])
+            self.assertEqual(hasher.digest(), getattr(ours, name + '_digest')((piece + short) * 600))
+
+    def test_resets_and_starts_beside_updates(self):
+        """Whatever the order, what is left is the hash of some pieces since the last start."""
+        for name in NAMES:
+            kind = getattr(ours, name)
+            hasher, piece = kind(seed=3), b'a' * 70000
+            want = {getattr(ours, name + '_digest')(piece * count, 3) for count in range(200)}
+
+            def update():
+                for _ in range(50):
+                    hasher.update(piece)
+
+            def begin():
+                for _ in range(50):
+                    hasher.reset()
+                    hasher.__init__(piece, 3)
+            threads = [threading.Thread(target=call) for call in (update, update, begin)]
+            for thread in threads:
+                thread.start()
+            for thread in threads:
+                thread.join()
+            self.assertIn(hasher.digest(), want)
+
+    def test_an_input_that_is_held_can_not_move(self):
+        data = bytearray(LONG)
+        with ThreadPoolExecutor(1) as pool:
+            done = pool.submit(ours.xxh32_digest, data)
+            while not done.done():
+                try:
+                    data += b'x'
+                    del data[-1:]
+                except BufferError:
+                    pass
+        self.assertIn(done.result(), {ours.xxh32_digest(LONG), ours.xxh32_digest(LONG + b'x')})
+
+
+if __name__ == '__main__':
+    unittest.main()
