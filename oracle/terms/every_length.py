@@ -8,7 +8,7 @@ from .definition import Bytes, suppositions
 from .loops import Loop, Loops, NotShown
 from .memory import Input, Memory
 from .nodes import Node, symbol
-from .polynomials import Poly, at_most, divided, given, is_same, least, minus, plus, times, variable
+from .polynomials import Poly, at_most, divided, given, is_same, minus, plus, times, variable
 from .sides import seed_symbol
 
 LONGEST = (1 << 64) - 1
@@ -33,13 +33,11 @@ class Proof:
         self.module, self.told, self.cases = module, [], 0
         nodes.forget()
         suppositions.clear()
-        least.clear()
         self.texts = definition.program().run(traced=suppositions)
 
-    def prepare(self, said, not_zero=(), memories=()):
+    def prepare(self, said, memories=()):
         """Before the reference runs: what there is to say of its loops, and which memories live."""
         self.module.reset()
-        self.module.not_zero = set(not_zero)
         self.module.loops = Loops(said, self.told)
         self.module.live[:] = [*self.module.globals.values(), *memories]
 
@@ -56,8 +54,7 @@ class Proof:
     def plain_of_rest(self, width, r):
         stripe, turns, seed = width // 2, variable("a"), seed_symbol(str(width))
         n = plus(times(stripe, turns), r)
-        least["a"] = 1
-        with given(at_most(n, LONGEST)):
+        with given(minus(turns, 1), at_most(n, LONGEST)):
             source = Input("m", n)
             message = Bytes(source, 0, n)
             say = plain_loop(f"XXH{width} of {n} bytes", self.texts[f"Xxh{width}.accumulator"], seed, message, minus(turns, 1), width)
@@ -77,10 +74,10 @@ class Proof:
     def own_secret(self):
         """A secret of any length: (memory, list, stripes of a block, facts)."""
         q, u = variable("q"), variable("u")
-        least["q"] = SHORTEST_SECRET_STRIPES
         size = plus(64, times(8, q), u)
         source = Input("s", size)
-        return source, Bytes(source, 0, size), q, [at_most(u, 7), at_most(size, LONGEST_SECRET)]
+        of_secret = [minus(q, SHORTEST_SECRET_STRIPES), at_most(u, 7), at_most(size, LONGEST_SECRET)]
+        return source, Bytes(source, 0, size), q, of_secret
 
     def short(self, hash_name, way, n):
         """n bytes, at most 240, with a secret of any length."""
@@ -117,7 +114,9 @@ class Proof:
     def call(self, hash_name, way, arguments, seed, said):
         """What a one-shot of the reference gives."""
         out = Memory("out", 16)
-        self.prepare(said, [seed] if isinstance(seed, Node) else [], [out])
+        self.prepare(said, [out])
+        if isinstance(seed, Node):
+            self.module.suppose_different(seed, 0)
         arguments = arguments + ([seed] if way not in ("default", "secret") else [])
         name = f"@once_{hash_name.replace('-', '_')}_{way.split()[0]}"
         if hash_name == "3-64":

@@ -358,6 +358,17 @@ def read_call(reader, _):
     return callee, [x for _, x in reader.typed_list(")")]
 
 
+def read_alloca(reader, target):
+    t = reader.type()
+    return target, t.size(), alignment_said(reader)
+
+
+def alignment_said(reader):
+    """The number behind `align`, or 1."""
+    rest = reader.words[reader.at:]
+    return int(rest[rest.index("align") + 1]) if "align" in rest else 1
+
+
 def read_extractvalue(reader, _):
     _, a = reader.typed()
     reader.expect(",")
@@ -403,7 +414,7 @@ def read_select(reader, _):
 
 READERS = {
     "br": read_br, "ret": read_ret, "icmp": read_icmp, "load": read_load, "store": read_store,
-    "alloca": lambda reader, target: (target, reader.type().size()), "getelementptr": read_getelementptr,
+    "alloca": read_alloca, "getelementptr": read_getelementptr,
     "call": read_call, "extractvalue": read_extractvalue, "insertvalue": read_insertvalue,
     "insertelement": read_insertelement, "shufflevector": read_shufflevector, "phi": read_phi, "select": read_select,
     "unreachable": lambda reader, target: (),

@@ -20,11 +20,12 @@ class NotShown(Exception):
 
 class Loop:
     """What is said of a loop: after k turns, k from 0 to `last`, the cells (memory, offset) hold definition(k).
-    `suppose(k, values)` makes that the hypothesis."""
+    `suppose(k, values)` makes that the hypothesis. From the last k the loop is left, or, with `then`, comes to its head once
+    more, where `then` is said of the turns that are left."""
 
-    def __init__(self, name, last, cells, width, suppose, definition):
+    def __init__(self, name, last, cells, width, suppose, definition, then=None):
         self.name, self.last, self.cells, self.width = name, last, cells, width
-        self.suppose, self.definition = suppose, definition
+        self.suppose, self.definition, self.then, self.is_leaving = suppose, definition, then, False
 
 
 # ---- the loops of a function
@@ -75,21 +76,26 @@ class Loops:
     function of the module's function and the registers, that gives a Loop, or None where the turns are a number."""
 
     def __init__(self, said, told):
-        self.said, self.told, self.running = said, told, set()
+        self.said, self.told, self.running = said, told, {}
 
     def pass_by(self, function, registers, before, block):
         """(before, block) behind the loop, or as given."""
-        said = next((say for name, say in self.said.items() if function.name.startswith(name)), None)
-        if said is None or block not in loops_of(function) or (function.name, block) in self.running:
+        say = next((say for name, say in self.said.items() if function.name.startswith(name)), None)
+        if say is None or block not in loops_of(function):
             return before, block
-        loop = said(function, registers)
-        if loop is None:
+        key = function.name, block
+        around = self.running.get(key)
+        if around:
+            loop = around.then if around.is_leaving else None
+        else:
+            loop = say(function, registers)
+        if loop is None or is_same_number(loop.last, 0):   # it is run
             return before, block
-        self.running.add((function.name, block))
+        self.running[key] = loop
         try:
             return Proof(self, loop, function, registers, before, block).behind()
         finally:
-            self.running.remove((function.name, block))
+            self.running[key] = around
 
 
 # ---- what changes
@@ -133,6 +139,7 @@ class Proof:
             self.turn(k, self.supposed(k), is_last=False)
             self.compare("after a turn", plus(k, 1))
             self.compare_others(plus(k, 1))
+        loop.is_leaving = True
         answer = self.turn(loop.last, self.supposed(loop.last), is_last=True)
         places = sorted(f"{memory.name[1:]} = {shown(gone_on(value, step, variable('k')))}"
                         for (memory, _), (_, value, step) in self.places.items())

@@ -3,7 +3,7 @@ decide; what is loaded from an input is a term. A vector is one number, its firs
 import contextlib
 
 from . import operations
-from .llvm_text import (NOTHING, POINTER, Constant, FunctionName, Pointer, Reader, Register, Struct, Unsupported, instruction,
+from .llvm_text import (NOTHING, FunctionName, Pointer, Reader, Register, Struct, Unsupported, alignment_said, instruction,
                         place_of, signed)
 from .memory import Input, Memory, Unset, is_address
 from .nodes import SUM, Node, Undecided, symbol
@@ -81,6 +81,12 @@ def binary(module, parts, value, before):
         if a[0] is not b[0]:
             raise Unsupported("the difference of two objects")
         a, b = a[1], b[1]
+    if word == "and" and is_address(a):                     # whether a place is aligned
+        if not isinstance(b, int) or b & b + 1 or a[0].alignment % (b + 1):
+            raise Unsupported("the bits of an address")
+        a = a[1]
+    if is_address(a) or is_address(b):
+        raise Unsupported(f"{word} of an address")
     return BINARY[word](t.bits, a, b)
 
 
@@ -122,11 +128,16 @@ TESTS = {"eq": lambda a, b: a == b, "ne": lambda a, b: a != b, "lt": is_less, "g
 def compare(module, parts, value, before):
     test, t, a, b = parts
     a, b = value(a), value(b)
-    if isinstance(t, Pointer):
-        return compare_addresses(module, test, a, b)
-    if is_number(a) and is_number(b):
-        return int(compare_numbers(test, t.bits, a, b))
-    return compare_terms(module, test, lifted(a), lifted(b))
+    try:
+        if isinstance(t, Pointer):
+            return compare_addresses(module, test, a, b)
+        if is_number(a) and is_number(b):
+            return int(compare_numbers(test, t.bits, a, b))
+        return compare_terms(module, test, lifted(a), lifted(b))
+    except Undecided:
+        if not module.allows_unknown_bits:
+            raise
+        return symbol(module.fresh("bit"), 1)
 
 
 def compare_numbers(test, width, a, b):
@@ -157,14 +168,18 @@ def compare_addresses(module, test, a, b):
     return int(compare_numbers(test, WORD, a[1], b[1]))
 
 
+def key_of(x):
+    return ("node", x.number) if isinstance(x, Node) else x
+
+
 def compare_terms(module, test, a, b):
-    if test in ("eq", "ne") and isinstance(a, Node) and b == 0 and a in module.not_zero:
-        return int(test == "ne")
-    with contextlib.suppress(Undecided):
-        if test == "ult":
-            return int(operations.is_below(a, b))
-    if module.allows_unknown_bits:
-        return symbol(module.fresh("bit"), 1)
+    if test in ("eq", "ne"):
+        if a is b:
+            return int(test == "eq")
+        if {key_of(a), key_of(b)} in module.different:
+            return int(test == "ne")
+    if test == "ult":
+        return int(operations.is_below(a, b))
     raise Undecided(f"{a} {test} {b}")
 
 
@@ -205,7 +220,8 @@ def call(module, parts, value, before):
 
 
 def allocate(module, parts, value, before):
-    memory = Memory(*parts)
+    name, size, alignment = parts
+    memory = Memory(name, size, alignment=alignment)
     module.live.append(memory)
     return memory, 0
 
@@ -376,7 +392,7 @@ class Function:
 class Module:
     """A text of LLVM's, and what holds while its functions run.
 
-    not_zero             terms that are supposed not to be 0, where the library asks whether a seed is
+    different            pairs of values that are supposed to differ, where the library asks whether a seed is 0
     allows_unknown_bits  whether a comparison of terms is a bit that may be 0 or 1, instead of an error
     beside               how far outside of its object an address may be that is compared
     live                 the memories that live
@@ -384,7 +400,7 @@ class Module:
     """
 
     def __init__(self, text):
-        self.types, self.functions, self.globals = {}, {}, {}
+        self.types, self.functions, self.globals, self.made = {}, {}, {}, 0
         self.lines = text.split("\n")
         self.reset()
         for line in self.lines:
@@ -400,8 +416,10 @@ class Module:
                 self.functions[function.name] = function
 
     def reset(self):
-        self.not_zero, self.allows_unknown_bits, self.beside, self.live, self.loops = set(), False, 0, [], None
-        self.made = 0
+        self.different, self.allows_unknown_bits, self.beside, self.live, self.loops = [], False, 0, [], None
+
+    def suppose_different(self, a, b):
+        self.different.append({key_of(a), key_of(b)})
 
     def read_global(self, line):
         name, _, rest = line.partition(" = ")
@@ -409,7 +427,7 @@ class Module:
         while reader.next() not in ("constant", "global"):
             pass
         t = reader.type()
-        self.globals[name] = Memory(name, t.size(), reader.initial(t))
+        self.globals[name] = Memory(name, t.size(), reader.initial(t), alignment=alignment_said(reader))
 
     def address_of(self, name):
         return (self.globals[name], 0) if name in self.globals else FunctionName(name)

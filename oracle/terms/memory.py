@@ -33,8 +33,10 @@ class Input:
     """The bytes of a message or a secret. Those at x + c, c a number, are bytes of a symbol of its own for each x: two such
     windows may be the same bytes, of which nothing here makes use."""
 
+    alignment = 1
+
     def __init__(self, name, length):
-        self.name, self.length, self.windows = name, length, {}
+        self.name, self.length = name, length
 
     def window(self, at, n):
         """The symbol, and the byte of it that is byte `at`."""
@@ -80,8 +82,8 @@ class Memory:
     with a length or to a place that isn't a number: (low, high, input, place), byte c of the object is byte place + c of
     the input for low <= c < high. No byte is in two of them. What is copied into `run_area` is kept as a run."""
 
-    def __init__(self, name, length, cells=(), runs=(), run_area=None):
-        self.name, self.length, self.run_area = name, length, run_area
+    def __init__(self, name, length, cells=(), runs=(), run_area=None, alignment=1):
+        self.name, self.length, self.run_area, self.alignment = name, length, run_area, alignment
         self.cells = {at: (n, value) for at, n, value in cells}
         if runs:
             self.cells[RUNS] = tuple(runs)
@@ -100,7 +102,7 @@ class Memory:
             raise Unsupported(f"a store at {at} of {self.name}")
         self.check(at, n)
         cell = self.cells.get(at)
-        if cell is None or cell[0] != n:
+        if self.cells and (cell is None or cell[0] != n):
             self.clear(at, n)
         self.cells[at] = n, value
 
@@ -179,18 +181,18 @@ class Memory:
         low, high, shift, others = at, end, minus(place, at), []
         for run in self.runs():
             if run[2] is source and is_same(run[3], shift) and is_natural(minus(run[1], low)) and is_natural(minus(high, run[0])):
-                low, high = outer(run[0], low), outer(high, run[1])
+                low, high = in_order(run[0], low)[0], in_order(run[1], high)[1]
             else:
                 others += outside(run, at, end)
         self.cells[RUNS] = (*others, (low, high, source, shift))
 
 
-def outer(a, b):
-    """The one that is no greater, of two that can be told apart."""
+def in_order(a, b):
+    """The two, the one that is no greater first."""
     if is_natural(minus(b, a)):
-        return a
+        return a, b
     if is_natural(minus(a, b)):
-        return b
+        return b, a
     raise Unsupported(f"the order of {a} and {b}")
 
 

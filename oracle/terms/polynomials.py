@@ -12,9 +12,11 @@ from .nodes import Undecided, symbol
 WORD = 64
 DEPTH = 4                     # how often a fact may be taken away
 TRIED, KEPT = 60, 8           # points that are drawn, and how many are kept
+SEARCHED = 20000              # points that are drawn for facts that hold at none of these
 CHOICES = 0, 1, 2, 3, 5, 62, 200
 
 facts, least, known = [], {}, {}   # polynomials >= 0; variable -> its least value; what was decided under these facts
+possible = set()                   # the sets of facts that hold somewhere
 
 
 class Poly:
@@ -125,16 +127,25 @@ def replaced(x, name, value):
 
 @contextlib.contextmanager
 def given(*more):
-    """What holds inside of a `with`."""
-    size = len(facts)
-    facts.extend(fact for fact in more if isinstance(fact, Poly))
+    """What holds inside of a `with`. A fact `v - c` says where the variable v begins."""
+    size, bounds = len(facts), dict(least)
+    for fact in more:
+        parts = parts_of(fact)
+        name = next(iter(names_of(fact)), None)
+        if parts == {(name,): 1, (): parts.get((), 0)} and parts[()] < 0:
+            least[name] = max(least.get(name, 0), -parts[()])
+        elif isinstance(fact, Poly):
+            facts.append(fact)
+        elif fact < 0:
+            raise Undecided("facts that can't be")
     known.clear()
-    if any(isinstance(fact, int) and fact < 0 for fact in more):
-        raise Undecided("facts that can't be")
     try:
+        expect_possible()
         yield
     finally:
         del facts[size:]
+        least.clear()
+        least.update(bounds)
         known.clear()
 
 
@@ -156,18 +167,29 @@ def names_of(*polynomials):
     return {name for x in polynomials for names in parts_of(x) for name in names}
 
 
-def points_for(x):
+def points_for(x, tried=TRIED):
     """Some points at which each fact holds."""
     names = frozenset(names_of(x, *facts))
     key = "points", names
-    if key not in known:
+    if not known.get(key):
         draw, found = random.Random(1), []
-        for attempt in range(TRIED):
+        for attempt in range(tried):
             point = {name: least.get(name, 0) + (draw.choice(CHOICES) if attempt else 0) for name in sorted(names)}
             if all(value_at(fact, point) >= 0 for fact in facts):
                 found.append(point)
-        known[key] = found[:KEPT]
+                if len(found) == KEPT:
+                    break
+        known[key] = found
     return known[key]
+
+
+def expect_possible():
+    """Of facts that hold nowhere anything would follow: there has to be a point."""
+    key = frozenset([*map(repr, facts), *least.items()])
+    if key not in possible:
+        if not points_for(0) and not points_for(0, SEARCHED):
+            raise Undecided(f"facts that hold nowhere, as far as was seen: {facts} {least}")
+        possible.add(key)
 
 
 def from_zero(x):
@@ -251,10 +273,10 @@ def monus(a, b):
 
 
 def divided(a, b):
-    """Quotient and remainder, where b is an int or one product of variables: guessed, and then shown."""
-    if len(parts_of(b)) != 1:
+    """Quotient and remainder: guessed, by the part of b that has the most variables, and then shown."""
+    if is_same(b, 0):
         raise Undecided(f"{a} / {b}")
-    (names, d), = parts_of(b).items()
+    names, d = max(parts_of(b).items(), key=lambda part: len(part[0]))
     guess = {}
     for product, c in parts_of(a).items():
         rest = without(names, product)

@@ -89,7 +89,8 @@ class Request:
             cuts = Memory("cuts", 8 * len(self.cuts), [(8 * k, 8, cut) for k, cut in enumerate(self.cuts)])
             arguments += [(cuts, 0), len(self.cuts)]
         module.reset()
-        module.not_zero = {seed} if isinstance(seed, Node) else set()
+        if isinstance(seed, Node):
+            module.suppose_different(seed, 0)
         way = "once" if self.cuts is None else "stream"
         value = module.call(f"@{way}_{self.hash_name.replace('-', '_')}_{self.kind}", arguments)
         return out.load(0, 16) if self.hash_name == "3-128" else value
