@@ -276,6 +276,8 @@ def place_of(t, address, *steps):
     memory, at = address
     for k, index in enumerate(steps):
         if k and isinstance(t, Struct):
+            if not 0 <= index < len(t.parts):
+                raise Unsupported(f"part {index} of a struct of {len(t.parts)}")
             at = at + t.offset(index)
             t = t.parts[index]
             continue

@@ -307,8 +307,17 @@ def insert_part(module, parts, value, before):
     n, a, b, k = parts
     a = value(a)
     out = [None] * n if a is None else list(a)
+    if not 0 <= k < n:
+        raise Unsupported(f"part {k} of {n}")
     out[k] = value(b)
     return tuple(out)
+
+
+def extract_part(module, parts, value, before):
+    a, k = value(parts[0]), parts[1]
+    if not 0 <= k < len(a):
+        raise Unsupported(f"part {k} of {len(a)}")
+    return a[k]
 
 
 def select(module, parts, value, before):
@@ -322,7 +331,7 @@ OPERATIONS = {
     "binary": binary, "lanes": on_lanes, "insertelement": insert_lane, "shufflevector": shuffle, "icmp": compare,
     "load": load, "store": store, "getelementptr": address, "call": call, "alloca": allocate, "select": select,
     "zext": cast, "bitcast": cast, "ptrtoint": cast, "trunc": truncate, "sext": extend_sign, "insertvalue": insert_part,
-    "extractvalue": lambda module, parts, value, before: value(parts[0])[parts[1]],
+    "extractvalue": extract_part,
     "phi": lambda module, parts, value, before: value(parts[0][before]),
 }
 

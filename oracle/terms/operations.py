@@ -8,27 +8,39 @@ from .polynomials import lifted
 from .rules import bits_of, from_segments, narrow, places, product_at, segments_of, sum_at, xor_segments, zeros_below
 
 CHECKED = True
+watching = []        # asked with each operation: its name, its answer and its arguments
 xor_memo = memo()
 
+# What each operation means on numbers.
+MEANINGS = {
+    "add": lambda a, b: a + b, "multiply": lambda a, b: a * b, "monus": NATURALS["monus"], "remainder": NATURALS["mod"],
+    "quotient": NATURALS["div"], "xor": lambda a, b: a ^ b, "either": lambda a, b: a | b, "both": lambda a, b: a & b,
+    "shift_right": lambda a, k: a >> k, "bits": window, "multiply_at": lambda width, a, b: a * b % (1 << width),
+    "add_at": lambda width, coefficients, *values: sum(c * x for c, x in zip(coefficients, values)) % (1 << width),
+    "complement": lambda width, a: a ^ rules.ones(width),
+}
 
-def checked(answer, operation, *arguments):
+
+def checked(name, answer, *arguments):
     """The answer, after a comparison with the operation on numbers."""
     if CHECKED:
         for k in range(nodes.POINTS):
-            numbers = [x if isinstance(x, int) else x.values[k] for x in arguments]
-            if (answer if isinstance(answer, int) else answer.values[k]) != operation(*numbers):
-                raise WrongRule(f"at point {k}: {arguments}")
+            numbers = [x.values[k] if isinstance(x, Node) else x for x in arguments]
+            if (answer if isinstance(answer, int) else answer.values[k]) != MEANINGS[name](*numbers):
+                raise WrongRule(f"{name} of {arguments} at point {k}")
+    for watch in watching:
+        watch(name, answer, arguments)
     return answer
 
 
 def add(a, b):
     width = (most_of(a) + most_of(b)).bit_length()
-    return checked(sum_at(width, 0, [(1, a), (1, b)]), lambda x, y: x + y, a, b)
+    return checked("add", sum_at(width, 0, [(1, a), (1, b)]), a, b)
 
 
 def multiply(a, b):
     width = (most_of(a) * most_of(b)).bit_length()
-    return checked(product_at(width, [a, b]) if width else 0, lambda x, y: x * y, a, b)
+    return checked("multiply", product_at(width, [a, b]) if width else 0, a, b)
 
 
 def monus(a, b):
@@ -37,18 +49,16 @@ def monus(a, b):
         answer = sum_at(a.bit_length(), a, [(-1, b)])
     else:
         answer = opaque("monus", most_of(a), a, b)
-    return checked(answer, NATURALS["monus"], a, b)
+    return checked("monus", answer, a, b)
 
 
 def add_at(width, *parts):
     """(coefficient, value) parts added mod 2 ^ width."""
-    def on_numbers(*values):
-        return sum(c * x for (c, _), x in zip(parts, values)) % (1 << width)
-    return checked(sum_at(width, 0, list(parts)), on_numbers, *(x for _, x in parts))
+    return checked("add_at", sum_at(width, 0, list(parts)), width, tuple(c for c, _ in parts), *(x for _, x in parts))
 
 
 def multiply_at(width, a, b):
-    return checked(product_at(width, [a, b]), lambda x, y: x * y % (1 << width), a, b)
+    return checked("multiply_at", product_at(width, [a, b]), width, a, b)
 
 
 def is_power_of_two(b):
@@ -63,7 +73,7 @@ def remainder(a, b):
         answer = a
     else:
         answer = opaque("mod", max(most_of(a), most_of(b)), a, b)
-    return checked(answer, NATURALS["mod"], a, b)
+    return checked("remainder", answer, a, b)
 
 
 def quotient(a, b):
@@ -71,21 +81,21 @@ def quotient(a, b):
         return shift_right(a, b.bit_length() - 1)
     if isinstance(b, int) and most_of(a) < b:
         use("small_remainder")
-        return checked(0, NATURALS["div"], a, b)
-    return checked(opaque("div", most_of(a), a, b), NATURALS["div"], a, b)
+        return checked("quotient", 0, a, b)
+    return checked("quotient", opaque("div", most_of(a), a, b), a, b)
 
 
 def shift_right(a, k):
     if isinstance(a, int):
         return a >> k
-    return checked(from_segments(bits_of(a, k, a.width - k)), lambda x: x >> k, a)
+    return checked("shift_right", from_segments(bits_of(a, k, a.width - k)), a, k)
 
 
 def bits(a, first, n):
     """Bits first .. first + n - 1 of a value, as a number."""
     if isinstance(a, int):
         return window(a, first, n)
-    return checked(from_segments(bits_of(a, first, n)), lambda x: window(x, first, n), a)
+    return checked("bits", from_segments(bits_of(a, first, n)), a, first, n)
 
 
 def side_by_side(*parts):
@@ -98,14 +108,14 @@ def xor(a, b):
     if key not in xor_memo:
         use("xor_of_parts")
         answer = from_segments(xor_segments(segments_of(a), segments_of(b)))
-        xor_memo[key] = checked(answer, lambda x, y: x ^ y, a, b)
+        xor_memo[key] = checked("xor", answer, a, b)
     return xor_memo[key]
 
 
 def complement(width, a):
     """2 ^ width - 1 - a, for a below 2 ^ width."""
     use("complement")
-    return checked(sum_at(width, rules.ones(width), [(-1, a)]), lambda x: x ^ rules.ones(width), a)
+    return checked("complement", sum_at(width, rules.ones(width), [(-1, a)]), width, a)
 
 
 def either(a, b):
@@ -120,7 +130,7 @@ def either(a, b):
         answer = b
     else:
         answer = opaque("or", places(a) | places(b), a, b)
-    return checked(answer, lambda x, y: x | y, a, b)
+    return checked("either", answer, a, b)
 
 
 def both(a, b):
@@ -133,7 +143,7 @@ def both(a, b):
         answer = from_segments(masked(a, b))
     else:
         answer = opaque("and", min(most_of(a), most_of(b)), a, b)
-    return checked(answer, lambda x, y: x & y, a, b)
+    return checked("both", answer, a, b)
 
 
 def masked(a, mask):

@@ -2,7 +2,9 @@
 import hashlib
 import os
 import random
+import shutil
 import subprocess
+import sys
 import tempfile
 
 from . import definition
@@ -15,6 +17,19 @@ FOLDER = os.path.dirname(os.path.abspath(__file__))
 HEADERS = "/usr/include"          # where Debian's libxxhash-dev puts xxhash.h
 VECTORS = {"scalar": ["-DXXH_VECTOR=0"], "sse2": ["-DXXH_VECTOR=1"], "avx2": ["-DXXH_VECTOR=2", "-mavx2"]}
 CLANG = "clang-14"
+
+
+def install(headers, packages):
+    """Installs what is missing: clang, Debian's header if it is the one, and some packages."""
+    missing = [*packages] + ([CLANG] if not shutil.which(CLANG) else [])
+    if headers == HEADERS and not os.path.exists(f"{HEADERS}/xxhash.h"):
+        missing.append("libxxhash-dev")
+    if missing:
+        quiet = {**os.environ, "DEBIAN_FRONTEND": "noninteractive"}
+        subprocess.run(["apt-get", "update", "-qq"], env=quiet, stdout=subprocess.DEVNULL)
+        wanted = ["apt-get", "install", "-y", "-qq", "--no-install-recommends", *missing]
+        if subprocess.run(wanted, env=quiet, stdout=subprocess.DEVNULL).returncode:
+            sys.exit(f"oracle/symbolic: these packages of Debian are needed, and apt-get couldn't install them: {' '.join(missing)}")
 
 
 def llvm_text(headers=HEADERS, vector="scalar"):

@@ -1,0 +1,183 @@
+"""The rows of oracle/symbolic: what is asked, in processes of its own each, and what is said of it."""
+import collections
+import functools
+import multiprocessing
+import os
+import resource
+import time
+import traceback
+
+import antt
+import mutants
+
+from . import changes, comparison, every_length, machinery, nodes, plain_streams, xxh3_streams
+from .comparison import SECRETS
+from .loops import REFUSALS
+from .machine import Module
+from .nodes import WrongRule
+from .sides import VECTORS, llvm_text
+
+PARTS = 4                    # the changes are tried in so many rows
+SAMPLE = 16                  # in the gate, each so manieth change of the definition's text
+LINES, FEW_LINES = 5000, 150   # changes of LLVM's text
+GATE_SECRETS = 136, 192
+
+
+class Row:
+    """A row: its title, the vectors that the library's code is for, and a function of a module that gives
+    (counts, failures) as lines."""
+
+    def __init__(self, title, ask, vector="scalar", is_deep=True):
+        self.title, self.ask, self.vector = title + ("" if vector == "scalar" else f", {vector}"), ask, vector
+        self.is_deep = is_deep     # long recursions need a thread with a large stack, and time limits the main one
+
+
+def choose(given):
+    vectors = list(VECTORS) if given.all else [given.vector]
+    rows = induction(vectors) + lengths(given.all, given.vector)
+    if given.all:
+        rows += vector_lengths([vector for vector in vectors if vector != given.vector])
+    rows += of_changes(given.all, given.vector) + of_machinery(given.all, given.vector)
+    return [row for row in rows if given.only in row.title]
+
+
+# ---- lengths one by one
+
+def title_of(hash_name, kind, secret):
+    return f"XXH{hash_name}, {kind}" + (f" of {secret} bytes" if secret else "")
+
+
+def lengths(is_all, vector):
+    out = []
+    for kind in comparison.kinds(SECRETS if is_all else GATE_SECRETS):
+        out.append(compared(title_of(*kind), kind, range(301), vector))
+        if is_all:
+            out.append(compared(title_of(*kind), kind, range(301, 1101), vector))
+            out.append(compared(f"{title_of(*kind)}, at edges", kind, comparison.edges(kind[2]), vector))
+            out.append(compared(f"{title_of(*kind)}, streams", kind, comparison.STREAMED, vector, True))
+    return out
+
+
+def vector_lengths(vectors):
+    """The code of other vectors, which differs from 241 bytes on."""
+    kinds = [kind for kind in comparison.kinds((136,)) if kind[0].startswith("3-")]
+    return [compared(title_of(*kind), kind, [*range(241, 501), *comparison.edges(kind[2])], vector) for vector in vectors for kind in kinds]
+
+
+def compared(title, kind, asked, vector, streams=False):
+    def ask(module):
+        equal, complaints = comparison.compare(module, *kind, asked, streams)
+        return f"{equal} requests, each one term", complaints
+    first, last = min(asked), max(asked)
+    return Row(f"{title}: {first} to {last} bytes", ask, vector)
+
+
+# ---- every length
+
+def induction(vectors):
+    out = []
+    for vector in vectors:
+        for kind in every_length.KINDS:
+            if vector == "scalar" or kind.startswith("3-"):
+                name, _, way = kind.partition(":")
+                title = f"XXH{name}{', ' if way else ''}{way}: every length from {every_length.shortest(kind)} to 2^64 - 1"
+                out.append(shown(title, functools.partial(every_length.show, kind=kind), vector))
+        for place in xxh3_streams.PLACES:
+            out.append(shown(f"XXH3, streams with a secret {place} of the state: any updates, to 2^63 - 1 bytes",
+                             functools.partial(xxh3_streams.show, place=place), vector))
+    out += [shown(f"XXH{kind}, streams: any updates, to 2^64 - 1 bytes", functools.partial(plain_streams.show, kind=kind))
+            for kind in ("32", "64")]
+    return out
+
+
+def shown(title, show, vector="scalar"):
+    def ask(module):
+        proof = show(module)
+        return f"{proof.cases} cases; " + "; ".join(proof.lines()[:4]), []
+    return Row(title, ask, vector)
+
+
+# ---- changes and the machinery
+
+def of_changes(is_all, vector):
+    parts = range(PARTS) if is_all else [0]
+    of = PARTS if is_all else SAMPLE
+    out = [Row(f"changes of one token of the definitions, part {part + 1} of {of}", functools.partial(text_changes, part=part, parts=of), vector,
+               is_deep=False) for part in parts]
+    of = PARTS if is_all else 1
+    sample = LINES if is_all else FEW_LINES
+    out += [Row(f"changes of LLVM's text, part {part + 1} of {of}", functools.partial(line_changes, sample=sample, part=part, parts=of), vector,
+                is_deep=False) for part in parts]
+    return out + [Row("changes by hand, that differ on rare inputs alone", hand_changes, vector)]
+
+
+def text_changes(module, part, parts):
+    found, reasons = changes.of_text(module, part, parts), mutants.reasons()
+    bad = [f"{what}: {text}" for what, text in found
+           if is_wrong(what) or what == changes.UNNOTICED and not any(words in text for words in reasons)]
+    return told(found), bad
+
+
+def line_changes(module, sample, part, parts):
+    found = changes.of_reference(module, sample, part, parts)
+    return told(found), [f"{what}: {text}" for what, text in found if is_wrong(what) or what == changes.UNNOTICED and not changes.is_equal_line(text)]
+
+
+def is_wrong(what):
+    return what.startswith(("A CRASH", "A RULE"))
+
+
+def told(found):
+    return ", ".join(f"{count} {what}" for what, count in collections.Counter(what for what, _ in found).most_common())
+
+
+def hand_changes(module):
+    found = changes.by_hand(module)
+    return f"{len(found)} changes", [line for is_good, line in found if not is_good]
+
+
+def of_machinery(is_all, vector):
+    out = [Row("random operations and laws", functools.partial(machinery.random_operations, rounds=300 if is_all else 30), vector)]
+    if is_all:
+        out += [Row("the reference's terms on the rows of the table", machinery.table_rows, vector),
+                Row("each use of a rule by z3: 0 to 16 bytes", machinery.by_solver, vector)]
+    return out
+
+
+# ---- processes
+
+def run(rows, headers, jobs):
+    """Runs the rows, so many at once, and says what became of each: the status of the command."""
+    texts = {vector: llvm_text(headers, vector) for vector in {row.vector for row in rows}}
+    began, passed = time.monotonic(), 0
+    with multiprocessing.get_context("fork").Pool(jobs, maxtasksperchild=1, initializer=work_on, initargs=(rows, texts)) as pool:
+        for line, is_good in pool.imap(one, range(len(rows)), chunksize=1):
+            passed += is_good
+            print(line, flush=True)
+    print(f"in {time.monotonic() - began:.0f} s")
+    print(f"{passed} passed, {len(rows) - passed} failed")
+    return 1 if passed < len(rows) or not rows else 0
+
+
+def work_on(rows, texts):
+    global asked, llvm_texts
+    asked, llvm_texts = rows, texts
+
+
+def one(number):
+    """A row: what is said of it, and whether it passed."""
+    row, began = asked[number], time.monotonic()
+    try:
+        module = Module(llvm_texts[row.vector])
+        if row.is_deep:
+            what, bad = antt.with_deep_recursion(row.ask, module)
+        else:
+            with changes.limits():
+                what, bad = row.ask(module)
+    except (*REFUSALS, WrongRule) as error:
+        what, bad = "", [f"{type(error).__name__}: {error}"]
+    except BaseException:
+        what, bad = "", [traceback.format_exc()]
+    used = f"{time.monotonic() - began:.1f} s, {resource.getrusage(resource.RUSAGE_SELF).ru_maxrss // 1024} MB"
+    lines = [f"{'FAILED' if bad else 'ok'} {row.title}: {what}; {used}", *(f"    {line}" for line in bad[:20])]
+    return "\n".join(lines), not bad
