@@ -5,16 +5,17 @@ A length is a polynomial: XXH32's and XXH64's n is stripe * a + r, with r a numb
 any number from 9 on and the secret has 64 + 8 q + u bytes, u < 8; else q is 16 and J a number."""
 from . import definition, nodes
 from .definition import Bytes, suppositions
-from .loops import Loop, Loops, NotShown
+from .loops import Loop, Loops, NotShown, agree
 from .memory import Input, Memory
 from .nodes import Node, symbol
+from .operations import side_by_side
 from .polynomials import Poly, at_most, divided, given, is_same, minus, plus, times, variable
 from .sides import seed_symbol
 
 LONGEST = (1 << 64) - 1
 LONGEST_SECRET = 1 << 60
 SHORTEST_SECRET_STRIPES = 9        # a secret has at least 136 bytes
-DEFAULT_STRIPES = 16               # the stripes of a block under a secret of 192 bytes
+DEFAULT_SECRET, DEFAULT_STRIPES = 192, 16     # its bytes, and the stripes of a block under it
 WAYS = "default", "seed", "seed 0", "secret", "both"
 OWN_SECRET = "secret", "both"
 XXH3 = "3-64", "3-128"
@@ -68,8 +69,9 @@ class Proof:
         if way in OWN_SECRET:
             for n in range(241):
                 self.short(hash_name, way, n)
-        for J in [variable("J")] if way in OWN_SECRET else range(DEFAULT_STRIPES):
-            self.long(hash_name, way, J)
+            self.long(hash_name, way)
+        else:
+            self.by_derived_secret(hash_name, way)
 
     def own_secret(self):
         """A secret of any length: (memory, list, stripes of a block, facts)."""
@@ -89,32 +91,45 @@ class Proof:
             theirs = definition.value(self.texts, hash_name, way, seed, secret, Bytes(message, 0, n))
             self.expect(f"XXH{hash_name}, {way}, of {n} bytes", ours, theirs)
 
-    def long(self, hash_name, way, J):
-        """64 q B + 64 J + t + 1 bytes."""
-        own, B, t = way in OWN_SECRET, variable("B"), variable("t")
-        source, secret, q, of_secret = self.own_secret() if own else (None, None, DEFAULT_STRIPES, [])
+    def long(self, hash_name, way):
+        """64 q B + 64 J + t + 1 bytes, with a secret of any length."""
+        source, secret, q, of_secret = self.own_secret()
+        B, J, t = (variable(name) for name in "BJt")
         n = plus(times(times(64, q), B), times(64, J), t, 1)
-        seed = seed_symbol(hash_name) if way in ("seed", "both") else 0
+        seed = seed_symbol(hash_name) if way == "both" else 0
         with given(at_most(n, LONGEST), minus(n, 241), at_most(J, minus(q, 1)), at_most(t, 63), *of_secret):
             message = Input("m", n)
-            listed, arguments = Bytes(message, 0, n), [(message, 0), n] + ([(source, 0), source.length] if own else [])
-            secret = secret if own else self.texts["derived_secret"](seed)
+            listed = Bytes(message, 0, n)
             said = long_loops(self.texts["Long.accumulator_after"], q, B, J, secret, listed)
-            ours = self.call(hash_name, way, arguments, seed, said)
-            theirs = self.texts[definition.table.HASHES[hash_name]](seed, self.effective(way, secret, listed), listed)
+            ours = self.call(hash_name, way, [(message, 0), n, (source, 0), source.length], seed, said)
+            self.expect_internal(hash_name, message, n, (source, 0), source.length, ours)
+            theirs = definition.value(self.texts, hash_name, way, seed, secret, listed)
             self.expect(f"XXH{hash_name}, {way}, of {n} bytes", ours, theirs)
 
-    def effective(self, way, secret, message):
-        """The secret that takes effect, which above 240 bytes is the call's own."""
-        found = secret if way == "secret" else self.texts["effective_secret"](secret, message)
-        if found is not secret:
-            raise NotShown("another secret")
-        return found
+    def by_derived_secret(self, hash_name, way):
+        """n bytes above 240, with the default secret or one that the seed derives."""
+        n, seed = variable("n"), seed_symbol(hash_name) if way == "seed" else 0
+        with given(minus(n, 241), at_most(n, LONGEST)):
+            message = Input("m", n)
+            ours = self.call(hash_name, way, [(message, 0), n], seed, {})
+            self.expect_internal(hash_name, message, n, self.called[2], DEFAULT_SECRET, ours)
+            derived = self.texts["effective_secret"](self.texts["derived_secret"](seed), Bytes(message, 0, n))
+            if not all(nodes.is_same(x, y) for x, y in zip(self.secret_called, derived, strict=True)):
+                raise NotShown(f"XXH{hash_name}, {way}: another secret")
+        self.cases += 1
+
+    def expect_internal(self, hash_name, message, n, secret, length, value):
+        """That the library's function for long inputs was called with these, and its value is the answer."""
+        *arguments, answer = self.called
+        asked = [(message, 0), n, secret, length]
+        if not all(agree(a, b) for a, b in zip(arguments[:4], asked, strict=True)) or not nodes.is_same(answer, value):
+            raise NotShown(f"XXH{hash_name}: another call of the function for long inputs")
 
     def call(self, hash_name, way, arguments, seed, said):
-        """What a one-shot of the reference gives."""
+        """What a one-shot of the reference gives. Without a secret of its own a long input's value is a symbol."""
         out = Memory("out", 16)
         self.prepare(said, [out])
+        self.watch(f"@XXH3_hashLong_{hash_name[2:]}b_internal", runs=way in OWN_SECRET)
         if isinstance(seed, Node):
             self.module.suppose_different(seed, 0)
         arguments = arguments + ([seed] if way not in ("default", "secret") else [])
@@ -123,6 +138,24 @@ class Proof:
             return self.module.call(name, arguments)
         self.module.call(name, [*arguments, (out, 0)])
         return out.load(0, 16)
+
+    def watch(self, name, runs):
+        """Keeps the arguments and the value of a call of a function, which runs or has symbols as its value."""
+        function = self.module.functions[name]
+        self.called = None
+
+        def call(arguments):
+            if runs:
+                value = function.run(arguments)
+            else:
+                (memory, at), size = arguments[2:4]
+                self.secret_called = [memory.load(at + k, 1) for k in range(size)]
+                value = tuple(symbol(self.module.fresh("value"), 64) for _ in range(2))
+                value = value if "128" in name else value[0]
+            whole = side_by_side(*((half, 64) for half in value)) if "128" in name else value
+            self.called = [*arguments[:4], whole]
+            return value
+        self.module.instead[name] = call
 
     def expect(self, what, ours, theirs):
         self.cases += 1

@@ -405,6 +405,7 @@ class Module:
     allows_unknown_bits  whether a comparison of terms is a bit that may be 0 or 1, instead of an error
     beside               how far outside of its object an address may be that is compared
     live                 the memories that live
+    instead              function's name -> what is called in its place
     loops                asked at each block, whether a loop begins there that is shown for any number of turns (loops.py)
     """
 
@@ -425,7 +426,8 @@ class Module:
                 self.functions[function.name] = function
 
     def reset(self):
-        self.different, self.allows_unknown_bits, self.beside, self.live, self.loops = [], False, 0, [], None
+        self.different, self.allows_unknown_bits, self.beside = [], False, 0
+        self.live, self.instead, self.loops = [], {}, None
 
     def suppose_different(self, a, b):
         self.different.append({key_of(a), key_of(b)})
@@ -452,4 +454,4 @@ class Module:
     def call(self, name, arguments):
         if name == NOTHING or name.startswith("@llvm."):
             return intrinsic(name, arguments)
-        return self.functions[name].run(arguments)
+        return self.instead[name](arguments) if name in self.instead else self.functions[name].run(arguments)

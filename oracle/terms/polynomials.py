@@ -12,11 +12,11 @@ from .nodes import Undecided, symbol
 WORD = 64
 DEPTH = 4                     # how often a fact may be taken away
 TRIED, KEPT = 60, 8           # points that are drawn, and how many are kept
-SEARCHED = 20000              # points that are drawn for facts that hold at none of these
+SEARCHED = 20000              # how many are drawn until one is found
 CHOICES = 0, 1, 2, 3, 5, 62, 200
 
 facts, least, known = [], {}, {}   # polynomials >= 0; variable -> its least value; what was decided under these facts
-possible = set()                   # the sets of facts that hold somewhere
+possible = {}                      # a set of facts -> points at which they hold
 
 
 class Poly:
@@ -167,29 +167,27 @@ def names_of(*polynomials):
     return {name for x in polynomials for names in parts_of(x) for name in names}
 
 
-def points_for(x, tried=TRIED):
-    """Some points at which each fact holds."""
-    names = frozenset(names_of(x, *facts))
-    key = "points", names
-    if not known.get(key):
-        draw, found = random.Random(1), []
-        for attempt in range(tried):
-            point = {name: least.get(name, 0) + (draw.choice(CHOICES) if attempt else 0) for name in sorted(names)}
-            if all(value_at(fact, point) >= 0 for fact in facts):
-                found.append(point)
-                if len(found) == KEPT:
-                    break
-        known[key] = found
-    return known[key]
+def points_for(x):
+    """Some points at which each fact holds, with values for the variables of x."""
+    names = sorted(names_of(x) - names_of(*facts))
+    for number, point in enumerate(possible.get(known.get("facts' key"), ())):
+        yield {**point, **{name: least.get(name, 0) + CHOICES[(number + k) % len(CHOICES)] for k, name in enumerate(names)}}
 
 
 def expect_possible():
-    """Of facts that hold nowhere anything would follow: there has to be a point."""
-    key = frozenset([*map(repr, facts), *least.items()])
+    """Of facts that hold nowhere anything would follow: there have to be points at which these hold."""
+    key = known["facts' key"] = frozenset([*map(repr, facts), *least.items()])
     if key not in possible:
-        if not points_for(0) and not points_for(0, SEARCHED):
+        names, draw, found = sorted(names_of(*facts)), random.Random(1), []
+        for attempt in range(SEARCHED):
+            point = {name: least.get(name, 0) + (draw.choice(CHOICES) if attempt else 0) for name in names}
+            if all(value_at(fact, point) >= 0 for fact in facts):
+                found.append(point)
+            if len(found) == KEPT or found and attempt > TRIED:
+                break
+        if not found:
             raise Undecided(f"facts that hold nowhere, as far as was seen: {facts} {least}")
-        possible.add(key)
+        possible[key] = found
 
 
 def from_zero(x):

@@ -34,7 +34,7 @@ class Row:
 
 def choose(given):
     vectors = list(VECTORS) if given.all else [given.vector]
-    rows = induction(vectors) + lengths(given.all, given.vector)
+    rows = induction(vectors, given.all) + lengths(given.all, given.vector)
     if given.all:
         rows += vector_lengths([vector for vector in vectors if vector != given.vector])
     rows += of_changes(given.all, given.vector) + of_machinery(given.all, given.vector)
@@ -54,7 +54,8 @@ def lengths(is_all, vector):
         if is_all:
             out.append(compared(title_of(*kind), kind, range(301, 1101), vector))
             out.append(compared(f"{title_of(*kind)}, at edges", kind, comparison.edges(kind[2]), vector))
-            out.append(compared(f"{title_of(*kind)}, streams", kind, comparison.STREAMED, vector, True))
+            if kind[2] in (None, *GATE_SECRETS):
+                out.append(compared(f"{title_of(*kind)}, streams", kind, comparison.STREAMED, vector, True))
     return out
 
 
@@ -74,19 +75,18 @@ def compared(title, kind, asked, vector, streams=False):
 
 # ---- every length
 
-def induction(vectors):
-    out = []
+def induction(vectors, is_all):
+    out = [shown(f"XXH{kind}, streams: any updates, to 2^64 - 1 bytes", functools.partial(plain_streams.show, kind=kind))
+           for kind in ("32", "64")]
     for vector in vectors:
         for kind in every_length.KINDS:
-            if vector == "scalar" or kind.startswith("3-"):
+            if vector == vectors[0] or kind.startswith("3-"):
                 name, _, way = kind.partition(":")
                 title = f"XXH{name}{', ' if way else ''}{way}: every length from {every_length.shortest(kind)} to 2^64 - 1"
                 out.append(shown(title, functools.partial(every_length.show, kind=kind), vector))
-        for place in xxh3_streams.PLACES:
+        for place in xxh3_streams.PLACES if is_all else ():
             out.append(shown(f"XXH3, streams with a secret {place} of the state: any updates, to 2^63 - 1 bytes",
                              functools.partial(xxh3_streams.show, place=place), vector))
-    out += [shown(f"XXH{kind}, streams: any updates, to 2^64 - 1 bytes", functools.partial(plain_streams.show, kind=kind))
-            for kind in ("32", "64")]
     return out
 
 
