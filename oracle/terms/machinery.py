@@ -1,6 +1,9 @@
 """Checks of the machinery: random operations against numbers, laws, the reference's terms on the rows of the table, and a
 second opinion on each use of a rule, by a solver of another making (z3)."""
+import glob
+import os
 import random
+import re
 import sys
 
 import table
@@ -14,6 +17,19 @@ MANY_POINTS = 8
 PRIME = 0x9E3779B185EBCA87
 LONGEST_ROW = 1100
 MOST_NODES = 1_000_000
+
+
+# ---- the names of the rules
+
+def rules_are_proved(module):
+    """Each rule that the program names is the contract of a function in crates/symbolic_rules."""
+    with open(os.path.join(table.TOP, "crates", "symbolic_rules", "src", "lib.rt"), encoding="utf-8") as file:
+        proved = set(re.findall(r"^pub fn (\w+)\(", file.read(), re.M))
+    named = set()
+    for path in glob.glob(os.path.join(os.path.dirname(os.path.abspath(__file__)), "*.py")):
+        with open(path, encoding="utf-8") as file:
+            named |= set(re.findall(r'\buse\("(\w+)"\)', file.read()))
+    return f"{len(named)} names", sorted(named - proved) or ([] if len(named) >= 10 else ["too few names were found"])
 
 
 # ---- random operations, each compared with numbers at eight points, and laws

@@ -107,6 +107,7 @@ def xor(a, b):
     key = tuple(x if isinstance(x, int) else ("node", x.number) for x in (a, b))
     if key not in xor_memo:
         use("xor_of_parts")
+        use("xor_in_any_order")
         answer = from_segments(xor_segments(segments_of(a), segments_of(b)))
         xor_memo[key] = checked("xor", answer, a, b)
     return xor_memo[key]
@@ -125,8 +126,10 @@ def either(a, b):
     if a is b:
         answer = a
     elif not places(a) & places(b):
+        use("bits_apart")
         answer = from_segments(xor_segments(segments_of(a), segments_of(b)))
-    elif isinstance(b, int) and not places(a) & ~b:
+    elif isinstance(b, int) and not b & b + 1 and most_of(a) <= b:
+        use("union_with_ones")
         answer = b
     else:
         answer = opaque("or", places(a) | places(b), a, b)
@@ -140,6 +143,7 @@ def both(a, b):
     if a is b:
         answer = a
     elif isinstance(b, int) and not isinstance(a, int):
+        use("mask")
         answer = from_segments(masked(a, b))
     else:
         answer = opaque("and", min(most_of(a), most_of(b)), a, b)

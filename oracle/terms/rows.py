@@ -10,12 +10,12 @@ import traceback
 import antt
 import mutants
 
-from . import changes, comparison, every_length, machinery, nodes, plain_streams, xxh3_streams
+from . import changed_headers, changes, comparison, every_length, machinery, nodes, plain_streams, xxh3_streams
 from .comparison import SECRETS
 from .loops import REFUSALS
 from .machine import Module
 from .nodes import WrongRule
-from .sides import VECTORS, llvm_text
+from .sides import HEADERS, VECTORS, llvm_text
 
 PARTS = 4                    # the changes are tried in so many rows
 SAMPLE = 16                  # in the gate, each so manieth change of the definition's text
@@ -37,7 +37,7 @@ def choose(given):
     rows = induction(vectors, given.all) + lengths(given.all, given.vector)
     if given.all:
         rows += vector_lengths([vector for vector in vectors if vector != given.vector])
-    rows += of_changes(given.all, given.vector) + of_machinery(given.all, given.vector)
+    rows += of_changes(given.all, given.vector, given.headers) + of_machinery(given.all, given.vector)
     return [row for row in rows if given.only in row.title]
 
 
@@ -99,7 +99,7 @@ def shown(title, show, vector="scalar"):
 
 # ---- changes and the machinery
 
-def of_changes(is_all, vector):
+def of_changes(is_all, vector, headers):
     parts = range(PARTS) if is_all else [0]
     of = PARTS if is_all else SAMPLE
     out = [Row(f"changes of one token of the definitions, part {part + 1} of {of}", functools.partial(text_changes, part=part, parts=of), vector,
@@ -108,7 +108,18 @@ def of_changes(is_all, vector):
     sample = LINES if is_all else FEW_LINES
     out += [Row(f"changes of LLVM's text, part {part + 1} of {of}", functools.partial(line_changes, sample=sample, part=part, parts=of), vector,
                 is_deep=False) for part in parts]
-    return out + [Row("changes by hand, that differ on rare inputs alone", hand_changes, vector)]
+    out.append(Row("changes by hand of the definitions, that differ on rare inputs alone", hand_changes, vector))
+    if headers != HEADERS:      # the texts are those of Debian's
+        return out
+    out.append(Row("changes of the header 0.8.1, asked by induction", functools.partial(header_changes, changed=changed_headers.CHANGES)))
+    if is_all:
+        out.append(Row("changes of the header 0.8.1, streams of XXH3", functools.partial(header_changes, changed=changed_headers.DEAR)))
+    return out
+
+
+def header_changes(module, changed):
+    found = list(changed_headers.tell(changed))
+    return f"{len(found)} questions", [line for is_good, line in found if not is_good]
 
 
 def text_changes(module, part, parts):
@@ -137,7 +148,8 @@ def hand_changes(module):
 
 
 def of_machinery(is_all, vector):
-    out = [Row("random operations and laws", functools.partial(machinery.random_operations, rounds=300 if is_all else 30), vector)]
+    out = [Row("the rules are the proved ones", machinery.rules_are_proved, vector),
+           Row("random operations and laws", functools.partial(machinery.random_operations, rounds=300 if is_all else 30), vector)]
     if is_all:
         out += [Row("the reference's terms on the rows of the table", machinery.table_rows, vector),
                 Row("each use of a rule by z3: 0 to 16 bytes", machinery.by_solver, vector)]

@@ -1,17 +1,19 @@
 """The canonical form of terms: segments, sums and products, by rules that crates/symbolic_rules proves.
 
-Each rule has its name there; `use` counts it here. In words, for naturals, w and k widths, c a coefficient:
+Each rule has its name there; `use` counts it here. In words, for naturals, w, j and k widths, c a coefficient:
 
     parts_of_a_number     v = v mod 2^k + 2^k (v / 2^k): a number is its segments
     concatenation         (a + 2^k b) mod 2^k = a and (a + 2^k b) / 2^k = b for a < 2^k
+    bits_of_bits          (v mod 2^(j + k)) / 2^k = (v / 2^k) mod 2^j
     xor_of_parts          (a + 2^k b) xor (c + 2^k d) = (a xor c) + 2^k (b xor d) for a, c < 2^k
     joined_coefficients   c (v mod 2^k) + c 2^k (v / 2^k) = c v
-    narrowed_factor       c 2^k (v mod 2^(w - k)) = c 2^k v, mod 2^w: of a factor only the bits that count are kept,
-                          and a sum that was narrowed no further than that is taken apart
-    narrowed_twice        (v mod 2^W) mod 2^w = v mod 2^w for w <= W
+    narrowed_factor       c 2^k (v mod 2^j) = c 2^k v, mod 2^w, for w <= j + k: of a factor only the bits that count are
+                          kept, and a sum that was narrowed no further than that is taken apart
+    narrowed_twice        (v mod 2^j) mod 2^w = v mod 2^w for w <= j
     narrowed_sum, narrowed_product    a sum and a product mod 2^w are those of the parts mod 2^w
     high_of_a_sum         ((r + 2^k y) mod 2^w) / 2^k = ((r mod 2^w) / 2^k + y) mod 2^(w - k) for k <= w
-    small_remainder       v mod m = v and v / m = 0 for v < m
+
+Those of operations.py: xor_in_any_order, bits_apart, mask, union_with_ones, complement, small_remainder.
 """
 from .nodes import BITS, NODES, OPAQUE, PRODUCT, SUM, SYMBOL, Node, memo, node, use
 
@@ -121,6 +123,7 @@ def cut_segment(segment, first, n):
     length, constant, atoms = segment
     if first == 0 and n == length:
         return [segment]
+    use("bits_of_bits")
     out = [(n, constant >> first & ones(n), ())]
     for atom, at in atoms:
         out = xor_segments(out, bits_of(NODES[atom], at + first, n))
@@ -289,7 +292,8 @@ class Collected:
         self.waiting += [(c * d & mask, y) for d, y in x.parts if c * d & mask]
 
     def take_segments(self, c, x):
-        """parts_of_a_number: the segments, each times its place."""
+        """The segments, each times its place."""
+        use("parts_of_a_number")
         mask = ones(self.width)
         for segment in x.segments:
             if not c:
