@@ -19,7 +19,7 @@ import antt
 import mutants
 import proved_rows
 
-from . import comparison, definition, nodes
+from . import definition, every_length, nodes
 from .loops import REFUSALS
 from .machine import Function
 from .nodes import Node, Undecided, WrongRule
@@ -277,6 +277,30 @@ BY_HAND = [
     (RARE[2], "bit_xor (low64 (a * b)) (high64 (a * b))", "bit_xor (a * low64 b % 2 ^ 64) (b * a / 2 ^ 64 % 2 ^ 64)", XXH3, True),
 ]
 HAND_LENGTHS = {"64": [32, 40, 64, 100], **dict.fromkeys(XXH3, [9, 12, 16, 17, 64, 128, 129, 240, 241, 512, 1089])}
+
+
+# Changes of one token that differ from 2 ^ 31 or 2 ^ 32 bytes on alone: words of the change as mutants.py prints it, the file,
+# old text, new text, and the kind that the induction is asked
+AT_LARGE_LENGTHS = [
+    ("% [2 -> 3] ^ 32", "twox_plain.specs.Xxh32", "(counted (length m) % 2 ^ 32)", "(counted (length m) % 3 ^ 32)", "32"),
+    ("% 2 ^ [32 -> 31]", "twox_plain.specs.Xxh32", "(counted (length m) % 2 ^ 32)", "(counted (length m) % 2 ^ 31)", "32"),
+    ("[counted -> low32] ( length m ) ) prime64_1", RARE[1], "(counted (length m)) prime64_1", "(low32 (length m)) prime64_1", "3-64:secret"),
+    ("[counted -> low32] ( length m ) ) prime64_2", RARE[1], "(counted (length m)) prime64_2", "(low32 (length m)) prime64_2", "3-128:secret"),
+]
+
+
+def by_induction(module):
+    """Tells of each of these: whether the induction refuses it, and a line."""
+    out = []
+    for words, path, old, new, kind in AT_LARGE_LENGTHS:
+        program = definition.program()
+        with_text(program, path, old, new)
+        try:
+            every_length.show(module, kind, program)
+            out.append((False, f"{words}: shown"))
+        except REFUSALS as error:
+            out.append((True, f"{words}: {type(error).__name__}: {error}"))
+    return out
 
 
 def with_text(program, path, old, new):

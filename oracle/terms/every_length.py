@@ -30,11 +30,11 @@ def shortest(kind):
 class Proof:
     """A run of the induction over a module: what it told of the loops, and how many cases it had."""
 
-    def __init__(self, module):
+    def __init__(self, module, program=None):
         self.module, self.told, self.cases = module, [], 0
         nodes.forget()
         suppositions.clear()
-        self.texts = definition.program().run(traced=suppositions)
+        self.texts = (program or definition.program()).run(traced=suppositions)
 
     def prepare(self, said, memories=()):
         """Before the reference runs: what there is to say of its loops, and which memories live."""
@@ -67,9 +67,9 @@ class Proof:
 
     def xxh3(self, hash_name, way):
         if way in OWN_SECRET:
+            self.long(hash_name, way)
             for n in range(241):
                 self.short(hash_name, way, n)
-            self.long(hash_name, way)
         else:
             self.by_derived_secret(hash_name, way)
 
@@ -206,9 +206,10 @@ def long_loops(accumulator_after, q, B, J, secret, message):
     return {"@XXH3_hashLong_internal_loop": blocks, "@XXH3_accumulate": stripes}
 
 
-def show(module, kind):
-    """Shows one kind for every length from shortest(kind) on, or raises; gives the Proof."""
-    proof = Proof(module)
+def show(module, kind, program=None):
+    """Shows one kind for every length from shortest(kind) on, or raises; gives the Proof. `program` is the definition's
+    text, where it is changed."""
+    proof = Proof(module, program)
     name, _, way = kind.partition(":")
     if way:
         proof.xxh3(name, way)

@@ -108,6 +108,7 @@ def of_changes(is_all, vector, headers):
     sample = LINES if is_all else FEW_LINES
     out += [Row(f"changes of LLVM's text, part {part + 1} of {of}", functools.partial(line_changes, sample=sample, part=part, parts=of), vector,
                 is_deep=False) for part in parts]
+    out.append(Row("changes of the definitions that differ from 2^31 bytes on alone, asked by induction", large_changes, vector))
     out.append(Row("changes by hand of the definitions, that differ on rare inputs alone", hand_changes, vector))
     if headers != HEADERS:      # the texts are those of Debian's
         return out
@@ -122,8 +123,14 @@ def header_changes(module, changed):
     return f"{len(found)} questions", [line for is_good, line in found if not is_good]
 
 
+def large_changes(module):
+    found = changes.by_induction(module)
+    return f"{len(found)} changes, each refused", [line for is_good, line in found if not is_good]
+
+
 def text_changes(module, part, parts):
-    found, reasons = changes.of_text(module, part, parts), mutants.reasons()
+    found = changes.of_text(module, part, parts)
+    reasons = [*mutants.reasons(), *(words for words, *_ in changes.AT_LARGE_LENGTHS)]   # those are asked by induction
     bad = [f"{what}: {text}" for what, text in found
            if is_wrong(what) or what == changes.UNNOTICED and not any(words in text for words in reasons)]
     return told(found), bad
