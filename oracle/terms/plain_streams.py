@@ -10,7 +10,7 @@ from .loops import NotShown, agree
 from .memory import Input, Memory, Piece
 from .nodes import symbol
 from .polynomials import as_word, at_most, given, is_natural, is_same, minus, plus, times, variable
-from .sides import seed_symbol
+from .sides import BESIDE, seed_symbol
 
 FIELDS = {64: ["total", "accumulators", "buffer", "memsize"], 32: ["total", "large", "accumulators", "buffer", "memsize"]}
 OK = 0
@@ -105,7 +105,7 @@ class PlainStreams(Proof):
         first = plus(a, int(not is_same(r, 0)))     # the stripe behind the one that the buffer is part of
         with self.up_to(ended, *facts, *at_least_one(a)):
             self.prepare({})
-            self.module.allows_unknown_bits, self.module.beside = self.width == 32, self.stripe
+            self.module.allows_unknown_bits, self.module.beside = self.width == 32, BESIDE
             memory = self.state(a, r)
             cells = [(memory, self.at["accumulators"] + self.word * j) for j in range(4)]
             say = plain_loop("an update's stripes", self.texts[f"Xxh{self.width}.accumulator"], self.seed, self.message,

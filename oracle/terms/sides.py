@@ -17,6 +17,7 @@ FOLDER = os.path.dirname(os.path.abspath(__file__))
 HEADERS = "/usr/include"          # where Debian's libxxhash-dev puts xxhash.h
 VECTORS = {"scalar": ["-DXXH_VECTOR=0"], "sse2": ["-DXXH_VECTOR=1"], "avx2": ["-DXXH_VECTOR=2", "-mavx2"]}
 CLANG = "clang-14"
+BESIDE = 512                      # bytes beside a piece that a stream compares addresses in
 
 
 def install(headers, packages):
@@ -27,7 +28,7 @@ def install(headers, packages):
     if missing:
         quiet = {**os.environ, "DEBIAN_FRONTEND": "noninteractive"}
         subprocess.run(["apt-get", "update", "-qq"], env=quiet, stdout=subprocess.DEVNULL)
-        wanted = ["apt-get", "install", "-y", "-qq", "--no-install-recommends", *missing]
+        wanted = ["apt-get", "-o", "DPkg::Lock::Timeout=300", "install", "-y", "-qq", "--no-install-recommends", *missing]
         if subprocess.run(wanted, env=quiet, stdout=subprocess.DEVNULL).returncode:
             sys.exit(f"oracle/symbolic: these packages of Debian are needed, and apt-get couldn't install them: {' '.join(missing)}")
 
@@ -104,6 +105,7 @@ class Request:
             cuts = Memory("cuts", 8 * len(self.cuts), [(8 * k, 8, cut) for k, cut in enumerate(self.cuts)])
             arguments += [(cuts, 0), len(self.cuts)]
         module.reset()
+        module.beside = 0 if self.cuts is None else BESIDE
         if isinstance(seed, Node):
             module.suppose_different(seed, 0)
         way = "once" if self.cuts is None else "stream"

@@ -15,7 +15,7 @@ from .memory import Input, Memory, Piece
 from .nodes import symbol
 from .operations import side_by_side
 from .polynomials import Poly, at_most, divided, given, is_natural, is_same, minus, plus, times, variable
-from .sides import seed_symbol
+from .sides import BESIDE, seed_symbol
 
 LONGEST = (1 << 63) - 1      # bytes together: the header takes differences of addresses as signed numbers
 FIELDS = ["accumulators", "inside", "buffer", "buffered", "uses_seed", "so_far", "total", "per_block", "limit", "seed", "reserved", "outside"]
@@ -126,7 +126,7 @@ class Xxh3Streams(Proof):
         self.cases += 1
         with given(*self.facts, at_most(plus(ended, rest), LONGEST), *facts):
             self.prepare({})
-            self.module.beside = 2 * BUFFER
+            self.module.beside = BESIDE
             memory = self.state(*start, runs)
             self.module.live.append(memory)
             self.module.loops.said.update({"@XXH3_accumulate": self.of_stripes})
