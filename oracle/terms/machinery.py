@@ -128,9 +128,9 @@ def table_rows(module):
 
 # ---- a second opinion: each use of a rule, by z3
 
-SOLVED = 16              # lengths up to this one
-SECONDS = 20
-DEEPEST = 8
+SOLVED, EACH = 16, 8     # lengths up to this one; each so manieth operation
+SECONDS = 2              # for a question
+DEEPEST = 6
 DEBIAN_PYTHON = "/usr/lib/python3/dist-packages"
 
 
@@ -212,6 +212,7 @@ class Solver:
         return operations_of_two[name]()
 
     def holds(self, name, answer, arguments):
+        """Whether the answer is right for all values, or None where that isn't decided in time."""
         widths = [x.width if isinstance(x, Node) else x.bit_length() for x in [answer, *arguments] if isinstance(x, (int, Node))]
         width = sum(widths[1:]) if name == "multiply" else max(widths) + 1
         for depth in range(1, DEEPEST + 1):
@@ -223,8 +224,11 @@ class Solver:
                 if NODES[number].most + 1 < 1 << NODES[number].width:
                     solver.add(self.z3.ULE(x, self.number(NODES[number].most, NODES[number].width)))
             solver.add(self.sized(theirs, size) != self.sized(ours, size))
-            if solver.check() == self.z3.unsat:
+            found = solver.check()
+            if found == self.z3.unsat:
                 return True
+            if found == self.z3.unknown:
+                return None
         return False
 
 
@@ -241,5 +245,9 @@ def by_solver(module):
             request = Request(name, kind, length, secret)
             request.of_definition(entries), request.of_reference(module)
     operations.watching.clear()
-    bad = [f"{name} of {arguments}: {answer}" for name, answer, arguments in solver.asked.values() if not solver.holds(name, answer, arguments)]
-    return f"{len(solver.asked)} operations of all kinds of calls of 0 to {SOLVED} bytes", bad
+    asked = list(solver.asked.values())[::EACH]
+    found = [(solver.holds(*question), question) for question in asked]
+    undecided = sum(holds is None for holds, _ in found)
+    bad = [f"{name} of {arguments}: {answer}" for holds, (name, answer, arguments) in found if holds is False]
+    bad += ["half of the operations aren't decided"] if 2 * undecided > len(found) else []
+    return f"{len(found) - undecided} of {len(found)} operations hold for all values, {undecided} weren't decided in {SECONDS} s each", bad

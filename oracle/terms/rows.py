@@ -159,7 +159,7 @@ def of_machinery(is_all, vector):
            Row("random operations and laws", functools.partial(machinery.random_operations, rounds=300 if is_all else 30), vector)]
     if is_all:
         out += [Row("the reference's terms on the rows of the table", machinery.table_rows, vector),
-                Row("each use of a rule by z3: 0 to 16 bytes", machinery.by_solver, vector)]
+                Row("a sample of the operations by z3: 0 to 16 bytes", machinery.by_solver, vector)]
     return out
 
 
