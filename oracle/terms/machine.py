@@ -215,8 +215,10 @@ def address(module, parts, value, before):
 
 
 def call(module, parts, value, before):
-    callee, arguments = parts
-    return module.call(value(callee).name, [value(x) for x in arguments])
+    callee, arguments = value(parts[0]), parts[1]
+    if not isinstance(callee, FunctionName):
+        raise Unsupported("a call of no function")
+    return module.call(callee.name, [value(x) for x in arguments])
 
 
 def allocate(module, parts, value, before):
