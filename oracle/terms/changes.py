@@ -4,8 +4,8 @@
     of LLVM's text of the reference           another operation, or a number that is one more or one less
     by hand                                   of the definition's text, that differ on one input in 2 ^ 32 or fewer
 
-A change is noticed where the terms differ and a point is known at which their values do; where the terms differ and none
-is known, it is refused. A crash of this program is neither."""
+A change is noticed where the terms differ and a point is known at which their values do; where the terms differ and
+none is known, it is refused. A crash of this program is neither."""
 import collections
 import contextlib
 import os
@@ -28,7 +28,8 @@ from .sides import Request, differing_point, differing_point_of_numbers
 SECONDS = 4              # a change that takes longer doesn't end, as far as is seen here
 EQUAL_LINES = os.path.join(os.path.dirname(os.path.abspath(__file__)), "equal_lines.txt")
 RECURSION, MEMORY = 8000, 6 << 30
-NO_NUMBER = (antt.Unreadable, TypeError, AttributeError, IndexError, OverflowError, ValueError, RecursionError, NameError, MemoryError, KeyError)
+NO_NUMBER = (antt.Unreadable, TypeError, AttributeError, IndexError, OverflowError, ValueError, RecursionError,
+             NameError, MemoryError, KeyError)
 NOTICED, REFUSED, UNNOTICED = "differs at a point", "another term, no point found", "unnoticed"
 NOTICED_BY_NUMBERS, REFUSED_WITHOUT_TERM = "no term, differs at a point", "no term, no point found"
 
@@ -91,7 +92,8 @@ class Asked:
         try:
             with Limited():
                 value = self.request.of_definition(entries)
-                self.outcome = None if nodes.is_same(value, self.answer) else difference(self.request, value, self.answer)
+                self.outcome = None if nodes.is_same(value, self.answer) else difference(self.request, value,
+                                                                                         self.answer)
         except Undecided:
             self.outcome = self.by_numbers(entries)
         except Slow:
@@ -130,7 +132,8 @@ def of_text(module, part, parts):
     """Tells of each change of one token, of a part of them: (outcome, the change's text)."""
     nodes.forget()
     program = definition.program()
-    rows = [Asked(request, module) for request in asked()] + [CountedLength(row) for row in proved_rows.counted_lengths()]
+    rows = [Asked(request, module) for request in asked()] + [CountedLength(row)
+                                                              for row in proved_rows.counted_lengths()]
     by_definition = mutants.rows_by_definition(program, rows)
     known, out = nodes.mark(), []
     for change in mutants.all_changes(program)[part::parts]:
@@ -257,7 +260,8 @@ def changed_outcome(module, change, requests, answers):
 
 # ---- by hand
 
-RARE = "twox_plain.specs.Xxh64", "twox_core.specs.Long", "twox_core.specs.Steps", "twox_core.specs.Short", "twox_core.specs.Middle"
+RARE = ("twox_plain.specs.Xxh64", "twox_core.specs.Long", "twox_core.specs.Steps", "twox_core.specs.Short",
+        "twox_core.specs.Middle")
 XXH3 = ["3-64", "3-128"]
 AVALANCHE = "avalanche x = xor_shift (wrap_mul w64 (xor_shift (wrap_mul w64 (xor_shift {} 33) p2) 29) p3) 32"
 # file, old text, new text, the hashes that it concerns, whether the new text is equal for all inputs
@@ -266,26 +270,38 @@ BY_HAND = [
     (RARE[0], "merge x a = wrap_add w64 (wrap_mul w64 (bit_xor x (round 0 a)) p1) p4",
      "merge x a = wrap_add w64 (wrap_mul w64 (bit_xor x (round 0 (a % (2 ^ 64 - 1)))) p1) p4", ["64"], False),
     (RARE[0], AVALANCHE.format("x"), AVALANCHE.format("(x % (2 ^ 64 - 1))"), ["64"], False),
-    (RARE[1], "halves_product v = low32 v * high32 v", "halves_product v = (low32 v * high32 v) % (2 ^ 64 - 2 ^ 33 + 1)", XXH3, False),
-    (RARE[1], "halves_product v = low32 v * high32 v", "halves_product v = low32 v * (high32 v % (2 ^ 32 - 1))", XXH3, False),
-    (RARE[1], "(a + word64 m (p + 8 * bit_xor i 1) +", "((a + word64 m (p + 8 * bit_xor i 1)) % (2 ^ 65 - 2) +", XXH3, False),
-    (RARE[2], "bit_xor (low64 (a * b)) (high64 (a * b))", "bit_xor (low64 (a * b)) (high64 (a * (b % (2 ^ 64 - 1))))", XXH3, False),
+    (RARE[1], "halves_product v = low32 v * high32 v",
+     "halves_product v = (low32 v * high32 v) % (2 ^ 64 - 2 ^ 33 + 1)", XXH3, False),
+    (RARE[1], "halves_product v = low32 v * high32 v", "halves_product v = low32 v * (high32 v % (2 ^ 32 - 1))", XXH3,
+     False),
+    (RARE[1], "(a + word64 m (p + 8 * bit_xor i 1) +", "((a + word64 m (p + 8 * bit_xor i 1)) % (2 ^ 65 - 2) +", XXH3,
+     False),
+    (RARE[2], "bit_xor (low64 (a * b)) (high64 (a * b))", "bit_xor (low64 (a * b)) (high64 (a * (b % (2 ^ 64 - 1))))",
+     XXH3, False),
     (RARE[2], "mul64 (xor_shift x 37) prime_mx1", "mul64 (xor_shift (x % (2 ^ 64 - 1)) 37) prime_mx1", XXH3, False),
-    (RARE[3], "add64 (low64 p) ((n - 1) * 2 ^ 54)", "add64 (low64 p % (2 ^ 64 - 1)) ((n - 1) * 2 ^ 54)", ["3-128"], False),
-    (RARE[4], "merge_low a b = avalanche (add64 a b)", "merge_low a b = avalanche ((a + b) % (2 ^ 65 - 2) % 2 ^ 64)", ["3-128"], False),
-    (RARE[4], "merge_low a b = avalanche (add64 a b)", "merge_low a b = avalanche ((a + b) % (2 ^ 65 - 1) % 2 ^ 64)", ["3-128"], True),
-    (RARE[2], "bit_xor (low64 (a * b)) (high64 (a * b))", "bit_xor (a * low64 b % 2 ^ 64) (b * a / 2 ^ 64 % 2 ^ 64)", XXH3, True),
+    (RARE[3], "add64 (low64 p) ((n - 1) * 2 ^ 54)", "add64 (low64 p % (2 ^ 64 - 1)) ((n - 1) * 2 ^ 54)", ["3-128"],
+     False),
+    (RARE[4], "merge_low a b = avalanche (add64 a b)", "merge_low a b = avalanche ((a + b) % (2 ^ 65 - 2) % 2 ^ 64)",
+     ["3-128"], False),
+    (RARE[4], "merge_low a b = avalanche (add64 a b)", "merge_low a b = avalanche ((a + b) % (2 ^ 65 - 1) % 2 ^ 64)",
+     ["3-128"], True),
+    (RARE[2], "bit_xor (low64 (a * b)) (high64 (a * b))", "bit_xor (a * low64 b % 2 ^ 64) (b * a / 2 ^ 64 % 2 ^ 64)",
+     XXH3, True),
 ]
 HAND_LENGTHS = {"64": [32, 40, 64, 100], **dict.fromkeys(XXH3, [9, 12, 16, 17, 64, 128, 129, 240, 241, 512, 1089])}
 
 
-# Changes of one token that differ from 2 ^ 31 or 2 ^ 32 bytes on alone: words of the change as mutants.py prints it, the file,
-# old text, new text, and the kind that the induction is asked
+# Changes of one token that differ from 2 ^ 31 or 2 ^ 32 bytes on alone: words of the change as mutants.py prints it,
+# the file, old text, new text, and the kind that the induction is asked
 AT_LARGE_LENGTHS = [
-    ("% [2 -> 3] ^ 32", "twox_plain.specs.Xxh32", "(counted (length m) % 2 ^ 32)", "(counted (length m) % 3 ^ 32)", "32"),
-    ("% 2 ^ [32 -> 31]", "twox_plain.specs.Xxh32", "(counted (length m) % 2 ^ 32)", "(counted (length m) % 2 ^ 31)", "32"),
-    ("[counted -> low32] ( length m ) ) prime64_1", RARE[1], "(counted (length m)) prime64_1", "(low32 (length m)) prime64_1", "3-64:secret"),
-    ("[counted -> low32] ( length m ) ) prime64_2", RARE[1], "(counted (length m)) prime64_2", "(low32 (length m)) prime64_2", "3-128:secret"),
+    ("% [2 -> 3] ^ 32", "twox_plain.specs.Xxh32", "(counted (length m) % 2 ^ 32)", "(counted (length m) % 3 ^ 32)",
+     "32"),
+    ("% 2 ^ [32 -> 31]", "twox_plain.specs.Xxh32", "(counted (length m) % 2 ^ 32)", "(counted (length m) % 2 ^ 31)",
+     "32"),
+    ("[counted -> low32] ( length m ) ) prime64_1", RARE[1], "(counted (length m)) prime64_1",
+     "(low32 (length m)) prime64_1", "3-64:secret"),
+    ("[counted -> low32] ( length m ) ) prime64_2", RARE[1], "(counted (length m)) prime64_2",
+     "(low32 (length m)) prime64_2", "3-128:secret"),
 ]
 
 

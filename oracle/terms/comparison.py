@@ -10,15 +10,18 @@ MOST_NODES = 1_500_000
 SECRETS = 136, 137, 143, 144, 192, 256
 PLAIN = [("32", "seed", None), ("64", "seed", None)]
 EDGES_FROM, LONGEST = 1101, 10_241
-STREAMED = [*range(17), 31, 32, 33, 63, 64, 65, 70, 127, 128, 129, 200, 239, 240, 241, 242, 255, 256, 257, 258, 300, 321, 513, 700, 1088]
-CUTS = [1, 31, 32, 33, 63, 64, 65, 127, 128, 129, 192, 239, 240, 241, 255, 256, 257, 258, 319, 320, 321, 511, 512, 513, 576, 1024, 1025]
+STREAMED = [*range(17), 31, 32, 33, 63, 64, 65, 70, 127, 128, 129, 200, 239, 240, 241, 242, 255, 256, 257, 258, 300,
+            321, 513, 700, 1088]
+CUTS = [1, 31, 32, 33, 63, 64, 65, 127, 128, 129, 192, 239, 240, 241, 255, 256, 257, 258, 319, 320, 321, 511, 512,
+        513, 576, 1024, 1025]
 PAIRS = 6
 
 
 def kinds(secrets):
     """(hash, kind of call, length of the secret)"""
     of_secret = [(way, n) for way in ("secret", "both") for n in secrets]
-    return PLAIN + [(name, *way) for name in ("3-64", "3-128") for way in [("default", None), ("seed", None), *of_secret]]
+    return PLAIN + [(name, *way) for name in ("3-64", "3-128") for way in [("default", None), ("seed", None),
+                                                                           *of_secret]]
 
 
 def edges(secret_length):
@@ -29,7 +32,8 @@ def edges(secret_length):
 
 
 def cuts_of(length):
-    """Where the streams of a length are cut: nowhere, at one and at two of the edges, from the start and from the end."""
+    """Where the streams of a length are cut: nowhere, at one and at two of the edges, from the start and from the
+    end."""
     ends = sorted({end for end in [*CUTS, *(length - end for end in CUTS), 0, length] if 0 <= end <= length})
     draw = random.Random(length)
     pairs = [sorted(draw.sample(ends, 2)) for _ in range(PAIRS)] if len(ends) > 2 else []
@@ -49,7 +53,8 @@ def complaint(request, ours, theirs):
     if not found:
         return f"{request}: another term, though no point was found at which they differ"
     point, x, y = found
-    shown = ", ".join(f"{name} {value.hex()[:80] if isinstance(value, bytes) else hex(value)}" for name, value in point.items())
+    shown = ", ".join(f"{name} {value.hex()[:80] if isinstance(value, bytes) else hex(value)}" for name,
+                      value in point.items())
     return f"{request}: {x:#x} by the definition and {y:#x} by the reference, where {shown}"
 
 

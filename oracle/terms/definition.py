@@ -105,7 +105,8 @@ class Suppositions:
         return call
 
     def identity(self, x):
-        """The same for two arguments only if they are the same object, number, or function of the same text and values."""
+        """The same for two arguments only if they are the same object, number, or function of the same text and
+        values."""
         if isinstance(x, (int, str)):
             return x
         if isinstance(x, Poly):

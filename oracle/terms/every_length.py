@@ -1,8 +1,8 @@
 """The one-shots of every length, by induction over the reference's loops.
 
 A length is a polynomial: XXH32's and XXH64's n is stripe * a + r, with r a number; XXH3's n above 240 is
-64 q B + 64 J + t + 1, B blocks of q stripes, J < q stripes of the last one, and t < 64. With a secret that is given, q is
-any number from 9 on and the secret has 64 + 8 q + u bytes, u < 8; else q is 16 and J a number."""
+64 q B + 64 J + t + 1, B blocks of q stripes, J < q stripes of the last one, and t < 64. With a secret that is given,
+q is any number from 9 on and the secret has 64 + 8 q + u bytes, u < 8; else q is 16 and J a number."""
 from . import definition, nodes
 from .definition import Bytes, suppositions
 from .loops import Loop, Loops, NotShown, agree
@@ -58,7 +58,8 @@ class Proof:
         with given(minus(turns, 1), at_most(n, LONGEST)):
             source = Input("m", n)
             message = Bytes(source, 0, n)
-            say = plain_loop(f"XXH{width} of {n} bytes", self.texts[f"Xxh{width}.accumulator"], seed, message, minus(turns, 1), width)
+            say = plain_loop(f"XXH{width} of {n} bytes", self.texts[f"Xxh{width}.accumulator"], seed, message,
+                             minus(turns, 1), width)
             self.prepare({f"@XXH{width}_endian_align": say, f"@XXH{width}_consumeLong": say})
             ours = self.module.call(f"@once_{width}_seed", [(source, 0), n, seed])
             self.expect(f"XXH{width} of {n} bytes", ours, self.texts[f"xxh{width}"](seed, message))
@@ -188,8 +189,9 @@ def cells_at(address):
 
 
 def long_loops(accumulator_after, q, B, J, secret, message):
-    """The loop over the blocks, and the one over the stripes of a block, where their number isn't a number. The definition
-    scrambles with the last stripe of a block and the library after it, so that stripe is the loop's last turn."""
+    """The loop over the blocks, and the one over the stripes of a block, where their number isn't a number. The
+    definition scrambles with the last stripe of a block and the library after it, so that stripe is the loop's last
+    turn."""
     def after(i, k):
         return accumulator_after(secret, message, i, k)
 

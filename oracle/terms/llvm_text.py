@@ -12,7 +12,8 @@ POINTER_BYTES = 8
 
 
 class Unsupported(Exception):
-    """Text or an operation that isn't known here, or one that a program mustn't do, as an access outside of an object."""
+    """Text or an operation that isn't known here, or one that a program mustn't do, as an access outside of an
+    object."""
 
 
 @dataclass(frozen=True)

@@ -1,13 +1,13 @@
 """Loops of any number of turns, shown by induction.
 
 At a loop's head after k turns some cells, the accumulators, hold what the definition says of k. That is shown in three
-parts: the cells hold the definition's values for k = 0; from any values, named "the definition's for k", and k < last, one
-turn comes to the head with the definition's values for k + 1, with counters and addresses gone on by their steps, and
-with nothing else changed that lives; and from k = last the loop is left.
+parts: the cells hold the definition's values for k = 0; from any values, named "the definition's for k", and k <
+last, one turn comes to the head with the definition's values for k + 1, with counters and addresses gone on by their
+steps, and with nothing else changed that lives; and from k = last the loop is left.
 
 Steps are guessed from a first turn and then shown. What a turn writes before it reads is unset at the head, so that a
-read of it is an error. Which cells the accumulators are is a guess too, by their names in the header: the first part fails
-where they are others. Heads aren't named: they are the blocks to which a function goes back."""
+read of it is an error. Which cells the accumulators are is a guess too, by their names in the header: the first part
+fails where they are others. Heads aren't named: they are the blocks to which a function goes back."""
 from .llvm_text import Unsupported
 from .nodes import Undecided, is_same, symbol
 from .polynomials import given, is_number, is_natural, minus, plus, times, variable
@@ -20,8 +20,8 @@ class NotShown(Exception):
 
 class Loop:
     """What is said of a loop: after k turns, k from 0 to `last`, the cells (memory, offset) hold definition(k).
-    `suppose(k, values)` makes that the hypothesis. From the last k the loop is left, or, with `then`, comes to its head once
-    more, where `then` is said of the turns that are left."""
+    `suppose(k, values)` makes that the hypothesis. From the last k the loop is left, or, with `then`, comes to its
+    head once more, where `then` is said of the turns that are left."""
 
     def __init__(self, name, last, cells, width, suppose, definition, then=None):
         self.name, self.last, self.cells, self.width = name, last, cells, width
@@ -55,7 +55,8 @@ def loops_of(function):
         after, function.loops = successors(function), {}
         for head in function.blocks:
             around = reached(after, function.first, without=head)
-            back = [b for b in function.blocks if head in after[b] and b not in around and b in reached(after, function.first)]
+            run = reached(after, function.first)
+            back = [block for block in run if head in after[block] and block not in around]
             if back:
                 function.loops[head] = blocks_of_loop(after, head, back)
     return function.loops
@@ -72,8 +73,9 @@ def blocks_of_loop(after, head, back):
 
 
 class Loops:
-    """Asks, for each loop that is come to, what there is to say of it. `said` has for the beginning of a function's name a
-    function of the module's function and the registers, that gives a Loop, or None where the turns are a number."""
+    """Asks, for each loop that is come to, what there is to say of it. `said` has for the beginning of a function's
+    name a function of the module's function and the registers, that gives a Loop, or None where the turns are a
+    number."""
 
     def __init__(self, said, told):
         self.said, self.told, self.running = said, told, {}
@@ -187,7 +189,8 @@ class Proof:
                 if at not in cells or at not in memory.cells or not agree(cells[at], memory.cells[at])}
 
     def turn(self, k, values, is_last):
-        """Runs one turn from the head, after k of them; or, from the last k, whatever is left until the loop is left."""
+        """Runs one turn from the head, after k of them; or, from the last k, whatever is left until the loop is
+        left."""
         for memory, cells in self.state:
             memory.cells = dict(cells)
         for (memory, at), x in zip(self.loop.cells, values):

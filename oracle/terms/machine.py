@@ -3,12 +3,14 @@ decide; what is loaded from an input is a term. A vector is one number, its firs
 import contextlib
 
 from . import operations
-from .llvm_text import (NOTHING, FunctionName, Pointer, Reader, Register, Struct, Unsupported, alignment_said, instruction,
+from .llvm_text import (NOTHING, FunctionName, Pointer, Reader, Register, Struct, Unsupported, alignment_said,
+                        instruction,
                         place_of, signed)
 from .memory import Input, Memory, Unset, is_address
 from .nodes import SUM, Node, Undecided, symbol
 from .operations import bits, side_by_side
-from .polynomials import (Poly, constant_of, divided, is_less, is_natural, is_number, lifted, minus, plus, times, wrapped)
+from .polynomials import (Poly, constant_of, divided, is_less, is_natural, is_number, lifted, minus, plus, times,
+                          wrapped)
 from .rules import ones
 
 WORD = 64
@@ -365,8 +367,8 @@ class Function:
             del self.module.live[live:]
 
     def walk(self, registers, before, block, body=None, stop=None):
-        """Runs from a block to the function's end, and gives its value. With `body`, the blocks of a loop whose head it is, it
-        runs to the block `stop` or out of the loop; then the answer is (before, block)."""
+        """Runs from a block to the function's end, and gives its value. With `body`, the blocks of a loop whose head
+        it is, it runs to the block `stop` or out of the loop; then the answer is (before, block)."""
         is_first = True
         while True:
             if body is None or not is_first:
@@ -408,7 +410,8 @@ class Module:
     beside               how far outside of its object an address may be that is compared
     live                 the memories that live
     instead              function's name -> what is called in its place
-    loops                asked at each block, whether a loop begins there that is shown for any number of turns (loops.py)
+    loops                asked at each block, whether a loop begins there that is shown for any number of turns
+    (loops.py)
     """
 
     def __init__(self, text):

@@ -1,5 +1,5 @@
-"""Checks of the machinery: random operations against numbers, laws, the reference's terms on the rows of the table, and a
-second opinion on each use of a rule, by a solver of another making (z3)."""
+"""Checks of the machinery: random operations against numbers, laws, the reference's terms on the rows of the table,
+and a second opinion on each use of a rule, by a solver of another making (z3)."""
 import glob
 import os
 import random
@@ -10,7 +10,9 @@ import table
 
 from . import comparison, definition, nodes, operations
 from .nodes import BITS, NODES, SUM, SYMBOL, Node, most_of, symbol, values_at
-from .operations import add, add_at, bits, both, either, monus, multiply, multiply_at, quotient, remainder, shift_right, xor
+from .operations import (add, add_at, bits, both, either, monus, multiply, multiply_at, quotient, remainder,
+                         shift_right,
+                         xor)
 from .sides import Request
 
 MANY_POINTS = 8
@@ -35,7 +37,8 @@ def rules_are_proved(module):
 # ---- random operations, each compared with numbers at eight points, and laws
 
 def constant(draw):
-    return draw.choice((draw.getrandbits(draw.choice((3, 8, 32, 64))), 1 << draw.randrange(70), (1 << draw.randrange(1, 65)) - 1, PRIME))
+    return draw.choice((draw.getrandbits(draw.choice((3, 8, 32, 64))), 1 << draw.randrange(70),
+                        (1 << draw.randrange(1, 65)) - 1, PRIME))
 
 
 def rotated(x, k, width=64):
@@ -55,7 +58,8 @@ def random_operation(draw, pool):
         lambda: bits(a, k, draw.randrange(1, 70)), lambda: multiply_at(width, a, b), lambda: remainder(a, 1 << width),
         lambda: add_at(width, (constant(draw), a), (constant(draw), b), (-1, draw.choice(pool))),
         lambda: monus(1 << max(width, most_of(a).bit_length()), a), lambda: both(a, constant(draw)),
-        lambda: rotated(bits(a, 0, width), k % width, width), lambda: turned(bits(a, 0, 64)), lambda: quotient(a, 1 << k)))()
+        lambda: rotated(bits(a, 0, width), k % width, width), lambda: turned(bits(a, 0, 64)),
+        lambda: quotient(a, 1 << k)))()
 
 
 def random_operations(module, rounds):
@@ -63,7 +67,8 @@ def random_operations(module, rounds):
     for _ in range(rounds):
         nodes.forget()
         message = symbol("m", 8 * 64)
-        pool = [bits(message, 8 * draw.randrange(40), draw.choice((8, 32, 64))) for _ in range(4)] + [symbol("seed", 64)]
+        pool = [bits(message, 8 * draw.randrange(40), draw.choice((8, 32, 64))) for _ in range(4)] + [symbol("seed",
+                                                                                                             64)]
         for _ in range(40):
             x = random_operation(draw, pool)
             made += 1
@@ -87,11 +92,15 @@ def laws(draw, message):
         (wrap(add(wrap(add(x, y)), z)), wrap(add(x, wrap(add(y, z))))),
         (wrap(multiply(wrap(add(x, y)), c)), wrap(add(multiply(x, c), wrap(multiply(y, c))))),
         (wrap(add(x, monus(1 << 64, x))), 0), (xor(xor(s, z), s), z), (rotated(rotated(s, k), 64 - k), s),
-        (rotated(v, k), xor(rotated(s, k), rotated(z, k))), (turned(turned(v)), v), (multiply_at(64, x, y), multiply_at(64, y, x)),
-        (add(bits(v, 0, k), multiply(shift_right(v, k), 1 << k)), v), (bits(multiply(x, y), 0, 64), multiply_at(64, x, y)),
-        (wrap(add(multiply(bits(v, 0, 32), 0x85EBCA77), multiply(shift_right(v, 32), 1 << 32))), wrap(add(v, multiply(bits(v, 0, 32), 0x85EBCA76)))),
+        (rotated(v, k), xor(rotated(s, k), rotated(z, k))), (turned(turned(v)), v),
+        (multiply_at(64, x, y), multiply_at(64, y, x)),
+        (add(bits(v, 0, k), multiply(shift_right(v, k), 1 << k)), v),
+        (bits(multiply(x, y), 0, 64), multiply_at(64, x, y)),
+        (wrap(add(multiply(bits(v, 0, 32), 0x85EBCA77), multiply(shift_right(v, 32), 1 << 32))),
+         wrap(add(v, multiply(bits(v, 0, 32), 0x85EBCA76)))),
         (monus((1 << 64) - 1, s), wrap(add(monus(1 << 64, s), (1 << 64) - 1))),
-        (shift_right(remainder(multiply(add(multiply(s, 1 << 64), v), c), 1 << 128), 64), wrap(add(shift_right(multiply(v, c), 64), multiply(s, c)))),
+        (shift_right(remainder(multiply(add(multiply(s, 1 << 64), v), c), 1 << 128), 64),
+         wrap(add(shift_right(multiply(v, c), 64), multiply(s, c)))),
     ]
 
 
@@ -107,7 +116,8 @@ def asked_by(row):
 
 
 def table_rows(module):
-    """The reference's terms at the bytes of each row: what gcc compiled has to agree with what came of the header here."""
+    """The reference's terms at the bytes of each row: what gcc compiled has to agree with what came of the header
+    here."""
     rows = [row for row in map(table.Row, table.lines()) if row.length <= LONGEST_ROW]
     nodes.forget()
     terms, bad = {}, []
@@ -135,8 +145,8 @@ DEBIAN_PYTHON = "/usr/lib/python3/dist-packages"
 
 
 class Solver:
-    """Asks z3 whether an answer is the operation on its arguments, for all values. The parts of the terms below some depth
-    are variables: what holds for any values of these holds for theirs."""
+    """Asks z3 whether an answer is the operation on its arguments, for all values. The parts of the terms below some
+    depth are variables: what holds for any values of these holds for theirs."""
 
     def __init__(self):
         sys.path.append(DEBIAN_PYTHON)
@@ -151,7 +161,9 @@ class Solver:
     def sized(self, x, width):
         """A bit vector cut or filled up to a width."""
         size = x.size()
-        return self.z3.ZeroExt(width - size, x) if size < width else self.z3.Extract(width - 1, 0, x) if size > width else x
+        if size < width:
+            return self.z3.ZeroExt(width - size, x)
+        return self.z3.Extract(width - 1, 0, x) if size > width else x
 
     def number(self, x, width):
         return self.z3.BitVecVal(x, width)
@@ -194,7 +206,8 @@ class Solver:
             return self.sized(self.term(x, depth, known), size)
         if name == "add_at":
             modulus, coefficients, *values = arguments
-            return sum((self.number(c, modulus) * at(x, modulus) for c, x in zip(coefficients, values)), self.number(0, modulus))
+            return sum((self.number(c, modulus) * at(x, modulus) for c, x in zip(coefficients, values)),
+                       self.number(0, modulus))
         if name in ("multiply_at", "complement"):
             modulus, *values = arguments
             return at(values[0], modulus) * at(values[1], modulus) if name == "multiply_at" else ~at(values[0], modulus)
@@ -206,14 +219,18 @@ class Solver:
             return self.z3.LShR(at(a, a.width), b)
         if name == "remainder" and isinstance(b, int) and not b & b - 1:
             return at(a, b.bit_length() - 1)
-        operations_of_two = {"add": lambda: at(a) + at(b), "multiply": lambda: at(a) * at(b), "monus": lambda: at(a) - at(b),
-                             "xor": lambda: at(a) ^ at(b), "either": lambda: at(a) | at(b), "both": lambda: at(a) & at(b),
-                             "remainder": lambda: self.z3.URem(at(a), at(b)), "quotient": lambda: self.z3.UDiv(at(a), at(b))}
+        operations_of_two = {"add": lambda: at(a) + at(b), "multiply": lambda: at(a) * at(b),
+                             "monus": lambda: at(a) - at(b),
+                             "xor": lambda: at(a) ^ at(b), "either": lambda: at(a) | at(b),
+                             "both": lambda: at(a) & at(b),
+                             "remainder": lambda: self.z3.URem(at(a), at(b)),
+                             "quotient": lambda: self.z3.UDiv(at(a), at(b))}
         return operations_of_two[name]()
 
     def holds(self, name, answer, arguments):
         """Whether the answer is right for all values, or None where that isn't decided in time."""
-        widths = [x.width if isinstance(x, Node) else x.bit_length() for x in [answer, *arguments] if isinstance(x, (int, Node))]
+        numbers = [x for x in [answer, *arguments] if isinstance(x, (int, Node))]
+        widths = [x.width if isinstance(x, Node) else x.bit_length() for x in numbers]
         width = sum(widths[1:]) if name == "multiply" else max(widths) + 1
         for depth in range(1, DEEPEST + 1):
             known, solver = {}, self.z3.Solver()
@@ -250,4 +267,5 @@ def by_solver(module):
     undecided = sum(holds is None for holds, _ in found)
     bad = [f"{name} of {arguments}: {answer}" for holds, (name, answer, arguments) in found if holds is False]
     bad += ["half of the operations aren't decided"] if 2 * undecided > len(found) else []
-    return f"{len(found) - undecided} of {len(found)} operations hold for all values, {undecided} weren't decided in {SECONDS} s each", bad
+    told = f"{len(found) - undecided} of {len(found)} operations hold for all values"
+    return f"{told}, {undecided} weren't decided in {SECONDS} s each", bad

@@ -30,8 +30,8 @@ def is_within(first, end, low, high):
 
 
 class Input:
-    """The bytes of a message or a secret. Those at x + c, c a number, are bytes of a symbol of its own for each x: two such
-    windows may be the same bytes, of which nothing here makes use."""
+    """The bytes of a message or a secret. Those at x + c, c a number, are bytes of a symbol of its own for each x:
+    two such windows may be the same bytes, of which nothing here makes use."""
 
     alignment = 1
 
@@ -78,9 +78,10 @@ class Piece(Input):
 
 
 class Memory:
-    """An object that is stored to. `cells` has what was stored at an offset, with its size; and under RUNS what was copied
-    with a length or to a place that isn't a number: (low, high, input, place), byte c of the object is byte place + c of
-    the input for low <= c < high. No byte is in two of them. What is copied into `run_area` is kept as a run."""
+    """An object that is stored to. `cells` has what was stored at an offset, with its size; and under RUNS what was
+    copied with a length or to a place that isn't a number: (low, high, input, place), byte c of the object is byte
+    place + c of the input for low <= c < high. No byte is in two of them. What is copied into `run_area` is kept as a
+    run."""
 
     def __init__(self, name, length, cells=(), runs=(), run_area=None, alignment=1):
         self.name, self.length, self.run_area, self.alignment = name, length, run_area, alignment
@@ -180,7 +181,9 @@ class Memory:
                       if first == RUNS or is_natural(minus(first, end)) or is_natural(minus(at, first + cell[0]))}
         low, high, shift, others = at, end, minus(place, at), []
         for run in self.runs():
-            if run[2] is source and is_same(run[3], shift) and is_natural(minus(run[1], low)) and is_natural(minus(high, run[0])):
+            if run[2] is source and is_same(run[3], shift) and is_natural(minus(run[1],
+                                                                                low)) and is_natural(minus(high,
+                                                                                                           run[0])):
                 low, high = in_order(run[0], low)[0], in_order(run[1], high)[1]
             else:
                 others += outside(run, at, end)

@@ -1,9 +1,9 @@
 """The streams of XXH32 and XXH64: reset, any number of updates of any lengths, digest, by induction over the updates.
 
 A state stands for the first N bytes of a message when its total is N, its accumulators are the definition's after
-N / stripe stripes, its memsize is N % stripe, and its buffer begins with these bytes. A reset gives a state that stands for
-no byte; each update leads from one that stands for N = stripe * a + r bytes to one for stripe * b + s; and a digest of one
-is the definition's value, and changes nothing."""
+N / stripe stripes, its memsize is N % stripe, and its buffer begins with these bytes. A reset gives a state that
+stands for no byte; each update leads from one that stands for N = stripe * a + r bytes to one for stripe * b + s; and
+a digest of one is the definition's value, and changes nothing."""
 from .definition import Bytes, suppositions
 from .every_length import LONGEST, Proof, plain_loop
 from .loops import NotShown, agree
@@ -12,7 +12,8 @@ from .nodes import symbol
 from .polynomials import as_word, at_most, given, is_natural, is_same, minus, plus, times, variable
 from .sides import BESIDE, seed_symbol
 
-FIELDS = {64: ["total", "accumulators", "buffer", "memsize"], 32: ["total", "large", "accumulators", "buffer", "memsize"]}
+FIELDS = {64: ["total", "accumulators", "buffer", "memsize"],
+          32: ["total", "large", "accumulators", "buffer", "memsize"]}
 OK = 0
 
 
@@ -87,7 +88,8 @@ class PlainStreams(Proof):
         return given(at_most(self.whole, LONGEST), minus(self.whole, n), *more)
 
     def updates(self):
-        """From stripe * a + r bytes: pieces that complete no stripe, one that completes one, and those that complete more."""
+        """From stripe * a + r bytes: pieces that complete no stripe, one that completes one, and those that complete
+        more."""
         r, t, d = variable("r"), variable("t"), variable("d")
         some = [minus(r, 1), at_most(r, self.stripe - 1)]
         for a in (0, variable("a")):
@@ -110,10 +112,12 @@ class PlainStreams(Proof):
             cells = [(memory, self.at["accumulators"] + self.word * j) for j in range(4)]
             say = plain_loop("an update's stripes", self.texts[f"Xxh{self.width}.accumulator"], self.seed, self.message,
                              minus(minus(b, first), 1), self.width, first, cells)
-            self.module.loops.said.update({self.function("update"): say, f"@XXH{self.width}_consumeLong": of_any_length(say)})
+            self.module.loops.said.update({self.function("update"): say,
+                                           f"@XXH{self.width}_consumeLong": of_any_length(say)})
             self.module.live.append(memory)
             length = minus(ended, begun)
-            if self.module.call(self.function("update"), [(memory, 0), (Piece(self.source, begun, length), 0), length]) != OK:
+            if self.module.call(self.function("update"), [(memory, 0), (Piece(self.source, begun, length), 0),
+                                                          length]) != OK:
                 raise NotShown("an update answers an error")
             self.expect_state("update", memory, b, s)
 

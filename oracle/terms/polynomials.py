@@ -1,8 +1,8 @@
 """Naturals that depend on a length: polynomials over variables that are naturals, under facts, each a polynomial that
 isn't negative. A comparison is decided where the facts decide it for all values, and is Undecided else.
 
-`is_natural(x)` looks for x as a sum of facts times monomials and of monomials, after each variable was moved to begin at
-0. Each "yes" is compared with the value at some points at which the facts hold."""
+`is_natural(x)` looks for x as a sum of facts times monomials and of monomials, after each variable was moved to begin
+at 0. Each "yes" is compared with the value at some points at which the facts hold."""
 import contextlib
 import random
 
@@ -80,6 +80,8 @@ def made(parts):
 
 
 def plus(*terms):
+    if all(x.__class__ is int for x in terms):
+        return sum(terms)
     out = {}
     for x in terms:
         for names, c in parts_of(x).items():
@@ -171,7 +173,8 @@ def points_for(x):
     """Some points at which each fact holds, with values for the variables of x."""
     names = sorted(names_of(x) - names_of(*facts))
     for number, point in enumerate(possible.get(known.get("facts' key"), ())):
-        yield {**point, **{name: least.get(name, 0) + CHOICES[(number + k) % len(CHOICES)] for k, name in enumerate(names)}}
+        yield {**point, **{name: least.get(name, 0) + CHOICES[(number + k) % len(CHOICES)] for k,
+                           name in enumerate(names)}}
 
 
 def expect_possible():
@@ -209,7 +212,8 @@ def is_natural(x):
         if "facts" not in known:
             known["facts"] = [from_zero(fact) for fact in facts]
         holds = all(value_at(x, point) >= 0 for point in points_for(x))
-        known[key] = holds and any(is_sum_of_facts(from_zero(x), known["facts"], depth) for depth in range(1, DEPTH + 1))
+        known[key] = holds and any(is_sum_of_facts(from_zero(x), known["facts"], depth) for depth in range(1,
+                                                                                                           DEPTH + 1))
     return known[key]
 
 
@@ -224,7 +228,8 @@ def without(names, product):
 
 
 def is_sum_of_facts(x, zero_based, depth):
-    """Whether x is a sum of facts times monomials and of monomials: a negative part is taken away by a fact that has it."""
+    """Whether x is a sum of facts times monomials and of monomials: a negative part is taken away by a fact that has
+    it."""
     negative = [names for names, c in x.items() if c < 0]
     if not negative:
         return True

@@ -246,7 +246,8 @@ def new_sum(width, constant, parts):
     most = constant + sum(c * x.most for c, x in parts)
     is_exact = most < 1 << width
     width = most.bit_length() if is_exact else width
-    return node(SUM, tuple(sorted(parts, key=lambda part: part[1].number)), width, min(most, ones(width)), constant, is_exact)
+    return node(SUM, tuple(sorted(parts, key=lambda part: part[1].number)), width, min(most, ones(width)), constant,
+                is_exact)
 
 
 def concatenation(width, constant, parts):
@@ -340,8 +341,8 @@ class Collected:
 
 
 def joined_runs(runs, mask):
-    """Runs of the same atoms (first, length, constant, coefficient), cut at their common ends, added up, and joined where
-    the coefficient goes on as a place value does."""
+    """Runs of the same atoms (first, length, constant, coefficient), cut at their common ends, added up, and joined
+    where the coefficient goes on as a place value does."""
     out = []
     for cluster in agreeing(sorted(runs)):
         ends = sorted({end for first, length, *_ in cluster for end in (first, first + length)})

@@ -28,16 +28,19 @@ def install(headers, packages):
     if missing:
         quiet = {**os.environ, "DEBIAN_FRONTEND": "noninteractive"}
         subprocess.run(["apt-get", "update", "-qq"], env=quiet, stdout=subprocess.DEVNULL)
-        wanted = ["apt-get", "-o", "DPkg::Lock::Timeout=300", "install", "-y", "-qq", "--no-install-recommends", *missing]
+        wanted = ["apt-get", "-o", "DPkg::Lock::Timeout=300", "install", "-y", "-qq", "--no-install-recommends",
+                  *missing]
         if subprocess.run(wanted, env=quiet, stdout=subprocess.DEVNULL).returncode:
-            sys.exit(f"oracle/symbolic: these packages of Debian are needed, and apt-get couldn't install them: {' '.join(missing)}")
+            sys.exit("oracle/symbolic: these packages of Debian are needed, and apt-get couldn't install them: "
+                     + " ".join(missing))
 
 
 def llvm_text(headers=HEADERS, vector="scalar"):
     """LLVM's text of the header in a folder, as clang's front end writes it with no optimiser."""
     with tempfile.TemporaryDirectory(prefix="symbolic-") as room:
         out = f"{room}/reference.ll"
-        subprocess.run([CLANG, "-O0", "-w", "-fno-discard-value-names", "-S", "-emit-llvm", *VECTORS[vector], "-I", headers,
+        subprocess.run([CLANG, "-O0", "-w", "-fno-discard-value-names", "-S", "-emit-llvm", *VECTORS[vector], "-I",
+                        headers,
                         f"{FOLDER}/reference.c", "-o", out], check=True)
         with open(out, encoding="utf-8") as file:
             return file.read()
@@ -52,7 +55,8 @@ def release_of(headers):
     with open(f"{headers}/xxhash.h", "rb") as file:
         text = file.read()
     numbers = [line.split()[2].decode() for line in text.splitlines()
-               if line.startswith((b"#define XXH_VERSION_MAJOR", b"#define XXH_VERSION_MINOR", b"#define XXH_VERSION_RELEASE"))]
+               if line.startswith((b"#define XXH_VERSION_MAJOR", b"#define XXH_VERSION_MINOR",
+                                   b"#define XXH_VERSION_RELEASE"))]
     return ".".join(numbers), hashlib.sha256(text).hexdigest()
 
 
@@ -87,12 +91,14 @@ class Request:
 
     def of_definition(self, entries):
         secret = self.secret and Bytes(self.secret, 0, self.secret_length)
-        return definition.value(entries, self.hash_name, self.kind, self.seed(), secret, Bytes(self.message, 0, self.length))
+        return definition.value(entries, self.hash_name, self.kind, self.seed(), secret,
+                                Bytes(self.message, 0, self.length))
 
     def definition_at(self, entries, point):
         """What the definition says where the symbols are numbers."""
         seed = self.seed() if isinstance(self.seed(), int) else point[self.seed().parts[0]]
-        return definition.value(entries, self.hash_name, self.kind, seed, memoryview(point["s"]), memoryview(point["m"]))
+        return definition.value(entries, self.hash_name, self.kind, seed, memoryview(point["s"]),
+                                memoryview(point["m"]))
 
     def of_reference(self, module):
         """What the library computes. It asks whether a seed is 0: here it isn't, and with_seed_0 is that case."""
@@ -114,7 +120,8 @@ class Request:
 
     def with_seed_0(self):
         """The case that of_reference leaves out, if it leaves one out."""
-        asks = self.hash_name.startswith("3-") and self.fixed_seed is None and (self.length > 240 or self.cuts is not None)
+        asks = self.hash_name.startswith("3-") and self.fixed_seed is None and (self.length > 240
+                                                                                or self.cuts is not None)
         if not asks or not self.has_seed() or self.kind == "both" and self.cuts is None:
             return []
         return [Request(self.hash_name, self.kind, self.length, self.secret_length, 0, self.cuts)]
@@ -126,7 +133,8 @@ class Request:
             for seed in (0, 2 ** 64 - 1, 2 ** 63):
                 yield {"m": bytes([byte]) * n, "s": bytes([255 - byte]) * k, "seed32": seed >> 32, "seed64": seed}
         for _ in range(count):
-            yield {"m": draw.randbytes(n), "s": draw.randbytes(k), "seed32": draw.getrandbits(32), "seed64": draw.getrandbits(64)}
+            yield {"m": draw.randbytes(n), "s": draw.randbytes(k), "seed32": draw.getrandbits(32),
+                   "seed64": draw.getrandbits(64)}
 
 
 def differing_point(request, a, b, count=20):

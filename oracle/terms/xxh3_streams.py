@@ -1,15 +1,18 @@
-"""The streams of XXH3: reset, any number of updates of any lengths, digests of 64 and 128 bits, by induction over the updates.
+"""The streams of XXH3: reset, any number of updates of any lengths, digests of 64 and 128 bits, by induction over the
+updates.
 
-A state stands for the first N = 64 K + f bytes of a message, K = q b + j stripes, j < q: q is the number of stripes in a
-block, f <= 256 the bytes in the buffer, f = 0 only where N = 0, and K is 0 or at least 4. Its accumulators are the definition's
-after K stripes, its counters j, f and N; its buffer begins with the f bytes behind the stripes, and where K > 0 the buffer's
-bytes from 192 on that aren't among these are those of the last stripe.
+A state stands for the first N = 64 K + f bytes of a message, K = q b + j stripes, j < q: q is the number of stripes
+in a block, f <= 256 the bytes in the buffer, f = 0 only where N = 0, and K is 0 or at least 4. Its accumulators are
+the definition's after K stripes, its counters j, f and N; its buffer begins with the f bytes behind the stripes, and
+where K > 0 the buffer's bytes from 192 on that aren't among these are those of the last stripe.
 
-The secret lies outside of the state, with any length, or inside, where a seed's is derived to. Which bytes it has doesn't
-matter to an update or a digest, so they are symbols: a secret that a seed derives, and the default one, are cases of these."""
+The secret lies outside of the state, with any length, or inside, where a seed's is derived to. Which bytes it has
+doesn't matter to an update or a digest, so they are symbols: a secret that a seed derives, and the default one, are
+cases of these."""
 from . import definition, nodes
 from .definition import Bytes
-from .every_length import DEFAULT_STRIPES, LONGEST_SECRET, SHORTEST_SECRET_STRIPES, Proof, cells_at, suppositions, xxh3_loop
+from .every_length import (DEFAULT_STRIPES, LONGEST_SECRET, SHORTEST_SECRET_STRIPES, Proof, cells_at, suppositions,
+                           xxh3_loop)
 from .loops import NotShown, agree, loops_of
 from .memory import Input, Memory, Piece
 from .nodes import symbol
@@ -18,7 +21,8 @@ from .polynomials import Poly, at_most, divided, given, is_natural, is_same, min
 from .sides import BESIDE, seed_symbol
 
 LONGEST = (1 << 63) - 1      # bytes together: the header takes differences of addresses as signed numbers
-FIELDS = ["accumulators", "inside", "buffer", "buffered", "uses_seed", "so_far", "total", "per_block", "limit", "seed", "reserved", "outside"]
+FIELDS = ["accumulators", "inside", "buffer", "buffered", "uses_seed", "so_far", "total", "per_block", "limit", "seed",
+          "reserved", "outside"]
 BUFFER, STRIPE, LAST_STRIPE = 256, 64, 192
 DEFAULT_SECRET = 192
 OK = 0
@@ -60,7 +64,8 @@ class Xxh3Streams(Proof):
 
     def numbers(self, b, j, f):
         """What a state holds but for accumulators and buffer: (offset, size, value)."""
-        values = {"buffered": (4, f), "so_far": (8, j), "total": (8, self.bytes_of(b, j, f)), "uses_seed": (4, self.uses_seed),
+        values = {"buffered": (4, f), "so_far": (8, j), "total": (8, self.bytes_of(b, j, f)),
+                  "uses_seed": (4, self.uses_seed),
                   "seed": (8, self.seed), "per_block": (8, self.q), "limit": (8, minus(self.secret_length, STRIPE)),
                   "outside": (8, (self.secret_source, 0) if self.place == "outside" else 0)}
         return [(self.at[name], size, x) for name, (size, x) in values.items()]
@@ -98,7 +103,8 @@ class Xxh3Streams(Proof):
             suppositions.suppose(lambda i: self.after(i, k), accumulators)
         cells = self.numbers(b, j, f) + [(self.at["accumulators"] + 8 * i, 8, x) for i, x in enumerate(accumulators)]
         buffer = self.at["buffer"]
-        return Memory("state", self.size, cells, [*self.secret_runs(), *runs], run_area=(buffer, buffer + BUFFER), alignment=64)
+        return Memory("state", self.size, cells, [*self.secret_runs(), *runs], run_area=(buffer, buffer + BUFFER),
+                      alignment=64)
 
     def expect_state(self, what, memory, b, j, f, runs):
         accumulators = [(self.at["accumulators"] + 8 * i, 8, self.after(i, self.stripes(b, j))) for i in range(8)]
@@ -114,7 +120,8 @@ class Xxh3Streams(Proof):
     def one_update_for_both_widths(self):
         """The update of 128 bits has the text of the one of 64, or calls it: what is shown of it is shown of both."""
         both = [self.module.functions[f"@XXH_INLINE_XXH3_{width}bits_update"] for width in WIDTHS]
-        called = [parts[0].value.name for block in both[1].blocks.values() for _, operation, parts in block if operation == "call"]
+        called = [parts[0].value.name for block in both[1].blocks.values() for _, operation,
+                  parts in block if operation == "call"]
         if both[0].blocks != both[1].blocks and called != [both[0].name]:
             raise NotShown("two updates")
 
@@ -132,7 +139,8 @@ class Xxh3Streams(Proof):
             self.module.loops.said.update({"@XXH3_accumulate": self.of_stripes})
             if blocks:
                 self.module.loops.said.update({"@XXH3_update": blocks, "@XXH3_consumeStripes": blocks})
-            if self.module.call("@XXH_INLINE_XXH3_128bits_update", [(memory, 0), (Piece(self.source, begun, length), 0), length]) != OK:
+            if self.module.call("@XXH_INLINE_XXH3_128bits_update",
+                                [(memory, 0), (Piece(self.source, begun, length), 0), length]) != OK:
                 raise NotShown("an update answers an error")
             self.expect_some_stripes(start, end)
             for more, wanted in expected:
@@ -150,7 +158,8 @@ class Xxh3Streams(Proof):
             raise NotShown("fewer than four stripes are taken")
 
     def of_stripes(self, function, registers):
-        """The loop over stripes, where their number isn't a number. To a block's end its last turn goes with the scramble."""
+        """The loop over stripes, where their number isn't a number. To a block's end its last turn goes with the
+        scramble."""
         count = registers.get("%nbStripes")
         if not isinstance(count, Poly):
             return None
@@ -159,7 +168,8 @@ class Xxh3Streams(Proof):
         secret, place = registers["%secret"]
         position = divided(minus(place, self.at["inside"] if self.place == "inside" else 0), 8)[0]
         is_whole = is_same(plus(position, count), self.q)
-        return xxh3_loop(self.after, "stripes", minus(count, int(is_whole)), cells_at(registers["%acc"]), lambda k: plus(first, k))
+        return xxh3_loop(self.after, "stripes", minus(count, int(is_whole)), cells_at(registers["%acc"]),
+                         lambda k: plus(first, k))
 
     def loop(self, name, last, place, then=None):
         """A loop of an update: after k turns the state's accumulators are those after place(k) stripes."""
@@ -197,7 +207,8 @@ class Xxh3Streams(Proof):
             self.update(start, end, runs, self.ends(*end), [*there, of_f])
 
     def starts(self):
-        """Where an update begins that takes stripes: the state, the facts, and the block and stripe behind the buffer."""
+        """Where an update begins that takes stripes: the state, the facts, and the block and stripe behind the
+        buffer."""
         b, j, f = (variable(name) for name in "bjf")
         yield (0, 0, 0), [], 0, 0
         there = [minus(f, 1), at_most(f, BUFFER)]
@@ -209,7 +220,8 @@ class Xxh3Streams(Proof):
         """The buffer's stripes are taken, and the rest of the piece goes there."""
         R = variable("R")
         if not is_same(start[2], 0):
-            self.update(start, (b, j, R), self.buffered(*start), self.ends(b, j, R), [*facts, minus(R, 1), at_most(R, BUFFER)])
+            self.update(start, (b, j, R), self.buffered(*start), self.ends(b, j, R),
+                        [*facts, minus(R, 1), at_most(R, BUFFER)])
 
     # ---- pieces after which more is left than the buffer takes: release 0.8.3
 
@@ -262,15 +274,16 @@ class Xxh3Streams(Proof):
             first = self.stripes(b, j)
             for times_more, of_more in ((0, []), (M, [minus(M, 1)]))[:1 + goes_on]:
                 end = plus(b, 1), plus(4 - c, times(4, times_more)), h
-                say = self.loop("four stripes to the next block", K, lambda k: plus(first, times(4, k)), None if is_same(times_more, 0) else self.loop(
-                    "four stripes behind", minus(M, 1), lambda k: plus(times(self.q, plus(b, 1)), 4 - c, times(4, k))))
+                behind = None if is_same(times_more, 0) else self.loop(
+                    "four stripes behind", minus(M, 1), lambda k: plus(times(self.q, plus(b, 1)), 4 - c, times(4, k)))
+                say = self.loop("four stripes to the next block", K, lambda k: plus(first, times(4, k)), behind)
                 self.update(start, end, self.buffered(*start), self.ends(*end),
                             [*facts, *of_more, *self.of_buffers(plus(K, 1, times_more))], say)
         self.use_stripes(whole)
 
     def starts_before_an_end(self):
-        """As `starts`, where K times four stripes and c more, c from 1 to 4, are left of the block; and whether four stripes
-        and more can be left then."""
+        """As `starts`, where K times four stripes and c more, c from 1 to 4, are left of the block; and whether four
+        stripes and more can be left then."""
         b, f, K, whole = variable("b"), variable("f"), variable("K"), self.q
         there = [minus(f, 1), at_most(f, BUFFER)]
         for c in range(1, 5):
@@ -333,15 +346,15 @@ class Xxh3Streams(Proof):
                     raise NotShown("a digest changes the state")
 
     def effective(self, way, width):
-        """The secret that takes effect. In release 0.8.1 a digest of 128 bits asks whether the seed is 0, and not whether one
-        was given: the one place where its streams say something else than its one-shots (docs/C.md)."""
+        """The secret that takes effect. In release 0.8.1 a digest of 128 bits asks whether the seed is 0, and not
+        whether one was given: the one place where its streams say something else than its one-shots (docs/C.md)."""
         if way == "secret" or way == "both 0" and width == "128" and self.is_0_8_1:
             return self.secret
         return self.texts["effective_secret"](self.secret, self.message)
 
     def resets(self):
-        """Each way to reset gives a state that stands for no byte. A seed's secret is derived, but from a state that has it;
-        and the seed 0 is no seed."""
+        """Each way to reset gives a state that stands for no byte. A seed's secret is derived, but from a state that
+        has it; and the seed 0 is no seed."""
         seed, default = seed_symbol("3-64"), (self.module.globals["@XXH3_kSecret"], 0)
         if [default[0].load(k, 1) for k in range(DEFAULT_SECRET)] != list(self.texts["default_secret"]()) \
                 or self.texts["derived_secret"](0) != self.texts["default_secret"]():
@@ -363,7 +376,8 @@ class Xxh3Streams(Proof):
         """From a state of that seed, with a secret inside."""
         derived = [self.texts["word64"](self.texts["derived_secret"](seed), 8 * i) for i in range(DEFAULT_SECRET // 8)]
         inside = [(self.at["inside"] + 8 * i, 8, x) for i, x in enumerate(derived)]
-        memory = Memory("state", self.size, [(self.at["seed"], 8, seed_before), (self.at["outside"], 8, 0)], alignment=64)
+        memory = Memory("state", self.size, [(self.at["seed"], 8, seed_before), (self.at["outside"], 8, 0)],
+                        alignment=64)
         self.prepare({}, [memory])
         if seed_before is seed and outside == 0:
             memory.cells.update({at: (size, x) for at, size, x in inside})
