@@ -92,8 +92,8 @@ class Asked:
         try:
             with Limited():
                 value = self.request.of_definition(entries)
-                self.outcome = None if nodes.is_same(value, self.answer) else difference(self.request, value,
-                                                                                         self.answer)
+                is_same = nodes.is_same(value, self.answer)
+                self.outcome = None if is_same else difference(self.request, value, self.answer)
         except Undecided:
             self.outcome = self.by_numbers(entries)
         except Slow:
@@ -132,8 +132,8 @@ def of_text(module, part, parts):
     """Tells of each change of one token, of a part of them: (outcome, the change's text)."""
     nodes.forget()
     program = definition.program()
-    rows = [Asked(request, module) for request in asked()] + [CountedLength(row)
-                                                              for row in proved_rows.counted_lengths()]
+    rows = [Asked(request, module) for request in asked()]
+    rows += [CountedLength(row) for row in proved_rows.counted_lengths()]
     by_definition = mutants.rows_by_definition(program, rows)
     known, out = nodes.mark(), []
     for change in mutants.all_changes(program)[part::parts]:

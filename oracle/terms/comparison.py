@@ -20,8 +20,8 @@ PAIRS = 6
 def kinds(secrets):
     """(hash, kind of call, length of the secret)"""
     of_secret = [(way, n) for way in ("secret", "both") for n in secrets]
-    return PLAIN + [(name, *way) for name in ("3-64", "3-128") for way in [("default", None), ("seed", None),
-                                                                           *of_secret]]
+    ways = [("default", None), ("seed", None), *of_secret]
+    return PLAIN + [(name, *way) for name in ("3-64", "3-128") for way in ways]
 
 
 def edges(secret_length):

@@ -67,8 +67,8 @@ def random_operations(module, rounds):
     for _ in range(rounds):
         nodes.forget()
         message = symbol("m", 8 * 64)
-        pool = [bits(message, 8 * draw.randrange(40), draw.choice((8, 32, 64))) for _ in range(4)] + [symbol("seed",
-                                                                                                             64)]
+        pool = [bits(message, 8 * draw.randrange(40), draw.choice((8, 32, 64))) for _ in range(4)]
+        pool.append(symbol("seed", 64))
         for _ in range(40):
             x = random_operation(draw, pool)
             made += 1

@@ -181,9 +181,8 @@ class Memory:
                       if first == RUNS or is_natural(minus(first, end)) or is_natural(minus(at, first + cell[0]))}
         low, high, shift, others = at, end, minus(place, at), []
         for run in self.runs():
-            if run[2] is source and is_same(run[3], shift) and is_natural(minus(run[1],
-                                                                                low)) and is_natural(minus(high,
-                                                                                                           run[0])):
+            goes_on = run[2] is source and is_same(run[3], shift)
+            if goes_on and is_natural(minus(run[1], low)) and is_natural(minus(high, run[0])):
                 low, high = in_order(run[0], low)[0], in_order(run[1], high)[1]
             else:
                 others += outside(run, at, end)

@@ -116,8 +116,8 @@ class PlainStreams(Proof):
                                            f"@XXH{self.width}_consumeLong": of_any_length(say)})
             self.module.live.append(memory)
             length = minus(ended, begun)
-            if self.module.call(self.function("update"), [(memory, 0), (Piece(self.source, begun, length), 0),
-                                                          length]) != OK:
+            piece = Piece(self.source, begun, length)
+            if self.module.call(self.function("update"), [(memory, 0), (piece, 0), length]) != OK:
                 raise NotShown("an update answers an error")
             self.expect_state("update", memory, b, s)
 

@@ -212,8 +212,8 @@ def is_natural(x):
         if "facts" not in known:
             known["facts"] = [from_zero(fact) for fact in facts]
         holds = all(value_at(x, point) >= 0 for point in points_for(x))
-        known[key] = holds and any(is_sum_of_facts(from_zero(x), known["facts"], depth) for depth in range(1,
-                                                                                                           DEPTH + 1))
+        depths = range(1, DEPTH + 1)
+        known[key] = holds and any(is_sum_of_facts(from_zero(x), known["facts"], depth) for depth in depths)
     return known[key]
 
 

@@ -120,10 +120,12 @@ class Request:
 
     def with_seed_0(self):
         """The case that of_reference leaves out, if it leaves one out."""
-        asks = self.hash_name.startswith("3-") and self.fixed_seed is None and (self.length > 240
-                                                                                or self.cuts is not None)
+        is_long = self.length > 240 or self.cuts is not None
+        asks = self.hash_name.startswith("3-") and self.fixed_seed is None and is_long
         if not asks or not self.has_seed() or self.kind == "both" and self.cuts is None:
             return []
+        if self.kind == "both" and self.hash_name == "3-128" and self.length <= 240:
+            return []     # where release 0.8.1 differs: xxh3_streams.py
         return [Request(self.hash_name, self.kind, self.length, self.secret_length, 0, self.cuts)]
 
     def points(self, count, draw):
