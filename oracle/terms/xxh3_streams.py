@@ -395,13 +395,11 @@ class Xxh3Streams(Proof):
 
     def reset_numbers(self, outside, secret_length):
         """What a state holds that stands for no byte, with a secret that lies outside, or inside where that is 0."""
-        per_block = divided(minus(secret_length, STRIPE), 8)[0]
-        values = {"outside": outside, "limit": minus(secret_length, STRIPE), "per_block": per_block}
-        sizes = {self.at[name]: (size, x) for name, size, x in ((name, 8, x) for name, x in values.items())}
-        cells = {at: (size, x) for at, size, x in self.numbers(0, 0, 0)}
-        cells.update(sizes)
+        others = {"outside": outside, "limit": minus(secret_length, STRIPE),
+                  "per_block": divided(minus(secret_length, STRIPE), 8)[0]}
+        kept = [cell for cell in self.numbers(0, 0, 0) if cell[0] not in [self.at[name] for name in others]]
         accumulators = [(self.at["accumulators"] + 8 * i, 8, self.after(i, 0)) for i in range(8)]
-        return [(at, size, x) for at, (size, x) in cells.items()] + accumulators
+        return kept + [(self.at[name], 8, x) for name, x in others.items()] + accumulators
 
 
 def at_second_time(say):
