@@ -64,9 +64,9 @@ class Xxh3Streams(Proof):
 
     def numbers(self, b, j, f):
         """What a state holds but for accumulators and buffer: (offset, size, value)."""
-        values = {"buffered": (4, f), "so_far": (8, j), "total": (8, self.bytes_of(b, j, f)),
-                  "uses_seed": (4, self.uses_seed),
-                  "seed": (8, self.seed), "per_block": (8, self.q), "limit": (8, minus(self.secret_length, STRIPE)),
+        values = {"buffered": (4, f), "so_far": (8, j), "total": (8, self.bytes_of(b, j, f)), "per_block": (8, self.q),
+                  "uses_seed": (4, self.uses_seed), "seed": (8, self.seed),
+                  "limit": (8, minus(self.secret_length, STRIPE)),
                   "outside": (8, (self.secret_source, 0) if self.place == "outside" else 0)}
         return [(self.at[name], size, x) for name, (size, x) in values.items()]
 
@@ -120,8 +120,8 @@ class Xxh3Streams(Proof):
     def one_update_for_both_widths(self):
         """The update of 128 bits has the text of the one of 64, or calls it: what is shown of it is shown of both."""
         both = [self.module.functions[f"@XXH_INLINE_XXH3_{width}bits_update"] for width in WIDTHS]
-        called = [parts[0].value.name for block in both[1].blocks.values() for _, operation,
-                  parts in block if operation == "call"]
+        lines = [line for block in both[1].blocks.values() for line in block]
+        called = [parts[0].value.name for _, operation, parts in lines if operation == "call"]
         if both[0].blocks != both[1].blocks and called != [both[0].name]:
             raise NotShown("two updates")
 
