@@ -288,7 +288,7 @@ BY_HAND = [
     (RARE[2], "bit_xor (low64 (a * b)) (high64 (a * b))", "bit_xor (a * low64 b % 2 ^ 64) (b * a / 2 ^ 64 % 2 ^ 64)",
      XXH3, True),
 ]
-HAND_LENGTHS = {"64": [32, 40, 64, 100], **dict.fromkeys(XXH3, [9, 12, 16, 17, 64, 128, 129, 240, 241, 512, 1089])}
+HAND_LENGTHS = {"64": [32, 64], **dict.fromkeys(XXH3, [9, 16, 17, 128, 240, 241, 1089])}
 
 
 # Changes of one token that differ from 2 ^ 31 or 2 ^ 32 bytes on alone: words of the change as mutants.py prints it,
@@ -349,7 +349,8 @@ def by_hand(module):
                 a, b = request.of_definition(entries), request.of_reference(module)
                 asked_lengths += 1
                 if not nodes.is_same(a, b):
-                    others, point = others + 1, point or differing_point(request, a, b)
+                    point = point or not others and differing_point(request, a, b)   # asked once
+                    others += 1
         found = f"another term at {others} of {asked_lengths} lengths" + (", and a point was found" if point else "")
         out.append(((others == 0) == is_equal, f"{old}  ->  {new}{' (equal)' if is_equal else ''}: {found}"))
     return out

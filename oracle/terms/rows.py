@@ -17,8 +17,8 @@ from .nodes import WrongRule
 from .sides import HEADERS, VECTORS, llvm_text
 
 PARTS = 4                    # the changes are tried in so many rows
-SAMPLE = 16                  # in the gate, each so manieth change of the definition's text
-LINES, FEW_LINES = 5000, 150   # changes of LLVM's text
+SAMPLE = 32                  # in the gate, each so manieth change of the definition's text
+LINES, FEW_LINES = 5000, 100   # changes of LLVM's text
 GATE_SECRETS, STREAM_SECRETS = (136,), (136, 192)
 
 
