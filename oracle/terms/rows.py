@@ -1,8 +1,10 @@
 """The rows of oracle/symbolic: what is asked, in processes of its own each, and what is said of it."""
 import collections
+import concurrent.futures
 import functools
 import multiprocessing
 import resource
+import threading
 import time
 import traceback
 
@@ -18,8 +20,10 @@ from .sides import HEADERS, VECTORS, llvm_text
 
 PARTS = 4                    # the changes are tried in so many rows
 SAMPLE = 32                  # in the gate, each so manieth change of the definition's text
-LINES, FEW_LINES = 5000, 100   # changes of LLVM's text
+LINES, FEW_LINES = 5000, 100  # changes of LLVM's text
 GATE_SECRETS, STREAM_SECRETS = (136,), (136, 192)
+SHOWN = 30                   # complaints of a row
+FORK, STARTING = multiprocessing.get_context("fork"), threading.Lock()
 
 
 class Row:
@@ -175,38 +179,50 @@ def of_machinery(is_all, vector):
 # ---- processes
 
 def run(rows, headers, jobs):
-    """Runs the rows, so many at once, and says what became of each: the status of the command."""
+    """Runs the rows, so many at once, each in a process of its own, and says what became of it: the command's status."""
     texts = {vector: llvm_text(headers, vector) for vector in {row.vector for row in rows}}
     began, passed = time.monotonic(), 0
-    fork = multiprocessing.get_context("fork")
-    with fork.Pool(jobs, maxtasksperchild=1, initializer=work_on, initargs=(rows, texts)) as pool:
-        for line, is_good in pool.imap(one, range(len(rows)), chunksize=1):
+    with concurrent.futures.ThreadPoolExecutor(jobs) as pool:
+        for line, is_good in pool.map(lambda row: in_process(row, texts[row.vector]), rows):
             passed += is_good
             print(line, flush=True)
-    print(f"in {time.monotonic() - began:.0f} s")
+    used = resource.getrusage(resource.RUSAGE_CHILDREN)
+    print(f"in {time.monotonic() - began:.0f} s, {used.ru_utime + used.ru_stime:.0f} s of processor time")
     print(f"{passed} passed, {len(rows) - passed} failed")
     return 1 if passed < len(rows) or not rows else 0
 
 
-def work_on(rows, texts):
-    global asked, llvm_texts
-    asked, llvm_texts = rows, texts
-
-
-def one(number):
-    """A row: what is said of it, and whether it passed."""
-    row, began = asked[number], time.monotonic()
+def in_process(row, text):
+    """A row: what is said of it, and whether it passed. A process that is killed says nothing, and didn't."""
+    with STARTING:     # so that no other process holds the pipe's end
+        ours, theirs = FORK.Pipe(duplex=False)
+        process = FORK.Process(target=answer, args=(row, text, theirs))
+        process.start()
+        theirs.close()
     try:
-        module = Module(llvm_texts[row.vector])
-        if row.is_deep:
-            what, bad = antt.with_deep_recursion(row.ask, module)
-        else:
-            with changes.limits():
-                what, bad = row.ask(module)
-    except (*REFUSALS, WrongRule) as error:
-        what, bad = "", [f"{type(error).__name__}: {error}"]
-    except BaseException:
-        what, bad = "", [traceback.format_exc()]
+        return ours.recv()
+    except EOFError:
+        return f"FAILED {row.title}: its process ended", False
+    finally:
+        process.join()
+
+
+def answer(row, text, pipe):
+    began, module = time.monotonic(), Module(text)
+    if row.is_deep:
+        what, bad = antt.with_deep_recursion(outcome, row, module)
+    else:
+        with changes.limits():
+            what, bad = outcome(row, module)
     used = f"{time.monotonic() - began:.1f} s, {resource.getrusage(resource.RUSAGE_SELF).ru_maxrss // 1024} MB"
-    lines = [f"{'FAILED' if bad else 'ok'} {row.title}: {what}; {used}", *(f"    {line}" for line in bad[:20])]
-    return "\n".join(lines), not bad
+    lines = [f"{'FAILED' if bad else 'ok'} {row.title}: {what}; {used}", *(f"    {line}" for line in bad[:SHOWN])]
+    pipe.send(("\n".join(lines), not bad))
+
+
+def outcome(row, module):
+    try:
+        return row.ask(module)
+    except (*REFUSALS, WrongRule) as error:
+        return "", [f"{type(error).__name__}: {error}"]
+    except Exception:
+        return "", traceback.format_exc().splitlines()
