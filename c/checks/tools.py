@@ -1,4 +1,5 @@
 """What the checks of the library for C work with: packages, tools, and the library itself as c/install puts it."""
+import fcntl
 import os
 import shutil
 import subprocess
@@ -19,10 +20,16 @@ def must(words, **more):
 
 def install_packages(packages):
     """Installs the packages whose command or file is missing."""
-    missing = {package for name, package in packages.items() if not (shutil.which(name) or os.path.exists(name))}
-    if missing:
-        must(['apt-get', 'update', '-qq'], env=QUIET)
-        must(['apt-get', 'install', '-y', '-qq', '--no-install-recommends', *sorted(missing)], env=QUIET)
+    install({package for name, package in packages.items() if not (shutil.which(name) or os.path.exists(name))})
+
+
+def install(packages):
+    """Installs packages. Checks that run beside one another take turns: apt's own lock doesn't make `update` wait."""
+    if packages:
+        with open('/var/lock/twox-hash-packages', 'w') as turn:
+            fcntl.flock(turn, fcntl.LOCK_EX)
+            must(['apt-get', 'update', '-qq'], env=QUIET)
+            must(['apt-get', 'install', '-y', '-qq', '--no-install-recommends', *sorted(packages)], env=QUIET)
 
 
 def hide_rt(room):

@@ -12,6 +12,7 @@ sys.path[:0] = [os.path.join(TOP, 'c', 'checks'), os.path.join(TOP, 'assembly')]
 
 import aarch64
 from report import tail, want
+from tools import install
 
 CRATES = '/usr/share/cargo/registry'
 PACKAGES = {'gcc': 'gcc', 'nm': 'binutils', 'git': 'git', 'valgrind': 'valgrind', 'xxhsum': 'xxhash',
@@ -70,10 +71,7 @@ def install_packages(packages=PACKAGES):
     version = shutil.which('cargo') and re.match(r'cargo 1\.(\d+)', must(['cargo', '--version']))
     if not version or int(version[1]) < 81:
         missing.add(CARGO)
-    if missing:
-        quiet = {**os.environ, 'DEBIAN_FRONTEND': 'noninteractive'}
-        must(['apt-get', 'update', '-qq'], env=quiet)
-        must(['apt-get', 'install', '-y', '-qq', '--no-install-recommends', *sorted(missing)], env=quiet)
+    install(missing)
 
 
 class Room:

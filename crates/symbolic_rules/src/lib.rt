@@ -1,0 +1,103 @@
+//! The rules by which `oracle/symbolic` writes the definitions and the reference library's code as terms in one
+//! form, as functions whose contracts are these rules. They do nothing. The program in `oracle/terms` names each rule
+//! that it uses as it is named here; that it applies them as they are written is not proved.
+//!
+//! All values are naturals: a word of w bits is one below 2 ^ w, and a segment of a value v is v / 2 ^ k % 2 ^ n.
+#![tactic(auto)]
+
+ghost use Rattle.std.specs.Prelude.{◌≡◌, ◌+◌, ◌-◌, ◌*◌, ◌/◌, ◌%◌, ◌^◌, ◌<◌, ◌≤◌, ℕ, bit_and, bit_or, bit_xor};
+
+// ---- segments
+
+/// A number is its low bits and the others.
+pub fn parts_of_a_number()
+    ensures { (v k : ℕ) → v / 2 ^ k * 2 ^ k + v % 2 ^ k ≡ v }
+{}
+
+/// Two numbers side by side give back the lower one and the upper one.
+pub fn concatenation()
+    ensures lower { (a b k : ℕ) → a < 2 ^ k → (b * 2 ^ k + a) % 2 ^ k ≡ a }
+    ensures upper { (a b k : ℕ) → a < 2 ^ k → (b * 2 ^ k + a) / 2 ^ k ≡ b }
+{}
+
+/// Bits of some bits are bits of the number.
+pub fn bits_of_bits()
+    ensures { (v j k : ℕ) → v % 2 ^ (j + k) / 2 ^ k ≡ v / 2 ^ k % 2 ^ j }
+{}
+
+/// The xor of numbers side by side is that of the parts.
+pub fn xor_of_parts()
+    ensures whole { (a b c d k : ℕ) → a < 2 ^ k → c < 2 ^ k
+        → bit_xor (b * 2 ^ k + a) (d * 2 ^ k + c) ≡ bit_xor b d * 2 ^ k + bit_xor a c }
+    ensures upper { (a b k : ℕ) → bit_xor a b / 2 ^ k ≡ bit_xor (a / 2 ^ k) (b / 2 ^ k) }
+    ensures lower { (a b k : ℕ) → bit_xor a b % 2 ^ k ≡ bit_xor (a % 2 ^ k) (b % 2 ^ k) }
+{}
+
+/// The order of a xor is free, and what is there twice is not there.
+pub fn xor_in_any_order()
+    ensures turned { (a b : ℕ) → bit_xor a b ≡ bit_xor b a }
+    ensures grouped { (a b c : ℕ) → bit_xor (bit_xor a b) c ≡ bit_xor a (bit_xor b c) }
+    ensures twice { (a : ℕ) → bit_xor a a ≡ 0 }
+    ensures with_nothing { (a : ℕ) → bit_xor a 0 ≡ a }
+{}
+
+/// Numbers that have no bit in common: their sum and their union are their xor.
+pub fn bits_apart()
+    ensures sum { (a b : ℕ) → bit_and a b ≡ 0 → a + b ≡ bit_xor a b }
+    ensures union { (a b : ℕ) → bit_and a b ≡ 0 → bit_or a b ≡ bit_xor a b }
+{}
+
+/// A run of ones masks a segment.
+pub fn mask()
+    ensures { (v j k : ℕ) → bit_and v (2 ^ (j + k) - 2 ^ k) ≡ v / 2 ^ k % 2 ^ j * 2 ^ k }
+{}
+
+/// The union of a number of k bits with k ones.
+pub fn union_with_ones()
+    ensures { (v k : ℕ) → v < 2 ^ k → bit_or v (2 ^ k - 1) ≡ 2 ^ k - 1 }
+{}
+
+/// The xor of a number of k bits with k ones is a difference.
+pub fn complement()
+    ensures { (v k : ℕ) → v < 2 ^ k → bit_xor v (2 ^ k - 1) ≡ 2 ^ k - 1 - v }
+{}
+
+// ---- sums and products
+
+/// A coefficient that goes on as a place value does is that of the whole number.
+pub fn joined_coefficients()
+    ensures { (c v k : ℕ) → c * 2 ^ k * (v / 2 ^ k) + c * (v % 2 ^ k) ≡ c * v }
+{}
+
+/// Of a factor only the bits that count are kept, where the coefficient ends in zeros; and a part of a sum that was
+/// narrowed no further than to these may be the whole.
+pub fn narrowed_factor()
+    ensures { (c v j k w : ℕ) → w ≤ j + k → (c * 2 ^ k * (v % 2 ^ j)) % 2 ^ w ≡ (c * 2 ^ k * v) % 2 ^ w }
+{}
+
+/// A number that is narrowed twice is as narrow as the narrower one.
+pub fn narrowed_twice()
+    ensures { (v j w : ℕ) → w ≤ j → v % 2 ^ j % 2 ^ w ≡ v % 2 ^ w }
+{}
+
+/// A sum is narrowed with its parts.
+pub fn narrowed_sum()
+    ensures { (a b w : ℕ) → (a + b) % 2 ^ w ≡ (a % 2 ^ w + b % 2 ^ w) % 2 ^ w }
+{}
+
+/// A product is narrowed with its factors.
+pub fn narrowed_product()
+    ensures { (a b w : ℕ) → (a * b) % 2 ^ w ≡ (a % 2 ^ w * (b % 2 ^ w)) % 2 ^ w }
+{}
+
+/// Of the high bits of a sum a part that lies above is a summand, which carries nothing from below.
+pub fn high_of_a_sum()
+    ensures { (r y k w : ℕ) → k ≤ w
+        → (y * 2 ^ k + r) % 2 ^ w / 2 ^ k ≡ (y + r % 2 ^ w / 2 ^ k) % 2 ^ (w - k) }
+{}
+
+/// A number below the divisor is its own remainder, and no quotient.
+pub fn small_remainder()
+    ensures remainder { (v m : ℕ) → v < m → v % m ≡ v }
+    ensures quotient { (v m : ℕ) → v < m → v / m ≡ 0 }
+{}

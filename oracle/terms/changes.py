@@ -1,0 +1,356 @@
+"""Changes of either side, each of which has to be noticed: a comparison that no change fails would say nothing.
+
+    of one token of the definition's text     mutants.py's; those that change no value are in equal_changes.txt
+    of LLVM's text of the reference           another operation, or a number that is one more or one less
+    by hand                                   of the definition's text, that differ on one input in 2 ^ 32 or fewer
+
+A change is noticed where the terms differ and a point is known at which their values do; where the terms differ and
+none is known, it is refused. A crash of this program is neither."""
+import collections
+import contextlib
+import os
+import random
+import re
+import resource
+import signal
+import sys
+
+import antt
+import mutants
+import proved_rows
+
+from . import definition, every_length, nodes
+from .loops import REFUSALS
+from .machine import Function
+from .nodes import Node, Undecided, WrongRule
+from .sides import Request, differing_point, differing_point_of_numbers
+
+SECONDS = 4              # a change that takes longer doesn't end, as far as is seen here
+EQUAL_LINES = os.path.join(os.path.dirname(os.path.abspath(__file__)), "equal_lines.txt")
+RECURSION, MEMORY = 8000, 6 << 30
+NO_NUMBER = (antt.Unreadable, TypeError, AttributeError, IndexError, OverflowError, ValueError, RecursionError,
+             NameError, MemoryError, KeyError)
+NOTICED, REFUSED, UNNOTICED = "differs at a point", "another term, no point found", "unnoticed"
+NOTICED_BY_NUMBERS, REFUSED_WITHOUT_TERM = "no term, differs at a point", "no term, no point found"
+
+
+class Slow(Exception):
+    pass
+
+
+@contextlib.contextmanager
+def limits():
+    """What a changed text may use."""
+    sys.setrecursionlimit(RECURSION)
+    resource.setrlimit(resource.RLIMIT_AS, (MEMORY, MEMORY))
+    yield
+
+
+class Limited:
+    """A `with` that raises Slow after some seconds."""
+
+    def __enter__(self):
+        signal.signal(signal.SIGALRM, self.stop)
+        signal.setitimer(signal.ITIMER_REAL, SECONDS)
+
+    def stop(self, *_):
+        raise Slow
+
+    def __exit__(self, *_):
+        signal.setitimer(signal.ITIMER_REAL, 0)
+
+
+def asked():
+    """The requests that changes are asked on, the shortest first: the lengths of the rows that the proofs compute."""
+    out = []
+    for name, lengths in proved_rows.PLAIN.items():
+        out += [Request(name, "seed", n) for n in lengths]
+    for name in ("3-64", "3-128"):
+        out += [Request(name, "seed", n) for n in proved_rows.SHORT + proved_rows.SEEDED_LONG]
+        out += [Request(name, "secret", n, 136) for n in proved_rows.KEYED_SHORT + [577, 640, 1217]]
+        out += [Request(name, "secret", n, 143) for n in (577, 640, 641)]
+        out += [Request(name, "both", n, 137) for n in (240, 241, 641)]
+    return sorted([r for request in out for r in [request, *request.with_seed_0()]], key=lambda request: request.length)
+
+
+def difference(request, a, b):
+    values = [x.values if isinstance(x, Node) else (x,) * nodes.POINTS for x in (a, b)]
+    return NOTICED if values[0] != values[1] or differing_point(request, a, b) else REFUSED
+
+
+# ---- the definition's text
+
+class Asked:
+    """A request with the reference's term, as mutants.py asks a row of the table: `outcome` says what it told last."""
+
+    def __init__(self, request, module):
+        self.request, self.length, self.outcome = request, request.length, None
+        self.answer = request.of_reference(module)
+
+    def agrees(self, entries):
+        """Whether another row has to be asked: False where the two differ at a point."""
+        try:
+            with Limited():
+                value = self.request.of_definition(entries)
+                is_same = nodes.is_same(value, self.answer)
+                self.outcome = None if is_same else difference(self.request, value, self.answer)
+        except Undecided:
+            self.outcome = self.by_numbers(entries)
+        except Slow:
+            self.outcome = "doesn't end"
+        except WrongRule as error:
+            self.outcome = f"A RULE IS WRONG: {error}"
+        except NO_NUMBER as error:
+            self.outcome = self.by_numbers(entries, error)
+        return self.outcome in (None, REFUSED, REFUSED_WITHOUT_TERM)
+
+    def by_numbers(self, entries, error=None):
+        """The text has no term: it is evaluated on numbers. Where it comes to no number there either, it isn't the
+        definition's any more; where it comes to one, the error was this program's."""
+        try:
+            with Limited():
+                differs = differing_point_of_numbers(self.request, entries, self.answer)
+        except NO_NUMBER:
+            return "no number"
+        except Slow:
+            return "doesn't end"
+        return NOTICED_BY_NUMBERS if differs else f"A CRASH: {error!r}" if error else REFUSED_WITHOUT_TERM
+
+
+class CountedLength:
+    """What `counted` says of a length that no request has."""
+
+    def __init__(self, row):
+        self.row, self.length, self.outcome = row, row.length, None
+
+    def agrees(self, entries):
+        self.outcome = None if self.row.agrees(entries) else "another counted length"
+        return self.outcome is None
+
+
+def of_text(module, part, parts):
+    """Tells of each change of one token, of a part of them: (outcome, the change's text)."""
+    nodes.forget()
+    program = definition.program()
+    rows = [Asked(request, module) for request in asked()]
+    rows += [CountedLength(row) for row in proved_rows.counted_lengths()]
+    by_definition = mutants.rows_by_definition(program, rows)
+    known, out = nodes.mark(), []
+    for change in mutants.all_changes(program)[part::parts]:
+        for row in rows:
+            row.outcome = None
+        what = mutants.outcome(program, by_definition, change)
+        changed = program.definitions.modules[change.path].definitions[change.name]
+        told = [row.outcome for row in by_definition.get(changed, ()) if row.outcome]
+        out.append((what if what == "unreadable" else told[-1] if told else UNNOTICED, change.text))
+        nodes.release(known)
+    return out
+
+
+# ---- the reference's text
+
+SWAPS = {"add": "sub", "sub": "add", "mul": "add", "xor": "or", "or": "xor", "and": "or", "shl": "lshr", "lshr": "shl",
+         "udiv": "mul", "ult": "ule", "ule": "ult", "ugt": "uge", "uge": "ugt", "slt": "sle", "eq": "ne", "ne": "eq"}
+LINE = re.compile(r"( *(?:%\S+ = )?)(\w+)(.*)")
+NUMBER = re.compile(r"(?<=[ ])(?:i\d+ )?(-?\d+)(?=[,)]|$)")
+
+
+def changed_lines(line):
+    """The line with another operation, or with a number that is one more or one less."""
+    match = LINE.match(line)
+    if not match or match.group(2) in ("alloca", "ret", "br"):
+        return []
+    head, word, rest = match.groups()
+    out = [head + SWAPS[word] + re.sub(r"\b(nuw|nsw|exact)\b ?", "", rest)] if word in SWAPS else []
+    test = rest.split()[0] if rest.split() else ""
+    if word == "icmp" and test in SWAPS:
+        out.append(head + word + rest.replace(test, SWAPS[test], 1))
+    for number in NUMBER.finditer(rest):
+        if not rest[:number.start()].rstrip().endswith("align"):
+            first, last = number.span(1)
+            out += [head + word + rest[:first] + str(int(number.group(1)) + d) + rest[last:] for d in (1, -1)]
+    return out
+
+
+def all_lines(module):
+    """(function's name, line's number, other line)"""
+    out, name = [], None
+    for k, line in enumerate(module.lines):
+        if line.startswith("define "):
+            name = re.search(r"@[\w.]+", line).group(0)
+        elif line == "}":
+            name = None
+        elif name and not name.startswith(("@once_", "@stream_")):
+            out += [(name, k, other) for other in changed_lines(line)]
+    random.Random(3).shuffle(out)
+    return out
+
+
+def with_line(module, name, k, other):
+    """The function with another line."""
+    first = max(j for j in range(k) if module.lines[j].startswith("define "))
+    end = module.lines.index("}", first)
+    return Function(module, module.lines[first:k] + [other] + module.lines[k + 1:end])
+
+
+def reaching(module, requests):
+    """Function's name -> the requests that run it."""
+    out, run = collections.defaultdict(list), Function.run
+    seen = set()
+
+    def traced(self, arguments):
+        seen.add(self.name)
+        return run(self, arguments)
+    Function.run = traced
+    try:
+        for request in requests:
+            seen.clear()
+            request.of_reference(module)
+            for name in seen:
+                out[name].append(request)
+    finally:
+        Function.run = run
+    return out
+
+
+def of_reference(module, sample, part, parts):
+    """Tells of a sample of the changes of LLVM's text: (outcome, what was changed)."""
+    nodes.forget()
+    requests, entries = asked(), definition.program().run()
+    answers = {id(request): request.of_definition(entries) for request in requests}
+    by_function, known, out = reaching(module, requests), nodes.mark(), []
+    reached = [change for change in all_lines(module) if change[0] in by_function]
+    for name, k, other in reached[:sample][part::parts]:
+        kept = module.functions[name]
+        what = changed_outcome(module, (name, k, other), by_function[name], answers)
+        module.functions[name] = kept
+        out.append((what, f"{name} line {k + 1}: {module.lines[k].strip()}  ->  {other.strip()}"))
+        nodes.release(known)
+    return out
+
+
+def is_equal_line(text):
+    """Whether a change of LLVM's text is known to change nothing: equal_lines.txt has the words and the reasons."""
+    with open(EQUAL_LINES, encoding="utf-8") as file:
+        known = [line.split(" | ")[0] for line in file if line.strip() and not line.startswith("#")]
+    return any(all(word in text for word in words.split(" & ")) for words in known)
+
+
+def changed_outcome(module, change, requests, answers):
+    what = UNNOTICED
+    try:
+        module.functions[change[0]] = with_line(module, *change)
+        for request in requests:
+            with Limited():
+                value = request.of_reference(module)
+                if not nodes.is_same(value, answers[id(request)]):
+                    what = difference(request, value, answers[id(request)])
+            if what == NOTICED:
+                break
+    except REFUSALS as error:
+        return f"no value: {type(error).__name__}"
+    except Slow:
+        return "doesn't end"
+    except WrongRule as error:
+        return f"A RULE IS WRONG: {error}"
+    except NO_NUMBER as error:
+        return f"A CRASH: {error!r}"
+    return what
+
+
+# ---- by hand
+
+RARE = ("twox_plain.specs.Xxh64", "twox_core.specs.Long", "twox_core.specs.Steps", "twox_core.specs.Short",
+        "twox_core.specs.Middle")
+XXH3 = ["3-64", "3-128"]
+AVALANCHE = "avalanche x = xor_shift (wrap_mul w64 (xor_shift (wrap_mul w64 (xor_shift {} 33) p2) 29) p3) 32"
+# file, old text, new text, the hashes that it concerns, whether the new text is equal for all inputs
+BY_HAND = [
+    (RARE[0], "(wrap_mul w64 word p2)) 31)", "(wrap_mul w64 (word % (2 ^ 64 - 1)) p2)) 31)", ["64"], False),
+    (RARE[0], "merge x a = wrap_add w64 (wrap_mul w64 (bit_xor x (round 0 a)) p1) p4",
+     "merge x a = wrap_add w64 (wrap_mul w64 (bit_xor x (round 0 (a % (2 ^ 64 - 1)))) p1) p4", ["64"], False),
+    (RARE[0], AVALANCHE.format("x"), AVALANCHE.format("(x % (2 ^ 64 - 1))"), ["64"], False),
+    (RARE[1], "halves_product v = low32 v * high32 v",
+     "halves_product v = (low32 v * high32 v) % (2 ^ 64 - 2 ^ 33 + 1)", XXH3, False),
+    (RARE[1], "halves_product v = low32 v * high32 v", "halves_product v = low32 v * (high32 v % (2 ^ 32 - 1))", XXH3,
+     False),
+    (RARE[1], "(a + word64 m (p + 8 * bit_xor i 1) +", "((a + word64 m (p + 8 * bit_xor i 1)) % (2 ^ 65 - 2) +", XXH3,
+     False),
+    (RARE[2], "bit_xor (low64 (a * b)) (high64 (a * b))", "bit_xor (low64 (a * b)) (high64 (a * (b % (2 ^ 64 - 1))))",
+     XXH3, False),
+    (RARE[2], "mul64 (xor_shift x 37) prime_mx1", "mul64 (xor_shift (x % (2 ^ 64 - 1)) 37) prime_mx1", XXH3, False),
+    (RARE[3], "add64 (low64 p) ((n - 1) * 2 ^ 54)", "add64 (low64 p % (2 ^ 64 - 1)) ((n - 1) * 2 ^ 54)", ["3-128"],
+     False),
+    (RARE[4], "merge_low a b = avalanche (add64 a b)", "merge_low a b = avalanche ((a + b) % (2 ^ 65 - 2) % 2 ^ 64)",
+     ["3-128"], False),
+    (RARE[4], "merge_low a b = avalanche (add64 a b)", "merge_low a b = avalanche ((a + b) % (2 ^ 65 - 1) % 2 ^ 64)",
+     ["3-128"], True),
+    (RARE[2], "bit_xor (low64 (a * b)) (high64 (a * b))", "bit_xor (a * low64 b % 2 ^ 64) (b * a / 2 ^ 64 % 2 ^ 64)",
+     XXH3, True),
+]
+HAND_LENGTHS = {"64": [32, 64], **dict.fromkeys(XXH3, [9, 16, 17, 128, 240, 241, 1089])}
+
+
+# Changes of one token that differ from 2 ^ 31 or 2 ^ 32 bytes on alone: words of the change as mutants.py prints it,
+# the file, old text, new text, and the kind that the induction is asked
+AT_LARGE_LENGTHS = [
+    ("% [2 -> 3] ^ 32", "twox_plain.specs.Xxh32", "(counted (length m) % 2 ^ 32)", "(counted (length m) % 3 ^ 32)",
+     "32"),
+    ("% 2 ^ [32 -> 31]", "twox_plain.specs.Xxh32", "(counted (length m) % 2 ^ 32)", "(counted (length m) % 2 ^ 31)",
+     "32"),
+    ("[counted -> low32] ( length m ) ) prime64_1", RARE[1], "(counted (length m)) prime64_1",
+     "(low32 (length m)) prime64_1", "3-64:secret"),
+    ("[counted -> low32] ( length m ) ) prime64_2", RARE[1], "(counted (length m)) prime64_2",
+     "(low32 (length m)) prime64_2", "3-128:secret"),
+]
+
+
+def by_induction(module):
+    """Tells of each of these: whether the induction refuses it, and a line."""
+    out = []
+    for words, path, old, new, kind in AT_LARGE_LENGTHS:
+        program = definition.program()
+        with_text(program, path, old, new)
+        try:
+            every_length.show(module, kind, program)
+            out.append((False, f"{words}: shown"))
+        except REFUSALS as error:
+            out.append((True, f"{words}: {type(error).__name__}: {error}"))
+    return out
+
+
+def with_text(program, path, old, new):
+    """Gives the clause that has the old text the new one."""
+    words, others = ([word for word, _ in antt.tokens(text)] for text in (old, new))
+    for changed in program.order:
+        for number, (left, right) in enumerate(changed.clauses if changed.module.path == f"Rattle.{path}" else ()):
+            line = [changed.name] + [word for word, _ in left] + ["="] + [word for word, _ in right]
+            places = [k for k in range(len(line)) if line[k:k + len(words)] == words]
+            if places:
+                line[places[0]:places[0] + len(words)] = others
+                sides = [[word for word, _ in side] for _, side in changed.clauses]
+                sides[number] = line[line.index("=") + 1:]
+                program.code[changed] = program.python(changed, sides)
+                return
+    raise SystemExit(f"no such text: {old}")
+
+
+def by_hand(module):
+    """Tells of each change by hand: (as it should be, what was found)."""
+    out = []
+    for path, old, new, hashes, is_equal in BY_HAND:
+        nodes.forget()
+        program = definition.program()
+        with_text(program, path, old, new)
+        entries, others, asked_lengths, point = program.run(), 0, 0, None
+        for name in hashes:
+            for n in HAND_LENGTHS[name]:
+                request = Request(name, "seed", n)
+                a, b = request.of_definition(entries), request.of_reference(module)
+                asked_lengths += 1
+                if not nodes.is_same(a, b):
+                    point = point or not others and differing_point(request, a, b)   # asked once
+                    others += 1
+        found = f"another term at {others} of {asked_lengths} lengths" + (", and a point was found" if point else "")
+        out.append(((others == 0) == is_equal, f"{old}  ->  {new}{' (equal)' if is_equal else ''}: {found}"))
+    return out

@@ -1,0 +1,83 @@
+"""Rows of comparisons, one length after the other: for all bytes, all seeds and all bytes of a secret."""
+import random
+
+from . import definition, nodes
+from .loops import REFUSALS
+from .nodes import WrongRule
+from .sides import Request, differing_point
+
+MOST_NODES = 1_500_000
+SECRETS = 136, 137, 143, 144, 192, 256
+PLAIN = [("32", "seed", None), ("64", "seed", None)]
+EDGES_FROM, LONGEST = 1101, 10_241
+STREAMED = [*range(17), 31, 32, 33, 63, 64, 65, 70, 127, 128, 129, 200, 239, 240, 241, 242, 255, 256, 257, 258, 300,
+            321, 513, 700, 1088]
+CUTS = [1, 31, 32, 33, 63, 64, 65, 127, 128, 129, 192, 239, 240, 241, 255, 256, 257, 258, 319, 320, 321, 511, 512,
+        513, 576, 1024, 1025]
+PAIRS = 6
+
+
+def kinds(secrets):
+    """(hash, kind of call, length of the secret)"""
+    of_secret = [(way, n) for way in ("secret", "both") for n in secrets]
+    ways = [("default", None), ("seed", None), *of_secret]
+    return PLAIN + [(name, *way) for name in ("3-64", "3-128") for way in ways]
+
+
+def edges(secret_length):
+    """Lengths at the edges of blocks, of those above 1,100."""
+    block = 64 * ((secret_length or 192) - 64) // 8
+    ends = [b * block + d for b in range(1, LONGEST // block + 1) for d in (0, 1)]
+    return sorted({n for n in [*ends, 2048, 2049, 4096, 4097, LONGEST - 1, LONGEST] if EDGES_FROM <= n <= LONGEST})
+
+
+def cuts_of(length):
+    """Where the streams of a length are cut: nowhere, at one and at two of the edges, from the start and from the
+    end."""
+    ends = sorted({end for end in [*CUTS, *(length - end for end in CUTS), 0, length] if 0 <= end <= length})
+    draw = random.Random(length)
+    pairs = [sorted(draw.sample(ends, 2)) for _ in range(PAIRS)] if len(ends) > 2 else []
+    return [[], *([end] for end in ends), *pairs]
+
+
+def requests(hash_name, kind, secret_length, lengths, streams=False):
+    for length in lengths:
+        for cuts in cuts_of(length) if streams else [None]:
+            request = Request(hash_name, kind, length, secret_length, cuts=cuts)
+            yield from [request, *request.with_seed_0()]
+
+
+def complaint(request, ours, theirs):
+    """What there is to say where the two terms aren't one."""
+    found = differing_point(request, ours, theirs)
+    if not found:
+        return f"{request}: another term, though no point was found at which they differ"
+    point, x, y = found
+    shown = ", ".join(f"{name} {value.hex()[:80] if isinstance(value, bytes) else hex(value)}" for name,
+                      value in point.items())
+    return f"{request}: {x:#x} by the definition and {y:#x} by the reference, where {shown}"
+
+
+def compare(module, *row):
+    """Compares a row of requests: how many came to one term, and what there is to say of the others."""
+    texts, equal, complaints = {}, 0, []
+    nodes.forget()
+    entries = definition.program().run()
+    for request in requests(*row):
+        if len(nodes.NODES) > MOST_NODES:
+            nodes.forget()
+            texts.clear()
+            entries = definition.program().run()
+        key = request.length, request.fixed_seed
+        try:
+            if key not in texts:          # a stream's is that of the whole message
+                texts = {key: request.of_definition(entries)}
+            theirs = request.of_reference(module)
+        except (*REFUSALS, WrongRule) as error:
+            complaints.append(f"{request}: {type(error).__name__}: {error}")
+            continue
+        if nodes.is_same(texts[key], theirs):
+            equal += 1
+        else:
+            complaints.append(complaint(request, texts[key], theirs))
+    return equal, complaints

@@ -1,0 +1,161 @@
+"""The definition's side: the texts in specs/, read and evaluated by antt.py as it is, over terms.
+
+What is said to antt.py for that: how numbers that it can't order are subtracted, what a message is as a list, and, for
+induction, that some calls of a recursion have a value that is supposed."""
+import antt
+import table
+
+from . import operations
+from .nodes import Undecided, memo
+from .polynomials import Poly, is_number, is_natural, minus, monus, plus, smaller
+
+ENTRIES = table.ENTRIES + ["word64", "Xxh32.accumulator", "Xxh64.accumulator", "Long.accumulator_after"]
+RECURSIONS = "after_units", "accumulator_after"
+
+
+class Bytes:
+    """Bytes first .. end - 1 of an input, which the evaluator takes for a list of numbers below 256."""
+
+    def __init__(self, source, first, end):
+        self.source, self.first, self.end = source, first, end
+
+    def length(self):
+        return minus(self.end, self.first)
+
+    __len__ = length
+
+    def __iter__(self):
+        return (self[k] for k in range(self.length()))
+
+    def __getitem__(self, at):
+        if not isinstance(at, slice):
+            if isinstance(at, int) and isinstance(self.length(), int) and not 0 <= at < self.length():
+                raise IndexError(at)
+            return self.source.load(plus(self.first, at), 1)
+        first = self.first if at.start is None else smaller(plus(self.first, at.start), self.end)
+        end = self.end if at.stop is None else smaller(plus(self.first, at.stop), self.end)
+        return Bytes(self.source, first, end if is_natural(minus(end, first)) else first)
+
+
+def length(xs):
+    return xs.length() if isinstance(xs, Bytes) else len(xs)
+
+
+words = memo()   # (bits, symbol, first byte, bytes) -> the word, which antt.py makes once
+
+
+def from_le_bytes(bits, xs):
+    if not isinstance(xs, Bytes):
+        return word_of_bytes(bits, xs)
+    n = min(xs.length(), bits // 8)
+    whole, first = xs.source.window(xs.first, n)
+    key = bits, whole.number, first, n
+    if key not in words:
+        words[key] = word_of_bytes(bits, Bytes(xs.source, xs.first, plus(xs.first, n)))
+    return words[key]
+
+
+def subtract(a, b):
+    if is_number(a) and is_number(b):
+        return natural_minus(a, b) if isinstance(a, int) and isinstance(b, int) else monus(a, b)
+    return operations.monus(operations.lifted(a), operations.lifted(b))
+
+
+def least(a, b):
+    return smaller(a, b) if isinstance(a, Poly) or isinstance(b, Poly) else min(a, b)
+
+
+word_of_bytes, natural_minus = antt.LIBRARY["from_le_bytes"][1], antt.OPERATORS["-"]
+antt.OPERATORS["-"] = subtract
+antt.LIBRARY.update({
+    "from_le_bytes": (2, from_le_bytes), "length": (1, length), "min": (2, least),
+    "slice_index": (2, lambda xs, i: xs[i] if i < length(xs) else 0),
+})
+
+
+# ---- suppositions: the value of a call in a recursion
+
+class Suppositions:
+    """Calls with a polynomial among their arguments, and the values that they are supposed to have."""
+
+    def __init__(self):
+        self.values, self.next, self.kept = {}, [], []
+
+    def clear(self):
+        for known in (self.values, self.next, self.kept):
+            known.clear()
+
+    def suppose(self, call, values):
+        """Names the values of call(0), call(1), ..: each has to come to one call of a recursion, whose value it is."""
+        for i, value in enumerate(values):
+            self.next.append(value)
+            if call(i) is not value or self.next:
+                raise Undecided("the hypothesis isn't of the recursion")
+
+    def around(self, function, definition):
+        """The function of a recursion, with the suppositions."""
+        def call(*arguments):
+            if any(isinstance(x, Poly) for x in arguments):
+                key = str(definition), tuple(self.identity(x) for x in arguments)
+                if self.next:
+                    self.values[key] = self.next.pop()
+                if key in self.values:
+                    return self.values[key]
+            return function(*arguments)
+        return call
+
+    def identity(self, x):
+        """The same for two arguments only if they are the same object, number, or function of the same text and
+        values."""
+        if isinstance(x, (int, str)):
+            return x
+        if isinstance(x, Poly):
+            return "polynomial", x.key()
+        self.kept.append(x)   # so that no other object gets its id
+        if isinstance(x, antt.Function):
+            code = getattr(x.body, "__code__", None)
+            cells = [cell.cell_contents for cell in getattr(x.body, "__closure__", None) or ()]
+            return "function", code or id(x.body), tuple(map(self.identity, [*cells, *x.given]))
+        return "object", id(x)
+
+
+suppositions = Suppositions()
+plain_noted = antt.noted
+
+
+def noted(function, definition, traced):
+    """Where antt.py lets a caller wrap each function: `traced` is a set of definitions, or these suppositions."""
+    if traced is not suppositions:
+        return plain_noted(function, definition, traced)
+    return suppositions.around(function, definition) if definition.name in RECURSIONS else function
+
+
+antt.noted = noted
+
+
+# ---- the definitions
+
+class Named(antt.Definitions):
+    """A definition is found by its own name, or with its module's before it."""
+
+    def entry(self, name):
+        module, dot, own = name.rpartition(".")
+        if not dot:
+            return super().entry(name)
+        path, = (path for path in self.modules if path.endswith("." + module))
+        return self.modules[path].definitions[own]
+
+
+def program():
+    return antt.Program(Named(table.TOP, table.CRATES), ENTRIES)
+
+
+def value(entries, hash_name, kind, seed, secret, message):
+    """What the definition says, by the rule of table.Row.ask: `kind` is seed, default, secret or both."""
+    entry = entries[table.HASHES[hash_name]]
+    if hash_name in ("32", "64"):
+        return entry(seed, message)
+    if kind == "secret":
+        return entry(0, secret, message)
+    own = secret if kind == "both" else entries["derived_secret"](seed)
+    return entry(seed, entries["effective_secret"](own, message), message)

@@ -1,0 +1,462 @@
+"""Runs functions of LLVM's text over terms. Addresses, lengths and branches are numbers, or polynomials that the facts
+decide; what is loaded from an input is a term. A vector is one number, its first lane the lowest bits."""
+import contextlib
+
+from . import operations
+from .llvm_text import (NOTHING, FunctionName, Pointer, Reader, Register, Struct, Unsupported, alignment_said,
+                        instruction,
+                        place_of, signed)
+from .memory import Input, Memory, Unset, is_address
+from .nodes import SUM, Node, Undecided, symbol
+from .operations import bits, side_by_side
+from .polynomials import (Poly, constant_of, divided, is_less, is_natural, is_number, lifted, minus, plus, times,
+                          wrapped)
+from .rules import ones
+
+WORD = 64
+HALF = 1 << WORD - 1
+
+
+# ---- operations on words
+
+def words(on_numbers, on_terms, on_polynomials=None):
+    """An operation of a width. Where a polynomial has no answer as one, it becomes a term."""
+    def operation(width, a, b):
+        if isinstance(a, int) and isinstance(b, int):
+            return on_numbers(width, a, b) % (1 << width)
+        if on_polynomials and is_number(a) and is_number(b):
+            with contextlib.suppress(Undecided):
+                return on_polynomials(width, a, b)
+        return on_terms(width, lifted(a), lifted(b))
+    return operation
+
+
+def amount(k):
+    if not isinstance(k, int):
+        raise Undecided("the amount of a shift")
+    return k
+
+
+def no_terms(width, a, b):
+    raise Undecided(f"a quotient or remainder of {a} and {b}")
+
+
+def xor(width, a, b):
+    for x, other in ((a, b), (b, a)):
+        if other.__class__ is int and other == ones(width) and isinstance(x, Node) and x.kind is SUM:
+            return operations.complement(width, x)
+    return operations.xor(a, b)
+
+
+def low_bits(width, a, b):
+    """a and b, where one is 2 ^ k - 1."""
+    if isinstance(a, int):
+        a, b = b, a
+    if not isinstance(b, int) or b & b + 1:
+        raise Undecided("a mask")
+    return divided(a, b + 1)[1]
+
+
+BINARY = {
+    "add": words(lambda w, a, b: a + b, lambda w, a, b: operations.add_at(w, (1, a), (1, b)),
+                 lambda w, a, b: wrapped(plus(a, b), w)),
+    "sub": words(lambda w, a, b: a - b, lambda w, a, b: operations.add_at(w, (1, a), (-1, b)),
+                 lambda w, a, b: wrapped(minus(a, b), w)),
+    "mul": words(lambda w, a, b: a * b, operations.multiply_at, lambda w, a, b: wrapped(times(a, b), w)),
+    "xor": words(lambda w, a, b: a ^ b, xor),
+    "or": words(lambda w, a, b: a | b, lambda w, a, b: operations.either(a, b)),
+    "and": words(lambda w, a, b: a & b, lambda w, a, b: operations.both(a, b), low_bits),
+    "shl": words(lambda w, a, b: a << b, lambda w, a, b: operations.multiply_at(w, a, 1 << amount(b)),
+                 lambda w, a, b: wrapped(times(a, 1 << amount(b)), w)),
+    "lshr": words(lambda w, a, b: a >> b, lambda w, a, b: operations.shift_right(a, amount(b)),
+                  lambda w, a, b: divided(a, 1 << amount(b))[0]),
+    "udiv": words(lambda w, a, b: a // b, no_terms, lambda w, a, b: divided(a, b)[0]),
+    "urem": words(lambda w, a, b: a % b, no_terms, lambda w, a, b: divided(a, b)[1]),
+    "sdiv": words(lambda w, a, b: int(signed(a, w) / signed(b, w)), no_terms),
+}
+
+
+def binary(module, parts, value, before):
+    word, t, a, b = parts
+    a, b = value(a), value(b)
+    if word == "sub" and is_address(a) and is_address(b):   # the difference of two places in one object
+        if a[0] is not b[0]:
+            raise Unsupported("the difference of two objects")
+        a, b = a[1], b[1]
+    if word == "and" and is_address(a):                     # whether a place is aligned
+        if not isinstance(b, int) or b & b + 1 or a[0].alignment % (b + 1):
+            raise Unsupported("the bits of an address")
+        a = a[1]
+    if is_address(a) or is_address(b):
+        raise Unsupported(f"{word} of an address")
+    return BINARY[word](t.bits, a, b)
+
+
+# ---- vectors
+
+def lanes_of(x, t):
+    return [bits(0 if x is None else x, t.bits * k, t.bits) for k in range(t.lanes)]
+
+
+def vector(lanes, width):
+    return side_by_side(*((lane, width) for lane in lanes))
+
+
+def on_lanes(module, parts, value, before):
+    word, t, a, b = parts
+    pairs = zip(lanes_of(value(a), t), lanes_of(value(b), t))
+    return vector([BINARY[word](t.bits, x, y) for x, y in pairs], t.bits)
+
+
+def insert_lane(module, parts, value, before):
+    t, a, b, k = parts
+    out = lanes_of(value(a), t)
+    out[value(k)] = value(b)
+    return vector(out, t.bits)
+
+
+def shuffle(module, parts, value, before):
+    t, a, to, order = parts
+    out = lanes_of(value(a), t)
+    return vector([out[k] for k in lanes_of(value(order), to)], t.bits)
+
+
+# ---- comparisons
+
+TESTS = {"eq": lambda a, b: a == b, "ne": lambda a, b: a != b, "lt": is_less, "gt": lambda a, b: is_less(b, a),
+         "le": lambda a, b: not is_less(b, a), "ge": lambda a, b: not is_less(a, b)}
+
+
+def compare(module, parts, value, before):
+    test, t, a, b = parts
+    a, b = value(a), value(b)
+    try:
+        if isinstance(t, Pointer):
+            return compare_addresses(module, test, a, b)
+        if is_number(a) and is_number(b):
+            return int(compare_numbers(test, t.bits, a, b))
+        return compare_terms(module, test, lifted(a), lifted(b))
+    except Undecided:
+        if not module.allows_unknown_bits:
+            raise
+        return symbol(module.fresh("bit"), 1)
+
+
+def compare_numbers(test, width, a, b):
+    if test[0] == "s":
+        a, b = (with_sign(x, width) for x in (a, b))
+    return TESTS[test[-2:]](a, b)
+
+
+def with_sign(x, width):
+    if isinstance(x, int):
+        return signed(x, width)
+    if not is_natural(minus(ones(width - 1), x)):
+        raise Undecided(f"the sign of {x}")
+    return x
+
+
+def compare_addresses(module, test, a, b):
+    if a == 0 or b == 0:
+        if test not in ("eq", "ne"):
+            raise Unsupported("an order of null")
+        return int((is_number(a) and is_number(b)) == (test == "eq"))
+    if a[0] is not b[0]:
+        raise Unsupported("a comparison of addresses in two objects")
+    for memory, at in (a, b):
+        inside = is_natural(plus(at, module.beside)) and is_natural(plus(minus(memory.length, at), module.beside))
+        if not inside:
+            raise Unsupported(f"a comparison of {at}, which is too far from {memory.name}")
+    return int(compare_numbers(test, WORD, a[1], b[1]))
+
+
+def key_of(x):
+    return ("node", x.number) if isinstance(x, Node) else x
+
+
+def compare_terms(module, test, a, b):
+    if test in ("eq", "ne"):
+        if a is b:
+            return int(test == "eq")
+        if {key_of(a), key_of(b)} in module.different:
+            return int(test == "ne")
+    if test == "ult":
+        return int(operations.is_below(a, b))
+    raise Undecided(f"{a} {test} {b}")
+
+
+# ---- loads, stores, calls
+
+def load(module, parts, value, before):
+    t, address = parts
+    memory, at = value(address)
+    if isinstance(t, Struct):
+        return tuple(memory.load(at + t.offset(k), part.size()) for k, part in enumerate(t.parts))
+    return memory.load(at, t.size())
+
+
+def store(module, parts, value, before):
+    t, a, address = parts
+    (memory, at), a = value(address), value(a)
+    if isinstance(t, Struct):
+        for k, part in enumerate(t.parts):
+            memory.store(at + t.offset(k), part.size(), a[k])
+    else:
+        memory.store(at, t.size(), a)
+
+
+def address(module, parts, value, before):
+    t, ((_, base), *steps) = parts
+    numbers = [signed(x, u.bits) if isinstance(x, int) else x for u, x in ((u, value(x)) for u, x in steps)]
+    if not all(is_number(x) for x in numbers):
+        raise Undecided("an address")
+    memory, at = place_of(t, value(base), *numbers)
+    if constant_of(at) >= HALF and is_natural(minus(at, HALF)):   # an offset is one mod 2 ^ 64
+        at = minus(at, 1 << WORD)
+    return memory, at
+
+
+def call(module, parts, value, before):
+    callee, arguments = value(parts[0]), parts[1]
+    if not isinstance(callee, FunctionName):
+        raise Unsupported("a call of no function")
+    return module.call(callee.name, [value(x) for x in arguments])
+
+
+def allocate(module, parts, value, before):
+    name, size, alignment = parts
+    memory = Memory(name, size, alignment=alignment)
+    module.live.append(memory)
+    return memory, 0
+
+
+# ---- LLVM's own functions
+
+def intrinsic(name, arguments):
+    if name == NOTHING:
+        return arguments[0]
+    if name.startswith("@llvm.memcpy"):
+        return copy(*arguments[:3])
+    if name.startswith("@llvm.memset"):
+        (memory, at), byte, n = arguments[:3]
+        return memory.fill(at, n, byte)
+    if name.startswith("@llvm.fshl.i"):
+        return rotated(int(name[len("@llvm.fshl.i"):]), *arguments)
+    if name.startswith("@llvm.x86.") and name.endswith((".psrli.q", ".pslli.q")):
+        word, count = "lshr" if "psrl" in name else "shl", 4 if "avx2" in name else 2
+        lanes = [bits(arguments[0], WORD * k, WORD) for k in range(count)]
+        return vector([BINARY[word](WORD, x, arguments[1]) for x in lanes], WORD)
+    if name.startswith("@llvm.prefetch"):
+        return None
+    if name == "@llvm.assume":
+        if arguments[0] != 1:
+            raise Unsupported("an assumption that doesn't hold")
+        return None
+    raise Unsupported(name)
+
+
+def rotated(width, a, b, k):
+    if a is not b and a != b:
+        raise Unsupported("a shift of two words")
+    k = amount(k) % width
+    return operations.either(operations.multiply_at(width, a, 1 << k), bits(a, width - k, k)) if k else a
+
+
+def copy(to, source, n):
+    """memcpy. What is copied with a length that isn't a number, or to where runs are kept, stays a run of an input."""
+    (memory, at), (source, first) = to, source
+    area = memory.run_area
+    if not (isinstance(n, int) and isinstance(at, int)) or area and area[0] <= at < area[1]:
+        if isinstance(source, Input):
+            if not is_natural(n) or not is_natural(first) or not is_natural(minus(source.length, plus(first, n))):
+                raise Unsupported(f"{n} bytes at {first} of {source.name}, which has {source.length}")
+            return memory.put_run(at, n, *source.origin(first))
+        return memory.put_run(at, n, *source.origin(first, n))
+    for k in range(0, n, 8):
+        copy_word(memory, at + k, source, plus(first, k), min(8, n - k))
+    return None
+
+
+def copy_word(memory, at, source, first, n):
+    try:
+        memory.store(at, n, source.load(first, n))
+    except Unset:   # bytes of which some were stored, as at the end of a buffer
+        memory.clear(at, n)
+        for k in range(n):
+            if source.has(first + k):
+                memory.store(at + k, 1, source.load(first + k, 1))
+
+
+# ---- all operations
+
+def cast(module, parts, value, before):
+    return value(parts[1])
+
+
+def truncate(module, parts, value, before):
+    _, a, to = parts
+    a = value(a)
+    return a % (1 << to.bits) if isinstance(a, Poly) else bits(a, 0, to.bits)
+
+
+def extend_sign(module, parts, value, before):
+    t, a, to = parts
+    a = value(a)
+    if not isinstance(a, int):
+        raise Undecided("a sign")
+    return signed(a, t.bits) % (1 << to.bits)
+
+
+def insert_part(module, parts, value, before):
+    n, a, b, k = parts
+    a = value(a)
+    out = [None] * n if a is None else list(a)
+    if not 0 <= k < n:
+        raise Unsupported(f"part {k} of {n}")
+    out[k] = value(b)
+    return tuple(out)
+
+
+def extract_part(module, parts, value, before):
+    a, k = value(parts[0]), parts[1]
+    if not 0 <= k < len(a):
+        raise Unsupported(f"part {k} of {len(a)}")
+    return a[k]
+
+
+def select(module, parts, value, before):
+    condition = value(parts[0])
+    if not isinstance(condition, int):
+        raise Undecided("a select")
+    return value(parts[1] if condition else parts[2])
+
+
+OPERATIONS = {
+    "binary": binary, "lanes": on_lanes, "insertelement": insert_lane, "shufflevector": shuffle, "icmp": compare,
+    "load": load, "store": store, "getelementptr": address, "call": call, "alloca": allocate, "select": select,
+    "zext": cast, "bitcast": cast, "ptrtoint": cast, "trunc": truncate, "sext": extend_sign, "insertvalue": insert_part,
+    "extractvalue": extract_part,
+    "phi": lambda module, parts, value, before: value(parts[0][before]),
+}
+
+
+# ---- functions and modules
+
+class Function:
+    """A function of a module: blocks of instructions, by their labels."""
+
+    def __init__(self, module, lines):
+        head = Reader(module, lines[0][len("define "):])
+        self.module, self.result, self.name = module, head.type(), head.next()
+        head.expect("(")
+        self.parameters = [x.name for _, x in head.typed_list(")")]
+        self.blocks, self.first = {}, None
+        for line in lines[1:]:
+            label, colon, _ = line.partition(":")
+            if colon and " " not in label:
+                block = self.blocks.setdefault("%" + label, [])
+                self.first = self.first or "%" + label
+            elif line.strip():
+                block.append(instruction(module, line.strip()))
+
+    def run(self, arguments):
+        live = len(self.module.live)
+        try:
+            return self.walk(dict(zip(self.parameters, arguments)), None, self.first)
+        finally:
+            del self.module.live[live:]
+
+    def walk(self, registers, before, block, body=None, stop=None):
+        """Runs from a block to the function's end, and gives its value. With `body`, the blocks of a loop whose head
+        it is, it runs to the block `stop` or out of the loop; then the answer is (before, block)."""
+        is_first = True
+        while True:
+            if body is None or not is_first:
+                if body and (block == stop or block not in body):
+                    return before, block
+                behind = self.module.at_block(self, registers, before, block)
+                if behind != (before, block):
+                    before, block = behind
+                    continue
+            is_first = False
+            target, result = self.run_block(registers, before, block)
+            if target is None:
+                return result
+            before, block = block, target
+
+    def run_block(self, registers, before, block):
+        """Where it goes from a block, or (None, the function's value)."""
+        def value(x):
+            return registers[x.name] if x.__class__ is Register else x.value
+        for target, operation, parts in self.blocks[block]:
+            if operation == "br":
+                condition = 1 if parts[0] is None else value(parts[0])
+                if not isinstance(condition, int):
+                    raise Undecided("a branch")
+                return parts[1] if condition else parts[2], None
+            if operation == "ret":
+                return None, None if parts[0] is None else value(parts[0])
+            result = OPERATIONS[operation](self.module, parts, value, before)
+            if target is not None:
+                registers[target] = result
+        raise Unsupported(f"{block} of {self.name} has no end")
+
+
+class Module:
+    """A text of LLVM's, and what holds while its functions run.
+
+    different            pairs of values that are supposed to differ, where the library asks whether a seed is 0
+    allows_unknown_bits  whether a comparison of terms is a bit that may be 0 or 1, instead of an error
+    beside               how far outside of its object an address may be that is compared
+    live                 the memories that live
+    instead              function's name -> what is called in its place
+    loops                asked at each block, whether a loop begins there that is shown for any number of turns
+    (loops.py)
+    """
+
+    def __init__(self, text):
+        self.types, self.functions, self.globals, self.made = {}, {}, {}, 0
+        self.lines = text.split("\n")
+        self.reset()
+        for line in self.lines:
+            name, _, rest = line.partition(" = type ")
+            if rest:
+                self.types[name] = Reader(self, rest).type()
+        for line in self.lines:
+            if line.startswith("@"):
+                self.read_global(line)
+        for first in range(len(self.lines)):
+            if self.lines[first].startswith("define "):
+                function = Function(self, self.lines[first:self.lines.index("}", first)])
+                self.functions[function.name] = function
+
+    def reset(self):
+        self.different, self.allows_unknown_bits, self.beside = [], False, 0
+        self.live, self.instead, self.loops = [], {}, None
+
+    def suppose_different(self, a, b):
+        self.different.append({key_of(a), key_of(b)})
+
+    def read_global(self, line):
+        name, _, rest = line.partition(" = ")
+        reader = Reader(self, rest)
+        while reader.next() not in ("constant", "global"):
+            pass
+        t = reader.type()
+        self.globals[name] = Memory(name, t.size(), reader.initial(t), alignment=alignment_said(reader))
+
+    def address_of(self, name):
+        return (self.globals[name], 0) if name in self.globals else FunctionName(name)
+
+    def fresh(self, prefix):
+        """A name that no symbol has."""
+        self.made += 1
+        return f"{prefix}#{self.made}"
+
+    def at_block(self, function, registers, before, block):
+        return self.loops.pass_by(function, registers, before, block) if self.loops else (before, block)
+
+    def call(self, name, arguments):
+        if name == NOTHING or name.startswith("@llvm."):
+            return intrinsic(name, arguments)
+        return self.instead[name](arguments) if name in self.instead else self.functions[name].run(arguments)

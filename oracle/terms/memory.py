@@ -1,0 +1,212 @@
+"""Memory: objects that are stored to, and inputs, which are read only and of which only the length is known.
+
+An address is (object, offset). An offset and a length may be polynomials. Each access has to be shown to lie inside of
+its object, and a load of a byte that was never stored is an error."""
+from . import operations
+from .llvm_text import Unsupported
+from .nodes import symbol
+from .polynomials import constant_of, is_natural, is_number, is_same, minus, plus
+from .rules import bits_of, from_segments
+
+LONGEST = 1 << 14        # bytes of the window that begins at byte 0 of an input
+REACH = 4096             # bytes to each side of a window that begins elsewhere
+WIDEST = 32              # bytes that a cell has at most: a vector's
+RUNS = "runs"
+
+
+class Unset(Unsupported):
+    """A load of bytes that were never stored."""
+
+
+def is_inside(at, n, length):
+    if isinstance(at, int) and isinstance(n, int) and isinstance(length, int):
+        return 0 <= at and at + n <= length
+    return is_natural(at) and is_natural(minus(length, plus(at, n)))
+
+
+def is_within(first, end, low, high):
+    """low <= first and end <= high."""
+    return is_natural(minus(first, low)) and is_natural(minus(high, end))
+
+
+class Input:
+    """The bytes of a message or a secret. Those at x + c, c a number, are bytes of a symbol of its own for each x:
+    two such windows may be the same bytes, of which nothing here makes use."""
+
+    alignment = 1
+
+    def __init__(self, name, length):
+        self.name, self.length = name, length
+
+    def window(self, at, n):
+        """The symbol, and the byte of it that is byte `at`."""
+        if not is_inside(at, n, self.length):
+            raise Unsupported(f"{n} bytes at {at} of {self.name}, which has {self.length}")
+        if isinstance(at, int) and at + n <= LONGEST:
+            return symbol(self.name, 8 * LONGEST), at
+        c = constant_of(at)
+        if not -REACH <= c <= REACH - n:
+            raise Unsupported(f"{at} is too far from its window")
+        return symbol(f"{self.name}@{minus(at, c)}", 16 * REACH), c + REACH
+
+    def load(self, at, n):
+        whole, first = self.window(at, n)
+        return operations.bits(whole, 8 * first, 8 * n)
+
+    def store(self, at, n, value):
+        raise Unsupported(f"a store to {self.name}")
+
+    def origin(self, at):
+        """The input and the place in it that the byte at an offset is."""
+        return self, at
+
+
+class Piece(Input):
+    """The bytes of an input from `first` on, as an object of its own."""
+
+    def __init__(self, whole, first, length):
+        super().__init__(whole.name, length)
+        self.whole, self.first = whole, first
+
+    def window(self, at, n):
+        if not is_inside(at, n, self.length):
+            raise Unsupported(f"{n} bytes at {at} of a piece of {self.name}, which has {self.length}")
+        return self.whole.window(plus(self.first, at), n)
+
+    def origin(self, at):
+        return self.whole, plus(self.first, at)
+
+
+class Memory:
+    """An object that is stored to. `cells` has what was stored at an offset, with its size; and under RUNS what was
+    copied with a length or to a place that isn't a number: (low, high, input, place), byte c of the object is byte
+    place + c of the input for low <= c < high. No byte is in two of them. What is copied into `run_area` is kept as a
+    run."""
+
+    def __init__(self, name, length, cells=(), runs=(), run_area=None, alignment=1):
+        self.name, self.length, self.run_area, self.alignment = name, length, run_area, alignment
+        self.cells = {at: (n, value) for at, n, value in cells}
+        if runs:
+            self.cells[RUNS] = tuple(runs)
+
+    def runs(self):
+        return self.cells.get(RUNS, ())
+
+    def check(self, at, n):
+        if not is_inside(at, n, self.length):
+            raise Unsupported(f"{n} bytes at {at} of {self.name}, which has {self.length}")
+
+    # ---- stores
+
+    def store(self, at, n, value):
+        if not isinstance(at, int):
+            raise Unsupported(f"a store at {at} of {self.name}")
+        self.check(at, n)
+        cell = self.cells.get(at)
+        if self.cells and (cell is None or cell[0] != n):
+            self.clear(at, n)
+        self.cells[at] = n, value
+
+    def clear(self, at, n):
+        """Forgets some bytes."""
+        for first in self.cells_near(at, n):
+            size, value = self.cells.pop(first)
+            for k in range(size):
+                if not at <= first + k < at + n:
+                    self.cells[first + k] = 1, operations.bits(value, 8 * k, 8)
+        for low, high, *_ in self.runs():
+            if not (is_natural(minus(low, at + n)) or is_natural(minus(at, high))):
+                raise Unsupported(f"a store into a run of {self.name}")
+
+    def cells_near(self, at, n):
+        """The cells that have some of the bytes."""
+        return [first for first in range(at - WIDEST + 1, at + n)
+                if first in self.cells and first + self.cells[first][0] > at]
+
+    def fill(self, at, n, byte):
+        self.check(at, n)
+        self.clear(at, n)
+        for k in range(n):
+            self.cells[at + k] = 1, byte
+
+    # ---- loads
+
+    def load(self, at, n):
+        cell = self.cells.get(at)
+        if cell is not None and cell[0] == n:
+            return cell[1]
+        self.check(at, n)
+        for low, high, source, place in self.runs():
+            if is_within(at, plus(at, n), low, high):
+                return source.load(plus(place, at), n)
+        return from_segments(self.parts_from(at, n))
+
+    def parts_from(self, at, n):
+        """The bytes as segments."""
+        out = []
+        while n:
+            first = max(self.cells_near(at, 1), default=None) if isinstance(at, int) else None
+            if first is None:
+                raise Unset(f"byte {at} of {self.name}")
+            size, value = self.cells[first]
+            have = min(n, first + size - at)
+            out += bits_of(value, 8 * (at - first), 8 * have)
+            at, n = at + have, n - have
+        return out
+
+    def has(self, at):
+        return bool(self.cells_near(at, 1))
+
+    # ---- runs
+
+    def origin(self, at, n):
+        """The input and the place in it that the n bytes at an offset are."""
+        for low, high, source, place in self.runs():
+            if is_within(at, plus(at, n), low, high):
+                return source, plus(place, at)
+        raise Unset(f"{n} bytes at {at} of {self.name}")
+
+    def has_run(self, run):
+        """Whether the bytes of a run are known to be those."""
+        low, high, source, place = run
+        return any(other[2] is source and is_same(other[3], place) and is_within(low, high, other[0], other[1])
+                   for other in self.runs())
+
+    def put_run(self, at, n, source, place):
+        """Makes the n bytes at an offset those of an input at a place. Whatever can't be told apart from them is given
+        up: a load of it is an error."""
+        self.check(at, n)
+        end = plus(at, n)
+        self.cells = {first: cell for first, cell in self.cells.items()
+                      if first == RUNS or is_natural(minus(first, end)) or is_natural(minus(at, first + cell[0]))}
+        low, high, shift, others = at, end, minus(place, at), []
+        for run in self.runs():
+            goes_on = run[2] is source and is_same(run[3], shift)
+            if goes_on and is_natural(minus(run[1], low)) and is_natural(minus(high, run[0])):
+                low, high = in_order(run[0], low)[0], in_order(run[1], high)[1]
+            else:
+                others += outside(run, at, end)
+        self.cells[RUNS] = (*others, (low, high, source, shift))
+
+
+def in_order(a, b):
+    """The two, the one that is no greater first."""
+    if is_natural(minus(b, a)):
+        return a, b
+    if is_natural(minus(a, b)):
+        return b, a
+    raise Unsupported(f"the order of {a} and {b}")
+
+
+def outside(run, at, end):
+    """What is left of a run outside of at .. end - 1."""
+    low, high, source, place = run
+    if is_natural(minus(at, high)) or is_natural(minus(low, end)):
+        return [run]
+    if is_natural(minus(high, end)) and is_natural(minus(low, at)):
+        return [(end, high, source, place)]
+    return []
+
+
+def is_address(x):
+    return isinstance(x, tuple) and len(x) == 2 and isinstance(x[0], (Input, Memory)) and is_number(x[1])

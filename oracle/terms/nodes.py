@@ -1,0 +1,188 @@
+"""Terms: numbers made of symbols, each written down once, so that equal terms are one object.
+
+A value is a Python int or a Node. Each node has a width, and its value is below 2 ^ width:
+
+    SYMBOL   a message or a secret as one number (byte i is its bits 8i .. 8i + 7), a seed, an accumulator
+    BITS     segments side by side, the lowest first: a segment is (length, constant, atoms), the xor of the constant
+             and of `length` bits of each atom; an atom is (number of a node that isn't BITS, its first bit)
+    SUM      (constant + sum of coefficient * node) mod 2 ^ width, each node of one segment
+    PRODUCT  the product of two or more nodes mod 2 ^ width
+    OPAQUE   any other operation on naturals, by its name and arguments; honest sides never come to one
+
+Each node has its values at POINTS points, computed from its own structure alone. Each operation compares its answer at
+these points with the operation on its arguments (operations.py), so that each use of each rule is tested there.
+"""
+import random
+
+SYMBOL, BITS, SUM, PRODUCT, OPAQUE = "symbol", "bits", "sum", "product", "opaque"
+POINTS = 2
+WORD = 64   # a symbol above this width has its values as bytes
+
+
+class Undecided(Exception):
+    """A comparison, a branch or an address that depends on symbols."""
+
+
+class WrongRule(Exception):
+    """A rule gave a term of another value: this program is wrong."""
+
+
+class Node:
+    __slots__ = "number", "kind", "width", "most", "parts", "constant", "is_exact", "values", "segments"
+
+    def __repr__(self):
+        return f"<{self.kind}{self.width} #{self.number}>"
+
+
+NODES, BY_KEY = [], {}
+MEMOS = [BY_KEY]           # what has to forget nodes with the table
+USED = {}                  # how often each rule was used, by its name
+symbol_values = {}         # name -> the symbol's values
+EXTREME = bytes([0] * 90 + [255] * 90 + [1] * 20 + [128] * 20 + list(range(220, 256)))
+draw = random.Random(20240229)
+
+
+def memo():
+    """A dictionary that forgets with the table."""
+    MEMOS.append({})
+    return MEMOS[-1]
+
+
+def use(rule):
+    USED[rule] = USED.get(rule, 0) + 1
+
+
+def forget():
+    """Forgets all nodes."""
+    del NODES[:]
+    for known in [*MEMOS, symbol_values]:
+        known.clear()
+
+
+def mark():
+    """A point to come back to by `release`."""
+    return len(NODES), [len(known) for known in MEMOS]
+
+
+def release(point):
+    """Forgets the nodes made since."""
+    nodes, sizes = point
+    del NODES[nodes:]
+    for known, size in zip(MEMOS, sizes):
+        while len(known) > size:
+            known.popitem()
+
+
+def node(kind, parts, width, most, constant=0, is_exact=False):
+    """The one node of that structure. `most` is no less than its greatest value."""
+    if kind is BITS:
+        key = kind, parts
+    elif kind is SUM:
+        key = kind, width, constant, tuple((c, x.number) for c, x in parts)
+    elif kind is PRODUCT:
+        key = kind, width, tuple(x.number for x in parts)
+    else:
+        key = kind, tuple(x if isinstance(x, (int, str)) else ("node", x.number) for x in parts)
+    known = BY_KEY.get(key)
+    if known is None:
+        known = BY_KEY[key] = made(kind, parts, width, most, constant, is_exact)
+    return known
+
+
+def made(kind, parts, width, most, constant, is_exact):
+    out = Node()
+    out.number, out.kind, out.width, out.most, out.parts = len(NODES), kind, width, most, parts
+    out.constant, out.is_exact = constant, is_exact
+    out.segments = parts if kind is BITS else ((width, 0, ((out.number, 0),)),)
+    NODES.append(out)
+    if kind is SYMBOL:
+        out.values = values_of_symbol(parts[0], width)
+    else:
+        out.values = tuple(meaning(out, lambda x, k=k: x if isinstance(x, int) else x.values[k]) for k in range(POINTS))
+    return out
+
+
+def symbol(name, width):
+    return node(SYMBOL, (name,), width, (1 << width) - 1)
+
+
+def values_of_symbol(name, width):
+    """The first point is random; in the second most bytes are 0 or 255, where sums carry far."""
+    if name not in symbol_values:
+        size = (width + 7) // 8
+        values = [draw.randbytes(size) for _ in range(POINTS)]
+        values[1] = values[1].translate(EXTREME)
+        numbers = [int.from_bytes(value, "little") % (1 << width) for value in values] if width <= WORD else values
+        symbol_values[name] = tuple(numbers)
+    return symbol_values[name]
+
+
+def window(value, first, length):
+    """Bits first .. first + length - 1 of a number, or of bytes."""
+    if isinstance(value, bytes):
+        value, first = int.from_bytes(value[first >> 3:first + length + 7 >> 3], "little"), first & 7
+    return value >> first & (1 << length) - 1
+
+
+# What the operations mean that have no canonical form.
+NATURALS = {
+    "mod": lambda a, b: a % b if b else a, "div": lambda a, b: a // b if b else 0, "and": lambda a, b: a & b,
+    "or": lambda a, b: a | b, "monus": lambda a, b: a - b if a > b else 0,
+}
+
+
+def meaning(x, value):
+    """The value of a node, from those of its parts."""
+    if x.kind is BITS:
+        out = at = 0
+        for length, part, atoms in x.parts:
+            for atom, first in atoms:
+                part ^= window(value(NODES[atom]), first, length)
+            out |= part << at
+            at += length
+        return out
+    if x.kind is SUM:
+        return (x.constant + sum(c * value(y) for c, y in x.parts)) % (1 << x.width)
+    if x.kind is PRODUCT:
+        out = 1
+        for y in x.parts:
+            out *= value(y)
+        return out % (1 << x.width)
+    return NATURALS[x.parts[0]](*(value(y) for y in x.parts[1:]))
+
+
+def children(x):
+    """The nodes that a node is made of."""
+    if x.kind is BITS:
+        return [NODES[atom] for _, _, atoms in x.parts for atom, _ in atoms]
+    if x.kind is SUM:
+        return [y for _, y in x.parts]
+    return [y for y in x.parts if isinstance(y, Node)]
+
+
+def values_at(roots, symbols):
+    """The values of some values where the symbols have those of a dictionary."""
+    known = {}
+
+    def value(x):
+        return x if isinstance(x, int) else known[x.number]
+    waiting = [x for x in roots if isinstance(x, Node)]
+    while waiting:
+        x = waiting[-1]
+        below = [] if x.number in known or x.kind is SYMBOL else [y for y in children(x) if y.number not in known]
+        if below:
+            waiting += below
+            continue
+        waiting.pop()
+        if x.number not in known:
+            known[x.number] = symbols[x.parts[0]] if x.kind is SYMBOL else meaning(x, value)
+    return [value(x) for x in roots]
+
+
+def most_of(x):
+    return x if isinstance(x, int) else x.most
+
+
+def is_same(a, b):
+    """Whether two values are one term."""
+    return a is b or isinstance(a, int) and isinstance(b, int) and a == b

@@ -1,0 +1,213 @@
+"""Operations on terms: those on naturals, which the definitions use, and those on words of a width, which LLVM's text
+uses. A polynomial among the arguments of an operator becomes a word.
+
+Each operation is compared, at the points of nodes.py, with the operation on numbers: CHECKED turns that off."""
+from . import nodes, rules
+from .nodes import NATURALS, OPAQUE, Node, Undecided, WrongRule, memo, most_of, node, use, window
+from .polynomials import lifted
+from .rules import bits_of, from_segments, narrow, places, product_at, segments_of, sum_at, xor_segments, zeros_below
+
+CHECKED = True
+watching = []        # asked with each operation: its name, its answer and its arguments
+xor_memo = memo()
+
+# What each operation means on numbers.
+MEANINGS = {
+    "add": lambda a, b: a + b, "multiply": lambda a, b: a * b, "monus": NATURALS["monus"], "remainder": NATURALS["mod"],
+    "quotient": NATURALS["div"], "xor": lambda a, b: a ^ b, "either": lambda a, b: a | b, "both": lambda a, b: a & b,
+    "shift_right": lambda a, k: a >> k, "bits": window, "multiply_at": lambda width, a, b: a * b % (1 << width),
+    "add_at": lambda width, coefficients, *values: sum(c * x for c, x in zip(coefficients, values)) % (1 << width),
+    "complement": lambda width, a: a ^ rules.ones(width),
+}
+
+
+def checked(name, answer, *arguments):
+    """The answer, after a comparison with the operation on numbers."""
+    if CHECKED:
+        for k in range(nodes.POINTS):
+            numbers = [x.values[k] if isinstance(x, Node) else x for x in arguments]
+            if (answer if isinstance(answer, int) else answer.values[k]) != MEANINGS[name](*numbers):
+                raise WrongRule(f"{name} of {arguments} at point {k}")
+    for watch in watching:
+        watch(name, answer, arguments)
+    return answer
+
+
+def add(a, b):
+    width = (most_of(a) + most_of(b)).bit_length()
+    return checked("add", sum_at(width, 0, [(1, a), (1, b)]), a, b)
+
+
+def multiply(a, b):
+    width = (most_of(a) * most_of(b)).bit_length()
+    return checked("multiply", product_at(width, [a, b]) if width else 0, a, b)
+
+
+def monus(a, b):
+    """a - b, and 0 where b is greater."""
+    if isinstance(a, int) and most_of(b) <= a:
+        answer = sum_at(a.bit_length(), a, [(-1, b)])
+    else:
+        answer = opaque("monus", most_of(a), a, b)
+    return checked("monus", answer, a, b)
+
+
+def add_at(width, *parts):
+    """(coefficient, value) parts added mod 2 ^ width."""
+    return checked("add_at", sum_at(width, 0, list(parts)), width, tuple(c for c, _ in parts), *(x for _, x in parts))
+
+
+def multiply_at(width, a, b):
+    return checked("multiply_at", product_at(width, [a, b]), width, a, b)
+
+
+def is_power_of_two(b):
+    return isinstance(b, int) and b and not b & b - 1
+
+
+def remainder(a, b):
+    if is_power_of_two(b):
+        answer = narrow(a, b.bit_length() - 1)
+    elif isinstance(b, int) and most_of(a) < b:
+        use("small_remainder")
+        answer = a
+    else:
+        answer = opaque("mod", max(most_of(a), most_of(b)), a, b)
+    return checked("remainder", answer, a, b)
+
+
+def quotient(a, b):
+    if is_power_of_two(b):
+        return shift_right(a, b.bit_length() - 1)
+    if isinstance(b, int) and most_of(a) < b:
+        use("small_remainder")
+        return checked("quotient", 0, a, b)
+    return checked("quotient", opaque("div", most_of(a), a, b), a, b)
+
+
+def shift_right(a, k):
+    if isinstance(a, int):
+        return a >> k
+    return checked("shift_right", from_segments(bits_of(a, k, a.width - k)), a, k)
+
+
+def bits(a, first, n):
+    """Bits first .. first + n - 1 of a value, as a number."""
+    if isinstance(a, int):
+        return window(a, first, n)
+    return checked("bits", from_segments(bits_of(a, first, n)), a, first, n)
+
+
+def side_by_side(*parts):
+    """(value, width) parts as one number, the first its lowest bits."""
+    return from_segments([segment for x, width in parts for segment in bits_of(x, 0, width)])
+
+
+def xor(a, b):
+    key = tuple(x if isinstance(x, int) else ("node", x.number) for x in (a, b))
+    if key not in xor_memo:
+        use("xor_of_parts")
+        use("xor_in_any_order")
+        answer = from_segments(xor_segments(segments_of(a), segments_of(b)))
+        xor_memo[key] = checked("xor", answer, a, b)
+    return xor_memo[key]
+
+
+def complement(width, a):
+    """2 ^ width - 1 - a, for a below 2 ^ width."""
+    use("complement")
+    return checked("complement", sum_at(width, rules.ones(width), [(-1, a)]), width, a)
+
+
+def either(a, b):
+    """The bits of a or b."""
+    if isinstance(a, int):
+        a, b = b, a
+    if a is b:
+        answer = a
+    elif not places(a) & places(b):
+        use("bits_apart")
+        answer = from_segments(xor_segments(segments_of(a), segments_of(b)))
+    elif isinstance(b, int) and not b & b + 1 and most_of(a) <= b:
+        use("union_with_ones")
+        answer = b
+    else:
+        answer = opaque("or", places(a) | places(b), a, b)
+    return checked("either", answer, a, b)
+
+
+def both(a, b):
+    """The bits of a and b."""
+    if isinstance(a, int):
+        a, b = b, a
+    if a is b:
+        answer = a
+    elif isinstance(b, int) and not isinstance(a, int):
+        use("mask")
+        answer = from_segments(masked(a, b))
+    else:
+        answer = opaque("and", min(most_of(a), most_of(b)), a, b)
+    return checked("both", answer, a, b)
+
+
+def masked(a, mask):
+    """The bits of a where the mask has them, as segments."""
+    out, at = [], 0
+    while mask >> at:
+        is_kept = mask >> at & 1
+        run = zeros_below(~(mask >> at)) if is_kept else zeros_below(mask >> at)
+        out += bits_of(a, at, run) if is_kept else [(run, 0, ())]
+        at += run
+    return out
+
+
+def is_below(a, b):
+    """a < b, where the bounds decide it."""
+    if a is b or isinstance(a, int) and most_of(b) <= a:
+        return False
+    if isinstance(b, int) and most_of(a) < b:
+        return True
+    raise Undecided(f"{a} < {b}")
+
+
+def is_equal(a, b):
+    if a is b:
+        return True
+    raise Undecided(f"{a} == {b}")
+
+
+def opaque(name, most, *arguments):
+    """An operation that has no canonical form."""
+    if all(isinstance(x, int) for x in arguments):
+        return NATURALS[name](*arguments)
+    use(f"opaque {name}")
+    return node(OPAQUE, (name, *arguments), max(most.bit_length(), 1), most)
+
+
+def no_number(x, *_):
+    raise Undecided(f"{x} as a condition or an index")
+
+
+def operator(operation):
+    return lambda self, other: operation(self, lifted(other))
+
+
+def turned(operation):
+    return lambda self, other: operation(lifted(other), self)
+
+
+# What the evaluator of the definitions asks of its numbers.
+for name, on_naturals in {"add": add, "mul": multiply, "xor": xor, "or": either, "and": both, "mod": remainder,
+                          "floordiv": quotient}.items():
+    setattr(Node, f"__{name}__", operator(on_naturals))
+    setattr(Node, f"__r{name}__", turned(on_naturals))
+Node.__lshift__ = lambda self, k: multiply(self, 1 << k)
+Node.__rshift__ = shift_right
+Node.__eq__ = operator(is_equal)
+Node.__ne__ = lambda self, other: not self == other
+Node.__hash__ = object.__hash__
+Node.__lt__ = operator(is_below)
+Node.__gt__ = turned(is_below)
+Node.__le__ = lambda self, other: not self > other
+Node.__ge__ = lambda self, other: not self < other
+Node.__bool__ = Node.__index__ = no_number

@@ -1,0 +1,327 @@
+"""Naturals that depend on a length: polynomials over variables that are naturals, under facts, each a polynomial that
+isn't negative. A comparison is decided where the facts decide it for all values, and is Undecided else.
+
+`is_natural(x)` looks for x as a sum of facts times monomials and of monomials, after each variable was moved to begin
+at 0. Each "yes" is compared with the value at some points at which the facts hold."""
+import contextlib
+import random
+
+from . import rules
+from .nodes import Undecided, symbol
+
+WORD = 64
+DEPTH = 4                     # how often a fact may be taken away
+TRIED, KEPT = 60, 8           # points that are drawn, and how many are kept
+SEARCHED = 20000              # how many are drawn until one is found
+CHOICES = 0, 1, 2, 3, 5, 62, 200
+
+facts, least, known = [], {}, {}   # polynomials >= 0; variable -> its least value; what was decided under these facts
+possible = {}                      # a set of facts -> points at which they hold
+
+
+class Poly:
+    """The sum of coefficient * product of variables. Without a variable it is an int instead."""
+    __slots__ = "parts",
+
+    def __init__(self, parts):
+        self.parts = parts
+
+    def key(self): return frozenset(self.parts.items())
+    def __hash__(self): return hash(self.key())
+
+    def __repr__(self):
+        order = sorted(self.parts.items(), key=lambda part: (-len(part[0]), part[0]))
+        return " + ".join("*".join([str(c)] * (c != 1 or not names) + list(names)) for names, c in order)
+
+    def __add__(self, other): return plus(self, other) if is_number(other) else NotImplemented
+    __radd__ = __add__
+    def __sub__(self, other): return monus(self, other) if is_number(other) else NotImplemented
+    def __rsub__(self, other): return monus(other, self) if is_number(other) else NotImplemented
+    def __mul__(self, other): return times(self, other) if is_number(other) else NotImplemented
+    __rmul__ = __mul__
+    def __lshift__(self, k): return times(self, 1 << k)
+    def __rshift__(self, k): return divided(self, 1 << k)[0]
+    def __floordiv__(self, other): return divided(self, other)[0]
+    def __rfloordiv__(self, other): return divided(other, self)[0]
+    def __mod__(self, other): return remainder(self, other)
+    def __rmod__(self, other): return remainder(other, self)
+
+    def __eq__(self, other):
+        if is_same(self, other):
+            return True
+        if is_below(self, other) or is_below(other, self):
+            return False
+        raise Undecided(f"{self} == {other}")
+
+    def __ne__(self, other): return not self == other
+    def __lt__(self, other): return is_less(self, other)
+    def __gt__(self, other): return is_less(other, self)
+    def __le__(self, other): return not is_less(other, self)
+    def __ge__(self, other): return not is_less(self, other)
+    def __bool__(self): return not self == 0
+    def __index__(self): raise Undecided(f"{self} as an index")
+
+
+def variable(name):
+    return Poly({(name,): 1})
+
+
+def is_number(x):
+    return isinstance(x, (int, Poly))
+
+
+def parts_of(x):
+    return x.parts if isinstance(x, Poly) else {(): x} if x else {}
+
+
+def made(parts):
+    parts = {names: c for names, c in parts.items() if c}
+    return Poly(parts) if any(parts) else parts.get((), 0)
+
+
+def plus(*terms):
+    if all(x.__class__ is int for x in terms):
+        return sum(terms)
+    out = {}
+    for x in terms:
+        for names, c in parts_of(x).items():
+            out[names] = out.get(names, 0) + c
+    return made(out)
+
+
+def minus(a, b):
+    """a - b, which may be negative."""
+    if isinstance(a, int) and isinstance(b, int):
+        return a - b
+    return plus(a, times(-1, b))
+
+
+def times(a, b):
+    if isinstance(a, int) and isinstance(b, int):
+        return a * b
+    out = {}
+    for names, c in parts_of(a).items():
+        for others, d in parts_of(b).items():
+            key = tuple(sorted(names + others))
+            out[key] = out.get(key, 0) + c * d
+    return made(out)
+
+
+def constant_of(x):
+    return parts_of(x).get((), 0)
+
+
+def is_same(a, b):
+    return is_number(a) and is_number(b) and parts_of(a) == parts_of(b)
+
+
+def replaced(x, name, value):
+    """x, where a variable is that number."""
+    out = 0
+    for names, c in parts_of(x).items():
+        for other in names:
+            c = times(c, value if other == name else variable(other))
+        out = plus(out, c)
+    return out
+
+
+# ---- facts
+
+@contextlib.contextmanager
+def given(*more):
+    """What holds inside of a `with`. A fact `v - c` says where the variable v begins."""
+    size, bounds = len(facts), dict(least)
+    for fact in more:
+        parts = parts_of(fact)
+        name = next(iter(names_of(fact)), None)
+        if parts == {(name,): 1, (): parts.get((), 0)} and parts[()] < 0:
+            least[name] = max(least.get(name, 0), -parts[()])
+        elif isinstance(fact, Poly):
+            facts.append(fact)
+        elif fact < 0:
+            raise Undecided("facts that can't be")
+    known.clear()
+    try:
+        expect_possible()
+        yield
+    finally:
+        del facts[size:]
+        least.clear()
+        least.update(bounds)
+        known.clear()
+
+
+def at_most(x, bound):
+    """The fact x <= bound."""
+    return minus(bound, x)
+
+
+def value_at(x, point):
+    out = 0
+    for names, c in parts_of(x).items():
+        for name in names:
+            c *= point[name]
+        out += c
+    return out
+
+
+def names_of(*polynomials):
+    return {name for x in polynomials for names in parts_of(x) for name in names}
+
+
+def points_for(x):
+    """Some points at which each fact holds, with values for the variables of x."""
+    names = sorted(names_of(x) - names_of(*facts))
+    for number, point in enumerate(possible.get(known.get("facts' key"), ())):
+        yield {**point, **{name: least.get(name, 0) + CHOICES[(number + k) % len(CHOICES)] for k,
+                           name in enumerate(names)}}
+
+
+def expect_possible():
+    """Of facts that hold nowhere anything would follow: there have to be points at which these hold."""
+    key = known["facts' key"] = frozenset([*map(repr, facts), *least.items()])
+    if key not in possible:
+        names, draw, found = sorted(names_of(*facts)), random.Random(1), []
+        for attempt in range(SEARCHED):
+            point = {name: least.get(name, 0) + (draw.choice(CHOICES) if attempt else 0) for name in names}
+            if all(value_at(fact, point) >= 0 for fact in facts):
+                found.append(point)
+            if len(found) == KEPT or found and attempt > TRIED:
+                break
+        if not found:
+            raise Undecided(f"facts that hold nowhere, as far as was seen: {facts} {least}")
+        possible[key] = found
+
+
+def from_zero(x):
+    """x in variables that begin at 0, as its parts."""
+    out = 0
+    for names, c in parts_of(x).items():
+        for name in names:
+            c = times(c, plus(variable(name), least.get(name, 0)))
+        out = plus(out, c)
+    return parts_of(out)
+
+
+def is_natural(x):
+    """x >= 0 for all values that the facts allow."""
+    if isinstance(x, int):
+        return x >= 0
+    key = x.key()
+    if key not in known:
+        if "facts" not in known:
+            known["facts"] = [from_zero(fact) for fact in facts]
+        holds = all(value_at(x, point) >= 0 for point in points_for(x))
+        depths = range(1, DEPTH + 1)
+        known[key] = holds and any(is_sum_of_facts(from_zero(x), known["facts"], depth) for depth in depths)
+    return known[key]
+
+
+def without(names, product):
+    """The variables of a product without some of them, or None."""
+    out = list(product)
+    for name in names:
+        if name not in out:
+            return None
+        out.remove(name)
+    return tuple(out)
+
+
+def is_sum_of_facts(x, zero_based, depth):
+    """Whether x is a sum of facts times monomials and of monomials: a negative part is taken away by a fact that has
+    it."""
+    negative = [names for names, c in x.items() if c < 0]
+    if not negative:
+        return True
+    if not depth:
+        return False
+    part = max(negative, key=lambda names: (len(names), names))
+    for fact in zero_based:
+        for names, c in fact.items():
+            rest = without(names, part) if c < 0 else None
+            if rest is not None and is_sum_of_facts(taken_away(x, fact, part, -c, rest), zero_based, depth - 1):
+                return True
+    return False
+
+
+def taken_away(x, fact, part, scale, rest):
+    """scale * x - |coefficient of part| * rest * fact, in which `part` no longer is."""
+    out = {names: scale * c for names, c in x.items()}
+    for names, c in fact.items():
+        key = tuple(sorted(names + rest))
+        out[key] = out.get(key, 0) + x[part] * c
+    return {names: c for names, c in out.items() if c}
+
+
+def is_below(a, b):
+    """a < b: True, False, or None where the facts don't decide it."""
+    if is_natural(minus(minus(b, a), 1)):
+        return True
+    return False if is_natural(minus(a, b)) else None
+
+
+def is_less(a, b):
+    answer = is_below(a, b)
+    if answer is None:
+        raise Undecided(f"{a} < {b}")
+    return answer
+
+
+def smaller(a, b):
+    return a if is_less(a, plus(b, 1)) else b
+
+
+def monus(a, b):
+    return 0 if is_less(a, b) else minus(a, b)
+
+
+def divided(a, b):
+    """Quotient and remainder: guessed, by the part of b that has the most variables, and then shown."""
+    if is_same(b, 0):
+        raise Undecided(f"{a} / {b}")
+    names, d = max(parts_of(b).items(), key=lambda part: len(part[0]))
+    guess = {}
+    for product, c in parts_of(a).items():
+        rest = without(names, product)
+        if rest is not None and (c % d == 0 or not rest):
+            guess[rest] = c // d
+    for more in (0, -1, 1):
+        q = plus(made(guess), more)
+        r = minus(a, times(b, q))
+        if is_natural(r) and is_natural(minus(minus(b, r), 1)):
+            return q, r
+    raise Undecided(f"{a} / {b}")
+
+
+def remainder(a, b):
+    with contextlib.suppress(Undecided):
+        return divided(a, b)[1]
+    if isinstance(b, int) and b and not b & b - 1 and b <= 1 << WORD:
+        return as_word(a, b.bit_length() - 1)
+    raise Undecided(f"{a} % {b}")
+
+
+# ---- polynomials as words
+
+def wrapped(x, width):
+    """x mod 2 ^ width as a polynomial."""
+    for more in (0, 1 << width, -1 << width):
+        y = plus(x, more)
+        if is_natural(y) and is_natural(at_most(y, (1 << width) - 1)):
+            return y
+    raise Undecided(f"{x} may leave {width} bits")
+
+
+def as_word(x, width):
+    """x mod 2 ^ width as a term. A product of variables is a symbol there, the product mod 2 ^ 64."""
+    parts = [(c, symbol("*".join(names), WORD)) for names, c in parts_of(x).items() if names]
+    return rules.sum_at(width, constant_of(x), parts)
+
+
+def lifted(x):
+    """A polynomial, which has to lie below 2 ^ 64, as a term. Any other value is itself."""
+    if not isinstance(x, Poly):
+        return x
+    if not (is_natural(x) and is_natural(at_most(x, (1 << WORD) - 1))):
+        raise Undecided(f"{x} as a word")
+    return as_word(x, WORD)

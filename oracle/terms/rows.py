@@ -1,0 +1,228 @@
+"""The rows of oracle/symbolic: what is asked, in processes of its own each, and what is said of it."""
+import collections
+import concurrent.futures
+import functools
+import multiprocessing
+import resource
+import threading
+import time
+import traceback
+
+import antt
+import mutants
+
+from . import changed_headers, changes, comparison, every_length, machinery, nodes, plain_streams, xxh3_streams
+from .comparison import SECRETS
+from .loops import REFUSALS
+from .machine import Module
+from .nodes import WrongRule
+from .sides import HEADERS, VECTORS, llvm_text
+
+PARTS = 4                    # the changes are tried in so many rows
+SAMPLE = 32                  # in the gate, each so manieth change of the definition's text
+LINES, FEW_LINES = 5000, 100  # changes of LLVM's text
+GATE_SECRETS, STREAM_SECRETS = (136,), (136, 192)
+SHOWN = 30                   # complaints of a row
+FORK, STARTING = multiprocessing.get_context("fork"), threading.Lock()
+
+
+class Row:
+    """A row: its title, the vectors that the library's code is for, and a function of a module that gives
+    (counts, failures) as lines."""
+
+    def __init__(self, title, ask, vector="scalar", is_deep=True):
+        self.title, self.ask, self.vector = title + ("" if vector == "scalar" else f", {vector}"), ask, vector
+        self.is_deep = is_deep     # long recursions need a thread with a large stack, and time limits the main one
+
+
+def choose(given):
+    vectors = list(VECTORS) if given.all else [given.vector]
+    rows = induction(vectors, given.all) + lengths(given.all, given.vector)
+    if given.all:
+        rows += vector_lengths([vector for vector in vectors if vector != given.vector])
+    rows += of_changes(given.all, given.vector, given.headers) + of_machinery(given.all, given.vector)
+    return [row for row in rows if given.only in row.title]
+
+
+# ---- lengths one by one
+
+def title_of(hash_name, kind, secret):
+    return f"XXH{hash_name}, {kind}" + (f" of {secret} bytes" if secret else "")
+
+
+def lengths(is_all, vector):
+    out = []
+    for kind in comparison.kinds(SECRETS if is_all else GATE_SECRETS):
+        out.append(compared(title_of(*kind), kind, range(301), vector))
+        if is_all:
+            out.append(compared(title_of(*kind), kind, range(301, 1101), vector))
+            out.append(compared(f"{title_of(*kind)}, at edges", kind, comparison.edges(kind[2]), vector))
+            if kind[2] in (None, *STREAM_SECRETS):
+                out.append(compared(f"{title_of(*kind)}, streams", kind, comparison.STREAMED, vector, True))
+    return out
+
+
+def vector_lengths(vectors):
+    """The code of other vectors, which differs from 241 bytes on."""
+    kinds = [kind for kind in comparison.kinds((136,)) if kind[0].startswith("3-")]
+    return [compared(title_of(*kind), kind, [*range(241, 501), *comparison.edges(kind[2])], vector)
+            for vector in vectors for kind in kinds]
+
+
+def compared(title, kind, asked, vector, streams=False):
+    def ask(module):
+        equal, complaints = comparison.compare(module, *kind, asked, streams)
+        return f"{equal} requests, each one term", complaints
+    first, last = min(asked), max(asked)
+    return Row(f"{title}: {first} to {last} bytes", ask, vector)
+
+
+# ---- every length
+
+def induction(vectors, is_all):
+    out = [shown(f"XXH{kind}, streams: any updates, to 2^64 - 1 bytes",
+                 functools.partial(plain_streams.show, kind=kind))
+           for kind in ("32", "64")]
+    for vector in vectors:
+        for kind in every_length.KINDS:
+            if vector == vectors[0] or kind.startswith("3-"):
+                name, _, way = kind.partition(":")
+                called = f"XXH{name}, {way}" if way else f"XXH{name}"
+                title = f"{called}: every length from {every_length.shortest(kind)} to 2^64 - 1"
+                out.append(shown(title, functools.partial(every_length.show, kind=kind), vector))
+        for place in xxh3_streams.PLACES if is_all else ():
+            out.append(shown(f"XXH3, streams with a secret {place} of the state: any updates, to 2^63 - 1 bytes",
+                             functools.partial(xxh3_streams.show, place=place), vector))
+    return out
+
+
+def shown(title, show, vector="scalar"):
+    def ask(module):
+        proof = show(module)
+        return f"{proof.cases} cases; " + "; ".join(proof.lines()[:4]), []
+    return Row(title, ask, vector)
+
+
+# ---- changes and the machinery
+
+def of_changes(is_all, vector, headers):
+    parts = range(PARTS) if is_all else [0]
+    of = PARTS if is_all else SAMPLE
+    out = [Row(f"changes of one token of the definitions, part {part + 1} of {of}",
+               functools.partial(text_changes, part=part, parts=of), vector,
+               is_deep=False) for part in parts]
+    of = PARTS if is_all else 1
+    sample = LINES if is_all else FEW_LINES
+    out += [Row(f"changes of LLVM's text, part {part + 1} of {of}",
+                functools.partial(line_changes, sample=sample, part=part, parts=of), vector,
+                is_deep=False) for part in parts]
+    out.append(Row("changes of the definitions that differ from 2^31 bytes on alone, asked by induction",
+                   large_changes, vector))
+    out.append(Row("changes by hand of the definitions, that differ on rare inputs alone", hand_changes, vector))
+    if headers != HEADERS:      # the texts are those of Debian's
+        return out
+    asked = changed_headers.CHANGES if is_all else changed_headers.CHANGES[::4]
+    out.append(Row("changes of the header 0.8.1, asked by induction", functools.partial(header_changes, changed=asked)))
+    if is_all:
+        out.append(Row("changes of the header 0.8.1, streams of XXH3",
+                       functools.partial(header_changes, changed=changed_headers.DEAR)))
+    return out
+
+
+def header_changes(module, changed):
+    found = list(changed_headers.tell(changed))
+    return f"{len(found)} questions", [line for is_good, line in found if not is_good]
+
+
+def large_changes(module):
+    found = changes.by_induction(module)
+    return f"{len(found)} changes, each refused", [line for is_good, line in found if not is_good]
+
+
+def text_changes(module, part, parts):
+    found = changes.of_text(module, part, parts)
+    reasons = [*mutants.reasons(), *(words for words, *_ in changes.AT_LARGE_LENGTHS)]   # those are asked by induction
+    bad = [f"{what}: {text}" for what, text in found
+           if is_wrong(what) or what == changes.UNNOTICED and not any(words in text for words in reasons)]
+    return told(found), bad
+
+
+def line_changes(module, sample, part, parts):
+    found = changes.of_reference(module, sample, part, parts)
+    unnoticed = [text for what, text in found if what == changes.UNNOTICED and not changes.is_equal_line(text)]
+    return told(found), [f"{what}: {text}" for what, text in found if is_wrong(what) or text in unnoticed]
+
+
+def is_wrong(what):
+    return what.startswith(("A CRASH", "A RULE"))
+
+
+def told(found):
+    return ", ".join(f"{count} {what}" for what, count in collections.Counter(what for what, _ in found).most_common())
+
+
+def hand_changes(module):
+    found = changes.by_hand(module)
+    return f"{len(found)} changes", [line for is_good, line in found if not is_good]
+
+
+def of_machinery(is_all, vector):
+    out = [Row("the rules are the proved ones", machinery.rules_are_proved, vector),
+           Row("random operations and laws",
+               functools.partial(machinery.random_operations, rounds=300 if is_all else 30), vector)]
+    if is_all:
+        out += [Row("the reference's terms on the rows of the table", machinery.table_rows, vector),
+                Row("a sample of the operations by z3: 0 to 16 bytes", machinery.by_solver, vector)]
+    return out
+
+
+# ---- processes
+
+def run(rows, headers, jobs):
+    """Runs the rows, so many at once, each in a process of its own, and says what became of it: the command's status."""
+    texts = {vector: llvm_text(headers, vector) for vector in {row.vector for row in rows}}
+    began, passed = time.monotonic(), 0
+    with concurrent.futures.ThreadPoolExecutor(jobs) as pool:
+        for line, is_good in pool.map(lambda row: in_process(row, texts[row.vector]), rows):
+            passed += is_good
+            print(line, flush=True)
+    used = resource.getrusage(resource.RUSAGE_CHILDREN)
+    print(f"in {time.monotonic() - began:.0f} s, {used.ru_utime + used.ru_stime:.0f} s of processor time")
+    print(f"{passed} passed, {len(rows) - passed} failed")
+    return 1 if passed < len(rows) or not rows else 0
+
+
+def in_process(row, text):
+    """A row: what is said of it, and whether it passed. A process that is killed says nothing, and didn't."""
+    with STARTING:     # so that no other process holds the pipe's end
+        ours, theirs = FORK.Pipe(duplex=False)
+        process = FORK.Process(target=answer, args=(row, text, theirs))
+        process.start()
+        theirs.close()
+    try:
+        return ours.recv()
+    except EOFError:
+        return f"FAILED {row.title}: its process ended", False
+    finally:
+        process.join()
+
+
+def answer(row, text, pipe):
+    began, module = time.monotonic(), Module(text)
+    if row.is_deep:
+        what, bad = antt.with_deep_recursion(outcome, row, module)
+    else:
+        with changes.limits():
+            what, bad = outcome(row, module)
+    used = f"{time.monotonic() - began:.1f} s, {resource.getrusage(resource.RUSAGE_SELF).ru_maxrss // 1024} MB"
+    lines = [f"{'FAILED' if bad else 'ok'} {row.title}: {what}; {used}", *(f"    {line}" for line in bad[:SHOWN])]
+    pipe.send(("\n".join(lines), not bad))
+
+
+def outcome(row, module):
+    try:
+        return row.ask(module)
+    except (*REFUSALS, WrongRule) as error:
+        return "", [f"{type(error).__name__}: {error}"]
+    except Exception:
+        return "", traceback.format_exc().splitlines()
