@@ -11,7 +11,7 @@ import traceback
 import antt
 import mutants
 
-from . import changed_headers, changes, comparison, every_length, machinery, nodes, plain_streams, xxh3_streams
+from . import changed_headers, changes, comparison, every_length, machinery, plain_streams, xxh3_streams
 from .comparison import SECRETS
 from .loops import REFUSALS
 from .machine import Module
