@@ -25,8 +25,9 @@ TOP = os.path.dirname(ASSEMBLY)
 sys.path[:0] = [ASSEMBLY, os.path.join(TOP, 'c', 'checks')]
 sys.dont_write_bytecode = True
 
+import macho
 from report import Fault, Report, want
-from same_bytes import compare, compare_sums
+from same_bytes import compare, compare_sums, Object
 
 BUILDS = {'c': 'c/build', 'rust': 'rust/build-library'}
 SETS = {('c', 'x86-64'): ('x86-64-v2', 'x86-64-v3'), ('rust', 'x86-64'): ('x86-64', 'x86-64-v3'),
@@ -178,6 +179,16 @@ def is_same(assembler, text, proved, room):
     want(not found, ' / '.join(line[:200] for line in found[:3]))
 
 
+def is_same_for_macos(text, proved, made, room):
+    """The text with the directives of macOS, which clang assembles wherever it runs."""
+    for_macos, out = text.replace('.s', '-macos.s'), os.path.join(room, 'macos.o')
+    with open(for_macos) as committed, open(os.path.join(made, os.path.basename(for_macos))) as anew:
+        want(committed.read() == anew.read(), f'{os.path.relpath(for_macos, TOP)} is another: {made} has it anew')
+    run(['clang', '--target=x86_64-apple-darwin', '-c', for_macos, '-o', out])
+    found = [fault for fault in macho.differences(Object(proved), macho.MachObject(out)) if fault]
+    want(not found, ' / '.join(found[:3]))
+
+
 def check_texts(report, library, target, sysroot=None):
     """The texts of a library that was proved and built."""
     out = os.path.join(TOP, library, 'out')
@@ -190,6 +201,9 @@ def check_texts(report, library, target, sysroot=None):
             for assembler in assemblers:
                 report.attempt(f'{shown} by {assembler.name}', is_same, assembler, text, proved, room)
             report.attempt(f'{shown} made wrong is noticed', wrong_texts_are_noticed, text, proved, target, room)
+            if (library, target) == ('rust', 'x86-64') and shutil.which('clang'):
+                report.attempt(f'{shown} with the directives of macOS', is_same_for_macos, text, proved,
+                               os.path.join(out, 'asm', target), room)
 
 
 def has_sums(assembler, text, room):

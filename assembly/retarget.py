@@ -1,64 +1,62 @@
 #!/usr/bin/env python3
 """Prints assembly text of a proved module for a target that the toolchain doesn't compile for:
 
-    assembly/retarget.py MODULE TARGET TAG [--sysv] [--sign-extended]
+    assembly/retarget.py MODULE TARGET TITLE TAG [--suffix SUFFIX] [--sysv] [--sign-extended]
 
-MODULE is a folder of assembly/module. Of the module's text change its triple, its data layout, the processor of its
+MODULE is a folder of assembly/module. Of the module's text it changes the triple, the data layout, the processor of its
 functions where the target has another kind, and names: each local name gets plain letters and ends in .TAG, and the
-exports the names of the cargo crate. The toolchain's clang compiles it by the words that it was called by.
+exports get those that the cargo crate calls, which end in SUFFIX. The toolchain's clang compiles it, by the words that it
+was called by for its own target.
 
---sysv gives the exports the calling convention of System V, in which Rust calls them on Windows too: in Windows' own an
-answer of two registers has no place. --sign-extended says of each argument and answer of 32 bits that the upper half of
-its register repeats the sign, as the convention of RISC-V wants.
+--sysv gives the exports the calling convention of System V, by which Rust calls them on Windows too: in Windows' own
+convention an answer of two words has no registers. --sign-extended says of each argument and answer of 32 bits that the
+upper half of its register repeats the sign, as the convention of RISC-V wants.
 
-What comes out was not compiled by the toolchain for a target that it vouches for. It is tested, and not compared."""
+The kit doesn't vouch for such a target. What comes out is tested, and compared with no object of the toolchain."""
 import argparse
 import os
 import re
 import shutil
 import subprocess
 import sys
-import tempfile
+from collections import Counter
 
-KIT = os.path.dirname(os.path.dirname(os.path.realpath(shutil.which('rt') or sys.exit('retarget.py: no rt'))))
-CLANG = os.path.join(KIT, 'toolchain', 'bin', 'clang')
-# Words of clang that name the toolchain's own target, or where it lies.
-OWN = ('--target=', '--sysroot=', '-march=', '-mcpu=', '-mllvm -no-x86-call-frame-opt', '-Werror')
-
-
-def output_of(*words, text=None):
-    return subprocess.run([CLANG, *words], input=text, check=True, stdout=subprocess.PIPE, text=True).stdout
+# Words of clang that name the toolchain's own target, where it lies, or what it reads and writes.
+OWN = ('--target=', '--sysroot=', '-march=', '-mcpu=', '-mllvm -no-x86-call-frame-opt', '-Werror', '-x ', '-o ', '-c')
+# Directives that say where a text comes from, or are of its assembler alone.
+LEFT_OUT = re.compile(r'\s*\.(file|ident|addrsig|addrsig_sym|attribute|build_version|macosx_version_min)\b')
+LABEL = re.compile(r'(\.L|\bL)((?:BB|CPI|JTI|tmp|func_end|PC)\w*)')
 
 
-def text_of_module(folder):
-    """The module as text, and whether the toolchain has optimized it already, as it does for 64-bit ARM."""
+def clang(*words, text=None):
+    kit = os.path.dirname(os.path.dirname(os.path.realpath(shutil.which('rt') or sys.exit('retarget.py: no rt'))))
+    words = [os.path.join(kit, 'toolchain', 'bin', 'clang'), *words, '-w', '-S', '-o', '-']
+    return subprocess.run(words, input=text, check=True, stdout=subprocess.PIPE, text=True).stdout
+
+
+def text_of(path):
+    with open(path) as file:
+        return file.read()
+
+
+def module_of(folder):
+    """The module's text. That for 64-bit ARM is text already."""
     rewritten = os.path.join(folder, 'rewritten.ll')
     if os.path.exists(rewritten):
-        with open(rewritten) as file:
-            return file.read()
-    words = ['-w', '-x', 'ir', os.path.join(folder, 'module.bc'), '-S', '-emit-llvm', '-Xclang', '-disable-llvm-passes']
-    return output_of(*words, '-o', '-')
+        return text_of(rewritten)
+    return clang('-emit-llvm', '-Xclang', '-disable-llvm-passes', '-x', 'ir', os.path.join(folder, 'module.bc'))
 
 
-def words_of(folder, target):
-    """The words of clang, for another target."""
-    with open(os.path.join(folder, 'words')) as file:
-        words = file.read().splitlines()
-    kept, words = [], iter(words)
-    for word in words:
-        if word in ('-mllvm', '-Xclang'):
-            word = f'{word} {next(words)}'
-        elif word in ('-x', '-o'):
-            next(words)
-            continue
-        if not word.startswith(OWN) and word != '-c' and not word.endswith(('.bc', '.ll')):
-            kept += word.split(' ')
-    return [f'--target={target}', *kept, '-w', '-S', '-x', 'ir', '-', '-o', '-']
+def words_of(folder):
+    """The words by which clang compiled the module, but for those of its own target."""
+    words = re.sub(r'^(-mllvm|-Xclang|-x|-o)\n', r'\1 ', text_of(os.path.join(folder, 'words')), flags=re.M).splitlines()
+    kept = [word for word in words if not word.startswith(OWN) and not word.endswith(('.bc', '.ll'))]
+    return [part for word in kept for part in word.split(' ')]
 
 
 def for_target(module, target):
-    """The module's text with the triple, the layout and the processor of another target."""
-    empty = output_of(f'--target={target}', '-w', '-S', '-emit-llvm', '-x', 'c', '-', '-o', '-', text='void f(void) {}\n')
+    """The module with the triple, the layout and the processor of another target."""
+    empty = clang(f'--target={target}', '-emit-llvm', '-x', 'c', '-', text='void f(void) {}\n')
     for line in ('target datalayout', 'target triple'):
         own = re.search(rf'^{line} = .*$', empty, re.M)[0]
         module = re.sub(rf'^{line} = .*$', lambda _: own, module, flags=re.M)
@@ -67,76 +65,75 @@ def for_target(module, target):
     return module
 
 
-def plain_names(module, tag):
-    """The module with local names that every assembler takes, each with the tag, and none twice."""
-    taken = {}
+def with_plain_names(module, tag):
+    """The module with local names that every assembler takes, each with the tag, and no two alike."""
+    taken, names = Counter(), {}
 
     def plain(found):
-        mark, name = found[1], found[2]
-        if name not in taken:
-            letters = re.sub(r'[^A-Za-z0-9_.]+', '.', name).strip('.')
-            count = sum(it.startswith(letters + '#') for it in taken.values())
-            taken[name] = f'{letters}#{count}'
-        letters, count = taken[name].split('#')
-        return f'{mark}{letters}{"." + count if count != "0" else ""}.{tag}'
+        mark, name = found.groups()
+        if name not in names:
+            letters = re.sub(r'[^A-Za-z0-9_.]+', '.', re.sub(r'::<#[0-9a-f]+>', '', name)).strip('.')
+            taken[letters] += 1
+            names[name] = letters + (f'.{taken[letters]}' if taken[letters] > 1 else '')
+        return f'{mark}{names[name]}.{tag}'
 
     module = re.sub(r'(@|\$|comdat\()"([^"]*::[^"]*)"', plain, module)
     return re.sub(r'@(static\.\d+)\b', rf'@\1.{tag}', module)
 
 
-def exports(module):
-    return re.findall(r'^define (?!internal|private)[^@]*@(twox_rust_\w+)\(', module, re.M)
+def with_exports(module, suffix, convention, has_comdat):
+    """The module whose exports have the number of the interface in their names and are weak and hidden, as those of the
+    texts that are compared."""
+    exports = re.findall(r'^define (?!internal|private)[^@]*@(twox_rust_\w+)\(', module, re.M)
+    number, = (name.rsplit('_', 1)[1] for name in exports if name.startswith('twox_rust_interface_'))
+    for name in exports:
+        own = 'interface' if name.startswith('twox_rust_interface_') else name[len('twox_rust_'):]
+        new = f'twox_rust_{number}_{own}{suffix}'
+        module = re.sub(rf'@{name}\b', f'@{new}', module)
+        if has_comdat:
+            module = re.sub(rf'^(define .*@{new}\(.*) {{$', r'\1 comdat {', module, flags=re.M) + f'${new} = comdat any\n'
+    linkage = f'define weak_odr hidden {convention}'
+    return f'twox_rust_{number}_interface{suffix}', re.sub(r'^define (?!internal|private)', linkage, module, flags=re.M)
 
 
-def by_the_crates_names(module, suffix):
-    """Each export has the number of the interface in its name, as the crate calls it."""
-    calls = exports(module)
-    number, = (name.rsplit('_', 1)[1] for name in calls if name.startswith('twox_rust_interface_'))
-    for name in calls:
-        new = f'interface{suffix}' if name.startswith('twox_rust_interface_') else name[len('twox_rust_'):] + suffix
-        module = re.sub(rf'@{name}\b', f'@twox_rust_{number}_{new}', module)
-    return re.sub(r'^define (?!internal|private)', 'define hidden ', module, flags=re.M)
+def with_signs(module):
+    """The module whose exports take and answer 32 bits as registers that repeat the sign."""
+    def signed(found):
+        answer, arguments = found[0].split('@', 1)
+        return answer.replace('i32', 'signext i32') + '@' + arguments.replace('i32 noundef', 'i32 noundef signext')
+    return re.sub(r'^define weak_odr hidden .*$', signed, module, flags=re.M)
 
 
-def by_convention(module, sysv, sign_extended):
-    def changed(found):
-        line = found[0]
-        if sysv:
-            line = line.replace('define hidden ', 'define hidden x86_64_sysvcc ')
-        if sign_extended:
-            line = re.sub(r'(?<=noundef )i32 (?=@)|i32(?= noundef %)', lambda it: f'signext {it[0]}' if '@' in line[it.end():it.end() + 1]
-                          else 'i32 signext', line)
-        return line
-    return re.sub(r'^define hidden .*$', changed, module, flags=re.M)
-
-
-def clean(text, comment, tag):
+def as_text(made, comment, tag):
     """Clang's text with no comment, no word of where it comes from, and labels that no other text has."""
-    # What COFF says of the whole object is rustc's to say.
-    text = re.sub(r'\t\.def\t@feat\.00;\n(?:.*\n)*?@feat\.00 = .*\n', '', text)
-    lines = []
-    for line in text.splitlines():
-        line = re.split(rf'\s*{comment}', line, maxsplit=1)[0].rstrip() if '"' not in line else line.rstrip()
-        if not line.strip() or re.match(r'\s*\.(file|ident|addrsig|addrsig_sym|attribute|build_version|macosx_version_min)\b', line):
-            continue
-        lines.append(re.sub(r'(\.L|\bL)((?:BB|CPI|JTI|tmp|func_end|PC)\w*)', rf'\1\2.{tag}', line))
-    # What COFF says to its linker of exports: rustc says that itself.
-    directives = next((at for at, line in enumerate(lines) if '.section\t.drectve' in line), len(lines))
-    return '\n'.join(lines[:directives]) + '\n'
+    # What COFF says of a whole object, and to its linker of exports, is rustc's to say.
+    made = re.sub(r'\t\.def\t@feat\.00;\n(?:.*\n)*?@feat\.00 = .*\n', '', made).split('\t.section\t.drectve', 1)[0]
+    for line in made.splitlines():
+        line = line.rstrip() if '"' in line else re.split(rf'\s*{comment}', line, maxsplit=1)[0].rstrip()
+        if line.strip() and not LEFT_OUT.match(line):
+            yield LABEL.sub(rf'\1\2.{tag}', line)
 
 
 def main():
     words = argparse.ArgumentParser(description=__doc__, formatter_class=argparse.RawDescriptionHelpFormatter)
-    words.add_argument('module')
-    words.add_argument('target')
-    words.add_argument('tag')
+    for name in ('module', 'target', 'title', 'tag'):
+        words.add_argument(name)
     words.add_argument('--suffix', default='')
     words.add_argument('--sysv', action='store_true')
     words.add_argument('--sign-extended', action='store_true')
     given = words.parse_args()
-    module = by_the_crates_names(plain_names(for_target(text_of_module(given.module), given.target), given.tag), given.suffix)
-    text = output_of(*words_of(given.module, given.target), text=by_convention(module, given.sysv, given.sign_extended))
-    sys.stdout.write(clean(text, {'x': '#', 'r': '#'}.get(given.target[0], '//' if 'apple' not in given.target else ';'), given.tag))
+    is_apple, is_riscv = 'apple' in given.target, given.target.startswith('riscv')
+    module = with_plain_names(for_target(module_of(given.module), given.target), given.tag)
+    guard, module = with_exports(module, given.suffix, 'x86_64_sysvcc ' if given.sysv else '', 'windows' in given.target)
+    module = with_signs(module) if given.sign_extended else module
+    generic = [] if given.target.startswith('x86_64') or is_riscv else ['-mcpu=generic']
+    made = clang(f'--target={given.target}', *generic, *words_of(given.module), '-x', 'ir', '-', text=module)
+    print(f'/* {given.title} Generated of what is proved: not to be changed by hand. Licence: MIT. */')
+    # A second text with weak names, which an optimizer has put into the same module, has nothing to add.
+    print(f'\t.ifndef {"_" if is_apple else ""}{guard}')
+    print('\t.option push\n\t.option arch, rv64gc' if is_riscv else '', end='\n' if is_riscv else '')
+    print(*as_text(made, {'x': '#', 'r': '#'}.get(given.target[0], ';' if is_apple else '//'), given.tag), sep='\n')
+    print('\t.option pop\n' if is_riscv else '', '\t.endif\n', '\t.section __TEXT,__text' if is_apple else '\t.text', sep='')
 
 
 if __name__ == '__main__':

@@ -79,6 +79,8 @@ class Room:
 
     cargo_program = 'cargo'
     target = None
+    # What the names of programs end in.
+    ending = ''
 
     def __init__(self, path, crate=RUST):
         self.path = path
@@ -106,8 +108,8 @@ class Room:
         """A program of a package, under a name of its own."""
         done = self.cargo(folder, 'build', '--release', *words, environment=environment)
         want(done.returncode == 0, tail(errors_of(done.stdout)))
-        path = os.path.join(self.path, 'programs', name)
-        shutil.copy(os.path.join(self.made, os.path.basename(name).split('@')[0]), path)
+        path = os.path.join(self.path, 'programs', name + self.ending)
+        shutil.copy(os.path.join(self.made, os.path.basename(name).split('@')[0] + self.ending), path)
         return path
 
     @property
@@ -200,6 +202,52 @@ class SourceRoom(Room):
         parts = 'core' if self.linker == 'false' else 'std,panic_abort'
         return super().cargo(folder, command, '-Z', f'build-std={parts}', '--target', self.target, *words,
                              environment=environment)
+
+
+class FurtherRoom(SourceRoom):
+    """A target that the kit doesn't vouch for, whose programs an emulator runs. Its libxxhash is the reference's header,
+    compiled for it."""
+
+    def __init__(self, path, target, linker, runner, ending=''):
+        self.ending = ending
+        super().__init__(path, target, linker, runner)
+
+    def add_unwinder(self, root):
+        made = os.path.join(self.libraries, 'xxhash.o')
+        header = '#define XXH_STATIC_LINKING_ONLY\n#define XXH_IMPLEMENTATION\n#include "/usr/include/xxhash.h"\n'
+        must([self.linker, '-O2', '-x', 'c', '-', '-c', '-o', made], input=header)
+        must([self.linker.replace('gcc', 'ar'), 'rcs', os.path.join(self.libraries, 'libxxhash.a'), made])
+
+    def environment(self, flags='', **more):
+        return Room.environment(self, f'-L native={self.libraries} {flags}', **{
+            'RUSTC_BOOTSTRAP': '1', 'RUSTC': '/usr/bin/rustc',
+            **for_target(self.target, LINKER=self.linker, RUNNER=self.runner), **more})
+
+
+# What Rust's standard library asks of Windows for random seeds, and Debian's wine lacks.
+RANDOM_DLL = '''#include <windows.h>
+BOOLEAN NTAPI SystemFunction036(PVOID room, ULONG length);
+__declspec(dllexport) BOOL WINAPI ProcessPrng(PBYTE room, SIZE_T length) { return SystemFunction036(room, (ULONG)length); }
+'''
+
+
+def riscv_room(path):
+    return FurtherRoom(path, 'riscv64gc-unknown-linux-gnu', 'riscv64-linux-gnu-gcc',
+                       'qemu-riscv64 -L /usr/riscv64-linux-gnu')
+
+
+def windows_room(path):
+    folder = os.path.join(path, 'wine')
+    os.makedirs(folder)
+    must(['x86_64-w64-mingw32-gcc', '-shared', '-O2', '-x', 'c', '-', '-o', os.path.join(folder, 'bcryptprimitives.dll'),
+          '-ladvapi32'], input=RANDOM_DLL)
+    os.environ.update(WINEPATH='Z:' + folder.replace('/', '\\'), WINEPREFIX=os.path.join(folder, 'prefix'), WINEDEBUG='-all')
+    return FurtherRoom(path, 'x86_64-pc-windows-gnu', 'x86_64-w64-mingw32-gcc', '/usr/lib/wine/wine64', '.exe')
+
+
+FURTHER = {'riscv64': (riscv_room, {'riscv64-linux-gnu-gcc': 'gcc-riscv64-linux-gnu', 'qemu-riscv64': 'qemu-user',
+                                    '/usr/riscv64-linux-gnu/include/stdio.h': 'libc6-dev-riscv64-cross'}),
+           'windows': (windows_room, {'x86_64-w64-mingw32-gcc': 'gcc-mingw-w64-x86-64', '/usr/lib/wine/wine64': 'wine64'})}
 
 
 def for_target(target, **variables):

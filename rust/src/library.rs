@@ -132,12 +132,19 @@ enum Input {
     Kept,
 }
 
+/// Declares functions of the convention of the text: System V's, in which an answer has two registers, is Windows' no more
+/// than by this name.
+#[cfg(windows)]
+macro_rules! proved { ($($declared:tt)*) => { extern "sysv64" { $($declared)* } }; }
+#[cfg(not(windows))]
+macro_rules! proved { ($($declared:tt)*) => { extern "C" { $($declared)* } }; }
+
 /// Declares each export in its sets, and a function that calls the one for so many bytes.
 macro_rules! exports {
     ($(fn $name:ident($($argument:ident: $kind:ty),*) $(-> $answer:ty)?, by $input:expr;)*) => {
         mod any_processor {
             use super::*;
-            extern "C" {
+            proved! {
                 $(#[link_name = concat!("twox_rust_2_", stringify!($name))]
                 pub fn $name($($argument: $kind),*) $(-> $answer)?;)*
             }
@@ -146,7 +153,7 @@ macro_rules! exports {
         #[cfg(target_arch = "x86_64")]
         mod x86_64_v3 {
             use super::*;
-            extern "C" {
+            proved! {
                 $(#[link_name = concat!("twox_rust_2_", stringify!($name), "_v3")]
                 pub fn $name($($argument: $kind),*) $(-> $answer)?;)*
             }

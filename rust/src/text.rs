@@ -24,9 +24,8 @@ macro_rules! targets {
         const _: () = {
             #[cfg(not(any($($further),*)))]
             compile_error!(concat!(
-                "there is no proved code for this target: there is for x86_64 and aarch64 Linux, which are ",
-                "x86_64-unknown-linux-gnu, x86_64-unknown-linux-musl, aarch64-unknown-linux-gnu and ",
-                "aarch64-unknown-linux-musl"
+                "there is no proved code for this target: there is for Linux on x86_64, aarch64 and riscv64, for ",
+                "Windows on x86_64 and, by the feature `untried-targets`, for macOS and Android"
             ));
             #[cfg(all(any($($further),*), not(feature = "untried-targets")))]
             compile_error!(concat!(
@@ -51,6 +50,12 @@ targets! {
             target_endian = "little",
             any(target_env = "gnu", target_env = "musl")
         ) => (raw) "aarch64.s";
+        all(target_arch = "x86_64", target_os = "windows") => (att_syntax, raw) "x86-64-windows.s" "x86-64-v3-windows.s";
+        all(target_arch = "riscv64", target_os = "linux", target_pointer_width = "64") => (raw) "riscv64.s";
     }
-    untried {}
+    untried {
+        all(target_arch = "x86_64", target_os = "macos") => (att_syntax, raw) "x86-64-macos.s" "x86-64-v3-macos.s";
+        all(target_arch = "aarch64", target_os = "macos") => (raw) "aarch64-macos.s";
+        all(target_arch = "aarch64", target_os = "android") => (raw) "aarch64-android.s";
+    }
 }
