@@ -166,6 +166,10 @@ def sums_beside(text):
     return os.path.splitext(text)[0] + '.sums'
 
 
+def is_built(library, target, of_ci):
+    run([os.path.join(TOP, BUILDS[library]), '--target', target, *['--of-ci'] * of_ci])
+
+
 def is_made_anew(text, made):
     for path in (text, sums_beside(text)):
         with open(path) as committed, open(os.path.join(made, os.path.basename(path))) as anew:
@@ -217,8 +221,7 @@ def main():
     for library in chosen.libraries or list(BUILDS):
         if library not in BUILDS:
             words.error(f'{library} is neither c nor rust')
-        report.attempt(f'{BUILDS[library]} --target {chosen.target}', run,
-                       [os.path.join(TOP, BUILDS[library]), '--target', chosen.target, *['--of-ci'] * chosen.of_ci])
+        report.attempt(f'{BUILDS[library]} --target {chosen.target}', is_built, library, chosen.target, chosen.of_ci)
         check_texts(report, library, chosen.target)
     print(f'{report.passed} passed, {report.failed} failed')
     sys.exit(1 if report.failed else 0)
