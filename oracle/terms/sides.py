@@ -23,13 +23,15 @@ BESIDE = 512                      # bytes beside a piece that a stream compares 
 
 def install(headers, with_solver):
     """Installs what is missing: clang, Debian's header if it is the one that is asked for, and z3."""
-    is_there = {CLANG: shutil.which(CLANG), "libxxhash-dev": headers != HEADERS or os.path.exists(f"{HEADERS}/xxhash.h"),
+    is_there = {CLANG: shutil.which(CLANG),
+                "libxxhash-dev": headers != HEADERS or os.path.exists(f"{HEADERS}/xxhash.h"),
                 "python3-z3": not with_solver or os.path.exists(f"{DEBIAN_PYTHON}/z3")}
     missing = [package for package, there in is_there.items() if not there]
     if missing:
         quiet = {**os.environ, "DEBIAN_FRONTEND": "noninteractive"}
         subprocess.run(["apt-get", "update", "-qq"], env=quiet, stdout=subprocess.DEVNULL)
-        wanted = ["apt-get", "-o", "DPkg::Lock::Timeout=300", "install", "-y", "-qq", "--no-install-recommends", *missing]
+        wanted = ["apt-get", "-o", "DPkg::Lock::Timeout=300", "install", "-y", "-qq", "--no-install-recommends",
+                  *missing]
         if subprocess.run(wanted, env=quiet, stdout=subprocess.DEVNULL).returncode:
             sys.exit("oracle/symbolic: these packages of Debian are needed, and apt-get couldn't install them: "
                      + " ".join(missing))
