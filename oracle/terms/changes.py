@@ -47,17 +47,17 @@ def limits():
 
 
 class Limited:
-    """A `with` that raises Slow after some seconds."""
+    """A `with` that raises Slow after some seconds of processor time."""
 
     def __enter__(self):
-        signal.signal(signal.SIGALRM, self.stop)
-        signal.setitimer(signal.ITIMER_REAL, SECONDS)
+        signal.signal(signal.SIGPROF, self.stop)
+        signal.setitimer(signal.ITIMER_PROF, SECONDS)
 
     def stop(self, *_):
         raise Slow
 
     def __exit__(self, *_):
-        signal.setitimer(signal.ITIMER_REAL, 0)
+        signal.setitimer(signal.ITIMER_PROF, 0)
 
 
 def asked():

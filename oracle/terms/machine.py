@@ -410,8 +410,7 @@ class Module:
     beside               how far outside of its object an address may be that is compared
     live                 the memories that live
     instead              function's name -> what is called in its place
-    loops                asked at each block, whether a loop begins there that is shown for any number of turns
-    (loops.py)
+    loops                asked at each block, whether a loop begins there that is shown by induction (loops.py)
     """
 
     def __init__(self, text):

@@ -13,7 +13,7 @@ from .nodes import BITS, NODES, SUM, SYMBOL, Node, most_of, symbol, values_at
 from .operations import (add, add_at, bits, both, either, monus, multiply, multiply_at, quotient, remainder,
                          shift_right,
                          xor)
-from .sides import Request
+from .sides import DEBIAN_PYTHON, Request
 
 MANY_POINTS = 8
 PRIME = 0x9E3779B185EBCA87
@@ -141,7 +141,6 @@ def table_rows(module):
 SOLVED, EACH = 16, 8     # lengths up to this one; each so manieth operation
 SECONDS = 2              # for a question
 DEEPEST = 6
-DEBIAN_PYTHON = "/usr/lib/python3/dist-packages"
 
 
 class Solver:

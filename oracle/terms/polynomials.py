@@ -115,16 +115,6 @@ def is_same(a, b):
     return is_number(a) and is_number(b) and parts_of(a) == parts_of(b)
 
 
-def replaced(x, name, value):
-    """x, where a variable is that number."""
-    out = 0
-    for names, c in parts_of(x).items():
-        for other in names:
-            c = times(c, value if other == name else variable(other))
-        out = plus(out, c)
-    return out
-
-
 # ---- facts
 
 @contextlib.contextmanager

@@ -179,7 +179,8 @@ def of_machinery(is_all, vector):
 # ---- processes
 
 def run(rows, headers, jobs):
-    """Runs the rows, so many at once, each in a process of its own, and says what became of it: the command's status."""
+    """Runs the rows, so many at once, each in a process of its own, and says what became of it: the command's
+    status."""
     texts = {vector: llvm_text(headers, vector) for vector in {row.vector for row in rows}}
     began, passed = time.monotonic(), 0
     with concurrent.futures.ThreadPoolExecutor(jobs) as pool:

@@ -22,15 +22,16 @@ from .nodes import Node, symbol, values_at
 HEADERS = "/usr/include"          # where Debian's libxxhash-dev puts xxhash.h
 VECTORS = {"scalar": ["-DXXH_VECTOR=0"], "sse2": ["-DXXH_VECTOR=1"], "avx2": ["-DXXH_VECTOR=2", "-mavx2"]}
 CLANG = "clang-14"
+DEBIAN_PYTHON = "/usr/lib/python3/dist-packages"
 BESIDE = 512                      # bytes beside a piece that a stream compares addresses in
 
 
-def install(headers, packages):
-    """Installs what is missing: clang, Debian's header if it is the one, and some packages."""
-    missing = [*packages] + ([CLANG] if not shutil.which(CLANG) else [])
-    if headers == HEADERS and not os.path.exists(f"{HEADERS}/xxhash.h"):
-        missing.append("libxxhash-dev")
-    tools.install(missing)
+def install(headers, with_solver):
+    """Installs what is missing: clang, Debian's header if it is the one that is asked for, and z3."""
+    is_there = {CLANG: shutil.which(CLANG),
+                "libxxhash-dev": headers != HEADERS or os.path.exists(f"{HEADERS}/xxhash.h"),
+                "python3-z3": not with_solver or os.path.exists(f"{DEBIAN_PYTHON}/z3")}
+    tools.install([package for package, there in is_there.items() if not there])
 
 
 def llvm_text(headers=HEADERS, vector="scalar"):
