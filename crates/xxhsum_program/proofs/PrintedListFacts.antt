@@ -1,7 +1,6 @@
 -- The lines that are found in a printed list.
 use Rattle.std.proofs.Common.{◌≡◌, ◌⊎◌, ℕ, suc, ◌+◌, ◌-◌, ◌*◌, ◌<◌, ◌≤◌, ◌^◌, Bool, true, false, List, [], ◌∷◌, ◌++◌, length, map, refl, sym, ap, subst, ◌∙◌, inl, inr, append-nil, append_assoc, length-append, arith}
 use Rattle.std.proofs.lemmas.Bool.{both_ways, false≢true}
-use Rattle.std.proofs.lemmas.List.{length-map}
 use Rattle.std.specs.List.{AllByRecursion, concat}
 use Rattle.xxh_io.specs.Pieces.{Pieces, NoneEmpty, Step, Failing}
 use Rattle.xxhsum_files.specs.declared.refusal.Refusal.{Refusal}
@@ -10,14 +9,13 @@ use Rattle.xxhsum_line.specs.Parts.{Lacks}
 use Rattle.xxhsum_line.proofs.EntryFacts.{says_same}
 use Rattle.xxhsum_line.proofs.LackFacts.{first_same, lacks_not}
 use Rattle.xxhsum_line.proofs.PrintedFacts.{printed_is_accepted, printed_is_no_comment, printed_is_one_line, printed_length}
-use Rattle.xxhsum_program.specs.CheckList.{AddsUpTo, EndsInLine, EndsWell, HasLines, ReadsLines, with_line_feeds}
+use Rattle.xxhsum_program.specs.CheckList.{EndsInLine, EndsWell, HasLines, ReadsLines, with_line_feeds}
 use Rattle.xxhsum_program.specs.EachHas.{EachHas}
-use Rattle.xxhsum_program.specs.Findings.{Finding, Ignored, Improper, IsFinding, Proper, report_of}
+use Rattle.xxhsum_program.specs.Findings.{Finding, Ignored, Improper, IsFinding, Proper}
 use Rattle.xxhsum_program.specs.Found.{IsFound}
-use Rattle.xxhsum_program.specs.declared.check.Report.{Report}
 use Rattle.xxhsum_program.specs.declared.entry.Found.{Found}
 use Rattle.xxhsum_program.specs.ListLines.{BeginsTooLong, IsLastLine, IsLine, end_piece}
-use Rattle.xxhsum_program.specs.PrintedList.{AreFound, AreListed, FindsPrintedLines, Holds, IsLineOf, IsListed, Listed, ReportsPrinted, ShortNamesFit, printed_list, text_of_listed}
+use Rattle.xxhsum_program.specs.PrintedList.{AreListed, FindsPrintedFiles, FindsPrintedLines, HasJustLines, Holds, HoldsPrintedLines, IsFindingOf, IsLineOf, IsListed, Listed, ShortNamesFit, printed_list, text_of_listed}
 
 -- ---- lines and the rest of a text of lines
 
@@ -118,7 +116,7 @@ reads_printed_lines gives is_little entries source end pieces all some read are 
     let text : concat pieces ≡ with_line_feeds texts ++ [] = are ∙ printed_lines entries ∙ sym (append-nil (with_line_feeds texts)) in
     (pieces, end, some, read, inl (listed_are_lines is_little entries all, text))
 
--- ---- the report
+-- ---- what a check of the list meets
 
 all_right : (lines others : List (List ℕ)) → AllByRecursion IsLine (lines ++ others) → AllByRecursion IsLine others
 all_right [] others all = all
@@ -150,26 +148,29 @@ reads_begin gives fails has_failed source texts lines rest has_ended all holds (
     let begin = begins_with_lines texts ends.0 ends.1 all ends.2 whole in
     absurd (no_last_line begin.0 ends.1 begin.2 ends.3)
 
--- a source that holds lines ends well, with those lines
-holds_lines : {R : Type 0} (gives : Step R) (fails : Failing R) (has_failed : R → Bool) (source : R) (texts lines : List (List ℕ)) (findings : List Finding) (report : Report)
-    → AllByRecursion IsLine texts → length texts < 2 ^ 64 - 2 → Holds gives fails has_failed source (with_line_feeds texts)
-    → AddsUpTo gives fails has_failed source lines findings report → (texts ≡ lines) × (report ≡ report_of findings)
-holds_lines gives fails has_failed source texts lines findings report all few holds (inl ((pieces, end, some, read, has), is)) =
-    (lines_are texts lines all (subst (λ t. HasLines true t lines []) (holds.1 pieces end some read) has), is)
-holds_lines gives fails has_failed source texts lines findings report all few holds (inr (inl (some, count, is))) =
-    let begin = (reads_begin gives fails has_failed source texts lines some.1 some.0 all holds some.2).1 in
-    let parts : length texts ≡ length lines + length begin.0 = ap length begin.1 ∙ length-append lines begin.0 in
-    absurd (omega (arith, parts, count, few))
-holds_lines gives fails has_failed source texts lines findings report all few holds (inr (inr (inl (has_ended, rest, reads, long), is))) =
-    let begin = reads_begin gives fails has_failed source texts lines rest has_ended all holds reads in
-    let others = all_right lines begin.1.0 (subst (AllByRecursion IsLine) begin.1.1 all) in
-    absurd (not_too_long begin.1.0 rest begin.0 others begin.1.2 long)
-holds_lines gives fails has_failed source texts lines findings report all few holds (inr (inr (inr (rest, failed, behind, are), is))) =
-    absurd ((holds.0 failed.0 failed.1 failed.2 failed.3).1 failed.4)
+-- a source that holds lines has those, and no others
+holds_just_lines : {R : Type 0} (gives : Step R) (fails : Failing R) (has_failed : R → Bool) (source : R) (texts : List (List ℕ))
+    → AllByRecursion IsLine texts → Holds gives fails has_failed source (with_line_feeds texts) → HasJustLines gives fails has_failed source texts
+holds_just_lines gives fails has_failed source texts all holds = (
+  λ lines well. lines_are texts lines all (subst (λ t. HasLines true t lines []) (holds.1 well.0 well.1 well.2 well.3) well.4),
+  λ lines some.
+      let begin = (reads_begin gives fails has_failed source texts lines some.1 some.0 all holds some.2).1 in
+      (begin.0, begin.1),
+  λ has_ended lines rest reads long.
+      let begin = reads_begin gives fails has_failed source texts lines rest has_ended all holds reads in
+      let others = all_right lines begin.1.0 (subst (AllByRecursion IsLine) begin.1.1 all) in
+      not_too_long begin.1.0 rest begin.0 others begin.1.2 long,
+  λ bytes failed. (holds.0 failed.0 failed.1 failed.2 failed.3).1 failed.4,
+)
+
+pub holds_printed_lines : {R : Type 0} (gives : Step R) (fails : Failing R) (has_failed : R → Bool) → HoldsPrintedLines gives fails has_failed
+holds_printed_lines gives fails has_failed is_little entries source all holds =
+    holds_just_lines gives fails has_failed source (map text_of_listed entries) (listed_are_lines is_little entries all)
+    (subst (Holds gives fails has_failed source) (printed_lines entries) holds)
 
 found_one : {S F : Type 0} (opens : S → List ℕ → F → Type 0) (refuses : S → List ℕ → Refusal → Type 0) (gives : Step F) (fails : Failing F) (store : S) (is_little : Bool) (line : List ℕ) (e : Listed) (finding : Finding)
     → IsLineOf is_little line e → IsFinding opens refuses gives fails store is_little line finding
-    → (found : Found) × (finding ≡ Proper found) × IsFound opens refuses gives fails store e.kind e.value e.name found
+    → IsFindingOf opens refuses gives fails store e finding
 found_one opens refuses gives fails store is_little line e Ignored of is = absurd (both_ways (is_comment line) of.1 is)
 found_one opens refuses gives fails store is_little line e Improper of is = absurd (is.1 e.kind e.value e.name of.2)
 found_one opens refuses gives fails store is_little line e (Proper found) of (kind, value, name, says, is) =
@@ -178,28 +179,15 @@ found_one opens refuses gives fails store is_little line e (Proper found) of (ki
     let at_value = subst (λ v. IsFound opens refuses gives fails store e.kind v name found) same.1 at_kind in
     (found, refl, subst (λ n. IsFound opens refuses gives fails store e.kind e.value n found) same.2 at_value)
 
-all_found : {S F : Type 0} (opens : S → List ℕ → F → Type 0) (refuses : S → List ℕ → Refusal → Type 0) (gives : Step F) (fails : Failing F) (store : S) (is_little : Bool) (entries : List Listed) (findings : List Finding)
-    → AreListed is_little entries → EachHas (IsFinding opens refuses gives fails store is_little) (map text_of_listed entries) findings
-    → (founds : List Found) × (findings ≡ map Proper founds) × AreFound opens refuses gives fails store entries founds
-all_found opens refuses gives fails store is_little [] [] all each = ([], refl, tt)
-all_found opens refuses gives fails store is_little [] (finding ∷ findings) all each = absurd each
-all_found opens refuses gives fails store is_little (e ∷ es) [] all each = absurd each
-all_found opens refuses gives fails store is_little (e ∷ es) (finding ∷ findings) all each =
-    let one = found_one opens refuses gives fails store is_little (text_of_listed e) e finding (is_line_of is_little e all.0) each.0 in
-    let rest = all_found opens refuses gives fails store is_little es findings all.1 each.1 in
-    (one.0 ∷ rest.0, ap (λ f. f ∷ findings) one.1 ∙ ap (λ fs. Proper one.0 ∷ fs) rest.1, (one.2, rest.2))
-
-pub reports_printed : {S F R : Type 0} (opens : S → List ℕ → F → Type 0) (refuses : S → List ℕ → Refusal → Type 0) (gives : Step F) (fails : Failing F) (gives_list : Step R) (fails_list : Failing R) (has_failed : R → Bool)
-    → ReportsPrinted opens refuses gives fails gives_list fails_list has_failed
-reports_printed opens refuses gives fails gives_list fails_list has_failed store is_little entries source report all few holds (lines, findings, each, adds) =
-    let texts = map text_of_listed entries in
-    let count : length texts ≡ length entries = length-map entries text_of_listed in
-    let fewer : length texts < 2 ^ 64 - 2 = omega (arith, count, few) in
-    let those = holds_lines gives_list fails_list has_failed source texts lines findings report (listed_are_lines is_little entries all) fewer
-    (subst (Holds gives_list fails_list has_failed source) (printed_lines entries) holds) adds in
-    let founds = all_found opens refuses gives fails store is_little entries findings all
-    (subst (λ ls. EachHas (IsFinding opens refuses gives fails store is_little) ls findings) (sym those.0) each) in
-    (founds.0, founds.2, those.1 ∙ ap report_of founds.1)
+pub finds_printed_files : {S F : Type 0} (opens : S → List ℕ → F → Type 0) (refuses : S → List ℕ → Refusal → Type 0) (gives : Step F) (fails : Failing F)
+    → FindsPrintedFiles opens refuses gives fails
+finds_printed_files opens refuses gives fails store is_little [] [] all each = tt
+finds_printed_files opens refuses gives fails store is_little [] (finding ∷ findings) all each = absurd each
+finds_printed_files opens refuses gives fails store is_little (e ∷ es) [] all each = absurd each
+finds_printed_files opens refuses gives fails store is_little (e ∷ es) (finding ∷ findings) all each = (
+  found_one opens refuses gives fails store is_little (text_of_listed e) e finding (is_line_of is_little e all.0) each.0,
+  finds_printed_files opens refuses gives fails store is_little es findings all.1 each.1,
+)
 
 pub short_names_fit : ShortNamesFit
 short_names_fit kind shape value name short = omega (arith, printed_length kind shape value name, short)

@@ -9,12 +9,11 @@ use Rattle.xxhsum_line.specs.Entry.{Says, is_comment}
 use Rattle.xxhsum_line.specs.Parts.{Lacks}
 use Rattle.xxhsum_line.specs.Printed.{line_of, text_of}
 use Rattle.xxhsum_line.specs.declared.printed.Shape.{Shape}
-use Rattle.xxhsum_program.specs.CheckList.{EndsWell, HasLines, IsReport}
+use Rattle.xxhsum_program.specs.CheckList.{EndsWell, HasLines, ReadsLines, ReadsSome}
 use Rattle.xxhsum_program.specs.EachHas.{EachHas}
-use Rattle.xxhsum_program.specs.Findings.{Finding, IsFinding, Proper, report_of}
+use Rattle.xxhsum_program.specs.Findings.{Finding, IsFinding, Proper}
 use Rattle.xxhsum_program.specs.Found.{IsFound}
-use Rattle.xxhsum_program.specs.ListLines.{CantRead}
-use Rattle.xxhsum_program.specs.declared.check.Report.{Report}
+use Rattle.xxhsum_program.specs.ListLines.{BeginsTooLong, CantRead, FailsAfter}
 use Rattle.xxhsum_program.specs.declared.entry.Found.{Found}
 
 -- what a line is printed of
@@ -68,7 +67,7 @@ ReadsPrintedLines {R} gives =
     → NoneEmpty pieces → Pieces gives source (pieces ++ [] ∷ []) end → concat pieces ≡ printed_list entries
     → EndsWell gives source (map text_of_listed entries)
 
--- ---- the report
+-- ---- what a check of the list meets
 
 -- reads of a source, however they go, give a beginning of the text; at the end they have given all; and none fails
 abbrev pub Holds : {R : Type 0} → Step R → Failing R → (R → Bool) → R → List ℕ → Type 0
@@ -78,22 +77,43 @@ Holds {R} gives fails has_failed source text =
     × ((pieces : List (List ℕ)) (end : R) → NoneEmpty pieces → Pieces gives source (pieces ++ [] ∷ []) end
     → concat pieces ≡ text)
 
--- how the file of each entry is
-abbrev pub AreFound : {S F : Type 0} → (S → List ℕ → F → Type 0) → (S → List ℕ → Refusal → Type 0) → Step F
-    → Failing F → S → List Listed → List Found → Type 0
-AreFound opens refuses gives fails store [] [] = Unit {0}
-AreFound opens refuses gives fails store [] (found ∷ founds) = ⊥
-AreFound opens refuses gives fails store (e ∷ es) [] = ⊥
-AreFound opens refuses gives fails store (e ∷ es) (found ∷ founds) =
-    IsFound opens refuses gives fails store e.kind e.value e.name found
-    × AreFound opens refuses gives fails store es founds
+-- Where the source has ended, its lines are these; before, those that were read are the first of these; no line is too
+-- long; and no read fails.
+abbrev pub HasJustLines : {R : Type 0} → Step R → Failing R → (R → Bool) → R → List (List ℕ) → Type 0
+HasJustLines gives fails has_failed source texts =
+    ((lines : List (List ℕ)) → EndsWell gives source lines → texts ≡ lines)
+    × ((lines : List (List ℕ)) → ReadsSome gives source lines → (others : List (List ℕ)) × (texts ≡ lines ++ others))
+    × ((has_ended : Bool) (lines : List (List ℕ)) (rest : List ℕ) → ReadsLines gives source has_ended lines rest
+    → ¬ BeginsTooLong rest)
+    × ((bytes : List ℕ) → ¬ FailsAfter gives fails has_failed source bytes)
 
--- the report of a source that holds a printed list is that of its entries, in their order, and of nothing else
-abbrev pub ReportsPrinted : {S F R : Type 0} → (S → List ℕ → F → Type 0) → (S → List ℕ → Refusal → Type 0) → Step F
-    → Failing F → Step R → Failing R → (R → Bool) → Type 0
-ReportsPrinted {S} {F} {R} opens refuses gives fails gives_list fails_list has_failed =
-    (store : S) (is_little : Bool) (entries : List Listed) (source : R) (report : Report) → AreListed is_little entries
-    → length entries < 2 ^ 64 - 2 → Holds gives_list fails_list has_failed source (printed_list entries)
-    → IsReport (IsFinding opens refuses gives fails store is_little) gives_list fails_list has_failed source report
-    → (founds : List Found) × AreFound opens refuses gives fails store entries founds
-    × (report ≡ report_of (map Proper founds))
+-- a source that holds a printed list has the lines of its entries, and no others
+abbrev pub HoldsPrintedLines : {R : Type 0} → Step R → Failing R → (R → Bool) → Type 0
+HoldsPrintedLines {R} gives fails has_failed =
+    (is_little : Bool) (entries : List Listed) (source : R) → AreListed is_little entries
+    → Holds gives fails has_failed source (printed_list entries)
+    → HasJustLines gives fails has_failed source (map text_of_listed entries)
+
+-- the finding is how the file of this entry is
+abbrev pub IsFindingOf : {S F : Type 0} → (S → List ℕ → F → Type 0) → (S → List ℕ → Refusal → Type 0) → Step F
+    → Failing F → S → Listed → Finding → Type 0
+IsFindingOf opens refuses gives fails store e finding =
+    (found : Found) × (finding ≡ Proper found)
+    × IsFound opens refuses gives fails store e.kind e.value e.name found
+
+-- as many findings as entries, each that of its own
+abbrev pub AreFindingsOf : {S F : Type 0} → (S → List ℕ → F → Type 0) → (S → List ℕ → Refusal → Type 0) → Step F
+    → Failing F → S → List Listed → List Finding → Type 0
+AreFindingsOf opens refuses gives fails store [] [] = Unit {0}
+AreFindingsOf opens refuses gives fails store [] (finding ∷ findings) = ⊥
+AreFindingsOf opens refuses gives fails store (e ∷ es) [] = ⊥
+AreFindingsOf opens refuses gives fails store (e ∷ es) (finding ∷ findings) =
+    IsFindingOf opens refuses gives fails store e finding × AreFindingsOf opens refuses gives fails store es findings
+
+-- what is found of the lines of a printed list is how the files of its entries are
+abbrev pub FindsPrintedFiles : {S F : Type 0} → (S → List ℕ → F → Type 0) → (S → List ℕ → Refusal → Type 0)
+    → Step F → Failing F → Type 0
+FindsPrintedFiles {S} opens refuses gives fails =
+    (store : S) (is_little : Bool) (entries : List Listed) (findings : List Finding) → AreListed is_little entries
+    → EachHas (IsFinding opens refuses gives fails store is_little) (map text_of_listed entries) findings
+    → AreFindingsOf opens refuses gives fails store entries findings
