@@ -3,6 +3,8 @@ use Rattle.std.proofs.Common.{◌≡◌, ◌⊎◌, ℕ, suc, ◌+◌, ◌-◌, 
 use Rattle.std.proofs.lemmas.Bool.{both_ways, false≢true}
 use Rattle.std.specs.List.{AllByRecursion, concat}
 use Rattle.xxh_io.specs.Pieces.{Pieces, NoneEmpty, Step, Failing}
+use Rattle.xxh_io.specs.Script.{SliceGives, slice_rest}
+use Rattle.xxh_io.specs.declared.script_source.SliceSource.{SliceSource}
 use Rattle.xxhsum_files.specs.declared.refusal.Refusal.{Refusal}
 use Rattle.xxhsum_line.specs.Entry.{Says, is_comment}
 use Rattle.xxhsum_line.specs.Parts.{Lacks}
@@ -187,6 +189,30 @@ finds_printed_files opens refuses gives fails store is_little (e ∷ es) [] all 
 finds_printed_files opens refuses gives fails store is_little (e ∷ es) (finding ∷ findings) all each = (
   found_one opens refuses gives fails store is_little (text_of_listed e) e finding (is_line_of is_little e all.0) each.0,
   finds_printed_files opens refuses gives fails store is_little es findings all.1 each.1,
+)
+
+-- ---- a source of a slice
+
+slice_pieces : (old new : SliceSource) (pieces : List (List ℕ)) → Pieces SliceGives old pieces new → slice_rest old ≡ concat pieces ++ slice_rest new
+slice_pieces old new [] led = ap slice_rest (sym led)
+slice_pieces old new (piece ∷ pieces) (mid, step, led) =
+    step.0 ∙ ap (λ r. piece ++ r) (slice_pieces mid new pieces led) ∙ sym (append_assoc piece (concat pieces) (slice_rest new))
+
+slice_end : (old end : SliceSource) (pieces : List (List ℕ)) → Pieces SliceGives old (pieces ++ [] ∷ []) end → concat pieces ≡ slice_rest old
+slice_end old end [] (mid, step, led) = sym (step.0 ∙ step.1 refl)
+slice_end old end (piece ∷ pieces) (mid, step, led) = ap (λ r. piece ++ r) (slice_end mid end pieces led) ∙ sym step.0
+
+pub slices_hold : (source : SliceSource) → Holds SliceGives (λ s t. ⊥) (λ s. false) source (slice_rest source)
+slices_hold source = (
+  λ pieces met some read. (
+    (slice_rest met, slice_pieces source met pieces read),
+    λ cant.
+        elim cant [
+          | inl failed ↦ false≢true failed
+          | inr fails ↦ fails.1
+        ],
+  ),
+  λ pieces end some read. slice_end source end pieces read,
 )
 
 pub short_names_fit : ShortNamesFit
