@@ -1,5 +1,5 @@
 -- The lines that are found in a printed list.
-use Rattle.std.proofs.Common.{◌≡◌, ◌⊎◌, ℕ, suc, ◌+◌, ◌-◌, ◌*◌, ◌<◌, ◌≤◌, ◌^◌, Bool, true, false, List, [], ◌∷◌, ◌++◌, length, map, refl, sym, ap, subst, ◌∙◌, inl, inr, append-nil, append_assoc, length-append, arith}
+use Rattle.std.proofs.Common.{◌≡◌, ℕ, ◌+◌, ◌<◌, Bool, true, false, List, [], ◌∷◌, ◌++◌, length, map, refl, sym, ap, subst, ◌∙◌, inl, inr, append-nil, append_assoc, length-append, arith}
 use Rattle.std.proofs.lemmas.Bool.{both_ways, false≢true}
 use Rattle.std.specs.List.{AllByRecursion, concat}
 use Rattle.xxh_io.specs.Pieces.{Pieces, NoneEmpty, Step, Failing}
@@ -11,11 +11,10 @@ use Rattle.xxhsum_line.specs.Parts.{Lacks}
 use Rattle.xxhsum_line.proofs.EntryFacts.{says_same}
 use Rattle.xxhsum_line.proofs.LackFacts.{first_same, lacks_not}
 use Rattle.xxhsum_line.proofs.PrintedFacts.{printed_is_accepted, printed_is_no_comment, printed_is_one_line, printed_length}
-use Rattle.xxhsum_program.specs.CheckList.{EndsInLine, EndsWell, HasLines, ReadsLines, with_line_feeds}
+use Rattle.xxhsum_program.specs.CheckList.{EndsWell, HasLines, ReadsLines, with_line_feeds}
 use Rattle.xxhsum_program.specs.EachHas.{EachHas}
 use Rattle.xxhsum_program.specs.Findings.{Finding, Ignored, Improper, IsFinding, Proper}
 use Rattle.xxhsum_program.specs.Found.{IsFound}
-use Rattle.xxhsum_program.specs.declared.entry.Found.{Found}
 use Rattle.xxhsum_program.specs.ListLines.{BeginsTooLong, IsLastLine, IsLine, end_piece}
 use Rattle.xxhsum_program.specs.PrintedList.{AreListed, FindsPrintedFiles, FindsPrintedLines, HasJustLines, Holds, HoldsPrintedLines, IsFindingOf, IsLineOf, IsListed, Listed, ShortNamesFit, printed_list, text_of_listed}
 
