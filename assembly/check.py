@@ -191,7 +191,8 @@ def other_modules_are_refused(library, name):
     module, annotated = module_of(library, name)
     with open(os.path.join(TOP, library, 'out', 'module', name, 'words')) as file:
         words = file.read().splitlines()
-    for what, pattern, new in (('a number', r'(\n  %\w+ = add i64 %\w+, )\d+', r'\g<1>77'), ('a line less', r'\n  store .*', '')):
+    for what, pattern, new in (('a number', r'(\n  %\w+ = add i64 %\w+, )\d+', r'\g<1>77'),
+                               ('a line less', r'\n  store .*', '')):
         wrong = re.sub(pattern, new, annotated, count=1)
         want(wrong != annotated and is_refused(module, words, wrong), f'{what}: it was compiled')
     want(not is_refused(module, words, annotated), 'the module itself is refused')
