@@ -72,8 +72,13 @@ class Module:
         self.count = 0
 
     def processor(self):
-        found = set(re.findall(r'"target-cpu"="([^"]*)"', self.text))
-        return found.pop() if len(found) == 1 else refuse(f'the module is for {sorted(found)}')
+        """What the functions that get prefetches are for: those that start a program are for another one."""
+        found = {self.processor_of(name) for place in EVERYWHERE for name in self.functions(place)}
+        return found.pop() if len(found) == 1 else refuse(f'the functions are for {sorted(found)}')
+
+    def processor_of(self, name):
+        group = re.search(r'(#\d+) \{\n', self.bodies[name][0])[1]
+        return re.search(rf'^attributes {group} = .*"target-cpu"="([^"]*)"', self.text, re.M)[1]
 
     def calls(self, body):
         """Each call of a function's body: its place, whom it calls, and the arguments."""
