@@ -3,7 +3,7 @@
 
     assembly/bitcode.py MODULE OUT TAG [--suffix SUFFIX] [--calls NAME..]
 
-MODULE is a folder of assembly/module. Of its text it changes names alone, as retarget.py does, and says of each export that it
+MODULE is a folder that assembly/annotated has kept. Of its text it changes names alone, as retarget.py does, and says of each export that it
 is to be taken in, since ThinLTO takes in nothing of more than 100 instructions by itself; those of --calls stay calls."""
 import argparse
 import os
@@ -14,7 +14,7 @@ import sys
 sys.dont_write_bytecode = True
 sys.path.insert(0, os.path.dirname(os.path.abspath(__file__)))
 
-from retarget import clang_of_kit, module_of, with_exports, with_plain_names, words_of
+from retarget import clang_of_kit, text_of, with_exports, with_plain_names, words_of
 
 
 def taken_in(module, calls):
@@ -32,7 +32,7 @@ def main():
     words.add_argument('--suffix', default='')
     words.add_argument('--calls', nargs='*', default=[])
     given = words.parse_args()
-    _, module = with_exports(with_plain_names(module_of(given.module), given.tag), given.suffix, '', False)
+    _, module = with_exports(with_plain_names(text_of(os.path.join(given.module, 'module.ll')), given.tag), given.suffix, '', False)
     target = re.search(r'^target triple = "(.*)"$', module, re.M)[1]
     subprocess.run([clang_of_kit(), f'--target={target}', *words_of(given.module), '-flto=thin', '-w', '-c', '-x', 'ir', '-',
                     '-o', given.out], input=taken_in(module, given.calls), text=True, check=True)

@@ -5,14 +5,14 @@
 
 TEXT is assembly text, of which it takes the function's lines without its last `ret`. A function that jumps, calls, touches
 memory or the stack, or names other registers than these of a C call is refused: for x86-64 rdi, rsi, rax, rcx and rdx; for
-64-bit ARM 0, 1, 8, 9 and 10."""
+64-bit ARM 0, 1 and 8 to 11."""
 import re
 import sys
 
 # An operand in memory, for both processors.
 MEMORY = re.compile(r'[(\[]')
 REGISTER = re.compile(r'%\w+|\b[wxvqds]\d+\b|\b[ws]zr\b|\bsp\b')
-ALLOWED = re.compile(r'%([re]?(di|si|ax|cx|dx)|dil|sil|[acd][lh])|[wx](0|1|8|9|10)')
+ALLOWED = re.compile(r'%([re]?(di|si|ax|cx|dx)|dil|sil|[acd][lh])|[wx](0|1|8|9|10|11)')
 JUMP = re.compile(r'j|call|push|pop|ret|b\b|b\.|bl|br|cb|tb|\.L|\.byte|\.long')
 
 

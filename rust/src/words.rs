@@ -37,6 +37,7 @@ macro_rules! of_word {
                     out("x8") _,
                     out("x9") _,
                     out("x10") _,
+                    out("x11") _,
                     options(raw, pure, nomem, nostack),
                 );
             }
