@@ -86,13 +86,20 @@ def compile_annotated(clang, room):
         stop('the module as text gives another object than the toolchain has: this kit builds otherwise')
     clang.written('-S', os.getcwd(), proved)
     text = clang.text(proved)
-    write(os.path.join(annotated, clang.module()), prefetch.add(text))
+    write(os.path.join(annotated, clang.module()), with_prefetches(text))
     clang.written('-c', annotated, bitcode)
     clang.written('-S', bitcode, as_read)
     if prefetch.strip(clang.text(as_read)) != text:
         stop('without its prefetches the module is not the one that was proved')
     clang.compile(bitcode, clang.made(), FOR_X86_64 if is_for_x86_64(text) else [])
     return clang.text(annotated)
+
+
+def with_prefetches(text):
+    try:
+        return prefetch.add(text)
+    except ValueError as why:
+        stop(why)
 
 
 def keep(folder, clang, module):

@@ -10,10 +10,11 @@ import re
 import sys
 from collections import namedtuple
 
-# Where a module gets prefetches: in a function, and in those of its name that `within` leads to, before each call of one
-# of `callees`. The argument `bytes` of these, counted from 0, leads to `lines` lines of an input, and what is fetched lies
-# `ahead` bytes after them. Where `apart` is true its address is computed as a number: LLVM then has a pointer to the input and one to the
-# secret in a loop, in place of one index for both, by which older processors split an instruction in two.
+# Where a module gets prefetches: in a function, before each call of one of `callees`. The argument `bytes` of these,
+# counted from 0, leads to `lines` lines of an input, and what is fetched lies `ahead` bytes after them. Where `apart` is
+# true its address is computed as a number: in a loop LLVM then has a pointer to the input and one to the secret, in place
+# of one index for both, by which some processors split an instruction in two. With `within` only that function counts
+# to which the one named there leads: a generic function is in a module once for each use.
 Place = namedtuple('Place', 'function callees bytes lines ahead apart within', defaults=[False, None])
 
 STRIPES = 'xxhash3::stripes::StripeAccumulator::'
@@ -45,7 +46,8 @@ ADDRESS_APART = f'''\
   {NAME}{{n}} = inttoptr i64 {NAME}{{n}}.ahead to ptr
 '''
 PREFETCH = f'  call void @llvm.prefetch.p0(ptr {NAME}{{n}}, i32 0, i32 3, i32 1)\n'
-WRITTEN = re.compile(rf'  ({NAME}[\w.]+ = (getelementptr i8,|ptrtoint|add i64|inttoptr) |call void @llvm\.prefetch\.p0\().*\n')
+WRITTEN = re.compile(rf'  ({re.escape(NAME)}[\w.]+ = (getelementptr i8,|ptrtoint|add i64|inttoptr) '
+                     r'|call void @llvm\.prefetch\.p0\().*\n')
 DECLARED = re.compile(r'\n(; Function Attrs: .*\n)?declare void @llvm\.prefetch\.p0\(.*\)( #(?P<group>\d+))?\n')
 CALL = re.compile(r'(?:%\S+ = )?call [^@]*@(?:"([^"]*)"|([\w.]+))\((.*)\)')
 
@@ -102,12 +104,12 @@ class Module:
 
     def annotated(self, name, place):
         """A function's body with the prefetches of a place, which it must have."""
-        lines = self.bodies[name][3].splitlines(keepends=True)
-        before = {at: ''.join(self.written(place, arguments[place.bytes])) for at, callee, arguments in self.calls(self.bodies[name][3])
+        body = self.bodies[name][3]
+        before = {at: ''.join(self.written(place, arguments[place.bytes])) for at, callee, arguments in self.calls(body)
                   if plain(callee).endswith(tuple(place.callees))}
         if not before:
             refuse(f'{name} calls none of {place.callees}')
-        return ''.join(before.get(at, '') + line for at, line in enumerate(lines))
+        return ''.join(before.get(at, '') + line for at, line in enumerate(body.splitlines(keepends=True)))
 
 
 def add(text, places=None):
