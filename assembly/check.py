@@ -8,6 +8,8 @@ each text it wants that
 
 - text and sums made anew of the object that was proved are those that are committed;
 - each assembler on the machine (GNU as, clang, rustc) makes that object of the text, as same_bytes.py compares two;
+- the prefetches of its module are those of prefetch.py, and a module that lacks one of their places is refused;
+- a module that is another in one number or one line beside its prefetches is not compiled (tried with one of them);
 - 15 wrong texts are noticed, by the object and by the sums: a constant, a register, an offset, a jump, a word of data.
 
 It needs rt, and takes what assemblers there are. One line a check; the status is 1 where one failed."""
@@ -25,7 +27,9 @@ TOP = os.path.dirname(ASSEMBLY)
 sys.path[:0] = [ASSEMBLY, os.path.join(TOP, 'c', 'checks')]
 sys.dont_write_bytecode = True
 
+import compile as compiling
 import macho
+import prefetch
 from report import Fault, Report, want
 from same_bytes import compare, compare_sums, Object
 
@@ -163,6 +167,57 @@ def wrong_texts_are_noticed(text, proved, target, room):
 
 # ---- the checks ----
 
+def module_of(library, name):
+    """The text of the module that a text's object was compiled of, without prefetches and with them."""
+    with open(os.path.join(TOP, library, 'out', 'module', name, 'module.ll'), encoding='latin-1') as file:
+        annotated = file.read()
+    return prefetch.strip(annotated), annotated
+
+
+def has_prefetches(library, name):
+    module, annotated = module_of(library, name)
+    want(module != annotated and prefetch.add(module) == annotated, 'its prefetches are others')
+    places = prefetch.PLACES[prefetch.Module(module).processor()]
+    for place in places:
+        try:
+            prefetch.add(module.replace(place.function, place.function + '_of_another_name'))
+        except ValueError:
+            continue
+        want(False, f'without {place.function} it was taken')
+    return f'{annotated.count("call void @llvm.prefetch")} of them, {len(places)} places'
+
+
+def other_modules_are_refused(library, name):
+    module, annotated = module_of(library, name)
+    with open(os.path.join(TOP, library, 'out', 'module', name, 'words')) as file:
+        words = file.read().splitlines()
+    for what, pattern, new in (('a number', r'(\n  %\w+ = add i64 %\w+, )\d+', r'\g<1>77'),
+                               ('a line less', r'\n  store .*', '')):
+        wrong = re.sub(pattern, new, annotated, count=1)
+        want(wrong != annotated and is_refused(module, words, wrong), f'{what}: it was compiled')
+    want(not is_refused(module, words, annotated), 'the module itself is refused')
+    return '2 of 2'
+
+
+def is_refused(module, words, annotated):
+    """Whether a module is refused, where this text is taken for it with prefetches."""
+    kit = os.path.dirname(os.path.dirname(os.path.realpath(shutil.which('rt'))))
+    here, add_of_prefetch = os.getcwd(), prefetch.add
+    with tempfile.TemporaryDirectory() as room:
+        os.chdir(room)
+        with open('module.bc', 'w', encoding='latin-1') as file:
+            file.write(module)
+        prefetch.add = lambda _: annotated
+        try:
+            compiling.main(os.path.join(kit, 'toolchain', 'bin', 'clang'), '', *words)
+        except SystemExit as why:
+            return 'is not the one that was proved' in str(why)
+        finally:
+            prefetch.add = add_of_prefetch
+            os.chdir(here)
+    return False
+
+
 def sums_beside(text):
     return os.path.splitext(text)[0] + '.sums'
 
@@ -201,6 +256,10 @@ def check_texts(report, library, target, sysroot=None):
         text, proved = os.path.join(TOP, library, 'asm', f'{name}.s'), os.path.join(out, 'proved', f'{name}.o')
         shown = os.path.relpath(text, TOP)
         report.attempt(f'{shown} and its sums, made anew', is_made_anew, text, os.path.join(out, 'asm', target))
+        if target == 'x86-64':
+            report.attempt(f'{shown}: the prefetches of its module', has_prefetches, library, name)
+        if (library, name) == ('c', 'x86-64-v3'):
+            report.attempt(f'{shown}: another module is refused', other_modules_are_refused, library, name)
         with tempfile.TemporaryDirectory() as room:
             for assembler in assemblers:
                 report.attempt(f'{shown} by {assembler.name}', is_same, assembler, text, proved, room)

@@ -3,7 +3,7 @@
 
     assembly/retarget.py MODULE TARGET TITLE TAG [--suffix SUFFIX] [--sysv] [--sign-extended]
 
-MODULE is a folder of assembly/module. Of the module's text it changes the triple, the data layout, the processor of its
+MODULE is a folder that `annotated` has kept. Of the module's text it changes the triple, the data layout, the processor of its
 functions where the target has another kind, and names: each local name gets plain letters and ends in .TAG, and the
 exports get those that the cargo crate calls, which end in SUFFIX. The toolchain's clang compiles it, by the words that it
 was called by for its own target.
@@ -28,23 +28,19 @@ LEFT_OUT = re.compile(r'\s*\.(file|ident|addrsig|addrsig_sym|attribute|build_ver
 LABEL = re.compile(r'(\.L|\bL)((?:BB|CPI|JTI|tmp|func_end|PC)\w*)')
 
 
-def clang(*words, text=None):
+def clang_of_kit():
     kit = os.path.dirname(os.path.dirname(os.path.realpath(shutil.which('rt') or sys.exit('retarget.py: no rt'))))
-    words = [os.path.join(kit, 'toolchain', 'bin', 'clang'), *words, '-w', '-S', '-o', '-']
+    return os.path.join(kit, 'toolchain', 'bin', 'clang')
+
+
+def clang(*words, text=None):
+    words = [clang_of_kit(), *words, '-w', '-S', '-o', '-']
     return subprocess.run(words, input=text, check=True, stdout=subprocess.PIPE, text=True).stdout
 
 
 def text_of(path):
     with open(path) as file:
         return file.read()
-
-
-def module_of(folder):
-    """The module's text. That for 64-bit ARM is text already."""
-    rewritten = os.path.join(folder, 'rewritten.ll')
-    if os.path.exists(rewritten):
-        return text_of(rewritten)
-    return clang('-emit-llvm', '-Xclang', '-disable-llvm-passes', '-x', 'ir', os.path.join(folder, 'module.bc'))
 
 
 def words_of(folder):
@@ -123,7 +119,7 @@ def main():
     words.add_argument('--sign-extended', action='store_true')
     given = words.parse_args()
     is_apple, is_riscv = 'apple' in given.target, given.target.startswith('riscv')
-    module = with_plain_names(for_target(module_of(given.module), given.target), given.tag)
+    module = with_plain_names(for_target(text_of(os.path.join(given.module, 'module.ll')), given.target), given.tag)
     guard, module = with_exports(module, given.suffix, 'x86_64_sysvcc ' if given.sysv else '', 'windows' in given.target)
     module = with_signs(module) if given.sign_extended else module
     generic = [] if given.target.startswith('x86_64') or is_riscv else ['-mcpu=generic']

@@ -4,7 +4,7 @@ room=$(mktemp -d)
 trap 'rm -rf "$room"' EXIT
 sets=(x86-64-v2 x86-64-v3)
 libraries=
-# The speed of a short call moves with the place where its code lies, so a run takes as many places as this.
+# The speed of a short call moves with what lies around its code, so a run takes the code in as many orders as this.
 layouts=8
 debian_library=/usr/lib/x86_64-linux-gnu/libxxhash.so.0
 
@@ -27,17 +27,20 @@ need_file() {
 }
 
 # our_library TREE SET FILE: builds the libraries of the benchmark's crates in a tree, proved, for an instruction
-# set, as one object. An older build is removed first, so that what is measured is what was proved. A tree may
-# lack all crates but the first.
+# set, as one object, as the tree builds what it ships: with prefetches, if it has them. Kernels that calls have to name
+# have none, and their crate lacks the other hashes. An older build is removed first, so that what is measured is what was
+# proved. A tree may lack all crates but the first.
 our_library() {
-    local tree=$1 set=$2 file=$3 crate archives=() cpu=()
+    local tree=$1 set=$2 file=$3 crate archives=() cpu=() annotated=()
+    [ ! -x "$tree/assembly/annotated" ] || annotated=("$tree/assembly/annotated")
     [ -d "$tree/crates/bench_exports" ] || fail "$tree has no crate bench_exports"
     [ "$set" = x86-64-v2 ] || cpu=(--cpu="$set")
     for crate in bench_exports bench_calls bench_kernels; do
         [ -d "$tree/crates/$crate/src" ] || continue
         archives+=("$tree/crates/$crate/out/lib$crate.a")
         rm -f "${archives[-1]}"
-        (cd "$tree/crates/$crate" && rt lib "${cpu[@]}") > "$room/lib.log" 2>&1 || {
+        [ "$crate" != bench_kernels ] || annotated=()
+        (cd "$tree/crates/$crate" && "${annotated[@]}" rt lib "${cpu[@]}") > "$room/lib.log" 2>&1 || {
             grep -E 'error|^[a-z]+ \S+::' "$room/lib.log" | grep -v ': proved' | head -n 20 >&2
             cp "$room/lib.log" "${TMPDIR:-/tmp}/bench-lib.log"
             fail "$crate of $tree is not proved or not built for $set: ${TMPDIR:-/tmp}/bench-lib.log"
@@ -47,13 +50,12 @@ our_library() {
     ld -r --whole-archive "${archives[@]}" -o "$file"
 }
 
-# link_layouts SET PEERS OBJECT..: links $room/SET/driver_1 to driver_8. In driver_N each function of the objects begins
-# 12 N bytes behind a multiple of 64: eight places within 32 bytes, the window of older processors, and within 64, that
-# of newer ones. The objects' order changes too. The driver stays where it is, and no jump of its loops crosses 32
-# bytes, which would slow all peers at once. PEERS are the names of the peers in the objects, whose functions lie in
-# sections of their own; $libraries are linked beside them.
+# link_layouts SET PEERS OBJECT..: links $room/SET/driver_1 to driver_8. In each the functions of the objects begin at
+# multiples of 64, as in what is shipped (c/build, rust/build-library), and the objects stand in another order. The driver
+# stays where it is, and no jump of its loops crosses 32 bytes, which would slow all peers at once. PEERS are the names of
+# the peers in the objects, whose functions lie in sections of their own; $libraries are linked beside them.
 link_layouts() {
-    local folder=$room/$1 peers=$2 objects=("${@:3}") layout place found
+    local folder=$room/$1 peers=$2 objects=("${@:3}") layout found
     {
         echo '#include "peer.h"'
         for peer in $peers; do echo "extern const struct peer $peer;"; done
@@ -63,13 +65,11 @@ link_layouts() {
     gcc -O3 -I. -c "$folder/peers.c" -o "$folder/peers.o"
     gcc -O3 -Wall -Wextra -Wa,-mbranches-within-32B-boundaries -c driver.c -o "$folder/driver.o"
     for ((layout = 1; layout <= layouts; layout++)); do
-        place=$((12 * layout % 64))
         ld -r -T places.ld "${objects[@]}" -o "$folder/functions.o"
-        objcopy --set-section-alignment .text=4 "$folder/functions.o"
-        echo "asm(\".balign 64; .skip $place\");" | gcc -x c -c - -o "$folder/place.o"
-        gcc "$folder"/{driver,peers,place,functions}.o $libraries -o "$folder/driver_$layout" || fail "the driver was not linked"
+        objcopy --set-section-alignment .text=64 "$folder/functions.o"
+        gcc "$folder"/{driver,peers,functions}.o $libraries -o "$folder/driver_$layout" || fail "the driver was not linked"
         found=$(nm "$folder/driver_$layout" | awk '$3 == "twox_xxh3_64" { print $1 }')
-        ((0x$found % 64 == place)) || fail "a function lies at $found, not $place bytes behind a multiple of 64"
+        ((0x$found % 64 == 0)) || fail "a function lies at $found, which is no multiple of 64"
         objects=("${objects[@]:1}" "${objects[0]}")
     done
 }

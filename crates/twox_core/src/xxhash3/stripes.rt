@@ -9,24 +9,13 @@ mod blocks;
 mod fours;
 
 pub(super) use self::blocks::STRIPES_IN_BLOCK;
-use self::blocks::{BYTES_IN_BLOCK, take_blocks, take_few_blocks};
-use super::primes::PRIME64_1;
+use self::blocks::{BYTES_IN_BLOCK, take_blocks, take_many_blocks};
 use super::{INITIAL_ACCUMULATORS, Secret, Vector};
-use twox_words::words::{bp_as_chunks, u64_at};
+use twox_words::words::bp_as_chunks;
 
-/// From how many bytes on a one-shot takes its stripes out of line, in the way that is fastest for their number, and
-/// whole blocks are written out: 32 KiB without the last block, which a one-shot takes by itself.
+/// From how many bytes on a one-shot takes its stripes out of line, in the way that is fastest for their number: 32 KiB
+/// without the last block, which a one-shot takes by itself.
 pub const MANY_BYTES: usize = 31 * BYTES_IN_BLOCK;
-
-/// From how many bytes on, and up to how many, four stripes are taken at a time all the same: from 2 MiB without the
-/// last block on, up to 8 MiB. So many lie in the third cache, where reading ahead costs more than it saves.
-const IN_THIRD_CACHE: (usize, usize) = (2_047 * BYTES_IN_BLOCK, 8_192 * BYTES_IN_BLOCK);
-
-/// From how many bytes on a stripe further on is read ahead, where whole blocks aren't taken.
-const BYTES_TO_READ_AHEAD: usize = 49_152;
-
-/// How many stripes further on is read.
-const STRIPES_AHEAD: usize = 16;
 
 /// The accumulators, and how many stripes they have taken since the last scramble.
 #[repr(C)]
@@ -120,7 +109,7 @@ impl StripeAccumulator {
         if MANY {
             *self = take_many_stripes(*self, v, bytes, secret);
         } else if secret.n_stripes() == STRIPES_IN_BLOCK && has_whole_blocks {
-            let taken = take_few_blocks(self.accumulator, v, bytes, secret);
+            let taken = take_blocks::<V, false>(self.accumulator, v, bytes, secret);
             *self = StripeAccumulator::starting_with(taken);
         } else {
             self.process_near(v, bytes, secret);
@@ -188,23 +177,13 @@ fn take_many_stripes<V: Vector>(
     requires { current_stripe_of from < stripes_of (secret_bytes secret) }
     ensures { AfterStripes (secret_bytes secret.entry) from bytes.now result }
 {
-    let has_blocks = secret.n_stripes() == STRIPES_IN_BLOCK && bytes.len() >= BYTES_IN_BLOCK;
-    if has_blocks && pays_by_blocks(bytes.len()) {
-        take_stripes_by_blocks(from, v, bytes, secret)
-    } else if has_blocks {
-        take_stripes_by_fours(from, v, bytes, secret)
-    } else if bytes.len() < BYTES_TO_READ_AHEAD {
+    if secret.n_stripes() != STRIPES_IN_BLOCK || bytes.len() < BYTES_IN_BLOCK {
         take_stripes(from, v, bytes, secret)
+    } else if bytes.len() < MANY_BYTES {
+        take_stripes_by_fours(from, v, bytes, secret)
     } else {
-        take_stripes_reading_ahead(from, v, bytes, secret)
+        take_stripes_by_blocks(from, v, bytes, secret)
     }
-}
-
-// Whether so many bytes are taken faster by whole blocks, reading ahead, than four stripes at a time.
-#[inline(always)]
-fn pays_by_blocks(len: usize) -> bool {
-    let (from, to) = IN_THIRD_CACHE;
-    len >= MANY_BYTES && (len < from || len >= to)
 }
 
 // The accumulators with the stripes taken four at a time, under a secret of 192 bytes.
@@ -242,40 +221,6 @@ fn take_stripes_by_blocks<V: Vector>(
     let (front, rest) = bytes.split_at(64 * to_block);
     let at_block = take_stripes(from, v, front, secret);
     let (whole, rest) = rest.split_at(rest.len() / BYTES_IN_BLOCK * BYTES_IN_BLOCK);
-    let (taken, seen) = take_blocks(at_block.accumulators(), v, whole, secret);
-    if seen == PRIME64_1 {
-        return take_stripes(from, v, bytes, secret);
-    }
+    let taken = take_many_blocks(at_block.accumulators(), v, whole, secret);
     take_stripes(StripeAccumulator::starting_with(taken), v, rest, secret)
-}
-
-// The accumulators with the stripes taken of bytes that may lie outside the first-level cache: while a stripe is taken,
-// a word of the stripe `STRIPES_AHEAD` further on is read, so that it is there in time. What is read decides nothing but which of
-// two ways to the same accumulators is gone, since the compiler reads nothing that isn't needed. The loop has to
-// stand alone in a function that isn't inlined, over accumulators by value: at x86-64-v2 its code then has no
-// `imul`, `pinsrq` or `palignr`. Where it has one, LLVM has paired the accumulators wrongly.
-#[inline(never)]
-fn take_stripes_reading_ahead<V: Vector>(
-    from: StripeAccumulator,
-    v: V,
-    bytes: &[u8],
-    secret: Secret<'_>,
-) -> StripeAccumulator
-    requires { current_stripe_of from < stripes_of (secret_bytes secret) }
-    ensures { AfterStripes (secret_bytes secret.entry) from bytes.now result }
-{
-    let n_stripes = secret.n_stripes();
-    let (stripes, _) = bp_as_chunks::<u8, 64>(bytes);
-    let count = stripes.len().saturating_sub(STRIPES_AHEAD);
-    let mut taken = from;
-    let mut seen = 0;
-    'stripes: for i in 0..count {
-        seen ^= u64_at(&stripes[i + STRIPES_AHEAD], 0);
-        taken.process_stripe(v, &stripes[i], n_stripes, secret);
-    }
-    if seen == PRIME64_1 {
-        return take_stripes(from, v, bytes, secret);
-    }
-    let (_, rest) = bytes.split_at(64 * count);
-    take_stripes(taken, v, rest, secret)
 }

@@ -24,9 +24,9 @@ returns g c =
     rw (c.split_at.ensures.front, front_len) at c.take_stripes-at_block.ensures.exact ∙ after_stripes-take s from m (64 * k) k (omega arith) in
     let begins : at_block.current_stripe ≡ 0 = rw front (place_at_block s m from k (omega arith) (omega arith) place) in
     let same : at_start c.accumulators.result ≡ at_block = ap at_start c.accumulators.ensures ∙ at_start-same at_block begins in
-    let blocks : at_start c.take_blocks-seen.result.0 ≡ after_stripes s at_block rest n =
-    rw (c.split_at-2.ensures.front, c.split_at.ensures.back, whole_len, same) at c.take_blocks-seen.ensures
+    let blocks : at_start c.take_many_blocks-taken.result ≡ after_stripes s at_block rest n =
+    rw (c.split_at-2.ensures.front, c.split_at.ensures.back, whole_len, same) at c.take_many_blocks-taken.ensures
     ∙ after_stripes-take s at_block rest w n (omega arith) in
-    let ended : c.take_stripes-2.result ≡ after_stripes s c.starting_with.result (drop w rest) j =
-    rw (c.split_at-2.ensures.back, c.split_at.ensures.back) at c.take_stripes-2.ensures.exact in
-    record { exact = rw all at (ended ∙ three_parts s m from at_block c.starting_with.result k n j w (omega arith) front (c.starting_with.ensures ∙ blocks)); place = c.take_stripes-2.ensures.place }
+    let ended : c.take_stripes.result ≡ after_stripes s c.starting_with.result (drop w rest) j =
+    rw (c.split_at-2.ensures.back, c.split_at.ensures.back) at c.take_stripes.ensures.exact in
+    record { exact = rw all at (ended ∙ three_parts s m from at_block c.starting_with.result k n j w (omega arith) front (c.starting_with.ensures ∙ blocks)); place = c.take_stripes.ensures.place }

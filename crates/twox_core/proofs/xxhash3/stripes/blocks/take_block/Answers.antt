@@ -1,9 +1,17 @@
-use Rattle.std.proofs.Common.{refl}
+use Rattle.std.proofs.Common.{◌≡◌, ◌+◌, ◌*◌, refl, arith}
 use Rattle.twox_core.specs.Ending.{accumulate_block}
 use Rattle.twox_core.proofs.xxhash3.stripes.blocks.take_block.Goals as goal
 
-pub returns : goal.returns
+pub fours-init : goal.fours-init
 unfolding accumulate_block
+fours-init g c = refl
+
+pub fours-preserved : goal.fours-preserved
+fours-preserved g c =
+    let next : 4 * c.fours.i + 4 ≡ 4 * (c.fours.i + 1) = omega arith in
+    rw next at c.take_four_stripes-sums.ensures c.args.acc c.fours.invariant
+
+pub returns : goal.returns
 returns g c =
-    let from = c.args.acc in
-    c.take_four_stripes-acc-4.ensures from (c.take_four_stripes-acc-3.ensures from (c.take_four_stripes-acc-2.ensures from (c.take_four_stripes-acc.ensures from refl)))
+    let all : 4 * c.fours.i ≡ 16 = omega arith in
+    rw all at c.fours.invariant

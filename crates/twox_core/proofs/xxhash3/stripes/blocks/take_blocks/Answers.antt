@@ -14,7 +14,7 @@ each-preserved g c =
     let s = secret_bytes c.args.secret in
     let m = c.args.bytes.now in
     let i = c.each.i in
-    rw (c.round_scramble.ensures, c.take_block-ahead.ensures, c.last_stripe.ensures)
+    rw (c.round_scramble.ensures, c.take_block-sums.ensures, c.last_stripe.ensures)
     (next_block s c.args.acc c.each.taken _ m i c.requires c.each.invariant
     (rw c.bp_as_chunks.ensures.chunks (first_chunks_at 1024 (length m / 1024) m i _ (omega arith))))
 

@@ -1,0 +1,131 @@
+#!/usr/bin/env python3
+"""Stands in the place of the toolchain's clang, where `annotated` puts it:
+
+    assembly/compile.py CLANG FOLDER WORD..
+
+Clang first does what the words say. Where it has compiled a module of what was proved, the module with prefetches
+(prefetch.py) is compiled in its place by the same words, for x86-64 so that no jump crosses or ends at a multiple of 32
+bytes, at which some processors decode a jump anew each time. Before that it compares, and stops where something differs:
+
+- the module as text, compiled by the same words, with what the toolchain made of the module, byte for byte;
+- the module with prefetches, as clang reads it, and without them again, with the text of the module.
+
+For 64-bit ARM the toolchain has clang optimize the module, changes its text and has clang compile that: the prefetches are
+in the first of the two. FOLDER, where it isn't empty, gets the module that the object was made of, as module.ll, and the
+`words` of clang's last call."""
+import filecmp
+import os
+import re
+import subprocess
+import sys
+import tempfile
+
+import prefetch
+
+FOR_X86_64 = ['-mbranches-within-32B-boundaries']
+
+
+def stop(why):
+    sys.exit(f'assembly/compile.py: {why}')
+
+
+class Clang:
+    def __init__(self, path, words):
+        self.path, self.words = path, words
+        self.target = [word for word in words if word.startswith('--target=')]
+
+    def run(self, words, folder='.'):
+        return subprocess.run([self.path, *words], cwd=folder).returncode
+
+    def module(self):
+        """The bitcode that these words compile, or None where they compile none."""
+        read = [word for word in self.words if word.endswith('.bc') and os.path.exists(word)]
+        return read[0] if len(read) == 1 and '-x' in self.words else None
+
+    def made(self):
+        return os.path.abspath(self.words[self.words.index('-o') + 1])
+
+    def compile(self, folder, made, more=()):
+        """Does what the words say with the module of its name in a folder, and writes another file."""
+        words = [made if os.path.abspath(word) == self.made() else word for word in self.words]
+        if self.run([*words, *more], folder):
+            stop(f'clang does not compile the module in {folder}')
+
+    def written(self, kind, folder, made, *more):
+        """Writes the module of a folder as clang reads it, as text (-S) or as bitcode (-c), under the same name, which a
+        text begins with."""
+        os.makedirs(made, exist_ok=True)
+        words = [*self.target, '--no-default-config', '-w', '-x', 'ir', '-Xclang', '-disable-llvm-passes', '-emit-llvm']
+        if self.run([*words, *more, kind, self.module(), '-o', os.path.join(made, self.module())], folder):
+            stop(f'clang does not read the module in {folder}')
+
+    def text(self, folder):
+        return read(os.path.join(folder, self.module()))
+
+
+def read(path):
+    with open(path, encoding='latin-1') as file:
+        return file.read()
+
+
+def write(path, text):
+    os.makedirs(os.path.dirname(path), exist_ok=True)
+    with open(path, 'w', encoding='latin-1') as file:
+        file.write(text)
+
+
+def compile_annotated(clang, room):
+    """Writes what the module with prefetches gives over what the toolchain's gave, once both comparisons hold. The answer
+    is its text."""
+    ordered, proved, annotated, bitcode, as_read, again = (
+        os.path.join(room, it) for it in ('ordered', 'proved', 'annotated', 'bitcode', 'as_read', 'again'))
+    # Where it says in which order a value's uses stand, which decides nothing but the order of some instructions.
+    clang.written('-S', os.getcwd(), ordered, '-Xclang', '-emit-llvm-uselists')
+    clang.compile(ordered, again)
+    if not filecmp.cmp(again, clang.made(), shallow=False):
+        stop('the module as text gives another object than the toolchain has: this kit builds otherwise')
+    clang.written('-S', os.getcwd(), proved)
+    text = clang.text(proved)
+    write(os.path.join(annotated, clang.module()), with_prefetches(text))
+    clang.written('-c', annotated, bitcode)
+    clang.written('-S', bitcode, as_read)
+    if prefetch.strip(clang.text(as_read)) != text:
+        stop('without its prefetches the module is not the one that was proved')
+    clang.compile(bitcode, clang.made(), FOR_X86_64 if is_for_x86_64(text) else [])
+    return clang.text(annotated)
+
+
+def with_prefetches(text):
+    try:
+        return prefetch.add(text)
+    except ValueError as why:
+        stop(why)
+
+
+def keep(folder, clang, module):
+    write(os.path.join(folder, 'module.ll'), module)
+    write(os.path.join(folder, 'words'), '\n'.join(clang.words) + '\n')
+
+
+def is_for_x86_64(text):
+    return re.search('^target triple = "x86_64', text, re.M)
+
+
+def main(path, kept, *words):
+    clang = Clang(path, list(words))
+    status = clang.run(words)
+    if status:
+        return status
+    module = next((read(word) for word in words if word.endswith('.ll') and os.path.exists(word)), None)
+    if clang.module():
+        with tempfile.TemporaryDirectory() as room:
+            module = compile_annotated(clang, room)
+    if kept and module and '-c' in words:
+        keep(kept, clang, module)
+    return 0
+
+
+if __name__ == '__main__':
+    if len(sys.argv) < 4:
+        sys.exit(__doc__)
+    sys.exit(main(*sys.argv[1:]))
