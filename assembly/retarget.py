@@ -28,9 +28,13 @@ LEFT_OUT = re.compile(r'\s*\.(file|ident|addrsig|addrsig_sym|attribute|build_ver
 LABEL = re.compile(r'(\.L|\bL)((?:BB|CPI|JTI|tmp|func_end|PC)\w*)')
 
 
-def clang(*words, text=None):
+def clang_of_kit():
     kit = os.path.dirname(os.path.dirname(os.path.realpath(shutil.which('rt') or sys.exit('retarget.py: no rt'))))
-    words = [os.path.join(kit, 'toolchain', 'bin', 'clang'), *words, '-w', '-S', '-o', '-']
+    return os.path.join(kit, 'toolchain', 'bin', 'clang')
+
+
+def clang(*words, text=None):
+    words = [clang_of_kit(), *words, '-w', '-S', '-o', '-']
     return subprocess.run(words, input=text, check=True, stdout=subprocess.PIPE, text=True).stdout
 
 

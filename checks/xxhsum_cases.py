@@ -1,8 +1,9 @@
 """The cases of checks/xxhsum: the words, the files that lie where it runs, and what standard input holds.
 
-Debian's `xxhsum` 0.8.1 decides what is right, so a case has no expected text. The digests that stand in lists are those
-of the files below, as that program printed them."""
-from typing import NamedTuple
+The originals decide what is right, so only a case in which ours does something else on purpose has an expected answer
+here; docs/XXHSUM.md gives the reason of each. The digests that stand in lists are those of the files below, as the
+originals printed them."""
+from typing import NamedTuple, Optional
 
 # What of two runs has to be equal. Help and version carry their maker's name, so of those the text is not compared.
 ALL = ('out', 'err', 'status')
@@ -19,8 +20,13 @@ class Case(NamedTuple):
     called: str = 'xxhsum'
     # A line of sh to run in place of the words. It finds the program as "$X".
     shell: str = ''
-    # Ours differs on purpose: the original is not run, and ours has to end with this status and print nothing.
-    refused: int = 0
+    # What ours has to do where it differs from both originals on purpose, which are not run then.
+    wanted: Optional[dict] = None
+
+
+def refused(status=1):
+    """Ours prints nothing and ends with this status."""
+    return {'out': b'', 'status': status}
 
 
 HELLO = b'hello'
@@ -97,13 +103,16 @@ def names():
         Case('a carriage return in a name', ('return\r',)),
         Case('a space first in a name', (' space',)),
         Case('brackets and a star in names', ('(p)', '*star')),
-        Case('a name that is not UTF-8', (b'\xff\xfe',)),
-        Case('a missing name that is not UTF-8', (b'\xfe\xff', 'a')),
+        Case('a name that is not UTF-8', (b'\xff\xfe', 'a'), wanted={
+            'out': X64 + b'  a\n', 'err': b"Error: Could not open '\xff\xfe': The name is not UTF-8. \n", 'status': 1}),
         Case('a name beyond ASCII', ('é',)),
         Case('devices', ('/dev/null', '/proc/self/gone')),
         Case('a file named stdin', ('stdin',), given=b'world', files={'stdin': HELLO}),
         Case('no file named stdin', ('stdin',), given=b'world'),
-        Case('many names', ('a', 'e') * 200),
+        Case('2,000 names', ('a', 'e') * 1000),
+        Case('words of 100,000 bytes', ('y' * 100000, 'a', 'z/' * 50000)),
+        Case('500 long names', ('n' * 255, 'x' * 255) * 250),
+        Case('spaces and tabs at both ends of names', (' both ', 'a ', ' a', 'a\t'), files={' both ': HELLO}),
         Case('a pipe with a name', shell='mkfifo p; printf hello >p & "$X" p'),
         Case('the device of standard input', shell='"$X" /dev/stdin <a'),
     ]
@@ -134,7 +143,7 @@ def lines():
     cases += [Case(f'little endian and tagged, -H{number}', ('--tag', '--little-endian', f'-H{number}', 'a'))
               for number in '0123']
     return cases + [
-        Case('tagged lines of odd names', ('--tag', 'line\nfeed', '(p)', 'back\\slash', b'\xff\xfe', 'gone', 'd')),
+        Case('tagged lines of odd names', ('--tag', 'line\nfeed', '(p)', 'back\\slash', 'gone', 'd')),
         Case('XXH3 of odd names', ('-H3', 'line\nfeed', '(p)', ' space')),
     ]
 
@@ -161,8 +170,8 @@ def options():
         Case('a number too large before a bad option', ('-i99999999999', '-Z')),
         Case('a bad option after a file', ('a', '--nope')),
         Case('an option that is not UTF-8', (b'-\xff', 'a')),
-        Case('the benchmark', ('-b', 'a'), refused=1),
-        Case('the benchmark of all', ('--bench-all', 'a'), refused=1),
+        Case('the benchmark', ('-b', 'a'), wanted=refused()),
+        Case('the benchmark of all', ('--bench-all', 'a'), wanted=refused()),
     ]
 
 
@@ -202,9 +211,14 @@ def program_names():
     ]
 
 
-def of_list(name, text, *options, given=b''):
+def of_list(name, text, *options, given=b'', wanted=None):
     """A case that checks the list L of this text."""
-    return Case(name, (*(options or ('-c',)), 'L'), given=given, files={'L': text})
+    return Case(name, (*(options or ('-c',)), 'L'), given=given, files={'L': text}, wanted=wanted)
+
+
+def no_stdin(place):
+    """What is said of the file stdin, which isn't there, in the words for each missing file."""
+    return place + b": Could not open or read 'stdin': No such file or directory.\n"
 
 
 def verdicts():
@@ -234,6 +248,8 @@ def verdicts():
         of_list('improper lines alone, status', b'x\ny\n', '-c', '--status'),
         of_list('a blank line among others', b'\n' + GOOD, '-cw', '--strict'),
         of_list('a comment', b'# made today\n' + GOOD, '-cw'),
+        of_list('comments alone', b'# made today\n#\n', '-cw'),
+        of_list('a comment behind a space, and one within a line', b' # a\n' + GOOD[:-1] + b' # made today\n' + GOOD, '-cw'),
     ]
 
 
@@ -259,7 +275,7 @@ def plain_lines():
         of_list('a NUL after the digits', X64 + b'\0  a\n', '-cw'),
         of_list('a NUL in the name', X64 + b'  a\0b\n' + GOOD, '-cw'),
         of_list('odd names', b''.join(X64 + b'  ' + name + b'\n' for name in (
-            b'back\\slash', b'\xff\xfe', b'(p)', b'*star', b'-x', b'b c', b'link', b'linked-folder/inner', b'broken'))),
+            b'back\\slash', b'(p)', b'*star', b'-x', b'b c', b'link', b'linked-folder/inner', b'broken'))),
         of_list('a bracket after one space', X64 + b' (p)\n' + X64 + b' (a) = ' + X64 + b'\n', '-cw'),
         of_list('a bracket after two spaces', X64 + b'  (p)\n', '-cw'),
         of_list('a name of 255 bytes, and one that is too long', X64 + b'  ' + b'n' * 255 + b'\n' + X64 + b'  ' + b'x' * 5000 + b'\n'),
@@ -325,10 +341,12 @@ def several_lists():
         Case('a list named -', ('-c', 'good', '-'), given=GOOD),
         Case('a list named stdin', ('-c', 'stdin'), given=WRONG + b'  a\n', files={'stdin': GOOD}),
         Case('- in a list is a file', ('-c',), given=X64 + b'  -\n', files={'-': HELLO}),
-        Case('stdin in a list from input', ('-c',), given=GOOD + X64 + b'  stdin\n' + GOOD),
-        of_list('stdin in a list', X64 + b'  stdin\n', given=HELLO),
-        of_list('stdin in a list, twice', X64 + b'  stdin\n' + EMPTY + b'  stdin\n', given=HELLO),
-        of_list('stdin in a list, tagged', b'XXH3 (stdin) = ' + X3 + b'\n', given=HELLO),
+        Case('stdin in a list from input', ('-c',), given=GOOD + X64 + b'  stdin\n' + GOOD, wanted={
+            'out': b'a: OK\n' + no_stdin(b'stdin:2') + b'a: OK\n1 listed file could not be read\n', 'err': b'', 'status': 1}),
+        of_list('stdin in a list', X64 + b'  stdin\n', given=HELLO, wanted={
+            'out': no_stdin(b'L:1') + b'1 listed file could not be read\n', 'err': b'', 'status': 1}),
+        of_list('stdin in a list, twice', X64 + b'  stdin\n' + EMPTY + b'  stdin\n', given=HELLO, wanted={
+            'out': no_stdin(b'L:1') + no_stdin(b'L:2') + b'2 listed files could not be read\n', 'err': b'', 'status': 1}),
         Case('a folder as input of lists', shell='"$X" -c <d'),
         Case('closed input of lists', shell='"$X" -c <&-'),
         Case('a pipe as a list', shell=f'mkfifo p; printf "{X64.decode()}  a\\n" >p & "$X" -c p'),
@@ -338,11 +356,11 @@ def several_lists():
 def ends():
     """A full disk and closed ends. The original tells nobody that its output is lost; ours has to."""
     return [
-        Case('a full disk', shell='"$X" a >/dev/full', refused=1),
-        Case('a full disk, many lines', ('a',) * 3, shell='"$X" a a a >/dev/full', refused=1),
-        Case('a full disk, a list', shell='"$X" -c good >/dev/full', refused=1),
-        Case('closed output', shell='"$X" a >&-', refused=1),
-        Case('closed output, a list', shell='"$X" -c good >&-', refused=1),
+        Case('a full disk', shell='"$X" a >/dev/full', wanted=refused()),
+        Case('a full disk, many lines', ('a',) * 3, shell='"$X" a a a >/dev/full', wanted=refused()),
+        Case('a full disk, a list', shell='"$X" -c good >/dev/full', wanted=refused()),
+        Case('closed output', shell='"$X" a >&-', wanted=refused()),
+        Case('closed output, a list', shell='"$X" -c good >&-', wanted=refused()),
         Case('closed error', shell='"$X" a gone 2>&-', compared=NO_ERROR_TEXT),
         Case('a full disk for errors', shell='"$X" a gone 2>/dev/full', compared=NO_ERROR_TEXT),
     ]
@@ -350,3 +368,11 @@ def ends():
 
 CASES = (names() + kinds() + lines() + options() + input_alone() + program_names() + verdicts() + plain_lines()
          + tagged_lines() + several_lists() + ends())
+
+# The cases in which one of the originals does something else than ours, for the reasons that docs/XXHSUM.md gives: 0.8.1
+# knows no escapes, comments and XXH3 without a tag, and 0.8.3 has further options.
+OLDER_DIFFERS = {
+    'a backslash in a name', 'a line feed in a name', 'a carriage return in a name', '-H3', 'every length, -H3',
+    'little endian, -H3', 'tagged lines of odd names', 'XXH3 of odd names', 'input, XXH3', 'called xxh3sum', 'a comment',
+    'comments alone', 'odd names', 'the prefix of later versions'}
+NEWER_DIFFERS = {'called xxh32sum, a list', 'the word --ignore-missing', 'the word --binary'}

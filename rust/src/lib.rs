@@ -9,6 +9,8 @@ mod library;
 #[cfg(target_arch = "x86_64")]
 mod processor;
 mod text;
+#[cfg(any(feature = "xxhash32", feature = "xxhash64", feature = "xxhash3_64"))]
+mod words;
 
 #[cfg(any(feature = "xxhash32", feature = "xxhash64"))]
 #[macro_use]

@@ -10,32 +10,10 @@
 
 #[cfg(feature = "alloc")]
 use alloc::boxed::Box;
-use core::marker::PhantomData;
 use core::mem::MaybeUninit;
 
 #[cfg(target_arch = "x86_64")]
 use crate::processor::{ask, known, Known, FEW, IS_BUILT_FOR_V3};
-
-/// A slice, as the exports take one: two words, which the C calling conventions of x86-64 and of 64-bit ARM pass in two
-/// registers whether they are a struct's or two arguments. No call has more than the six words that registers hold.
-#[derive(Clone, Copy)]
-#[repr(C)]
-pub struct Bytes<'a> {
-    start: *const u8,
-    length: usize,
-    borrowed: PhantomData<&'a [u8]>,
-}
-
-impl<'a> From<&'a [u8]> for Bytes<'a> {
-    #[inline(always)]
-    fn from(slice: &'a [u8]) -> Self {
-        Self {
-            start: slice.as_ptr(),
-            length: slice.len(),
-            borrowed: PhantomData,
-        }
-    }
-}
 
 /// The library's record of a plain hash: XXH32 has words of 32 bits and a buffer of 16 bytes, XXH64 of 64 and 32.
 #[derive(Clone, PartialEq)]
@@ -49,6 +27,27 @@ pub struct Record<Word, const STRIPE: usize> {
     pub buffer_usage: usize,
     pub v4: Word,
     pub buffer: [u8; STRIPE],
+}
+
+impl<Word, const STRIPE: usize> Record<Word, STRIPE> {
+    /// Keeps the first eight bytes of a stream, as the library does: they fill no stripe.
+    #[inline(always)]
+    pub fn keep_first(&mut self, word: u64) {
+        self.total_len = 8;
+        self.buffer_usage = 8;
+        self.buffer[..8].copy_from_slice(&word.to_ne_bytes());
+    }
+
+    /// The bytes of the stream, where they are eight.
+    #[inline(always)]
+    pub fn only_word(&self) -> Option<u64> {
+        if self.total_len != 8 {
+            return None;
+        }
+        let mut bytes = [0; 8];
+        bytes.copy_from_slice(&self.buffer[..8]);
+        Some(u64::from_ne_bytes(bytes))
+    }
 }
 
 pub type Record32 = Record<u32, 16>;
@@ -83,6 +82,31 @@ impl Stream {
             buffer_usage: 0,
             total_bytes: 0,
         }
+    }
+
+    #[inline(always)]
+    pub fn is_empty(&self) -> bool {
+        self.total_bytes == 0
+    }
+
+    /// Keeps the first eight bytes of a stream, as the library does.
+    #[inline(always)]
+    pub fn keep_first(&mut self, word: u64) {
+        // SAFETY: the buffer has 512 bytes.
+        unsafe { self.buffer.as_mut_ptr().cast::<[u8; 8]>().write(word.to_ne_bytes()) };
+        self.buffer_usage = 8;
+        self.total_bytes = 8;
+    }
+
+    /// The bytes of the stream and its seed, where they are eight.
+    #[inline(always)]
+    pub fn only_word(&self) -> Option<(u64, u64)> {
+        if self.total_bytes != 8 {
+            return None;
+        }
+        // SAFETY: the first bytes of a stream are the first of its buffer, and were written.
+        let bytes = unsafe { self.buffer.as_ptr().cast::<[u8; 8]>().read() };
+        Some((u64::from_ne_bytes(bytes), self.seed))
     }
 }
 
@@ -139,24 +163,43 @@ macro_rules! proved { ($($declared:tt)*) => { extern "sysv64" { $($declared)* } 
 #[cfg(not(windows))]
 macro_rules! proved { ($($declared:tt)*) => { extern "C" { $($declared)* } }; }
 
-/// Declares each export in its sets, and a function that calls the one for so many bytes.
+/// Defines the call of an export of a set. A slice crosses as its address and its length. No export has more than six
+/// words, which registers hold, and none writes or reads but what it is handed.
+macro_rules! call_of_export {
+    ($set:literal, fn $name:ident(
+        $($record:ident: $record_kind:ty),*; $([$slice:ident])*; $($other:ident: $other_kind:ty),*
+    ) $(-> $answer:ty)?) => {
+        #[inline(always)]
+        pub unsafe fn $name($($record: $record_kind,)* $($slice: &[u8],)* $($other: $other_kind),*) $(-> $answer)? {
+            proved! {
+                #[link_name = concat!("twox_rust_3_", stringify!($name), $set)]
+                fn $name($($record: $record_kind,)* $($slice: *const u8, _: usize,)* $($other: $other_kind),*) $(-> $answer)?;
+            }
+            // SAFETY: as whoever calls this says.
+            unsafe { $name($($record,)* $($slice.as_ptr(), $slice.len(),)* $($other),*) }
+        }
+    };
+}
+
+/// Declares each export in its sets, and a function that calls the one for so many bytes. What it takes stands in three
+/// parts: records, slices, and the rest.
 macro_rules! exports {
-    ($(fn $name:ident($($argument:ident: $kind:ty),*) $(-> $answer:ty)?, by $input:expr;)*) => {
+    ($(fn $name:ident(
+        $($record:ident: $record_kind:ty),*; $([$slice:ident])*; $($other:ident: $other_kind:ty),*
+    ) $(-> $answer:ty)?, by $input:expr;)*) => {
         mod any_processor {
             use super::*;
-            proved! {
-                $(#[link_name = concat!("twox_rust_2_", stringify!($name))]
-                pub fn $name($($argument: $kind),*) $(-> $answer)?;)*
-            }
+            $(call_of_export! {
+                "", fn $name($($record: $record_kind),*; $([$slice])*; $($other: $other_kind),*) $(-> $answer)?
+            })*
         }
 
         #[cfg(target_arch = "x86_64")]
         mod x86_64_v3 {
             use super::*;
-            proved! {
-                $(#[link_name = concat!("twox_rust_2_", stringify!($name), "_v3")]
-                pub fn $name($($argument: $kind),*) $(-> $answer)?;)*
-            }
+            $(call_of_export! {
+                "_v3", fn $name($($record: $record_kind),*; $([$slice])*; $($other: $other_kind),*) $(-> $answer)?
+            })*
         }
 
         // Calls of their own, so that few bytes pay nothing for the choice.
@@ -164,12 +207,12 @@ macro_rules! exports {
         mod this_processor {
             use super::*;
             $(#[inline(never)]
-            pub fn $name($($argument: $kind),*) $(-> $answer)? {
+            pub fn $name($($record: $record_kind,)* $($slice: &[u8],)* $($other: $other_kind),*) $(-> $answer)? {
                 if known() == Known::HasV3 {
                     // SAFETY: as below, and the processor has x86-64-v3.
-                    unsafe { x86_64_v3::$name($($argument),*) }
+                    unsafe { x86_64_v3::$name($($record,)* $($slice,)* $($other),*) }
                 } else {
-                    unknown_processor::$name($($argument),*)
+                    unknown_processor::$name($($record,)* $($slice,)* $($other),*)
                 }
             })*
         }
@@ -179,13 +222,13 @@ macro_rules! exports {
             use super::*;
             $(#[cold]
             #[inline(never)]
-            pub fn $name($($argument: $kind),*) $(-> $answer)? {
+            pub fn $name($($record: $record_kind,)* $($slice: &[u8],)* $($other: $other_kind),*) $(-> $answer)? {
                 if known() == Known::Nothing {
                     ask();
-                    return this_processor::$name($($argument),*);
+                    return this_processor::$name($($record,)* $($slice,)* $($other),*);
                 }
                 // SAFETY: as below.
-                unsafe { any_processor::$name($($argument),*) }
+                unsafe { any_processor::$name($($record,)* $($slice,)* $($other),*) }
             })*
         }
 
@@ -193,55 +236,57 @@ macro_rules! exports {
         // slices and records of its layout, of which those that it writes overlap no other. It keeps no address. The
         // compiler was told of x86-64-v3 before that set is called.
         $(#[inline(always)]
-        pub fn $name($($argument: $kind),*) $(-> $answer)? {
+        pub fn $name($($record: $record_kind,)* $($slice: &[u8],)* $($other: $other_kind),*) $(-> $answer)? {
             #[cfg(target_arch = "x86_64")]
             match $input {
-                _ if IS_BUILT_FOR_V3 => return unsafe { x86_64_v3::$name($($argument),*) },
+                _ if IS_BUILT_FOR_V3 => return unsafe { x86_64_v3::$name($($record,)* $($slice,)* $($other),*) },
                 Input::Kept if known() == Known::HasV3 => {
-                    return unsafe { x86_64_v3::$name($($argument),*) };
+                    return unsafe { x86_64_v3::$name($($record,)* $($slice,)* $($other),*) };
                 }
-                Input::Kept => return unknown_processor::$name($($argument),*),
+                Input::Kept => return unknown_processor::$name($($record,)* $($slice,)* $($other),*),
                 Input::Of(length) if length > FEW => {
-                    return this_processor::$name($($argument),*);
+                    return this_processor::$name($($record,)* $($slice,)* $($other),*);
                 }
                 Input::Of(_) | Input::None => {}
             }
-            unsafe { any_processor::$name($($argument),*) }
+            unsafe { any_processor::$name($($record,)* $($slice,)* $($other),*) }
         })*
     };
 }
 
 exports! {
-    fn xxh32(input: Bytes<'_>, seed: u32) -> u32, by Input::Of(input.length);
-    fn xxh32_start(stream: &mut Record32, seed: u32), by Input::None;
-    fn xxh32_write(stream: &mut Record32, input: Bytes<'_>) -> u32, by Input::Of(input.length);
-    fn xxh32_finish(stream: &Record32) -> Answer, by Input::None;
-    fn xxh32_test(stream: &Record32) -> u32, by Input::None;
+    fn xxh32(; [input]; seed: u32) -> u32, by Input::Of(input.len());
+    fn xxh32_start(stream: &mut Record32;; seed: u32), by Input::None;
+    fn xxh32_write(stream: &mut Record32; [input];) -> u32, by Input::Of(input.len());
+    fn xxh32_finish(stream: &Record32;;) -> Answer, by Input::None;
+    fn xxh32_test(stream: &Record32;;) -> u32, by Input::None;
+    fn xxh32_of_word(;; word: u64, seed: u32) -> u32, by Input::None;
 
-    fn xxh64(input: Bytes<'_>, seed: u64) -> u64, by Input::Of(input.length);
-    fn xxh64_start(stream: &mut Record64, seed: u64), by Input::None;
-    fn xxh64_write(stream: &mut Record64, input: Bytes<'_>) -> u32, by Input::Of(input.length);
-    fn xxh64_finish(stream: &Record64) -> Answer, by Input::None;
-    fn xxh64_test(stream: &Record64) -> u32, by Input::None;
+    fn xxh64(; [input]; seed: u64) -> u64, by Input::Of(input.len());
+    fn xxh64_start(stream: &mut Record64;; seed: u64), by Input::None;
+    fn xxh64_write(stream: &mut Record64; [input];) -> u32, by Input::Of(input.len());
+    fn xxh64_finish(stream: &Record64;;) -> Answer, by Input::None;
+    fn xxh64_test(stream: &Record64;;) -> u32, by Input::None;
+    fn xxh64_of_word(;; word: u64, seed: u64) -> u64, by Input::None;
 
-    fn xxh3_64(input: Bytes<'_>) -> u64, by Input::Of(input.length);
-    fn xxh3_64_with_seed(input: Bytes<'_>, seed: u64) -> u64, by Input::Of(input.length);
-    fn xxh3_64_with_secret(input: Bytes<'_>, secret: Bytes<'_>) -> Answer, by Input::Of(input.length);
-    fn xxh3_64_with_seed_and_secret(input: Bytes<'_>, secret: Bytes<'_>, seed: u64) -> Answer, by Input::Of(input.length);
+    fn xxh3_64(; [input];) -> u64, by Input::Of(input.len());
+    fn xxh3_64_with_seed(; [input]; seed: u64) -> u64, by Input::Of(input.len());
+    fn xxh3_64_with_secret(; [input] [secret];) -> Answer, by Input::Of(input.len());
+    fn xxh3_64_with_seed_and_secret(; [input] [secret]; seed: u64) -> Answer, by Input::Of(input.len());
+    fn xxh3_64_of_word(;; word: u64, seed: u64) -> u64, by Input::None;
 
-    fn xxh3_128(input: Bytes<'_>) -> Wide, by Input::Of(input.length);
-    fn xxh3_128_with_seed(input: Bytes<'_>, seed: u64) -> Wide, by Input::Of(input.length);
-    fn xxh3_128_with_secret(input: Bytes<'_>, secret: Bytes<'_>, value: &mut Wide) -> u32, by Input::Of(input.length);
-    fn xxh3_128_with_seed_and_secret(input: Bytes<'_>, secret: Bytes<'_>, seed: u64, value: &mut Wide) -> u32,
-        by Input::Of(input.length);
+    fn xxh3_128(; [input];) -> Wide, by Input::Of(input.len());
+    fn xxh3_128_with_seed(; [input]; seed: u64) -> Wide, by Input::Of(input.len());
+    fn xxh3_128_with_secret(; [input] [secret]; value: &mut Wide) -> u32, by Input::Of(input.len());
+    fn xxh3_128_with_seed_and_secret(; [input] [secret]; seed: u64, value: &mut Wide) -> u32, by Input::Of(input.len());
 
-    fn xxh3_start(stream: &mut Stream, seed: u64), by Input::None;
-    fn xxh3_write(stream: &mut Stream, secret: Bytes<'_>, input: Bytes<'_>) -> u32, by Input::Kept;
-    fn xxh3_write_192(stream: &mut Stream, secret: &[u8; 192], input: Bytes<'_>) -> u32, by Input::Kept;
-    fn xxh3_64_finish(stream: &Stream, secret: Bytes<'_>) -> Answer, by Input::Kept;
-    fn xxh3_128_finish(stream: &Stream, secret: Bytes<'_>, value: &mut Wide) -> u32, by Input::Kept;
+    fn xxh3_start(stream: &mut Stream;; seed: u64), by Input::None;
+    fn xxh3_write(stream: &mut Stream; [secret] [input];) -> u32, by Input::Kept;
+    fn xxh3_write_192(stream: &mut Stream, secret: &[u8; 192]; [input];) -> u32, by Input::Kept;
+    fn xxh3_64_finish(stream: &Stream; [secret];) -> Answer, by Input::Kept;
+    fn xxh3_128_finish(stream: &Stream; [secret]; value: &mut Wide) -> u32, by Input::Kept;
 
-    fn derive_secret(secret: &mut MaybeUninit<[u8; 192]>, seed: u64), by Input::None;
+    fn derive_secret(secret: &mut MaybeUninit<[u8; 192]>;; seed: u64), by Input::None;
 }
 
 /// The secret that a seed derives, written by the library where it is to stay.

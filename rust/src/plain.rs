@@ -4,7 +4,7 @@
 macro_rules! plain_hash {
     (
         $name:literal, $alias:ident, $module:ident, $word:ty, $stripe:literal, $record:ident,
-        $oneshot:ident, $start:ident, $write:ident, $finish:ident, $test:ident,
+        $oneshot:ident, $of_word:ident, $start:ident, $write:ident, $finish:ident, $test:ident,
         $initial:expr,
         $($example:literal)*
     ) => {
@@ -12,6 +12,7 @@ macro_rules! plain_hash {
         use core::hash::{self, BuildHasher};
 
         use crate::library::{self, $record};
+        use crate::words;
 
         #[doc = concat!($name, " of all bytes at once, or of bytes that come in pieces.")]
         ///
@@ -39,7 +40,7 @@ macro_rules! plain_hash {
             #[must_use]
             #[inline]
             pub fn oneshot(seed: $word, data: &[u8]) -> $word {
-                library::$oneshot(data.into(), seed)
+                library::$oneshot(data, seed)
             }
 
             /// A hasher of no bytes yet, also for a `static`.
@@ -99,11 +100,29 @@ macro_rules! plain_hash {
         impl hash::Hasher for Hasher {
             #[inline]
             fn write(&mut self, data: &[u8]) {
-                library::expect_done(library::$write(&mut self.0, data.into()));
+                library::expect_done(library::$write(&mut self.0, data));
+            }
+
+            // A map's key is a word alone, and its hash needs no call.
+            #[inline]
+            fn write_u64(&mut self, word: u64) {
+                if self.0.total_len == 0 {
+                    self.0.keep_first(word);
+                } else {
+                    self.write(&word.to_ne_bytes());
+                }
+            }
+
+            #[inline]
+            fn write_usize(&mut self, word: usize) {
+                self.write_u64(word as u64);
             }
 
             #[inline]
             fn finish(&self) -> u64 {
+                if let Some(word) = self.0.only_word() {
+                    return words::$of_word(word, self.0.seed).into();
+                }
                 let answer = library::$finish(&self.0);
                 library::expect_done(answer.code);
                 answer.value

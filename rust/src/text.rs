@@ -12,7 +12,7 @@ macro_rules! targets {
         untried { $($further:meta => $further_options:tt $($further_file:literal)+;)* }
     ) => {
         $($(
-            #[cfg($condition)]
+            #[cfg(all($condition, not(twox_hash_lto)))]
             core::arch::global_asm!(include_str!(concat!("../asm/", $file)), options $options);
         )+)*
         $($(
@@ -34,6 +34,12 @@ macro_rules! targets {
         };
     };
 }
+
+/// With `--cfg twox_hash_lto` the functions come as bitcode of `rust/lto` instead, which the linker's optimizer takes into
+/// their callers. rustc then needs `-L` with that folder, and `-C linker-plugin-lto`.
+#[cfg(twox_hash_lto)]
+#[link(name = "twox_rust_lto", kind = "static")]
+extern "C" {}
 
 targets! {
     tried {

@@ -4,7 +4,9 @@
 use alloc::boxed::Box;
 use core::fmt;
 
-use crate::library::{self, Bytes, Stream};
+use crate::library::{self, Stream};
+#[cfg(feature = "xxhash3_64")]
+use crate::words;
 
 /// The fewest bytes that a secret may have.
 pub const SECRET_MINIMUM_LENGTH: usize = 136;
@@ -285,17 +287,17 @@ pub(crate) trait Secret {
 
     /// Takes a piece into the stream of this secret.
     #[inline(always)]
-    fn write(&self, stream: &mut Stream, input: Bytes<'_>) -> u32 {
+    fn write(&self, stream: &mut Stream, input: &[u8]) -> u32 {
         write_under(self.bytes(), stream, input)
     }
 }
 
 // The library needs no test of a secret that is as long as the default one.
 #[inline(always)]
-fn write_under(secret: &[u8], stream: &mut Stream, input: Bytes<'_>) -> u32 {
+fn write_under(secret: &[u8], stream: &mut Stream, input: &[u8]) -> u32 {
     match secret.try_into() {
         Ok(secret) => library::xxh3_write_192(stream, secret, input),
-        Err(_) => library::xxh3_write(stream, secret.into(), input),
+        Err(_) => library::xxh3_write(stream, secret, input),
     }
 }
 
@@ -335,7 +337,7 @@ impl Secret for Owned {
     }
 
     #[inline(always)]
-    fn write(&self, stream: &mut Stream, input: Bytes<'_>) -> u32 {
+    fn write(&self, stream: &mut Stream, input: &[u8]) -> u32 {
         match self {
             Owned::Default => library::xxh3_write_192(stream, &DEFAULT_SECRET, input),
             Owned::Boxed(secret) => write_under(secret, stream, input),
@@ -383,13 +385,27 @@ impl From<SecretBuffer<Box<[u8]>>> for Beside<Owned> {
 impl<S: Secret> Beside<S> {
     #[inline(always)]
     pub(crate) fn write(&mut self, input: &[u8]) {
-        library::expect_done(self.secret.write(&mut self.stream, input.into()));
+        library::expect_done(self.secret.write(&mut self.stream, input));
+    }
+
+    // A map's key is a word alone, and its hash needs no call: up to 240 bytes a stream's secret has no effect.
+    #[inline(always)]
+    #[cfg(feature = "xxhash3_64")]
+    pub(crate) fn write_word(&mut self, word: u64) {
+        if self.stream.is_empty() {
+            self.stream.keep_first(word);
+        } else {
+            self.write(&word.to_ne_bytes());
+        }
     }
 
     #[inline(always)]
     #[cfg(feature = "xxhash3_64")]
     pub(crate) fn finish_64(&self) -> u64 {
-        let answer = library::xxh3_64_finish(&self.stream, self.secret.bytes().into());
+        if let Some((word, seed)) = self.stream.only_word() {
+            return words::xxh3_64_of_word(word, seed);
+        }
+        let answer = library::xxh3_64_finish(&self.stream, self.secret.bytes());
         library::expect_done(answer.code);
         answer.value
     }
@@ -398,7 +414,7 @@ impl<S: Secret> Beside<S> {
     #[cfg(feature = "xxhash3_128")]
     pub(crate) fn finish_128(&self) -> u128 {
         let mut value = library::Wide::ZERO;
-        let secret = self.secret.bytes().into();
+        let secret = self.secret.bytes();
         library::expect_done(library::xxh3_128_finish(&self.stream, secret, &mut value));
         value.into()
     }
@@ -450,7 +466,7 @@ macro_rules! xxh3_hashers {
             #[must_use]
             #[inline]
             pub fn oneshot(input: &[u8]) -> $value {
-                library::$oneshot(input.into()).into()
+                library::$oneshot(input).into()
             }
 
             /// The hash of all bytes at once, with a seed: up to 240 bytes with the default secret, above with the one
@@ -464,7 +480,7 @@ macro_rules! xxh3_hashers {
             #[must_use]
             #[inline]
             pub fn oneshot_with_seed(seed: u64, input: &[u8]) -> $value {
-                library::$with_seed(input.into(), seed).into()
+                library::$with_seed(input, seed).into()
             }
 
             /// The hash of all bytes at once, with a secret and the seed 0, at every length.
@@ -484,7 +500,7 @@ macro_rules! xxh3_hashers {
                 secret: &[u8],
                 input: &[u8],
             ) -> Result<$value, OneshotWithSecretError> {
-                $with_secret(input.into(), secret.into())
+                $with_secret(input, secret)
             }
 
             /// The hash of all bytes at once: up to 240 bytes with the seed and the default secret, above with the
@@ -507,7 +523,7 @@ macro_rules! xxh3_hashers {
                 secret: &[u8],
                 input: &[u8],
             ) -> Result<$value, OneshotWithSecretError> {
-                $with_seed_and_secret(input.into(), secret.into(), seed)
+                $with_seed_and_secret(input, secret, seed)
             }
         }
 

@@ -29,6 +29,16 @@ impl hash::Hasher for Hasher {
     }
 
     #[inline]
+    fn write_u64(&mut self, word: u64) {
+        self.stream.write_word(word);
+    }
+
+    #[inline]
+    fn write_usize(&mut self, word: usize) {
+        self.stream.write_word(word as u64);
+    }
+
+    #[inline]
     fn finish(&self) -> u64 {
         self.stream.finish_64()
     }
@@ -38,6 +48,16 @@ impl<S: FixedBuffer> hash::Hasher for RawHasher<S> {
     #[inline]
     fn write(&mut self, input: &[u8]) {
         self.0.write(input);
+    }
+
+    #[inline]
+    fn write_u64(&mut self, word: u64) {
+        self.0.write_word(word);
+    }
+
+    #[inline]
+    fn write_usize(&mut self, word: usize) {
+        self.0.write_word(word as u64);
     }
 
     #[inline]

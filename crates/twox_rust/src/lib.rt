@@ -12,6 +12,7 @@ mod oneshots_128;
 mod oneshots_64;
 mod secrets;
 mod stream_3;
+mod words;
 mod xxh32;
 mod xxh64;
 
@@ -28,8 +29,8 @@ pub struct Answer {
 /// Its name is the number of this interface: it changes with every change of an export or of a record's layout, so
 /// that a caller of another number finds no such name. The answer is that number.
 #[unsafe(no_mangle)]
-pub extern "C" fn twox_rust_interface_2() -> u32
-    ensures { result ≡ 2 }
+pub extern "C" fn twox_rust_interface_3() -> u32
+    ensures { result ≡ 3 }
 {
-    2
+    3
 }

@@ -3,6 +3,7 @@ mod EachFacts
 mod HashFacts
 mod LineFacts
 mod OutcomeFacts
+mod PrintedListFacts
 mod ProgressFacts
 mod ToldFacts
 mod WatchedFacts

@@ -10,7 +10,7 @@ use Rattle.xxhsum_program.specs.declared.entry.Found.TheVariants.{Same, Differen
 use Rattle.xxhsum_program.specs.declared.stop.Stop.{Stop}
 use Rattle.xxhsum_program.specs.CheckList.{AddsUpTo, AnswersFor, BreaksOff, IsAnswer, IsVerdict, ReadsLines, StopsAtList, StopsEarly, StopsInList}
 use Rattle.xxhsum_program.specs.Findings.{FailsOnLine, Finding, IsFinding}
-use Rattle.xxhsum_program.specs.Findings.{Improper, Proper}
+use Rattle.xxhsum_program.specs.Findings.{Ignored, Improper, Proper}
 use Rattle.xxhsum_program.specs.Found.{IsFound}
 use Rattle.xxhsum_program.specs.ListLines.{FailsAfter, end_piece}
 use Rattle.xxhsum_program.proofs.WatchedFacts.{Inner, InnerFails, OpensInner, each-other, inner-fails, inner-pieces, inner-value}
@@ -23,6 +23,7 @@ inner-found s f watched opens refuses gives fails files kind value name Differen
 inner-found s f watched opens refuses gives fails files kind value name (Unread refusal) same is = is
 
 inner-finding : {A S V F : Type 0} (s : A → S) (f : V → F) (watched : A → List ℕ → V → Type 0) (opens : S → List ℕ → F → Type 0) (refuses : S → List ℕ → Refusal → Type 0) (gives : Step F) (fails : Failing F) (files : A) (is_little : Bool) (line : List ℕ) (finding : Finding) → OpensInner s f watched opens → IsFinding watched (λ a. refuses (s a)) (Inner f gives) (InnerFails f fails) files is_little line finding → IsFinding opens refuses gives fails (s files) is_little line finding
+inner-finding s f watched opens refuses gives fails files is_little line Ignored same is = is
 inner-finding s f watched opens refuses gives fails files is_little line Improper same is = is
 inner-finding s f watched opens refuses gives fails files is_little line (Proper found) same (kind, value, name, says, is) =
     (kind, value, name, says, inner-found s f watched opens refuses gives fails files kind value name found same is)

@@ -7,6 +7,7 @@ pub mod Lines
 pub mod LinesView
 pub mod ListLines
 pub mod Outcomes
+pub mod PrintedList
 pub mod Progress
 pub mod Report
 pub mod Told

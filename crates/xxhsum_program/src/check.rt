@@ -2,7 +2,7 @@
 
 ghost use Rattle.std.specs.Prelude.{◌≡◌, ◌⊎◌, ◌<◌, length, map, IfErr, IfOk, OnOk};
 ghost use Rattle.xxhsum_program.specs.CheckList.{AnswersFor, IsAnswer, IsReport, IsVerdict, StopsAtList, StopsEarly, StopsInList};
-ghost use Rattle.xxhsum_program.specs.Findings.{CountsLine, FailsOnLine, IsFinding, no_findings, with_broken_end};
+ghost use Rattle.xxhsum_program.specs.Findings.{CountsLine, FailsOnLine, Improper, IsFinding, count_one, no_findings, with_broken_end};
 ghost use Rattle.xxhsum_program.specs.Lines.{IsOfWriting};
 ghost use Rattle.xxhsum_program.specs.Report.{is_good};
 
@@ -15,7 +15,7 @@ use crate::tell::tell;
 use std::alloc::{AllocError, Global};
 use xxh_io::ends::{Sink, Source};
 use xxhsum_files::store::Store;
-use xxhsum_line::entry::entry_of;
+use xxhsum_line::entry::{Meaning, meaning_of};
 use xxhsum_words::options::Options;
 
 /// What was found in a list: how many of its lines are of each kind.
@@ -23,7 +23,7 @@ use xxhsum_words::options::Options;
 pub struct Report {
     /// Lines that name a value and a file.
     pub proper: u64,
-    /// Other lines.
+    /// Other lines that are no comments.
     pub improper: u64,
     /// Proper lines whose file could not be opened.
     pub unread: u64,
@@ -80,7 +80,7 @@ struct List<'a, S> {
 }
 
 impl<S: Store> List<'_, S> {
-    // Compares what the line says with its file, and counts it.
+    // Compares what the line says with its file, and counts it. A comment is counted as nothing.
     fn check_line<W: Sink, E: Sink>(
         &self,
         line: &[u8],
@@ -98,12 +98,10 @@ impl<S: Store> List<'_, S> {
             ⊎ FailsOnLine S.opens S.File.gives S.File.fails self.now.store.now
             self.now.options.is_little_endian line.now stop) }
     {
-        let Some(entry) = entry_of(line, self.options.is_little_endian) else {
-            report.improper = report.improper.saturating_add(1);
-            if self.options.warns {
-                self.tell_of_line(number, b"Improperly formatted checksum line", err)?;
-            }
-            return Ok(());
+        let entry = match meaning_of(self.alloc, line, self.options.is_little_endian)? {
+            Meaning::Entry(entry) => entry,
+            Meaning::Comment => return Ok(()),
+            Meaning::Malformed => return self.count_improper(number, report, err),
         };
         report.proper = report.proper.saturating_add(1);
         let found = compare(self.store, &entry, buf)?;
@@ -117,10 +115,27 @@ impl<S: Store> List<'_, S> {
             self.options,
             self.name,
             number,
-            entry.name,
+            &entry.name,
             &found,
             out,
         )
+    }
+
+    // Counts a line that is malformed, and tells it where that is asked for.
+    fn count_improper<E: Sink>(
+        &self,
+        number: u64,
+        report: &mut Report,
+        err: &mut E,
+    ) -> Result<(), Stop>
+        ensures counts { OnOk result (report.new ≡ count_one report.old Improper) }
+        ensures stops { IfErr result IsOfWriting }
+    {
+        report.improper = report.improper.saturating_add(1);
+        if self.options.warns {
+            self.tell_of_line(number, b"Improperly formatted checksum line", err)?;
+        }
+        Ok(())
     }
 
     // Checks the lines of a source, up to its end or the first that is too long, or as many as a number can count.

@@ -28,15 +28,15 @@ pub(crate) enum Found {
 }
 
 // Hashes the file that the line names, with reads that are offered the whole buffer.
-pub(crate) fn compare<S: Store>(store: &S, entry: &Entry<'_>, buf: &mut [u8]) -> Result<Found, Stop>
+pub(crate) fn compare<S: Store>(store: &S, entry: &Entry, buf: &mut [u8]) -> Result<Found, Stop>
     requires { 0 < length buf.old }
     ensures found { IfOk result
         (IsFound S.opens S.refuses S.File.gives S.File.fails store.now entry.now.kind entry.now.value
-        entry.now.name.now) }
+        entry.now.name.items) }
     ensures fails { IfErr result
-        (FailsOn S.opens S.File.gives S.File.fails store.now entry.now.name.now) }
+        (FailsOn S.opens S.File.gives S.File.fails store.now entry.now.name.items) }
 {
-    match store.open(entry.name) {
+    match store.open(&entry.name) {
         Ok(file) => {
             let mut file = file;
             let value = value_of_source(entry.kind, 0, MAX_READS, &mut file, buf)?;

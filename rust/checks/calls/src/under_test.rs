@@ -39,8 +39,16 @@ macro_rules! under_test {
                 hasher
             }
 
+            // A piece of eight bytes as a word, as a map hands over its key.
+            fn write_piece<H: std::hash::Hasher>(hasher: &mut H, piece: &[u8]) {
+                match piece.try_into() {
+                    Ok(bytes) => hasher.write_u64(u64::from_ne_bytes(bytes)),
+                    Err(_) => hasher.write(piece),
+                }
+            }
+
             fn streamed_64<H: Clone + std::hash::Hasher>(hasher: H, case: &Case<'_>) -> Outcome {
-                value(streamed(hasher, case, |hasher, piece| hasher.write(piece)).finish())
+                value(streamed(hasher, case, write_piece).finish())
             }
 
             fn streamed_128(hasher: XxHash3_128, case: &Case<'_>) -> Outcome {
@@ -64,9 +72,7 @@ macro_rules! under_test {
 
             fn plain(case: &Case<'_>) -> Vec<(&'static str, Outcome)> {
                 let &Case { seed, input, .. } = case;
-                let stream = streamed(XxHash32::with_seed(seed as u32), case, |hasher, piece| {
-                    hasher.write(piece)
-                });
+                let stream = streamed(XxHash32::with_seed(seed as u32), case, write_piece);
                 vec![
                     ("XXH32", value(XxHash32::oneshot(seed as u32, input))),
                     ("XXH32 in pieces", value(stream.finish_32())),

@@ -1,0 +1,23 @@
+/* twox_rust_3_xxh32_of_word. Generated of what is proved: not to be changed by hand. Licence: MIT. */
+	mov %edi,%eax
+	shr $0x20,%rdi
+	imul $0xc2b2ae3d,%eax,%eax
+	add %esi,%eax
+	add $0x165667b9,%eax
+	rol $0x11,%eax
+	imul $0x27d4eb2f,%eax,%eax
+	imul $0xc2b2ae3d,%edi,%ecx
+	add %eax,%ecx
+	rol $0x11,%ecx
+	imul $0x27d4eb2f,%ecx,%eax
+	mov %eax,%ecx
+	shr $0xf,%ecx
+	xor %eax,%ecx
+	imul $0x85ebca77,%ecx,%eax
+	mov %eax,%ecx
+	shr $0xd,%ecx
+	xor %eax,%ecx
+	imul $0xc2b2ae3d,%ecx,%ecx
+	mov %ecx,%eax
+	shr $0x10,%eax
+	xor %ecx,%eax

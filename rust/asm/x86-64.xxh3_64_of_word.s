@@ -1,0 +1,25 @@
+/* twox_rust_3_xxh3_64_of_word. Generated of what is proved: not to be changed by hand. Licence: MIT. */
+	mov %esi,%eax
+	bswap %eax
+	shl $0x20,%rax
+	xor %rsi,%rax
+	rol $0x20,%rdi
+	movabs $0xc73ab174c5ecd5a2,%rcx
+	sub %rax,%rcx
+	xor %rdi,%rcx
+	mov %rcx,%rax
+	rol $0x31,%rax
+	mov %rcx,%rdx
+	rol $0x18,%rdx
+	xor %rax,%rdx
+	xor %rcx,%rdx
+	movabs $0x9fb21c651e98df25,%rax
+	imul %rax,%rdx
+	mov %rdx,%rcx
+	shr $0x23,%rcx
+	add $0x8,%rcx
+	xor %rdx,%rcx
+	imul %rax,%rcx
+	mov %rcx,%rax
+	shr $0x1c,%rax
+	xor %rcx,%rax

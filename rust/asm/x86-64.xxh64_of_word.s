@@ -1,0 +1,25 @@
+/* twox_rust_3_xxh64_of_word. Generated of what is proved: not to be changed by hand. Licence: MIT. */
+	movabs $0x27d4eb2f165667cd,%rax
+	add %rsi,%rax
+	movabs $0xc2b2ae3d27d4eb4f,%rcx
+	imul %rcx,%rdi
+	rol $0x1f,%rdi
+	movabs $0x9e3779b185ebca87,%rdx
+	imul %rdx,%rdi
+	xor %rdi,%rax
+	rol $0x1b,%rax
+	imul %rdx,%rax
+	movabs $0x85ebca77c2b2ae63,%rdx
+	add %rax,%rdx
+	mov %rdx,%rax
+	shr $0x21,%rax
+	xor %rdx,%rax
+	imul %rcx,%rax
+	mov %rax,%rcx
+	shr $0x1d,%rcx
+	xor %rax,%rcx
+	movabs $0x165667b19e3779f9,%rdx
+	imul %rcx,%rdx
+	mov %rdx,%rax
+	shr $0x20,%rax
+	xor %rdx,%rax
