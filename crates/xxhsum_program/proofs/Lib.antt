@@ -1,9 +1,12 @@
 mod CheckFacts
 mod EachFacts
 mod HashFacts
+mod JoinedFacts
 mod LineFacts
 mod OutcomeFacts
 mod ProgressFacts
+mod SaidFacts
+mod StopFacts
 mod ToldFacts
 mod WatchedFacts
 mod WatchedListFacts

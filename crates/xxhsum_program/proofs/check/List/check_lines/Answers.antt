@@ -1,10 +1,18 @@
-use Rattle.std.proofs.Common.{◌≡◌, ◌-◌, ◌^◌, ◌∷◌, ◌++◌, [], length, refl, sym, ap, ◌∙◌, inl, inr, arith}
+use Rattle.std.proofs.Common.{◌≡◌, ◌+◌, ◌-◌, ◌^◌, ◌∷◌, ◌++◌, [], length, Some, Err, refl, sym, ap, subst, ◌∙◌, append-nil, arith, rules}
 use Rattle.std.proofs.lemmas.List.{length_push}
-use Rattle.xxhsum_program.specs.CheckList.{StopsEarly}
-use Rattle.xxhsum_program.specs.Findings.{FailsOnLine, IsFinding, count_one, no_findings, with_broken_end}
+use Rattle.xxh_io.proofs.WriteFacts.{Took-join}
+use Rattle.xxh_io.specs.Digest.{Took}
+use Rattle.xxhsum_program.specs.Findings.{IsFinding, count_one, no_findings, with_broken_end}
 use Rattle.xxhsum_program.specs.LinesView.{line_of}
-use Rattle.xxhsum_program.proofs.CheckFacts.{add_up-push, breaks-failed, breaks-too-long, ends-well, passes-on, some-read, stands-line, stands-new, stops-early}
+use Rattle.xxhsum_program.specs.ListEnd.{Whole, TooMany, LongLine, FailedRead}
+use Rattle.xxhsum_program.specs.Said.{numbered, printed_finding, told_finding}
+use Rattle.xxhsum_program.specs.Told.{TellsOn}
+use Rattle.xxhsum_program.proofs.CheckFacts.{add_up-push, breaks-failed, breaks-too-long, ends-well, some-read, stands-line, stands-new}
 use Rattle.xxhsum_program.proofs.EachFacts.{EachHas-push}
+use Rattle.xxhsum_program.proofs.HashFacts.{is-err}
+use Rattle.xxhsum_program.proofs.SaidFacts.{numbered-push}
+use Rattle.xxhsum_program.proofs.StopFacts.{LinesChecked, lines-stop, tells-as}
+use Rattle.xxhsum_program.proofs.ToldFacts.{tells-more, tells-nothing}
 use Rattle.xxhsum_program.proofs.check.List.check_lines.Goals as goal
 
 pub loop-number-init : goal.loop-number-init
@@ -13,53 +21,68 @@ loop-number-init g c = record {
   findings = [];
   each = tt;
   report = c.new-report.ensures;
+  lines = refl;
   count = refl;
   stands = stands-new g.R.Source.gives c.args.source c.new-lines.result c.new-lines.ensures;
+  prints = ([], refl, refl);
+  tells = tells-nothing g.E.Sink.takes g.E.Sink.refuses g.E.Sink.has_failed c.args.err.now;
+  works = c.requires;
 }
 
 pub loop-number-preserved : goal.loop-number-preserved
 loop-number-preserved g c =
     let so_far = c.loop-number.invariant in
     let state = c.next.new.self in
-    let counted = c.in_ok-check_line-in-Line.ensures.counts in
-    let found = rw c.line.ensures at counted.1 in
+    let checked = c.in_ok-check_line-in-Line.ensures.checks in
+    let finding = checked.0 in
+    let options = c.args.self.now.options in
+    let list = c.args.self.now.name.now in
+    let number = c.loop-number.number in
     record {
       read = so_far.read ++ line_of state ∷ [];
-      findings = so_far.findings ++ counted.0 ∷ [];
-      each = EachHas-push _ so_far.read so_far.findings (line_of state) counted.0 so_far.each found;
-      report = counted.2 ∙ ap (λ r. count_one r counted.0) so_far.report ∙ sym (add_up-push no_findings so_far.findings counted.0);
-      count = omega (arith, length_push so_far.read (line_of state), so_far.count);
+      findings = so_far.findings ++ finding ∷ [];
+      each = EachHas-push _ so_far.read so_far.findings (line_of state) finding so_far.each (rw c.line.ensures at checked.1);
+      report = checked.2 ∙ ap (λ r. count_one r finding) so_far.report ∙ sym (add_up-push no_findings so_far.findings finding);
+      lines = omega (arith, length_push so_far.read (line_of state), so_far.lines);
+      count = omega (arith, length_push so_far.findings finding, so_far.count);
       stands = stands-line g.R.Source.gives g.R.Source.fails g.R.Source.has_failed c.args.source c.loop-number.lines state so_far.read so_far.stands c.in-Line.ensures.next c.in-Line.ensures.ended;
+      prints = rw (numbered-push (printed_finding options list) 1 so_far.findings finding number so_far.count) (Took-join g.W.Sink.takes _ _ _ _ _ so_far.prints checked.3);
+      tells = rw (numbered-push (told_finding options list) 1 so_far.findings finding number so_far.count) (tells-more g.E.Sink.takes g.E.Sink.refuses g.E.Sink.has_failed _ _ _ _ _ so_far.tells checked.4);
+      works = c.in_ok-check_line-in-Line.ensures.works;
     }
 
-pub returns-in-End-clause-report : goal.returns-in-End-clause-report
-returns-in-End-clause-report g c =
+pub returns-in-End-clause-checks : goal.returns-in-End-clause-checks
+returns-in-End-clause-checks g c =
     let so_far = c.loop-number.invariant in
-    (so_far.read, so_far.findings, so_far.each, inl (ends-well g.R.Source.gives g.R.Source.fails g.R.Source.has_failed c.args.source c.loop-number.lines c.next.new.self so_far.read so_far.stands c.in-End.ensures.next, so_far.report))
+    let said = numbered (told_finding c.args.self.now.options c.args.self.now.name.now) 1 so_far.findings in (
+      so_far.findings,
+      Some Whole,
+      (so_far.read, so_far.each, ends-well g.R.Source.gives g.R.Source.fails g.R.Source.has_failed c.args.source c.loop-number.lines c.next.new.self so_far.read so_far.stands c.in-End.ensures.next),
+      so_far.report,
+      so_far.prints,
+      tells-as g.E.Sink.takes g.E.Sink.refuses g.E.Sink.has_failed said (said ++ []) _ _ (append-nil said) so_far.tells,
+    )
 
-pub returns-in-Failed-clause-report : goal.returns-in-Failed-clause-report
-returns-in-Failed-clause-report g c =
+pub returns-clause-checks : goal.returns-clause-checks
+returns-clause-checks g c =
     let so_far = c.loop-number.invariant in
-    (so_far.read, so_far.findings, so_far.each, inr (inr (breaks-failed g.R.Source.gives g.R.Source.fails g.R.Source.has_failed c.args.source c.loop-number.lines c.next.new.self so_far.read so_far.stands c.in-Failed.ensures.next c.in-Failed.ensures.ended, c.with_broken_end.ensures ∙ ap with_broken_end so_far.report)))
+    let said = numbered (told_finding c.args.self.now.options c.args.self.now.name.now) 1 so_far.findings in
+    let most : length so_far.read ≡ 2 ^ 64 - 2 = omega (arith, so_far.lines) in (
+      so_far.findings,
+      Some TooMany,
+      (so_far.read, so_far.each, (some-read g.R.Source.gives c.args.source c.loop-number.lines so_far.read so_far.stands, most)),
+      so_far.report,
+      so_far.prints,
+      tells-as g.E.Sink.takes g.E.Sink.refuses g.E.Sink.has_failed said (said ++ []) _ _ (append-nil said) so_far.tells,
+    )
 
-pub returns-in-TooLong-clause-report : goal.returns-in-TooLong-clause-report
-returns-in-TooLong-clause-report g c =
-    let so_far = c.loop-number.invariant in
-    (so_far.read, so_far.findings, so_far.each, inr (inr (breaks-too-long g.R.Source.gives g.R.Source.fails g.R.Source.has_failed c.args.source c.loop-number.lines c.next.new.self so_far.read so_far.stands c.in-TooLong.ensures.next c.in-TooLong.ensures.ended, c.with_broken_end-in-TooLong.ensures ∙ ap with_broken_end so_far.report)))
-
-pub returns-clause-report : goal.returns-clause-report
-returns-clause-report g c =
-    let so_far = c.loop-number.invariant in
-    let most : length so_far.read ≡ 2 ^ 64 - 2 = omega (arith, so_far.count) in
-    (so_far.read, so_far.findings, so_far.each, inr (inl (some-read g.R.Source.gives c.args.source c.loop-number.lines so_far.read so_far.stands, most, so_far.report)))
-
-pub returns-in_err-check_line-in-Line-clause-stops : goal.returns-in_err-check_line-in-Line-clause-stops
-returns-in_err-check_line-in-Line-clause-stops g c =
+pub returns-in_err-check_line-in-Line-clause-checks : goal.returns-in_err-check_line-in-Line-clause-checks
+returns-in_err-check_line-in-Line-clause-checks g c =
     let so_far = c.loop-number.invariant in
     let state = c.next.new.self in
     let stop = c.in_err-check_line-in-Line.field-0.0 in
-    let why = rw c.line.ensures at c.in_err-check_line-in-Line.ensures.stops in
+    let checked = c.in_err-check_line-in-Line.ensures.checks in
     let after = stands-line g.R.Source.gives g.R.Source.fails g.R.Source.has_failed c.args.source c.loop-number.lines state so_far.read so_far.stands c.in-Line.ensures.next c.in-Line.ensures.ended in
     let is_finding = IsFinding g.S.Store.opens g.S.Store.refuses g.S.File.Source.gives g.S.File.Source.fails c.args.self.now.store.now c.args.self.now.options.is_little_endian in
-    let fails_on = FailsOnLine g.S.Store.opens g.S.File.Source.gives g.S.File.Source.fails c.args.self.now.store.now c.args.self.now.options.is_little_endian in
-    passes-on (StopsEarly is_finding fails_on g.R.Source.gives c.args.source) c.from_residual-in_err-check_line-in-Line.result stop c.from_residual-in_err-check_line-in-Line.ensures.1 (stops-early is_finding fails_on g.R.Source.gives c.args.source c.loop-number.lines state so_far.read so_far.findings (line_of state) stop so_far.each so_far.stands after why)
+    rw (is-err c.from_residual-in_err-check_line-in-Line.result stop c.from_residual-in_err-check_line-in-Line.ensures.1)
+    (lines-stop is_finding g.R.Source.gives g.R.Source.fails g.R.Source.has_failed g.W.Sink.takes g.W.Sink.refuses g.E.Sink.takes g.E.Sink.refuses g.E.Sink.has_failed c.args.self.now.options c.args.self.now.name.now c.args.source c.args.out.now c.loop-number.out _ c.args.err.now c.loop-number.err _ c.loop-number.lines state so_far.read so_far.findings (line_of state) checked.0 c.loop-number.number stop so_far.each so_far.stands after (rw c.line.ensures at checked.1) so_far.count so_far.prints so_far.tells checked.3 checked.4 c.in_err-check_line-in-Line.ensures.silent)

@@ -1,0 +1,50 @@
+-- What the arguments ask the program to do.
+use Rattle.std.specs.Prelude.{◌≡◌, ◌⊎◌, ℕ, Bool, true, false, ◌&&◌, not, List, [], ◌∷◌, codes, drop, length, nat_eq, if◌then◌else◌}
+use Rattle.std.specs.List.{concat}
+use Rattle.xxhsum_program.specs.declared.process.Terminals.{Terminals}
+use Rattle.xxhsum_program.specs.declared.TheConstants.{ABOUT, NO_BENCHMARK, OPTIONS, TITLE}
+use Rattle.xxhsum_program.specs.Arguments.{IsLastPart}
+use Rattle.xxhsum_words.specs.Name.{kind_of_program}
+use Rattle.xxhsum_words.specs.Options.{asked_of}
+use Rattle.xxhsum_words.specs.declared.options.Asked.{Asked}
+use Rattle.xxhsum_words.specs.declared.options.Asked.TheVariants.{Run, Benchmark, Version, Help, BadUsage, NumberTooLarge}
+use Rattle.xxhsum_words.specs.declared.options.Options.{Options}
+
+-- a text is told, and the answer is this; or files are digested, or lists checked, and their reads are shown or not
+pub data Task : Type 0 where
+  Tells : List ℕ → Bool → Task
+  Reads : Options → List (List ℕ) → Bool → Task
+
+-- the name by which the program was called
+abbrev pub IsProgram : List (List ℕ) → List ℕ → Type 0
+IsProgram [] program = program ≡ codes "xxhsum"
+IsProgram (path ∷ words) program = IsLastPart path program
+
+-- how the program is used, behind these words
+abbrev pub usage_text : List ℕ → List ℕ → List ℕ
+usage_text before program =
+    concat (before ∷ program ∷ TITLE.now ∷ ABOUT.now ∷ program ∷ OPTIONS.now ∷ [])
+
+-- progress is shown where standard error is a terminal, and there with neither `-q` nor `--status`
+abbrev pub shows_progress : Terminals → Options → Bool
+shows_progress terminals options = terminals.errors && not options.is_quiet && not options.is_status_only
+
+-- with no name the input is read, which is no terminal unless that is asked for
+abbrev pub waits_for_terminal : Terminals → Options → List (List ℕ) → Bool
+waits_for_terminal terminals options names =
+    nat_eq (length names) 0 && not options.takes_terminal && terminals.input
+
+abbrev pub task_asked : Terminals → List ℕ → List (List ℕ) → Asked → Task
+task_asked terminals program words (Run options from) =
+    if waits_for_terminal terminals options (drop from words)
+    then Tells (usage_text (codes "Wrong parameters\n\n") program) false
+    else Reads options (drop from words) (shows_progress terminals options)
+task_asked terminals program words Version = Tells (concat (program ∷ TITLE.now ∷ [])) true
+task_asked terminals program words Help = Tells (usage_text [] program) true
+task_asked terminals program words Benchmark = Tells (concat (program ∷ NO_BENCHMARK.now ∷ [])) false
+task_asked terminals program words BadUsage = Tells (usage_text (codes "Wrong parameters\n\n") program) false
+task_asked terminals program words NumberTooLarge = Tells (codes "Error: numeric value too large \n") false
+
+-- the task of the words behind the program's name
+abbrev pub task_of : Terminals → List ℕ → List (List ℕ) → Task
+task_of terminals program words = task_asked terminals program words (asked_of (kind_of_program program) words)
