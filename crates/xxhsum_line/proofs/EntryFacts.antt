@@ -1,69 +1,108 @@
 -- What a line says is one thing.
-use Rattle.std.proofs.Common.{◌≡◌, ℕ, List, length, inl, inr, sym, ap, ◌∙◌, Bool, Some, None}
+use Rattle.std.proofs.Common.{◌≡◌, ◌⊎◌, ℕ, List, length, inl, inr, sym, ap, subst, ◌∙◌, Bool, true, false, Some, None}
+use Rattle.std.proofs.lemmas.Bool.{both_ways}
 use Rattle.std.proofs.lemmas.Option.{none-some, same_Some}
 use Rattle.xxh_io.specs.declared.kind.Kind.{Kind}
 use Rattle.xxhsum_line.proofs.PartFacts.{not_both, plain_same, tagged_same}
-use Rattle.xxhsum_line.specs.Digits.{value_shown}
-use Rattle.xxhsum_line.specs.Entry.{TextSays}
-use Rattle.xxhsum_line.specs.Parts.{IsPlain, IsTagged, HasNoParts}
-use Rattle.xxhsum_line.specs.Tags.{kind_of_count, kind_of_tag, is_little_tag}
+use Rattle.xxhsum_line.specs.Entry.{Says, SaysNothing, TextSays, TextSaysNothing, is_comment, value_meant}
+use Rattle.xxhsum_line.specs.Escapes.{body_of, is_escaped, name_meant}
+use Rattle.xxhsum_line.specs.Meaning.{Means}
+use Rattle.xxhsum_line.specs.declared.entry.Meaning.{Meaning}
+use Rattle.xxhsum_line.specs.declared.entry.Meaning.TheVariants.{Comment, Malformed}
+use Rattle.xxhsum_line.specs.Parts.{HasNoParts, IsPlain, IsTagged, up_to_nul}
+use Rattle.xxhsum_line.specs.Tags.{kind_of_digits, kind_of_tag, is_little_tag}
 
 -- a text without parts says nothing
 pub nothing_without_parts : (is_little : Bool) (text : List ℕ) → HasNoParts text
-    → (kind : Kind) (value : ℕ) (name : List ℕ) → TextSays is_little text kind value name → ⊥
+    → TextSaysNothing is_little text
 nothing_without_parts is_little text none kind value name (inl p) = none.0 p.0 name p.1
 nothing_without_parts is_little text none kind value name (inr p) = none.1 p.0 name p.1 p.2
 
 -- no kind has that many digits
-pub nothing_of_count : (is_little : Bool) (text digits name : List ℕ) → IsPlain text digits name → kind_of_count (length digits) ≡ None
-    → (kind : Kind) (value : ℕ) (name' : List ℕ) → TextSays is_little text kind value name' → ⊥
+pub nothing_of_count : (is_little : Bool) (text digits name : List ℕ) → IsPlain text digits name → kind_of_digits digits ≡ None
+    → TextSaysNothing is_little text
 nothing_of_count is_little text digits name here none kind value name' (inl p) =
     let same = plain_same text digits name p.0 name' here p.1 in
-    none-some kind (sym none ∙ ap (λ d. kind_of_count (length d)) same.0 ∙ p.2)
+    none-some kind (sym none ∙ ap kind_of_digits same.0 ∙ p.2)
 nothing_of_count is_little text digits name here none kind value name' (inr p) =
     not_both text digits name p.0 name' p.1 here p.2
 
 -- the digits of a plain line show no value
 pub nothing_of_plain : (is_little : Bool) (text digits name : List ℕ) (kind : Kind) → IsPlain text digits name
-    → kind_of_count (length digits) ≡ Some kind → value_shown kind is_little digits ≡ None
-    → (kind' : Kind) (value : ℕ) (name' : List ℕ) → TextSays is_little text kind' value name' → ⊥
+    → kind_of_digits digits ≡ Some kind → value_meant kind is_little digits ≡ None
+    → TextSaysNothing is_little text
 nothing_of_plain is_little text digits name kind here is_kind none kind' value name' (inl p) =
     let same = plain_same text digits name p.0 name' here p.1 in
-    let kinds : kind ≡ kind' = same_Some kind kind' (sym is_kind ∙ ap (λ d. kind_of_count (length d)) same.0 ∙ p.2) in
-    none-some value (sym none ∙ ap (λ k. value_shown k is_little digits) kinds ∙ ap (value_shown kind' is_little) same.0 ∙ p.3)
+    let kinds : kind ≡ kind' = same_Some kind kind' (sym is_kind ∙ ap kind_of_digits same.0 ∙ p.2) in
+    none-some value (sym none ∙ ap (λ k. value_meant k is_little digits) kinds ∙ ap (value_meant kind' is_little) same.0 ∙ p.3)
 nothing_of_plain is_little text digits name kind here is_kind none kind' value name' (inr p) =
     not_both text digits name p.0 name' p.1 here p.2
 
 -- the digits of a tagged line show no value
 pub nothing_of_tagged : (is_little : Bool) (text tag name digits : List ℕ) → IsTagged text tag name digits
-    → value_shown (kind_of_tag tag) (is_little_tag tag) digits ≡ None
-    → (kind : Kind) (value : ℕ) (name' : List ℕ) → TextSays is_little text kind value name' → ⊥
+    → value_meant (kind_of_tag tag) (is_little_tag tag) digits ≡ None
+    → TextSaysNothing is_little text
 nothing_of_tagged is_little text tag name digits here none kind value name' (inl p) =
     not_both text p.0 name' tag name digits p.1 here
 nothing_of_tagged is_little text tag name digits here none kind value name' (inr p) =
     let same = tagged_same text tag name digits p.0 name' p.1 here p.2 in
     let kinds : kind_of_tag tag ≡ kind = ap kind_of_tag same.0 ∙ p.3 in
-    none-some value (sym none ∙ ap (λ k. value_shown k (is_little_tag tag) digits) kinds
-    ∙ ap (λ t. value_shown kind (is_little_tag t) digits) same.0 ∙ ap (value_shown kind (is_little_tag p.0)) same.2 ∙ p.4)
+    none-some value (sym none ∙ ap (λ k. value_meant k (is_little_tag tag) digits) kinds
+    ∙ ap (λ t. value_meant kind (is_little_tag t) digits) same.0 ∙ ap (value_meant kind (is_little_tag p.0)) same.2 ∙ p.4)
 
 -- two entries of one text are the same
-pub says_same : (is_little : Bool) (text : List ℕ) (kind : Kind) (value : ℕ) (name : List ℕ) (kind' : Kind) (value' : ℕ) (name' : List ℕ)
+text_says_same : (is_little : Bool) (text : List ℕ) (kind : Kind) (value : ℕ) (name : List ℕ) (kind' : Kind) (value' : ℕ) (name' : List ℕ)
     → TextSays is_little text kind value name → TextSays is_little text kind' value' name'
     → (kind ≡ kind') × (value ≡ value') × (name ≡ name')
-says_same is_little text kind value name kind' value' name' (inl p) (inl q) =
+text_says_same is_little text kind value name kind' value' name' (inl p) (inl q) =
     let same = plain_same text p.0 name q.0 name' p.1 q.1 in
-    let kinds : kind ≡ kind' = same_Some kind kind' (sym p.2 ∙ ap (λ d. kind_of_count (length d)) same.0 ∙ q.2) in (
+    let kinds : kind ≡ kind' = same_Some kind kind' (sym p.2 ∙ ap kind_of_digits same.0 ∙ q.2) in (
       kinds,
-      same_Some value value' (sym p.3 ∙ ap (λ k. value_shown k is_little p.0) kinds ∙ ap (value_shown kind' is_little) same.0 ∙ q.3),
+      same_Some value value' (sym p.3 ∙ ap (λ k. value_meant k is_little p.0) kinds ∙ ap (value_meant kind' is_little) same.0 ∙ q.3),
       same.1,
     )
-says_same is_little text kind value name kind' value' name' (inl p) (inr q) = absurd (not_both text p.0 name q.0 name' q.1 p.1 q.2)
-says_same is_little text kind value name kind' value' name' (inr p) (inl q) = absurd (not_both text q.0 name' p.0 name p.1 q.1 p.2)
-says_same is_little text kind value name kind' value' name' (inr p) (inr q) =
+text_says_same is_little text kind value name kind' value' name' (inl p) (inr q) = absurd (not_both text p.0 name q.0 name' q.1 p.1 q.2)
+text_says_same is_little text kind value name kind' value' name' (inr p) (inl q) = absurd (not_both text q.0 name' p.0 name p.1 q.1 p.2)
+text_says_same is_little text kind value name kind' value' name' (inr p) (inr q) =
     let same = tagged_same text p.0 name p.1 q.0 name' q.1 p.2 q.2 in
     let kinds : kind ≡ kind' = sym p.3 ∙ ap kind_of_tag same.0 ∙ q.3 in (
       kinds,
-      same_Some value value' (sym p.4 ∙ ap (λ k. value_shown k (is_little_tag p.0) p.1) kinds
-          ∙ ap (λ t. value_shown kind' (is_little_tag t) p.1) same.0 ∙ ap (value_shown kind' (is_little_tag q.0)) same.2 ∙ q.4),
+      same_Some value value' (sym p.4 ∙ ap (λ k. value_meant k (is_little_tag p.0) p.1) kinds
+          ∙ ap (λ t. value_meant kind' (is_little_tag t) p.1) same.0 ∙ ap (value_meant kind' (is_little_tag q.0)) same.2 ∙ q.4),
       same.1,
     )
+
+-- two entries of one line are the same
+pub says_same : (is_little : Bool) (line : List ℕ) (kind : Kind) (value : ℕ) (name : List ℕ) (kind' : Kind) (value' : ℕ) (name' : List ℕ)
+    → Says is_little line kind value name → Says is_little line kind' value' name'
+    → (kind ≡ kind') × (value ≡ value') × (name ≡ name')
+says_same is_little line kind value name kind' value' name' p q =
+    let text = up_to_nul line in
+    let same = text_says_same is_little (body_of text) kind value p.1 kind' value' q.1 p.2 q.2 in
+    (same.0, same.1, same_Some name name' (sym p.3 ∙ ap (name_meant (is_escaped text)) same.2 ∙ q.3))
+
+-- ---- what is malformed
+
+pub nothing_shown : (is_little : Bool) (line : List ℕ) → is_comment line ≡ false → TextSaysNothing is_little (body_of (up_to_nul line))
+    → SaysNothing is_little line
+nothing_shown is_little line no_comment none = (no_comment, λ kind value name p. none kind value p.1 p.2)
+
+pub nothing_meant : (is_little : Bool) (line : List ℕ) (kind : Kind) (value : ℕ) (shown : List ℕ) → is_comment line ≡ false
+    → TextSays is_little (body_of (up_to_nul line)) kind value shown → name_meant (is_escaped (up_to_nul line)) shown ≡ None
+    → SaysNothing is_little line
+nothing_meant is_little line kind value shown no_comment says none = (
+  no_comment,
+  λ kind' value' name p.
+      let text = up_to_nul line in
+      let same = text_says_same is_little (body_of text) kind value shown kind' value' p.1 says p.2 in
+      none-some name (sym none ∙ ap (name_meant (is_escaped text)) same.2 ∙ p.3),
+)
+
+-- ---- a line that says something is no other
+
+pub not_other : (is_little : Bool) (line : List ℕ) (kind : Kind) (value : ℕ) (name : List ℕ) (meaning : Meaning)
+    → (meaning ≡ Comment) ⊎ (meaning ≡ Malformed) → Means is_little line meaning → Says is_little line kind value name → ⊥
+not_other is_little line kind value name meaning (inl e) means says =
+    both_ways (is_comment line) says.0 (subst (Means is_little line) e means)
+not_other is_little line kind value name meaning (inr e) means says =
+    (subst (Means is_little line) e means).1 kind value name says

@@ -1,6 +1,7 @@
 pub mod NumberFacts
 pub mod TurnFacts
 pub mod LackFacts
+pub mod EscapeFacts
 pub mod PartFacts
 pub mod EntryFacts
 pub mod ShownFacts

@@ -1,18 +1,20 @@
 -- Printed lines are accepted.
-use Rattle.std.proofs.Common.{◌≡◌, ◌≢◌, ℕ, ◌<◌, ◌^◌, Bool, true, false, List, [], ◌∷◌, ◌++◌, length, Some, inl, inr, refl, sym, ap, subst, ◌∙◌, arith, ◌≤◌, nat_lt, ◌&&◌, if◌then◌else◌}
-use Rattle.std.proofs.lemmas.Bool.{and_parts}
+use Rattle.std.proofs.Common.{◌≡◌, ◌≢◌, ℕ, ◌<◌, ◌^◌, Bool, true, false, List, [], ◌∷◌, ◌++◌, length, Some, inl, inr, refl, sym, ap, subst, ◌∙◌, arith, ◌≤◌, nat_eq, nat_lt, drop, ◌&&◌, if◌then◌else◌}
+use Rattle.std.proofs.lemmas.Bool.{and_parts, cases_Bool, cond-false, cond-true, ne_eqb}
 use Rattle.std.proofs.lemmas.List.{same_from_push}
 use Rattle.std.proofs.lemmas.Bool.Decides.{nat_tests}
 use Rattle.xxh_io.specs.Kind.{digits_of}
 use Rattle.xxh_io.specs.declared.kind.Kind.{Kind}
 use Rattle.xxh_io.specs.declared.kind.Kind.TheVariants.{X32, X64, X3_64, X3_128}
 use Rattle.xxhsum_line.specs.Digits.{value_shown}
-use Rattle.xxhsum_line.specs.Entry.{Says, TextSays}
-use Rattle.xxhsum_line.specs.Laws.{PrintedIsAccepted, PrintedIsOneLine}
-use Rattle.xxhsum_line.specs.Parts.{Lacks}
-use Rattle.xxhsum_line.specs.Printed.{shown, plain_text, full_tag, tagged_text, text_of, line_of}
+use Rattle.xxhsum_line.specs.Entry.{Says, SaysPlain, TextSays, is_comment, value_meant}
+use Rattle.xxhsum_line.specs.Escapes.{body_of, escaped, is_escaped, mark_of, name_meant, needs_escape, unescaped}
+use Rattle.xxhsum_line.specs.Laws.{PrintedIsAccepted, PrintedIsNoComment, PrintedIsOneLine}
+use Rattle.xxhsum_line.specs.Parts.{Lacks, up_to_nul}
+use Rattle.xxhsum_line.specs.Printed.{formed, full_tag, line_of, plain_text, prefix_of, shown, tagged_text, text_of}
 use Rattle.xxhsum_line.specs.declared.printed.Shape.{Shape}
-use Rattle.xxhsum_line.specs.Tags.{kind_of_count, kind_of_tag, is_little_tag}
+use Rattle.xxhsum_line.specs.Tags.{bare, has_prefix, is_little_tag, kind_of_count, kind_of_digits, kind_of_tag}
+use Rattle.xxhsum_line.proofs.EscapeFacts.{escape_is_undone, escaped_lacks_line_feed, escaped_lacks_nul, plain_names_stay}
 use Rattle.xxhsum_line.proofs.LackFacts.{lacks_both, up_to_nul_whole}
 use Rattle.xxhsum_line.proofs.ShownFacts.{lacks_shown, length-shown, value_shown-shown}
 
@@ -63,13 +65,23 @@ tag_names_order X3_64 false = refl
 tag_names_order X3_128 true = refl
 tag_names_order X3_128 false = refl
 
--- a byte that is in neither tags nor digits, and is no part of what stands between them
+prefix_lacks : (b : ℕ) (kind : Kind) → b ≤ 32 → Lacks b (prefix_of kind)
+prefix_lacks b X32 low = tt
+prefix_lacks b X64 low = tt
+prefix_lacks b X3_64 low = lacks_up_to_space b (prefix_of X3_64) low refl
+prefix_lacks b X3_128 low = tt
+
+-- ---- a byte that is in neither tags nor digits, and is no part of what stands between them
+
 lacks_plain : (b : ℕ) (kind : Kind) (is_little : Bool) (value : ℕ) (name : List ℕ) → b < 32 → Lacks b name
     → Lacks b (plain_text kind is_little value name)
 lacks_plain b kind is_little value name low h =
+    let small : b ≤ 32 = omega arith in
     let digit : b < 48 = omega arith in
     let space : 32 ≢ b = λ e. omega arith in
-    lacks_both b (shown kind is_little value) (32 ∷ 32 ∷ name) (lacks_shown b kind is_little value digit) (space, (space, h))
+    let rest : Lacks b (shown kind is_little value ++ 32 ∷ 32 ∷ name) =
+    lacks_both b (shown kind is_little value) (32 ∷ 32 ∷ name) (lacks_shown b kind is_little value (inl digit)) (space, (space, h)) in
+    lacks_both b (prefix_of kind) (shown kind is_little value ++ 32 ∷ 32 ∷ name) (prefix_lacks b kind small) rest
 
 lacks_tagged : (b : ℕ) (kind : Kind) (is_little : Bool) (value : ℕ) (name : List ℕ) → b < 32 → Lacks b name
     → Lacks b (tagged_text kind is_little value name)
@@ -80,68 +92,202 @@ lacks_tagged b kind is_little value name low h =
     let opening : 40 ≢ b = λ e. omega arith in
     let closing : 41 ≢ b = λ e. omega arith in
     let equals : 61 ≢ b = λ e. omega arith in
-    let digits : Lacks b (shown kind is_little value) = lacks_shown b kind is_little value digit in
+    let digits : Lacks b (shown kind is_little value) = lacks_shown b kind is_little value (inl digit) in
     let end : Lacks b (name ++ 41 ∷ 32 ∷ 61 ∷ 32 ∷ shown kind is_little value) =
     lacks_both b name (41 ∷ 32 ∷ 61 ∷ 32 ∷ shown kind is_little value) h (closing, (space, (equals, (space, digits)))) in
     lacks_both b (full_tag kind is_little) (32 ∷ 40 ∷ (name ++ 41 ∷ 32 ∷ 61 ∷ 32 ∷ shown kind is_little value)) (tag_lacks b kind is_little small) (space, (opening, end))
 
-plain_says : (kind : Kind) (is_little : Bool) (value : ℕ) (name : List ℕ) → kind_of_count (digits_of kind) ≡ Some kind
-    → value < 16 ^ digits_of kind → Lacks 0 name → Says is_little (plain_text kind is_little value name) kind value name
-plain_says kind is_little value name is_plain fits h =
-    let text = plain_text kind is_little value name in
-    let low : 0 < 32 = omega arith in
-    let below : 32 < 48 = omega arith in
-    let mark : ◌≢◌ {A = ℕ} 32 40 = λ (e : ◌≡◌ {A = ℕ} 32 40). omega arith in
-    let counted : kind_of_count (length (shown kind is_little value)) ≡ Some kind = ap kind_of_count (length-shown kind is_little value) ∙ is_plain in
-    let says : TextSays is_little text kind value name =
-    inl (shown kind is_little value, (32, refl, lacks_shown 32 kind is_little value below, mark), counted, value_shown-shown kind is_little value fits) in
-    subst (λ t. TextSays is_little t kind value name) (sym (up_to_nul_whole text (lacks_plain 0 kind is_little value name low h))) says
+either_lacks : (b : ℕ) (kind : Kind) (is_little is_tagged : Bool) (value : ℕ) (name : List ℕ) → b < 32 → Lacks b name
+    → Lacks b (if is_tagged then tagged_text kind is_little value name else plain_text kind is_little value name)
+either_lacks b kind is_little true value name low h = lacks_tagged b kind is_little value name low h
+either_lacks b kind is_little false value name low h = lacks_plain b kind is_little value name low h
 
-tagged_says : (kind : Kind) (is_little : Bool) (value : ℕ) (name : List ℕ)
-    → value < 16 ^ digits_of kind → Lacks 0 name → Says is_little (tagged_text kind is_little value name) kind value name
-tagged_says kind is_little value name fits h =
-    let text = tagged_text kind is_little value name in
-    let tag = full_tag kind is_little in
-    let low : 0 < 32 = omega arith in
-    let below : 32 < 48 = omega arith in
-    let shows : value_shown kind (is_little_tag tag) (shown kind is_little value) ≡ Some value =
-    ap (λ b. value_shown kind b (shown kind is_little value)) (tag_names_order kind is_little) ∙ value_shown-shown kind is_little value fits in
-    let says : TextSays is_little text kind value name =
-    inr (
-      tag,
-      shown kind is_little value,
-      (refl, tag_lacks 32 kind is_little (omega arith), lacks_shown 32 kind is_little value below),
-      tag_names_kind kind is_little,
-      shows,
-    ) in
-    subst (λ t. TextSays is_little t kind value name) (sym (up_to_nul_whole text (lacks_tagged 0 kind is_little value name low h))) says
+lacks_formed : (b : ℕ) (kind : Kind) (shape : Shape) (value : ℕ) (name : List ℕ) → b < 32 → Lacks b name
+    → Lacks b (formed kind shape value name)
+lacks_formed b kind shape value name low h = either_lacks b kind shape.is_little shape.is_tagged value name low h
 
-either_says : (kind : Kind) (is_little is_tagged : Bool) (value : ℕ) (name : List ℕ) → kind_of_count (digits_of kind) ≡ Some kind
-    → value < 16 ^ digits_of kind → Lacks 0 name
-    → Says is_little (if is_tagged then tagged_text kind is_little value name else plain_text kind is_little value name) kind value name
-either_says kind is_little true value name is_plain fits h = tagged_says kind is_little value name fits h
-either_says kind is_little false value name is_plain fits h = plain_says kind is_little value name is_plain fits h
-
-pub printed_is_accepted : PrintedIsAccepted
-printed_is_accepted X32 shape value name fits h = either_says X32 shape.is_little shape.is_tagged value name refl fits h
-printed_is_accepted X64 shape value name fits h = either_says X64 shape.is_little shape.is_tagged value name refl fits h
-printed_is_accepted X3_64 shape value name fits h = tagged_says X3_64 shape.is_little value name fits h
-printed_is_accepted X3_128 shape value name fits h = either_says X3_128 shape.is_little shape.is_tagged value name refl fits h
-
-either_is_one_line : (kind : Kind) (is_little is_tagged : Bool) (value : ℕ) (name : List ℕ) → Lacks 10 name
-    → Lacks 10 (if is_tagged then tagged_text kind is_little value name else plain_text kind is_little value name)
-either_is_one_line kind is_little true value name h =
-    let low : 10 < 32 = omega arith in
-    lacks_tagged 10 kind is_little value name low h
-either_is_one_line kind is_little false value name h =
-    let low : 10 < 32 = omega arith in
-    lacks_plain 10 kind is_little value name low h
+marked_lacks : (b : ℕ) (is_marked : Bool) → b < 32 → Lacks b (if is_marked then 92 ∷ [] else [])
+marked_lacks b true low = let backslash : 92 ≢ b = λ e. omega arith in (backslash, tt)
+marked_lacks b false low = tt
 
 pub printed_is_one_line : PrintedIsOneLine
-printed_is_one_line X32 shape value name h = either_is_one_line X32 shape.is_little shape.is_tagged value name h
-printed_is_one_line X64 shape value name h = either_is_one_line X64 shape.is_little shape.is_tagged value name h
-printed_is_one_line X3_64 shape value name h = either_is_one_line X3_64 shape.is_little true value name h
-printed_is_one_line X3_128 shape value name h = either_is_one_line X3_128 shape.is_little shape.is_tagged value name h
+printed_is_one_line kind shape value name =
+    let low : 10 < 32 = omega arith in
+    lacks_both 10 (mark_of name) (formed kind shape value (escaped name)) (marked_lacks 10 (needs_escape name) low)
+    (lacks_formed 10 kind shape value (escaped name) low (escaped_lacks_line_feed name))
+
+-- ---- how a line begins
+
+-- neither a comment nor an escaped line
+abbrev IsOrdinary : List ℕ → Type 0
+IsOrdinary line = (is_comment line ≡ false) × (is_escaped line ≡ false)
+
+begins_ordinary : (l r : List ℕ) → 0 < length l → Lacks 35 l → Lacks 32 l → Lacks 9 l → Lacks 92 l → IsOrdinary (l ++ r)
+begins_ordinary [] r some hash space tab backslash = absurd (omega arith)
+begins_ordinary (c ∷ l) r some hash space tab backslash = (
+  ne_eqb c 35 hash.0,
+  rw (ne_eqb c 32 space.0, ne_eqb c 9 tab.0) (ne_eqb c 92 backslash.0),
+)
+
+digits_ordinary : (kind : Kind) (is_little : Bool) (value : ℕ) (r : List ℕ) → 0 < digits_of kind → IsOrdinary (shown kind is_little value ++ r)
+digits_ordinary kind is_little value r some =
+    let digits = shown kind is_little value in
+    let hash : 35 < 48 = omega arith in
+    let space : 32 < 48 = omega arith in
+    let tab : 9 < 48 = omega arith in
+    let over : 57 < 92 = omega arith in
+    let under : 92 < 97 = omega arith in
+    begins_ordinary digits r (subst (λ n. 0 < n) (sym (length-shown kind is_little value)) some) (lacks_shown 35 kind is_little value (inl hash))
+    (lacks_shown 32 kind is_little value (inl space)) (lacks_shown 9 kind is_little value (inl tab)) (lacks_shown 92 kind is_little value (inr (over, under)))
+
+plain_ordinary : (kind : Kind) (is_little : Bool) (value : ℕ) (name : List ℕ) → IsOrdinary (plain_text kind is_little value name)
+plain_ordinary X32 is_little value name = digits_ordinary X32 is_little value (32 ∷ 32 ∷ name) (omega arith)
+plain_ordinary X64 is_little value name = digits_ordinary X64 is_little value (32 ∷ 32 ∷ name) (omega arith)
+plain_ordinary X3_64 is_little value name = (refl, refl)
+plain_ordinary X3_128 is_little value name = digits_ordinary X3_128 is_little value (32 ∷ 32 ∷ name) (omega arith)
+
+tag_ordinary : (kind : Kind) (is_little : Bool) (r : List ℕ) → IsOrdinary (full_tag kind is_little ++ r)
+tag_ordinary X32 true r = (refl, refl)
+tag_ordinary X32 false r = (refl, refl)
+tag_ordinary X64 true r = (refl, refl)
+tag_ordinary X64 false r = (refl, refl)
+tag_ordinary X3_64 true r = (refl, refl)
+tag_ordinary X3_64 false r = (refl, refl)
+tag_ordinary X3_128 true r = (refl, refl)
+tag_ordinary X3_128 false r = (refl, refl)
+
+either_ordinary : (kind : Kind) (is_little is_tagged : Bool) (value : ℕ) (name : List ℕ)
+    → IsOrdinary (if is_tagged then tagged_text kind is_little value name else plain_text kind is_little value name)
+either_ordinary kind is_little true value name = tag_ordinary kind is_little (32 ∷ 40 ∷ (name ++ 41 ∷ 32 ∷ 61 ∷ 32 ∷ shown kind is_little value))
+either_ordinary kind is_little false value name = plain_ordinary kind is_little value name
+
+formed_ordinary : (kind : Kind) (shape : Shape) (value : ℕ) (name : List ℕ) → IsOrdinary (formed kind shape value name)
+formed_ordinary kind shape value name = either_ordinary kind shape.is_little shape.is_tagged value name
+
+marked_no_comment : (is_marked : Bool) (text : List ℕ) → is_comment text ≡ false → is_comment ((if is_marked then 92 ∷ [] else []) ++ text) ≡ false
+marked_no_comment true text h = refl
+marked_no_comment false text h = h
+
+pub printed_is_no_comment : PrintedIsNoComment
+printed_is_no_comment kind shape value name =
+    marked_no_comment (needs_escape name) (formed kind shape value (escaped name)) (formed_ordinary kind shape value (escaped name)).0
+
+-- ---- what a printed text says
+
+no_prefix : (digits : List ℕ) → Lacks 88 digits → has_prefix digits ≡ false
+no_prefix [] h = refl
+no_prefix (c ∷ digits) h = rw (ne_eqb 88 c (λ e. h.0 (sym e))) refl
+
+shown_no_prefix : (kind : Kind) (is_little : Bool) (value : ℕ) → has_prefix (shown kind is_little value) ≡ false
+shown_no_prefix kind is_little value =
+    let over : 57 < 88 = omega arith in
+    let under : 88 < 97 = omega arith in
+    no_prefix (shown kind is_little value) (lacks_shown 88 kind is_little value (inr (over, under)))
+
+shown_bare : (kind : Kind) (is_little : Bool) (value : ℕ) → bare kind (shown kind is_little value) ≡ shown kind is_little value
+shown_bare X32 is_little value = refl
+shown_bare X64 is_little value = refl
+shown_bare X3_64 is_little value =
+    let digits = shown X3_64 is_little value in
+    cond-false (has_prefix digits) (drop 5 digits) digits (shown_no_prefix X3_64 is_little value)
+shown_bare X3_128 is_little value = refl
+
+-- a kind that its digits alone name
+counted_says : (kind : Kind) (is_little : Bool) (value : ℕ) (name : List ℕ) → kind_of_count (digits_of kind) ≡ Some kind
+    → value < 16 ^ digits_of kind → SaysPlain is_little (shown kind is_little value ++ 32 ∷ 32 ∷ name) kind value name
+counted_says kind is_little value name is_plain fits =
+    let digits = shown kind is_little value in
+    let below : 32 < 48 = omega arith in
+    let mark : ◌≢◌ {A = ℕ} 32 40 = λ (e : ◌≡◌ {A = ℕ} 32 40). omega arith in
+    let counted : kind_of_digits digits ≡ Some kind =
+    cond-false (has_prefix digits) (Some X3_64) (kind_of_count (length digits)) (shown_no_prefix kind is_little value)
+    ∙ ap kind_of_count (length-shown kind is_little value) ∙ is_plain in
+    let means : value_meant kind is_little digits ≡ Some value =
+    ap (value_shown kind is_little) (shown_bare kind is_little value) ∙ value_shown-shown kind is_little value fits in
+    (digits, (32, refl, lacks_shown 32 kind is_little value (inl below), mark), counted, means)
+
+-- digits with their prefix
+prefixed_says : (is_little : Bool) (value : ℕ) (name : List ℕ) → value < 16 ^ digits_of X3_64
+    → SaysPlain is_little (plain_text X3_64 is_little value name) X3_64 value name
+prefixed_says is_little value name fits =
+    let digits = prefix_of X3_64 ++ shown X3_64 is_little value in
+    let low : 32 ≤ 32 = omega arith in
+    let below : 32 < 48 = omega arith in
+    let mark : ◌≢◌ {A = ℕ} 32 40 = λ (e : ◌≡◌ {A = ℕ} 32 40). omega arith in
+    let lacks = lacks_both 32 (prefix_of X3_64) (shown X3_64 is_little value) (prefix_lacks 32 X3_64 low) (lacks_shown 32 X3_64 is_little value (inl below)) in
+    (digits, (32, refl, lacks, mark), refl, value_shown-shown X3_64 is_little value fits)
+
+plain_says : (kind : Kind) (is_little : Bool) (value : ℕ) (name : List ℕ) → value < 16 ^ digits_of kind
+    → SaysPlain is_little (plain_text kind is_little value name) kind value name
+plain_says X32 is_little value name fits = counted_says X32 is_little value name refl fits
+plain_says X64 is_little value name fits = counted_says X64 is_little value name refl fits
+plain_says X3_64 is_little value name fits = prefixed_says is_little value name fits
+plain_says X3_128 is_little value name fits = counted_says X3_128 is_little value name refl fits
+
+tagged_says : (kind : Kind) (is_little : Bool) (value : ℕ) (name : List ℕ) → value < 16 ^ digits_of kind
+    → TextSays is_little (tagged_text kind is_little value name) kind value name
+tagged_says kind is_little value name fits =
+    let tag = full_tag kind is_little in
+    let digits = shown kind is_little value in
+    let below : 32 < 48 = omega arith in
+    let means : value_meant kind (is_little_tag tag) digits ≡ Some value =
+    ap (λ b. value_meant kind b digits) (tag_names_order kind is_little)
+    ∙ ap (value_shown kind is_little) (shown_bare kind is_little value) ∙ value_shown-shown kind is_little value fits in
+    inr (
+      tag,
+      digits,
+      (refl, tag_lacks 32 kind is_little (omega arith), lacks_shown 32 kind is_little value (inl below)),
+      tag_names_kind kind is_little,
+      means,
+    )
+
+either_says : (kind : Kind) (is_little is_tagged : Bool) (value : ℕ) (name : List ℕ) → value < 16 ^ digits_of kind
+    → TextSays is_little (if is_tagged then tagged_text kind is_little value name else plain_text kind is_little value name) kind value name
+either_says kind is_little true value name fits = tagged_says kind is_little value name fits
+either_says kind is_little false value name fits = inl (plain_says kind is_little value name fits)
+
+formed_says : (kind : Kind) (shape : Shape) (value : ℕ) (name : List ℕ) → value < 16 ^ digits_of kind
+    → TextSays shape.is_little (formed kind shape value name) kind value name
+formed_says kind shape value name fits = either_says kind shape.is_little shape.is_tagged value name fits
+
+-- ---- what a printed line says
+
+ordinary_says : (is_little : Bool) (text : List ℕ) (kind : Kind) (value : ℕ) (name : List ℕ) → IsOrdinary text → Lacks 0 text
+    → TextSays is_little text kind value name → Says is_little text kind value name
+ordinary_says is_little text kind value name ordinary lacks says =
+    let whole : up_to_nul text ≡ text = up_to_nul_whole text lacks in
+    let body : body_of text ≡ text = cond-false (is_escaped text) (drop 1 text) text ordinary.1 in
+    let means : name_meant (is_escaped text) name ≡ Some name = cond-false (is_escaped text) (unescaped name) (Some name) ordinary.1 in (
+      ordinary.0,
+      name,
+      subst (λ t. TextSays is_little (body_of t) kind value name) (sym whole) (subst (λ t. TextSays is_little t kind value name) (sym body) says),
+      subst (λ t. name_meant (is_escaped t) name ≡ Some name) (sym whole) means,
+    )
+
+escaped_says : (is_little : Bool) (text : List ℕ) (kind : Kind) (value : ℕ) (shown_name name : List ℕ) → Lacks 0 (92 ∷ text)
+    → TextSays is_little text kind value shown_name → unescaped shown_name ≡ Some name → Says is_little (92 ∷ text) kind value name
+escaped_says is_little text kind value shown_name name lacks says means =
+    let whole : up_to_nul (92 ∷ text) ≡ 92 ∷ text = up_to_nul_whole (92 ∷ text) lacks in (
+      refl,
+      shown_name,
+      subst (λ t. TextSays is_little (body_of t) kind value shown_name) (sym whole) says,
+      subst (λ t. name_meant (is_escaped t) shown_name ≡ Some name) (sym whole) means,
+    )
+
+marked_says : (is_marked : Bool) (is_little : Bool) (text : List ℕ) (kind : Kind) (value : ℕ) (name : List ℕ) → IsOrdinary text → Lacks 0 text
+    → (is_marked ≡ false → escaped name ≡ name) → TextSays is_little text kind value (escaped name)
+    → Says is_little ((if is_marked then 92 ∷ [] else []) ++ text) kind value name
+marked_says true is_little text kind value name ordinary lacks stays says =
+    let backslash : ◌≢◌ {A = ℕ} 92 0 = λ (e : ◌≡◌ {A = ℕ} 92 0). omega arith in
+    escaped_says is_little text kind value (escaped name) name (backslash, lacks) says (escape_is_undone name)
+marked_says false is_little text kind value name ordinary lacks stays says =
+    ordinary_says is_little text kind value name ordinary lacks (subst (TextSays is_little text kind value) (stays refl) says)
+
+pub printed_is_accepted : PrintedIsAccepted
+printed_is_accepted kind shape value name fits h =
+    let low : 0 < 32 = omega arith in
+    marked_says (needs_escape name) shape.is_little (formed kind shape value (escaped name)) kind value name (formed_ordinary kind shape value (escaped name))
+    (lacks_formed 0 kind shape value (escaped name) low (escaped_lacks_nul name h)) (plain_names_stay name) (formed_says kind shape value (escaped name) fits)
 
 -- what is left of a printed line without its line feed
 pub text_is_accepted : (kind : Kind) (shape : Shape) (value : ℕ) (name text : List ℕ) → line_of kind shape value name ≡ text ++ 10 ∷ []

@@ -1,5 +1,5 @@
 -- The digits of a value are read as that value.
-use Rattle.std.proofs.Common.{◌≡◌, ◌≢◌, ℕ, zero, suc, ◌+◌, ◌*◌, ◌/◌, ◌%◌, ◌^◌, ◌<◌, Bool, true, false, List, [], ◌∷◌, ◌++◌, length, reverse, Some, None, refl, sym, ap, ◌∙◌, arith, length-append, eq-eqb}
+use Rattle.std.proofs.Common.{◌≡◌, ◌≢◌, ◌⊎◌, ℕ, zero, suc, ◌+◌, ◌*◌, ◌/◌, ◌%◌, ◌^◌, ◌<◌, Bool, true, false, List, [], ◌∷◌, ◌++◌, length, reverse, Some, None, inl, inr, refl, sym, ap, ◌∙◌, arith, length-append, eq-eqb}
 use Rattle.std.specs.Option.{option_and_then}
 use Rattle.std.proofs.Math.Nat.{pow-suc}
 use Rattle.std.proofs.lemmas.Bool.Decides.{nat_tests}
@@ -107,12 +107,19 @@ value_shown-shown kind is_little value fits =
     ∙ ap number_of (turned_if-twice is_little digits even)
     ∙ number_of-hex_digits (digits_of kind) value fits
 
--- no digit is below '0'
-lacks_hex : (b n value : ℕ) → b < 48 → Lacks b (hex_digits n value)
-lacks_hex b zero value low = tt
-lacks_hex b (suc n) value low =
-    let here : hex_digit (value % 16) ≢ b = λ e. grind (arith, nat_tests) in
-    lacks_both b (hex_digits n (value / 16)) (hex_digit (value % 16) ∷ []) (lacks_hex b n (value / 16) low) (here, tt)
+-- no digit is below '0', nor between '9' and 'a'
+abbrev pub IsNoDigit : ℕ → Type 0
+IsNoDigit b = (b < 48) ⊎ ((57 < b) × (b < 97))
+
+hex_differs : (b n : ℕ) → n < 16 → IsNoDigit b → hex_digit n ≢ b
+hex_differs b n small (inl low) = λ e. grind (arith, nat_tests)
+hex_differs b n small (inr between) = λ e. grind (arith, nat_tests)
+
+lacks_hex : (b n value : ℕ) → IsNoDigit b → Lacks b (hex_digits n value)
+lacks_hex b zero value none = tt
+lacks_hex b (suc n) value none =
+    let low : value % 16 < 16 = omega arith in
+    lacks_both b (hex_digits n (value / 16)) (hex_digit (value % 16) ∷ []) (lacks_hex b n (value / 16) none) (hex_differs b (value % 16) low none, tt)
 
 lacks_reverse : (b : ℕ) (l : List ℕ) → Lacks b l → Lacks b (reverse l)
 lacks_reverse b [] h = tt
@@ -128,6 +135,6 @@ lacks_turned_if : (b : ℕ) (is_little : Bool) (l : List ℕ) → Lacks b l → 
 lacks_turned_if b true l h = lacks_pairs_swapped b (reverse l) (lacks_reverse b l h)
 lacks_turned_if b false l h = h
 
-pub lacks_shown : (b : ℕ) (kind : Kind) (is_little : Bool) (value : ℕ) → b < 48 → Lacks b (shown kind is_little value)
-lacks_shown b kind is_little value low =
-    lacks_turned_if b is_little (hex_digits (digits_of kind) value) (lacks_hex b (digits_of kind) value low)
+pub lacks_shown : (b : ℕ) (kind : Kind) (is_little : Bool) (value : ℕ) → IsNoDigit b → Lacks b (shown kind is_little value)
+lacks_shown b kind is_little value none =
+    lacks_turned_if b is_little (hex_digits (digits_of kind) value) (lacks_hex b (digits_of kind) value none)

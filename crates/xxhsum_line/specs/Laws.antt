@@ -1,8 +1,9 @@
 -- What holds of printed lines and of entries.
-use Rattle.std.specs.Prelude.{ℕ, ◌≡◌, ◌<◌, ◌^◌, Bool, List}
+use Rattle.std.specs.Prelude.{ℕ, ◌≡◌, ◌<◌, ◌^◌, Bool, false, List, Some}
 use Rattle.xxh_io.specs.Kind.{digits_of}
 use Rattle.xxh_io.specs.declared.kind.Kind.{Kind}
-use Rattle.xxhsum_line.specs.Entry.{Says}
+use Rattle.xxhsum_line.specs.Entry.{Says, is_comment}
+use Rattle.xxhsum_line.specs.Escapes.{escaped, needs_escape, unescaped}
 use Rattle.xxhsum_line.specs.Parts.{IsPlain, IsTagged, Lacks}
 use Rattle.xxhsum_line.specs.Printed.{text_of}
 use Rattle.xxhsum_line.specs.declared.printed.Shape.{Shape}
@@ -13,10 +14,22 @@ PrintedIsAccepted =
     (kind : Kind) (shape : Shape) (value : ℕ) (name : List ℕ) → value < 16 ^ digits_of kind → Lacks 0 name
     → Says shape.is_little (text_of kind shape value name) kind value name
 
--- a printed line, whose name has no line feed, has none but its last byte
+-- a printed line has no line feed but its last byte, whatever the name
 abbrev pub PrintedIsOneLine : Type 0
 PrintedIsOneLine =
-    (kind : Kind) (shape : Shape) (value : ℕ) (name : List ℕ) → Lacks 10 name → Lacks 10 (text_of kind shape value name)
+    (kind : Kind) (shape : Shape) (value : ℕ) (name : List ℕ) → Lacks 10 (text_of kind shape value name)
+
+-- no printed line is a comment
+abbrev pub PrintedIsNoComment : Type 0
+PrintedIsNoComment =
+    (kind : Kind) (shape : Shape) (value : ℕ) (name : List ℕ) → is_comment (text_of kind shape value name) ≡ false
+
+-- an escaped name means the name, and one that needs no escape stands as it is
+abbrev pub EscapeIsUndone : Type 0
+EscapeIsUndone = (name : List ℕ) → unescaped (escaped name) ≡ Some name
+
+abbrev pub PlainNamesStay : Type 0
+PlainNamesStay = (name : List ℕ) → needs_escape name ≡ false → escaped name ≡ name
 
 -- a line says one thing
 abbrev pub SaysOneThing : Type 0

@@ -1,5 +1,5 @@
 -- The tags of lines, and the kinds that they name.
-use Rattle.std.specs.Prelude.{ℕ, Bool, false, ◌||◌, List, [], ◌∷◌, Option, Some, None, nat_eq, codes, if◌then◌else◌}
+use Rattle.std.specs.Prelude.{ℕ, Bool, false, ◌||◌, List, [], ◌∷◌, Option, Some, None, nat_eq, codes, drop, length, if◌then◌else◌}
 use Rattle.std.specs.List.{starts_with}
 use Rattle.xxh_io.specs.declared.kind.Kind.{Kind}
 use Rattle.xxh_io.specs.declared.kind.Kind.TheVariants.{X32, X64, X3_64, X3_128}
@@ -20,6 +20,21 @@ tag_of X3_128 = codes "XXH128"
 
 abbrev pub begins_with : List ℕ → List ℕ → Bool
 begins_with tag text = starts_with nat_eq tag text
+
+-- Whether the digits of XXH3 of 64 bits have their prefix, without which they are taken for XXH64 in a line with no tag.
+abbrev pub has_prefix : List ℕ → Bool
+has_prefix digits = begins_with digits (codes "XXH3_")
+
+-- the kind of a line without a tag
+abbrev pub kind_of_digits : List ℕ → Option Kind
+kind_of_digits digits = if has_prefix digits then Some X3_64 else kind_of_count (length digits)
+
+-- the digits without their prefix
+abbrev pub bare : Kind → List ℕ → List ℕ
+bare X3_64 digits = if has_prefix digits then drop 5 digits else digits
+bare X32 digits = digits
+bare X64 digits = digits
+bare X3_128 digits = digits
 
 -- the kind of a line with this tag
 abbrev pub kind_of_tag : List ℕ → Kind

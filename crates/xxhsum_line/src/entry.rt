@@ -1,43 +1,104 @@
 //! What a line says.
 
-ghost use Rattle.std.specs.Prelude.{◌<◌, ◌^◌, IfSome, MatchOption};
+ghost use Rattle.std.specs.Prelude.{◌≡◌, ◌<◌, ◌^◌, IfOk, IfSome, MatchOption};
 ghost use Rattle.xxh_io.specs.Kind.{digits_of};
-ghost use Rattle.xxhsum_line.specs.Entry.{Says, SaysNothing};
+ghost use Rattle.xxhsum_line.specs.Entry.{TextSays, TextSaysNothing, is_comment, value_meant};
+ghost use Rattle.xxhsum_line.specs.Meaning.{FitsKind, Means};
 
 use crate::digits::value_shown;
+use crate::escapes::{body_of, is_escaped, name_meant};
 use crate::parts::{Parts, parts_of, up_to_nul};
-use crate::tags::{is_little_tag, kind_of_count, kind_of_tag};
+use crate::tags::{bare, is_little_tag, kind_of_digits, kind_of_tag};
+use std::alloc::{AllocError, Global};
 use xxh_io::kind::Kind;
 
-/// What a line says: the file of this name has this value of this kind.
-#[derive(Clone, Copy, Debug, PartialEq, Eq)]
-pub struct Entry<'a> {
+/// The file of this name has this value of this kind.
+#[derive(Debug, Drop, PartialEq, Eq)]
+pub struct Entry {
     /// Which hash it is.
     pub kind: Kind,
     /// The value, of no more bits than the kind has.
     pub value: u128,
     /// The name of the file, in bytes.
-    pub name: &'a [u8],
+    pub name: Vec<u8>,
 }
 
-/// What a line says, without its line feed: the bytes from a NUL on are no part of it. The digits of a plain line
-/// are little-endian where `is_little` says so, and those of a tagged line where its tag does. `None` where the
-/// line is malformed: it has neither form, or too few or too many digits for its kind, or a byte that is no digit.
-pub fn entry_of(line: &[u8], is_little: bool) -> Option<Entry<'_>>
-    ensures entry { MatchOption result (SaysNothing is_little line.now)
-        (λ entry. Says is_little line.now entry.kind entry.value entry.name.now) }
-    ensures in_range { IfSome result (λ entry. entry.value < 16 ^ digits_of entry.kind) }
+/// What a line is.
+#[derive(Debug, Drop, PartialEq, Eq)]
+pub enum Meaning {
+    /// It says which value a file has.
+    Entry(Entry),
+    /// It says nothing, and isn't meant to.
+    Comment,
+    /// It is neither.
+    Malformed,
+}
+
+/// What a line is, without its line feed. One that begins with `#` is a comment. Of any other the bytes from a NUL on
+/// are no part. The digits of a plain line are little-endian where `is_little` says so, and those of a tagged line
+/// where its tag does. It is malformed where it has neither form, or too few or too many digits for its kind, or a
+/// byte that is no digit, or where it is escaped and a backslash in its name has no meaning. `AllocError` where memory
+/// runs out.
+pub fn meaning_of(alloc: Global, line: &[u8], is_little: bool) -> Result<Meaning, AllocError>
+    ensures meaning { IfOk result (Means is_little line.now) }
+    ensures in_range { IfOk result FitsKind }
 {
-    match parts_of(up_to_nul(line))? {
+    if is_comment(line) {
+        return Ok(Meaning::Comment);
+    }
+    let text = up_to_nul(line);
+    let Some(shown) = shown_in(body_of(text), is_little) else {
+        return Ok(Meaning::Malformed);
+    };
+    let Some(name) = name_meant(alloc, shown.name, is_escaped(text))? else {
+        return Ok(Meaning::Malformed);
+    };
+    Ok(Meaning::Entry(Entry {
+        kind: shown.kind,
+        value: shown.value,
+        name,
+    }))
+}
+
+/// Whether a line is a comment.
+pub fn is_comment(line: &[u8]) -> bool
+    ensures { result ≡ is_comment line.now }
+{
+    matches!(line, [b'#', ..])
+}
+
+// What a text shows, with the name as it stands there.
+#[derive(Clone, Copy)]
+struct Shown<'a> {
+    kind: Kind,
+    value: u128,
+    name: &'a [u8],
+}
+
+// What a line of one of the two forms shows.
+fn shown_in(text: &[u8], is_little: bool) -> Option<Shown<'_>>
+    ensures shown { MatchOption result (TextSaysNothing is_little text.now)
+        (λ shown. TextSays is_little text.now shown.kind shown.value shown.name.now) }
+    ensures in_range { IfSome result (λ shown. shown.value < 16 ^ digits_of shown.kind) }
+{
+    match parts_of(text)? {
         Parts::Plain { digits, name } => {
-            let kind = kind_of_count(digits.len())?;
-            let value = value_shown(kind, digits, is_little)?;
-            Some(Entry { kind, value, name })
+            let kind = kind_of_digits(digits)?;
+            let value = value_meant(kind, digits, is_little)?;
+            Some(Shown { kind, value, name })
         }
         Parts::Tagged { tag, name, digits } => {
             let kind = kind_of_tag(tag);
-            let value = value_shown(kind, digits, is_little_tag(tag))?;
-            Some(Entry { kind, value, name })
+            let value = value_meant(kind, digits, is_little_tag(tag))?;
+            Some(Shown { kind, value, name })
         }
     }
+}
+
+// The value that digits of this kind show, with or without their prefix.
+fn value_meant(kind: Kind, digits: &[u8], is_little: bool) -> Option<u128>
+    ensures value { result ≡ value_meant kind is_little digits.now }
+    ensures in_range { IfSome result (λ value. value < 16 ^ digits_of kind) }
+{
+    value_shown(kind, bare(kind, digits), is_little)
 }

@@ -3,19 +3,22 @@
 ghost use Rattle.std.specs.Prelude.{◌≡◌, ◌<◌, ◌^◌, true, IfOk};
 ghost use Rattle.xxh_io.specs.Kind.{digits_of};
 ghost use Rattle.xxhsum_line.specs.Entry.{Says};
-ghost use Rattle.xxhsum_line.specs.Laws.{NotBothForms, PlainPartsAreOne, PrintedIsAccepted, PrintedIsOneLine, SaysOneThing, TaggedPartsAreOne};
+ghost use Rattle.xxhsum_line.specs.Laws.{EscapeIsUndone, NotBothForms, PlainNamesStay, PlainPartsAreOne, PrintedIsAccepted, PrintedIsNoComment, PrintedIsOneLine, SaysOneThing, TaggedPartsAreOne};
 ghost use Rattle.xxhsum_line.specs.Parts.{Lacks};
 
-use crate::entry::{Entry, entry_of};
+use crate::entry::{Entry, Meaning, meaning_of};
 use crate::printed::{Shape, digest_line};
 use std::alloc::{AllocError, Global};
 use xxh_io::kind::Kind;
 
-/// The laws of lines: what is printed is accepted, a printed line is one line, and a line has at most one choice of
-/// parts and says at most one thing. It does nothing.
+/// The laws of lines: what is printed is accepted, a printed line is one line and no comment, an escape is undone, and
+/// a line has at most one choice of parts and says at most one thing. It does nothing.
 pub fn laws_of_lines()
     ensures printed_is_accepted { PrintedIsAccepted }
     ensures printed_is_one_line { PrintedIsOneLine }
+    ensures printed_is_no_comment { PrintedIsNoComment }
+    ensures escape_is_undone { EscapeIsUndone }
+    ensures plain_names_stay { PlainNamesStay }
     ensures says_one_thing { SaysOneThing }
     ensures plain_parts_are_one { PlainPartsAreOne }
     ensures tagged_parts_are_one { TaggedPartsAreOne }
@@ -38,25 +41,32 @@ pub fn is_read_back(
     let line = digest_line(alloc, kind, shape, value, name)?;
     let bytes = line.as_slice();
     match bytes.strip_suffix(b"\n") {
-        Some(text) => Ok(is_read_as(text, shape.is_little, kind, value, name)),
+        Some(text) => is_read_as(alloc, text, shape.is_little, kind, value, name),
         None => Ok(false),
     }
 }
 
 // Whether the line is read as this kind, value and name.
-fn is_read_as(text: &[u8], is_little: bool, kind: Kind, value: u128, name: &[u8]) -> bool
+fn is_read_as(
+    alloc: Global,
+    text: &[u8],
+    is_little: bool,
+    kind: Kind,
+    value: u128,
+    name: &[u8],
+) -> Result<bool, AllocError>
     requires { Says is_little text.now kind value name.now }
-    ensures { result ≡ true }
+    ensures { IfOk result (λ is_same. is_same ≡ true) }
 {
-    match entry_of(text, is_little) {
-        Some(entry) => is_same(entry, kind, value, name),
-        None => false,
-    }
+    Ok(match meaning_of(alloc, text, is_little)? {
+        Meaning::Entry(entry) => is_same(&entry, kind, value, name),
+        Meaning::Comment | Meaning::Malformed => false,
+    })
 }
 
-fn is_same(entry: Entry<'_>, kind: Kind, value: u128, name: &[u8]) -> bool
-    ensures { let e = entry.entry in
-        e.kind ≡ kind → e.value ≡ value → e.name.now ≡ name.now → result ≡ true }
+fn is_same(entry: &Entry, kind: Kind, value: u128, name: &[u8]) -> bool
+    ensures { let e = entry.now in
+        e.kind ≡ kind → e.value ≡ value → e.name.items ≡ name.now → result ≡ true }
 {
-    entry.kind == kind && entry.value == value && entry.name == name
+    entry.kind == kind && entry.value == value && entry.name.as_slice() == name
 }

@@ -4,6 +4,7 @@
 
 pub mod digits;
 pub mod entry;
+pub mod escapes;
 pub mod laws;
 pub mod parts;
 pub mod printed;

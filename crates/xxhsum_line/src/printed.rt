@@ -1,9 +1,11 @@
 //! The lines that are printed.
 
 ghost use Rattle.std.specs.Prelude.{◌≡◌, ◌++◌, IfOk};
-ghost use Rattle.xxhsum_line.specs.Printed.{is_tagged_line, line_of, plain_text, shown, tagged_text};
+ghost use Rattle.xxhsum_line.specs.Escapes.{escaped};
+ghost use Rattle.xxhsum_line.specs.Printed.{formed, line_of, plain_text, prefix_of, shown, tagged_text};
 
 use crate::digits::{MOST_DIGITS, turn};
+use crate::escapes::{put_escaped, put_mark};
 use crate::tags::tag_of;
 use std::alloc::{AllocError, Global};
 use xxh_io::hex::write_digits;
@@ -18,8 +20,9 @@ pub struct Shape {
     pub is_little: bool,
 }
 
-/// The line of this value of the file with this name, with its line feed. A line of XXH3 of 64 bits is always
-/// tagged. Of a value that has more digits than its kind, the lowest are shown. `AllocError` where memory runs out.
+/// The line of this value of the file with this name, with its line feed, which is the only one in it. A name with a
+/// backslash, a line feed or a carriage return is escaped, and its line begins with a backslash. Of a value that has
+/// more digits than its kind, the lowest are shown. `AllocError` where memory runs out.
 pub fn digest_line(
     alloc: Global,
     kind: Kind,
@@ -30,22 +33,26 @@ pub fn digest_line(
     ensures { IfOk result (λ line. line.items ≡ line_of kind shape value name.now) }
 {
     let mut line = Vec::new(alloc);
-    if is_tagged_line(kind, shape) {
-        put_tagged(&mut line, kind, shape.is_little, value, name)?;
-    } else {
-        put_plain(&mut line, kind, shape.is_little, value, name)?;
-    }
+    put_mark(&mut line, name)?;
+    put_formed(&mut line, kind, shape, value, name)?;
     line.extend_from_slice(b"\n")?;
     Ok(line)
 }
 
-// Whether the line has a tag.
-fn is_tagged_line(kind: Kind, shape: Shape) -> bool
-    ensures { result ≡ is_tagged_line kind shape }
+fn put_formed(
+    line: &mut Vec<u8>,
+    kind: Kind,
+    shape: Shape,
+    value: u128,
+    name: &[u8],
+) -> Result<(), AllocError>
+    ensures { IfOk result
+        (λ _. line.new.items ≡ line.old.items ++ formed kind shape value (escaped name.now)) }
 {
-    match kind {
-        Kind::X3_64 => true,
-        Kind::X32 | Kind::X64 | Kind::X3_128 => shape.is_tagged,
+    if shape.is_tagged {
+        put_tagged(line, kind, shape.is_little, value, name)
+    } else {
+        put_plain(line, kind, shape.is_little, value, name)
     }
 }
 
@@ -56,12 +63,13 @@ fn put_plain(
     value: u128,
     name: &[u8],
 ) -> Result<(), AllocError>
-    ensures { IfOk result
-        (λ _. line.new.items ≡ line.old.items ++ plain_text kind is_little value name.now) }
+    ensures { IfOk result (λ _. line.new.items
+        ≡ line.old.items ++ plain_text kind is_little value (escaped name.now)) }
 {
+    line.extend_from_slice(prefix_of(kind))?;
     put_value(line, kind, is_little, value)?;
     line.extend_from_slice(b"  ")?;
-    line.extend_from_slice(name)
+    put_escaped(line, name)
 }
 
 fn put_tagged(
@@ -71,17 +79,27 @@ fn put_tagged(
     value: u128,
     name: &[u8],
 ) -> Result<(), AllocError>
-    ensures { IfOk result
-        (λ _. line.new.items ≡ line.old.items ++ tagged_text kind is_little value name.now) }
+    ensures { IfOk result (λ _. line.new.items
+        ≡ line.old.items ++ tagged_text kind is_little value (escaped name.now)) }
 {
     line.extend_from_slice(tag_of(kind))?;
     if is_little {
         line.extend_from_slice(b"_LE")?;
     }
     line.extend_from_slice(b" (")?;
-    line.extend_from_slice(name)?;
+    put_escaped(line, name)?;
     line.extend_from_slice(b") = ")?;
     put_value(line, kind, is_little, value)
+}
+
+// What comes before the digits in a line without a tag.
+fn prefix_of(kind: Kind) -> &'static [u8]
+    ensures { result.now ≡ prefix_of kind }
+{
+    match kind {
+        Kind::X3_64 => b"XXH3_",
+        Kind::X32 | Kind::X64 | Kind::X3_128 => b"",
+    }
 }
 
 // The digits of the value.

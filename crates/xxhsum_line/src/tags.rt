@@ -1,12 +1,34 @@
 //! The tags of lines, and the kinds that they name.
 
 ghost use Rattle.std.specs.Prelude.{◌≡◌};
-ghost use Rattle.xxhsum_line.specs.Tags.{kind_of_count, kind_of_tag, is_little_tag, tag_of};
+ghost use Rattle.xxhsum_line.specs.Tags.{bare, is_little_tag, kind_of_count, kind_of_digits, kind_of_tag, tag_of};
 
 use xxh_io::kind::Kind;
 
-/// The kind of a line without a tag, by how many digits it has. `None` for any other number of digits.
-pub fn kind_of_count(count: usize) -> Option<Kind>
+/// The kind of a line without a tag: XXH3 of 64 bits where its digits have the prefix, and otherwise by how many they
+/// are. `None` for any other number of digits.
+pub fn kind_of_digits(digits: &[u8]) -> Option<Kind>
+    ensures { result ≡ kind_of_digits digits.now }
+{
+    if digits.starts_with(b"XXH3_") {
+        Some(Kind::X3_64)
+    } else {
+        kind_of_count(digits.len())
+    }
+}
+
+/// The digits of this kind without their prefix, which those of XXH3 of 64 bits may have.
+pub fn bare(kind: Kind, digits: &[u8]) -> &[u8]
+    ensures { result.now ≡ bare kind digits.now }
+{
+    match kind {
+        Kind::X3_64 if digits.starts_with(b"XXH3_") => &digits[5..],
+        _ => digits,
+    }
+}
+
+// The kind of digits without a prefix, by how many they are.
+fn kind_of_count(count: usize) -> Option<Kind>
     ensures { result ≡ kind_of_count count }
 {
     match count {

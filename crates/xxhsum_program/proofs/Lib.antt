@@ -1,12 +1,13 @@
 mod CheckFacts
 mod EachFacts
 mod HashFacts
-mod JoinedFacts
+mod LineEndFacts
 mod LineFacts
 mod OutcomeFacts
 mod ProgressFacts
 mod SaidFacts
 mod StopFacts
+mod TaskFacts
 mod ToldFacts
 mod WatchedFacts
 mod WatchedListFacts

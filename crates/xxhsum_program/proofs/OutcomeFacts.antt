@@ -29,7 +29,7 @@ are_digested-push (o ∷ os) outcome = ap (λ b. is_digested o && b) (are_digest
 -- what ends a reading too early is no write
 pub has-no-value : {S F : Type 0} (opens : S → List ℕ → F → Type 0) (refuses : S → List ℕ → Refusal → Type 0) (gives : F → List ℕ → F → Type 0) (fails : F → F → Type 0) (store : S) (name : List ℕ) (e : DigestError) → e ≢ WriteFailed → FailsOn opens gives fails store name e → HasNoValue opens refuses gives fails store name (reason_of e)
 has-no-value opens refuses gives fails store name ReadFailed never on = on
-has-no-value opens refuses gives fails store name WriteFailed never on = let is = never refl in cc
+has-no-value opens refuses gives fails store name WriteFailed never on = absurd (never refl)
 has-no-value opens refuses gives fails store name TooLong never on = on
 
 -- ---- what is printed of them

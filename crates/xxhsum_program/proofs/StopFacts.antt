@@ -1,26 +1,27 @@
 -- The check of a list, at the lines where it stops and at its end.
-use Rattle.std.proofs.Common.{◌≡◌, ℕ, ◌+◌, Bool, List, [], ◌∷◌, ◌++◌, length, Option, Some, None, Ok, Err, refl, sym, subst, append-nil}
+use Rattle.std.proofs.Common.{◌≡◌, ℕ, ◌+◌, Bool, false, List, [], ◌∷◌, ◌++◌, length, Option, Some, None, Ok, Err, refl, sym, subst, append-nil}
 use Rattle.std.specs.declared.result.Result.{Result}
 use Rattle.xxh_io.specs.Digest.{Took, Refused}
 use Rattle.xxh_io.specs.Pieces.{Step, Failing}
 use Rattle.xxh_io.proofs.WriteFacts.{Refused-join, Took-join}
 use Rattle.xxhsum_words.specs.declared.options.Options.{Options}
 use Rattle.xxhsum_program.specs.declared.check.Report.{Report}
+use Rattle.xxhsum_program.specs.declared.entry.Found.{Found}
 use Rattle.xxhsum_program.specs.declared.lines.Lines.{Lines}
 use Rattle.xxhsum_program.specs.declared.stop.Stop.{Stop}
 use Rattle.xxhsum_program.specs.declared.stop.Stop.TheVariants.{WriteFailed, OutOfMemory}
-use Rattle.xxhsum_program.specs.CheckList.{AnswersList, FindsLines, ReportsLines}
+use Rattle.xxhsum_program.specs.CheckList.{AnswersList, AnswersOutcome, Checked, ChecksLine, FindsLines, ReportsLines}
 use Rattle.xxhsum_program.specs.EachHas.{EachHas}
-use Rattle.xxhsum_program.specs.Findings.{Finding}
+use Rattle.xxhsum_program.specs.Findings.{Finding, Proper, count_proper}
 use Rattle.xxhsum_program.specs.Lines.{PrintsLine, PrintsLines}
 use Rattle.xxhsum_program.specs.ListEnd.{ListEnd, report_at}
 use Rattle.xxhsum_program.specs.Report.{is_good}
-use Rattle.xxhsum_program.specs.Said.{numbered, printed_finding, printed_list, printed_summary, told_finding, told_lines, told_list, told_summary}
+use Rattle.xxhsum_program.specs.Said.{found_text, numbered, printed_finding, printed_list, printed_summary, told_break, told_finding, told_lines, told_list, told_summary}
 use Rattle.xxhsum_program.specs.Told.{TellsOn}
 use Rattle.xxhsum_program.proofs.CheckFacts.{Stands, some-read}
 use Rattle.xxhsum_program.proofs.EachFacts.{EachHas-push}
 use Rattle.xxhsum_program.proofs.SaidFacts.{numbered-push}
-use Rattle.xxhsum_program.proofs.ToldFacts.{tells-more}
+use Rattle.xxhsum_program.proofs.ToldFacts.{tells-more, tells-nothing}
 
 -- what `check_lines` ensures, and what `check` does
 abbrev pub LinesChecked : {R W E : Type 0} → (List ℕ → Finding → Type 0) → Step R → Failing R → (R → Bool) → Step W → Failing W → Step E → Failing E → (E → Bool) → Options → List ℕ → R → W → W → E → E → Result Report Stop → Type 0
@@ -41,14 +42,28 @@ pub tells-as : {E : Type 0} (takes : E → List ℕ → E → Type 0) (refuses :
 tells-as takes refuses has_failed a b old new same tells =
     subst (λ bytes. TellsOn takes refuses has_failed bytes old new) (sym same) tells
 
+-- ---- a line
+
+-- what was found of a file is said, as far as the answer says
+pub line-said : {W E : Type 0} (is_finding : Finding → Type 0) (takes : W → List ℕ → W → Type 0) (refuses : W → W → Type 0) (e_takes : E → List ℕ → E → Type 0) (e_refuses : E → E → Type 0) (e_failed : E → Bool) (options : Options) (list : List ℕ) (number : ℕ) (name shown : List ℕ) (found : Found) (r_old r_new : Report) (w_old w_new : W) (err : E) (result : Result (Unit {0}) Stop)
+    → options.is_status_only ≡ false → shown ≡ name → is_finding (Proper name found) → r_new ≡ count_proper r_old found → PrintsLine takes refuses (found_text options.is_quiet list number shown found) w_old w_new result
+    → ChecksLine is_finding takes refuses e_takes e_refuses e_failed options list number r_old r_new w_old w_new err err result
+line-said is_finding takes refuses e_takes e_refuses e_failed options list number name shown found r_old r_new w_old w_new err (Ok x) speaks same is counted prints =
+    let text : found_text options.is_quiet list number shown found ≡ printed_finding options list number (Proper name found) = rw (speaks, same) refl in
+    (Proper name found, is, counted, subst (λ bytes. Took takes bytes w_old w_new) text prints, tells-nothing e_takes e_refuses e_failed err)
+line-said is_finding takes refuses e_takes e_refuses e_failed options list number name shown found r_old r_new w_old w_new err (Err WriteFailed) speaks same is counted prints =
+    let text : found_text options.is_quiet list number shown found ≡ printed_finding options list number (Proper name found) = rw (speaks, same) refl in
+    (Proper name found, is, subst (λ bytes. Refused takes refuses bytes w_old w_new) text prints, tells-nothing e_takes e_refuses e_failed err)
+line-said is_finding takes refuses e_takes e_refuses e_failed options list number name shown found r_old r_new w_old w_new err (Err OutOfMemory) speaks same is counted prints = (prints, refl)
+
 -- ---- a line that could not be said
 
-pub lines-stop : {R W E : Type 0} (is_finding : List ℕ → Finding → Type 0) (gives : R → List ℕ → R → Type 0) (fails : R → R → Type 0) (has_failed : R → Bool) (takes : W → List ℕ → W → Type 0) (refuses : W → W → Type 0) (e_takes : E → List ℕ → E → Type 0) (e_refuses : E → E → Type 0) (e_failed : E → Bool) (options : Options) (list : List ℕ) (source : R) (w_old w_mid w_new : W) (e_old e_mid e_new : E) (old new : Lines R) (read : List (List ℕ)) (findings : List Finding) (line : List ℕ) (finding : Finding) (number : ℕ) (stop : Stop)
-    → EachHas is_finding read findings → Stands gives source old read → Stands gives source new (read ++ line ∷ []) → is_finding line finding → number ≡ 1 + length findings
+pub lines-stop : {R W E : Type 0} (is_finding : List ℕ → Finding → Type 0) (gives : R → List ℕ → R → Type 0) (fails : R → R → Type 0) (has_failed : R → Bool) (takes : W → List ℕ → W → Type 0) (refuses : W → W → Type 0) (e_takes : E → List ℕ → E → Type 0) (e_refuses : E → E → Type 0) (e_failed : E → Bool) (options : Options) (list : List ℕ) (source : R) (w_old w_mid w_new : W) (e_old e_mid e_new : E) (old new : Lines R) (read : List (List ℕ)) (findings : List Finding) (line : List ℕ) (number : ℕ) (r_old r_new : Report) (stop : Stop)
+    → EachHas is_finding read findings → Stands gives source old read → Stands gives source new (read ++ line ∷ []) → number ≡ 1 + length findings
     → Took takes (numbered (printed_finding options list) 1 findings) w_old w_mid → TellsOn e_takes e_refuses e_failed (numbered (told_finding options list) 1 findings) e_old e_mid
-    → PrintsLine {T = Unit {0}} takes refuses (printed_finding options list number finding) w_mid w_new (Err stop) → TellsOn e_takes e_refuses e_failed (told_finding options list number finding) e_mid e_new → e_new ≡ e_mid
+    → ChecksLine (is_finding line) takes refuses e_takes e_refuses e_failed options list number r_old r_new w_mid w_new e_mid e_new (Err stop)
     → LinesChecked is_finding gives fails has_failed takes refuses e_takes e_refuses e_failed options list source w_old w_new e_old e_new (Err stop)
-lines-stop is_finding gives fails has_failed takes refuses e_takes e_refuses e_failed options list source w_old w_mid w_new e_old e_mid e_new old new read findings line finding number OutOfMemory each before after is count took told prints tells silent =
+lines-stop is_finding gives fails has_failed takes refuses e_takes e_refuses e_failed options list source w_old w_mid w_new e_old e_mid e_new old new read findings line number r_old r_new OutOfMemory each before after count took told (prints, silent) =
     let said = numbered (told_finding options list) 1 findings in (
       findings,
       None,
@@ -57,7 +72,7 @@ lines-stop is_finding gives fails has_failed takes refuses e_takes e_refuses e_f
       subst (λ w. Took takes (numbered (printed_finding options list) 1 findings) w_old w) (sym prints) took,
       tells-as e_takes e_refuses e_failed said (said ++ []) e_old e_new (append-nil said) (subst (λ e. TellsOn e_takes e_refuses e_failed said e_old e) (sym silent) told),
     )
-lines-stop is_finding gives fails has_failed takes refuses e_takes e_refuses e_failed options list source w_old w_mid w_new e_old e_mid e_new old new read findings line finding number WriteFailed each before after is count took told prints tells silent =
+lines-stop is_finding gives fails has_failed takes refuses e_takes e_refuses e_failed options list source w_old w_mid w_new e_old e_mid e_new old new read findings line number r_old r_new WriteFailed each before after count took told (finding, is, prints, tells) =
     let printed = printed_finding options list in
     let texts = told_finding options list in
     let all = numbered texts 1 (findings ++ finding ∷ []) in (
@@ -120,3 +135,14 @@ check-ends is_finding gives fails has_failed takes refuses e_takes e_refuses e_f
   tells-more e_takes e_refuses e_failed _ _ e_old e_mid e_new told (subst (λ r. TellsOn e_takes e_refuses e_failed (told_summary list r) e_mid e_new) is tells),
 )
 check-ends is_finding gives fails has_failed takes refuses e_takes e_refuses e_failed options list source w_old w_mid w_new e_old e_mid e_new report good (findings, None, finds, is, took, told) prints tells answer = absurd is
+
+-- the same break, of the number and the report of the lines so far
+pub tells-break : {E : Type 0} (takes : E → List ℕ → E → Type 0) (refuses : E → E → Type 0) (has_failed : E → Bool) (list : List ℕ) (end : ListEnd) (m n : ℕ) (r s : Report) (old new : E) → m ≡ n → r ≡ s → TellsOn takes refuses has_failed (told_break list m r end) old new → TellsOn takes refuses has_failed (told_break list n s end) old new
+tells-break takes refuses has_failed list end m n r s old new numbers reports tells =
+    subst (λ k. TellsOn takes refuses has_failed (told_break list k s end) old new) numbers (subst (λ x. TellsOn takes refuses has_failed (told_break list m x end) old new) reports tells)
+
+-- ---- a list by its name
+
+pub answers-outcome : (is_strict : Bool) (findings : List Finding) (end : Option ListEnd) (result : Result Bool Stop) → AnswersList is_strict findings end result → AnswersOutcome is_strict (Checked findings end) result
+answers-outcome is_strict findings end (Ok good) answer = answer
+answers-outcome is_strict findings end (Err stop) answer = tt

@@ -9,7 +9,7 @@ use Rattle.xxhsum_program.specs.declared.entry.Found.{Found}
 use Rattle.xxhsum_program.specs.declared.entry.Found.TheVariants.{Same, Different, Unread}
 use Rattle.xxhsum_program.specs.declared.stop.Stop.{Stop}
 use Rattle.xxhsum_program.specs.CheckList.{Checked, ChecksLists, EndsAs, FindsLines, IsListOutcome, ListOutcome, MeetsLines, ReadsLines, Unopened}
-use Rattle.xxhsum_program.specs.Findings.{Finding, Improper, IsFinding, Proper}
+use Rattle.xxhsum_program.specs.Findings.{Finding, Ignored, Improper, IsFinding, Proper}
 use Rattle.xxhsum_program.specs.Found.{IsFound}
 use Rattle.xxhsum_program.specs.ListEnd.{ListEnd, Whole, TooMany, LongLine, FailedRead}
 use Rattle.xxhsum_program.specs.ListLines.{FailsAfter, end_piece}
@@ -23,6 +23,7 @@ inner-found s f watched opens refuses gives fails files kind value name Differen
 inner-found s f watched opens refuses gives fails files kind value name (Unread reason) same is = inner-none s f watched opens refuses gives fails files name reason same is
 
 inner-finding : {A S V F : Type 0} (s : A → S) (f : V → F) (watched : A → List ℕ → V → Type 0) (opens : S → List ℕ → F → Type 0) (refuses : S → List ℕ → Refusal → Type 0) (gives : Step F) (fails : Failing F) (files : A) (is_little : Bool) (line : List ℕ) (finding : Finding) → OpensInner s f watched opens → IsFinding watched (λ a. refuses (s a)) (Inner f gives) (InnerFails f fails) files is_little line finding → IsFinding opens refuses gives fails (s files) is_little line finding
+inner-finding s f watched opens refuses gives fails files is_little line Ignored same is = is
 inner-finding s f watched opens refuses gives fails files is_little line Improper same is = is
 inner-finding s f watched opens refuses gives fails files is_little line (Proper name found) same (kind, value, says, is) =
     (kind, value, says, inner-found s f watched opens refuses gives fails files kind value name found same is)

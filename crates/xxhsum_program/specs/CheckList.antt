@@ -3,18 +3,20 @@ use Rattle.std.specs.Prelude.{◌≡◌, ◌⊎◌, ℕ, ◌-◌, ◌^◌, Bool,
 use Rattle.std.specs.List.{AllByRecursion, concat}
 use Rattle.std.specs.declared.result.Result.{Result}
 use Rattle.std.specs.declared.result.Result.TheVariants.{Ok, Err}
+use Rattle.xxh_io.specs.Digest.{Refused, Took}
 use Rattle.xxh_io.specs.Pieces.{Pieces, NoneEmpty, Step, Failing}
 use Rattle.xxhsum_files.specs.declared.refusal.Refusal.{Refusal}
 use Rattle.xxhsum_words.specs.declared.options.Options.{Options}
 use Rattle.xxhsum_program.specs.declared.check.Report.{Report}
 use Rattle.xxhsum_program.specs.declared.stop.Stop.{Stop}
+use Rattle.xxhsum_program.specs.declared.stop.Stop.TheVariants.{WriteFailed, OutOfMemory}
 use Rattle.xxhsum_program.specs.EachHas.{EachHas}
-use Rattle.xxhsum_program.specs.Findings.{Finding}
+use Rattle.xxhsum_program.specs.Findings.{Finding, count_one}
 use Rattle.xxhsum_program.specs.Lines.{PrintsUnlessFailed, lines_of}
 use Rattle.xxhsum_program.specs.ListEnd.{ListEnd, Whole, TooMany, LongLine, FailedRead, report_at}
 use Rattle.xxhsum_program.specs.ListLines.{BeginsTooLong, FailsAfter, IsLastLine, IsLine, IsUnended, end_piece}
 use Rattle.xxhsum_program.specs.Report.{is_good}
-use Rattle.xxhsum_program.specs.Said.{printed_list, told_list, told_refusal}
+use Rattle.xxhsum_program.specs.Said.{printed_finding, printed_list, told_finding, told_list, told_refusal}
 use Rattle.xxhsum_program.specs.Told.{TellsOn}
 
 -- lines, each with its line feed
@@ -68,6 +70,24 @@ abbrev pub FindsLines : {R : Type 0} → (List ℕ → Finding → Type 0) → S
     → Option ListEnd → Type 0
 FindsLines is_finding gives fails has_failed source findings end =
     (lines : List (List ℕ)) × EachHas is_finding lines findings × MeetsLines gives fails has_failed source lines end
+
+-- A line has a finding, which is counted and said. Where a write failed, it was counted, and a beginning of its line was
+-- printed; where there was no memory, nothing was said.
+abbrev pub ChecksLine : {W E : Type 0} → (Finding → Type 0) → Step W → Failing W → Step E → Failing E → (E → Bool)
+    → Options → List ℕ → ℕ → Report → Report → W → W → E → E → Result (Unit {0}) Stop → Type 0
+ChecksLine is_finding takes w_refuses e_takes e_refuses e_failed options list number r_old r_new w_old w_new e_old e_new
+    (Ok _) =
+    (finding : Finding) × is_finding finding × (r_new ≡ count_one r_old finding)
+    × Took takes (printed_finding options list number finding) w_old w_new
+    × TellsOn e_takes e_refuses e_failed (told_finding options list number finding) e_old e_new
+ChecksLine is_finding takes w_refuses e_takes e_refuses e_failed options list number r_old r_new w_old w_new e_old e_new
+    (Err WriteFailed) =
+    (finding : Finding) × is_finding finding
+    × Refused takes w_refuses (printed_finding options list number finding) w_old w_new
+    × TellsOn e_takes e_refuses e_failed (told_finding options list number finding) e_old e_new
+ChecksLine is_finding takes w_refuses e_takes e_refuses e_failed options list number r_old r_new w_old w_new e_old e_new
+    (Err OutOfMemory) =
+    (w_new ≡ w_old) × (e_new ≡ e_old)
 
 -- whether the list is good, once its end is known
 abbrev pub is_good_list : Bool → List Finding → Option ListEnd → Bool

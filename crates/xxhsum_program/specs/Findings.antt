@@ -1,22 +1,24 @@
 -- What is found of the lines of a list, and the report that it adds up to.
-use Rattle.std.specs.Prelude.{ℕ, ◌+◌, ◌-◌, ◌^◌, Bool, true, false, List, [], ◌∷◌, min}
+use Rattle.std.specs.Prelude.{◌≡◌, ℕ, ◌+◌, ◌-◌, ◌^◌, Bool, true, false, List, [], ◌∷◌, min}
 use Rattle.xxh_io.specs.Pieces.{Step, Failing}
 use Rattle.xxhsum_files.specs.declared.refusal.Refusal.{Refusal}
-use Rattle.xxhsum_line.specs.Entry.{Says, SaysNothing}
+use Rattle.xxhsum_line.specs.Entry.{Says, SaysNothing, is_comment}
 use Rattle.xxh_io.specs.declared.kind.Kind.{Kind}
 use Rattle.xxhsum_program.specs.declared.check.Report.{Report}
 use Rattle.xxhsum_program.specs.declared.entry.Found.{Found}
 use Rattle.xxhsum_program.specs.declared.entry.Found.TheVariants.{Same, Different, Unread}
 use Rattle.xxhsum_program.specs.Found.{IsFound}
 
--- a line says nothing, or names a file that was found like this
+-- a line is a comment, or malformed, or names a file that was found like this
 pub data Finding : Type 0 where
+  Ignored : Finding
   Improper : Finding
   Proper : List ℕ → Found → Finding
 
 -- what is found of a line
 abbrev pub IsFinding : {S F : Type 0} → (S → List ℕ → F → Type 0) → (S → List ℕ → Refusal → Type 0) → Step F
     → Failing F → S → Bool → List ℕ → Finding → Type 0
+IsFinding opens refuses gives fails store is_little line Ignored = is_comment line ≡ true
 IsFinding opens refuses gives fails store is_little line Improper = SaysNothing is_little line
 IsFinding opens refuses gives fails store is_little line (Proper name found) =
     (kind : Kind) × (value : ℕ) × Says is_little line kind value name
@@ -32,9 +34,14 @@ count_found report Same = report
 count_found report Different = record report { different = one_more report.different }
 count_found report (Unread reason) = record report { unread = one_more report.unread }
 
+abbrev pub count_proper : Report → Found → Report
+count_proper report found = count_found (record report { proper = one_more report.proper }) found
+
+-- a comment is counted as nothing
 abbrev pub count_one : Report → Finding → Report
+count_one report Ignored = report
 count_one report Improper = record report { improper = one_more report.improper }
-count_one report (Proper name found) = count_found (record report { proper = one_more report.proper }) found
+count_one report (Proper name found) = count_proper report found
 
 -- ---- a report of all
 

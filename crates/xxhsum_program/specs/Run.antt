@@ -15,7 +15,7 @@ use Rattle.xxhsum_program.specs.HashNames.{SaysInput, SaysNames}
 use Rattle.xxhsum_program.specs.declared.watched.Watched.{Watched}
 use Rattle.xxhsum_program.specs.declared.watched.WatchedFiles.{WatchedFiles}
 use Rattle.xxhsum_program.specs.Progress.{cleared, is_shown}
-use Rattle.xxhsum_program.specs.Task.{IsProgram, Reads, Task, Tells, task_of}
+use Rattle.xxhsum_program.specs.Task.{IsProgram, Reads, Task, Tells, has_none, task_of}
 use Rattle.xxhsum_program.specs.Told.{TellsOn}
 use Rattle.xxhsum_program.specs.Watched.{IsFresh, files_of, meter_of, shows_reads, source_of}
 
@@ -26,40 +26,52 @@ shape_of options = record { is_tagged = options.is_tagged; is_little = options.i
 abbrev pub input_name : List ℕ
 input_name = codes "stdin"
 
--- names that were all digested leave an empty line for progress, but where all is to be quiet
+-- an empty line where progress may have stood, but where all is to be quiet
+abbrev pub cleared_line : Options → List ℕ
+cleared_line options = if options.is_quiet then [] else cleared 67108864
+
 abbrev pub line_behind : Options → Result Bool Stop → List ℕ
-line_behind options (Ok all) = if options.is_quiet then [] else cleared 67108864
+line_behind options (Ok all) = cleared_line options
 line_behind options (Err stop) = []
 
--- by whether lists are checked, and the names: without one, standard input is read
-abbrev pub PerformsAs : {S F R W E : Type 0} → (S → List ℕ → F → Type 0) → (S → List ℕ → Refusal → Type 0)
-    → (S → List ℕ → Bool → Type 0) → Step F → Failing F → (F → Bool) → Step R → Failing R → (R → Bool)
-    → Step W → Failing W → (W → Bool) → Step E → Failing E → (E → Bool) → S → Options → R → W → W → E → E
-    → Result Bool Stop → Bool → List (List ℕ) → Type 0
-PerformsAs opens refuses holds_directory gives fails has_failed r_gives r_fails r_failed takes w_refuses w_failed e_takes
-    e_refuses e_failed store options source w_old w_new e_old e_new result true [] =
-    SaysList (IsFinding opens refuses gives fails store options.is_little_endian) r_gives r_fails r_failed takes w_refuses
-    w_failed e_takes e_refuses e_failed options input_name source w_old w_new e_old e_new result
-PerformsAs opens refuses holds_directory gives fails has_failed r_gives r_fails r_failed takes w_refuses w_failed e_takes
-    e_refuses e_failed store options source w_old w_new e_old e_new result true (name ∷ names) =
-    SaysLists (IsFinding opens refuses gives fails store options.is_little_endian) opens refuses gives fails has_failed
-    takes w_refuses w_failed e_takes e_refuses e_failed store options (name ∷ names) w_old w_new e_old e_new result
-PerformsAs {S} {F} {R} opens refuses holds_directory gives fails has_failed r_gives r_fails r_failed takes w_refuses w_failed
-    e_takes e_refuses e_failed store options source w_old w_new e_old e_new result false [] =
-    (end : R) × SaysInput r_gives r_fails takes w_refuses e_takes e_refuses e_failed options.kind (shape_of options)
-    input_name source end w_old w_new e_old e_new result
-PerformsAs {S} {F} {R} {W} {E} opens refuses holds_directory gives fails has_failed r_gives r_fails r_failed takes w_refuses
-    w_failed e_takes e_refuses e_failed store options source w_old w_new e_old e_new result false (name ∷ names) =
+-- the names have their outcomes, and an empty line is behind them
+abbrev pub HashesAll : {S F W E : Type 0} → (S → List ℕ → F → Type 0) → (S → List ℕ → Refusal → Type 0)
+    → (S → List ℕ → Bool → Type 0) → Step F → Failing F → Step W → Failing W → Step E → Failing E → (E → Bool)
+    → S → Options → List (List ℕ) → W → W → E → E → Result Bool Stop → Type 0
+HashesAll {S} {F} {W} {E} opens refuses holds_directory gives fails takes w_refuses e_takes e_refuses e_failed store options
+    names w_old w_new e_old e_new result =
     (told : E) × SaysNames opens refuses holds_directory gives fails takes w_refuses e_takes e_refuses e_failed store
-    options.kind (shape_of options) (name ∷ names) w_old w_new e_old told result
+    options.kind (shape_of options) names w_old w_new e_old told result
     × TellsOn e_takes e_refuses e_failed (line_behind options result) told e_new
 
+-- by whether lists are checked, and whether there is no name: then standard input is read
+unfoldable pub PerformsAs : {S F R W E : Type 0} → (S → List ℕ → F → Type 0) → (S → List ℕ → Refusal → Type 0)
+    → (S → List ℕ → Bool → Type 0) → Step F → Failing F → (F → Bool) → Step R → Failing R → (R → Bool)
+    → Step W → Failing W → (W → Bool) → Step E → Failing E → (E → Bool) → S → Options → List (List ℕ) → R
+    → W → W → E → E → Result Bool Stop → Bool → Bool → Type 0
+PerformsAs {S} {F} {R} {W} {E} opens refuses holds_directory gives fails has_failed r_gives r_fails r_failed takes w_refuses w_failed
+    e_takes e_refuses e_failed store options names source w_old w_new e_old e_new result true true =
+    SaysList (IsFinding opens refuses gives fails store options.is_little_endian) r_gives r_fails r_failed takes w_refuses
+    w_failed e_takes e_refuses e_failed options input_name source w_old w_new e_old e_new result
+PerformsAs {S} {F} {R} {W} {E} opens refuses holds_directory gives fails has_failed r_gives r_fails r_failed takes w_refuses w_failed
+    e_takes e_refuses e_failed store options names source w_old w_new e_old e_new result true false =
+    SaysLists (IsFinding opens refuses gives fails store options.is_little_endian) opens refuses gives fails has_failed
+    takes w_refuses w_failed e_takes e_refuses e_failed store options names w_old w_new e_old e_new result
+PerformsAs {S} {F} {R} {W} {E} opens refuses holds_directory gives fails has_failed r_gives r_fails r_failed takes w_refuses w_failed
+    e_takes e_refuses e_failed store options names source w_old w_new e_old e_new result false true =
+    (end : R) × SaysInput r_gives r_fails takes w_refuses e_takes e_refuses e_failed options.kind (shape_of options)
+    input_name source end w_old w_new e_old e_new result
+PerformsAs {S} {F} {R} {W} {E} opens refuses holds_directory gives fails has_failed r_gives r_fails r_failed takes w_refuses w_failed
+    e_takes e_refuses e_failed store options names source w_old w_new e_old e_new result false false =
+    HashesAll opens refuses holds_directory gives fails takes w_refuses e_takes e_refuses e_failed store options names
+    w_old w_new e_old e_new result
+
 -- the same over files and an input that are watched, whose reads are shown or not
-abbrev pub PerformsWatched : {S F R W E T M : Type 0} → (S → List ℕ → F → Type 0) → (S → List ℕ → Refusal → Type 0)
+unfoldable pub PerformsWatched : {S F R W E : Type 0} → (T M : Type 0) → (S → List ℕ → F → Type 0) → (S → List ℕ → Refusal → Type 0)
     → (S → List ℕ → Bool → Type 0) → Step F → Failing F → (F → Bool) → Step R → Failing R → (R → Bool)
     → Step W → Failing W → (W → Bool) → Step E → Failing E → (E → Bool) → S → R → W → W → E → E
     → Result Bool Stop → Options → List (List ℕ) → Bool → Type 0
-PerformsWatched {S} {F} {R} {W} {E} {T} {M} opens refuses holds_directory gives fails has_failed r_gives r_fails r_failed
+PerformsWatched {S} {F} {R} {W} {E} T M opens refuses holds_directory gives fails has_failed r_gives r_fails r_failed
     takes w_refuses w_failed e_takes e_refuses e_failed store input w_old w_new e_old e_new result options names shows =
     (files : WatchedFiles S T) × (source : Watched R M) × (files_of files ≡ store) × (shows_reads files ≡ shows)
     × (source_of source ≡ input) × (is_shown (meter_of source) ≡ shows)
@@ -70,8 +82,8 @@ PerformsWatched {S} {F} {R} {W} {E} {T} {M} opens refuses holds_directory gives 
     (λ watched. has_failed (source_of watched))
     (λ old piece new. r_gives (source_of old) piece (source_of new))
     (λ old new. r_fails (source_of old) (source_of new)) (λ watched. r_failed (source_of watched))
-    takes w_refuses w_failed e_takes e_refuses e_failed files options source w_old w_new e_old e_new result
-    options.checks names
+    takes w_refuses w_failed e_takes e_refuses e_failed files options names source w_old w_new e_old e_new
+    result options.checks (has_none names)
 
 -- a text is told, or files are read as `performs` says
 abbrev pub DoesTask : {W E : Type 0} → (Options → List (List ℕ) → Bool → Type 0) → Step E → Failing E → (E → Bool)

@@ -4,11 +4,12 @@ use Rattle.std.specs.Prelude.{ℕ, ◌+◌, Bool, List, [], ◌∷◌, ◌++◌,
 use Rattle.std.specs.List.{concat}
 use Rattle.xxhsum_files.specs.declared.refusal.Refusal.{Refusal}
 use Rattle.xxhsum_files.specs.Refusal.{refusal_text}
+use Rattle.xxhsum_line.specs.Escapes.{escaped, mark_of}
 use Rattle.xxhsum_words.specs.declared.options.Options.{Options}
 use Rattle.xxhsum_program.specs.declared.check.Report.{Report}
 use Rattle.xxhsum_program.specs.declared.entry.Found.{Found}
 use Rattle.xxhsum_program.specs.declared.entry.Found.TheVariants.{Same, Different, Unread}
-use Rattle.xxhsum_program.specs.Findings.{Finding, Improper, Proper, report_of}
+use Rattle.xxhsum_program.specs.Findings.{Finding, Ignored, Improper, Proper, report_of}
 use Rattle.xxhsum_program.specs.ListEnd.{ListEnd, Whole, TooMany, LongLine, FailedRead, report_at}
 use Rattle.xxhsum_program.specs.Outcomes.{reason_text}
 
@@ -19,22 +20,32 @@ abbrev pub told_of_line : List ℕ → ℕ → List ℕ → List ℕ
 told_of_line list number what =
     concat (list ∷ codes ":" ∷ decimal number ∷ codes ": Error: " ∷ what ∷ codes ".\n" ∷ [])
 
+-- a word of the file of this name, which stands as lists have it
+abbrev pub named_text : List ℕ → List ℕ → List ℕ
+named_text name word = mark_of name ++ escaped name ++ word
+
+-- why the file of a line could not be read
+abbrev pub unread_text : List ℕ → ℕ → List ℕ → List ℕ → List ℕ
+unread_text list number name why =
+    concat (list ∷ codes ":" ∷ decimal number ∷ codes ": Could not open or read '" ∷ name ∷ codes "': " ∷ why
+    ∷ codes ".\n" ∷ [])
+
 -- "OK" exactly where the file has the line's value
 abbrev pub found_text : Bool → List ℕ → ℕ → List ℕ → Found → List ℕ
-found_text is_quiet list number name Same = if is_quiet then [] else concat (name ∷ codes ": OK\n" ∷ [])
-found_text is_quiet list number name Different = concat (name ∷ codes ": FAILED\n" ∷ [])
-found_text is_quiet list number name (Unread reason) =
-    concat (list ∷ codes ":" ∷ decimal number ∷ codes ": Could not open or read '" ∷ name ∷ codes "': "
-    ∷ reason_text reason ∷ codes ".\n" ∷ [])
+found_text is_quiet list number name Same = if is_quiet then [] else named_text name (codes ": OK\n")
+found_text is_quiet list number name Different = named_text name (codes ": FAILED\n")
+found_text is_quiet list number name (Unread reason) = unread_text list number name (reason_text reason)
 
 -- what is printed of a line
 abbrev pub printed_finding : Options → List ℕ → ℕ → Finding → List ℕ
+printed_finding options list number Ignored = []
 printed_finding options list number Improper = []
 printed_finding options list number (Proper name found) =
     if options.is_status_only then [] else found_text options.is_quiet list number name found
 
 -- what is told of a line
 abbrev pub told_finding : Options → List ℕ → ℕ → Finding → List ℕ
+told_finding options list number Ignored = []
 told_finding options list number Improper =
     if options.warns then told_of_line list number (codes "Improperly formatted checksum line") else []
 told_finding options list number (Proper name found) = []

@@ -2,7 +2,7 @@
 use Rattle.std.specs.Prelude.{◌≡◌, ◌⊎◌, ℕ, Bool, true, false, ◌&&◌, not, List, [], ◌∷◌, codes, drop, length, nat_eq, if◌then◌else◌}
 use Rattle.std.specs.List.{concat}
 use Rattle.xxhsum_program.specs.declared.process.Terminals.{Terminals}
-use Rattle.xxhsum_program.specs.declared.TheConstants.{ABOUT, NO_BENCHMARK, OPTIONS, TITLE}
+use Rattle.xxhsum_program.specs.declared.usage.TheConstants.{ABOUT, NO_BENCHMARK, OPTIONS, TITLE}
 use Rattle.xxhsum_program.specs.Arguments.{IsLastPart}
 use Rattle.xxhsum_words.specs.Name.{kind_of_program}
 use Rattle.xxhsum_words.specs.Options.{asked_of}
@@ -29,21 +29,37 @@ usage_text before program =
 abbrev pub shows_progress : Terminals → Options → Bool
 shows_progress terminals options = terminals.errors && not options.is_quiet && not options.is_status_only
 
+abbrev pub has_none : List (List ℕ) → Bool
+has_none names = nat_eq (length names) 0
+
 -- with no name the input is read, which is no terminal unless that is asked for
 abbrev pub waits_for_terminal : Terminals → Options → List (List ℕ) → Bool
 waits_for_terminal terminals options names =
-    nat_eq (length names) 0 && not options.takes_terminal && terminals.input
+    has_none names && not options.takes_terminal && terminals.input
+
+-- what is told where no run is asked for, and whether all is well then
+abbrev pub answer_text : List ℕ → Asked → List ℕ
+answer_text program Version = concat (program ∷ TITLE.now ∷ [])
+answer_text program Help = usage_text [] program
+answer_text program Benchmark = concat (program ∷ NO_BENCHMARK.now ∷ [])
+answer_text program BadUsage = usage_text (codes "Wrong parameters\n\n") program
+answer_text program (Run options from) = usage_text (codes "Wrong parameters\n\n") program
+answer_text program NumberTooLarge = codes "Error: numeric value too large \n"
+
+abbrev pub is_well : Asked → Bool
+is_well Version = true
+is_well Help = true
+is_well Benchmark = false
+is_well BadUsage = false
+is_well (Run options from) = false
+is_well NumberTooLarge = false
 
 abbrev pub task_asked : Terminals → List ℕ → List (List ℕ) → Asked → Task
 task_asked terminals program words (Run options from) =
     if waits_for_terminal terminals options (drop from words)
-    then Tells (usage_text (codes "Wrong parameters\n\n") program) false
+    then Tells (answer_text program BadUsage) false
     else Reads options (drop from words) (shows_progress terminals options)
-task_asked terminals program words Version = Tells (concat (program ∷ TITLE.now ∷ [])) true
-task_asked terminals program words Help = Tells (usage_text [] program) true
-task_asked terminals program words Benchmark = Tells (concat (program ∷ NO_BENCHMARK.now ∷ [])) false
-task_asked terminals program words BadUsage = Tells (usage_text (codes "Wrong parameters\n\n") program) false
-task_asked terminals program words NumberTooLarge = Tells (codes "Error: numeric value too large \n") false
+task_asked terminals program words asked = Tells (answer_text program asked) (is_well asked)
 
 -- the task of the words behind the program's name
 abbrev pub task_of : Terminals → List ℕ → List (List ℕ) → Task

@@ -1,12 +1,12 @@
 //! Lists of checksum lines, and whether their files are as the lines say.
 
-ghost use Rattle.std.specs.Prelude.{◌≡◌, ◌++◌, ◌<◌, Bool, List, ℕ, Option, Result, false, length, map, IfErr, IfOk, OnErr, OnOk};
-ghost use Rattle.xxhsum_program.specs.CheckList.{AnswersList, AnswersOutcome, FindsLines, IsListOutcome, ListOutcome, ReportsLines, SaysList, SaysLists, printed_outcome, told_outcome};
-ghost use Rattle.xxhsum_program.specs.Findings.{Finding, IsFinding, count_one, no_findings, with_broken_end};
+ghost use Rattle.std.specs.Prelude.{◌≡◌, ◌<◌, List, Option, false, length, map, nat_eq, IfErr, IfOk, if◌then◌else◌};
+ghost use Rattle.xxhsum_program.specs.CheckList.{AnswersList, AnswersOutcome, ChecksLine, FindsLines, IsListOutcome, ListOutcome, ReportsLines, SaysList, SaysLists, printed_outcome, told_outcome};
+ghost use Rattle.xxhsum_program.specs.Findings.{Finding, Improper, IsFinding, count_one, count_proper, no_findings, with_broken_end};
 ghost use Rattle.xxhsum_program.specs.Lines.{PrintsLine, PrintsLines};
-ghost use Rattle.xxhsum_program.specs.ListEnd.{ListEnd};
+ghost use Rattle.xxhsum_program.specs.ListEnd.{FailedRead, ListEnd};
 ghost use Rattle.xxhsum_program.specs.Report.{is_good};
-ghost use Rattle.xxhsum_program.specs.Said.{count_text, found_text, numbered, printed_finding, printed_list, printed_summary, told_finding, told_lines, told_list, told_of_line, told_summary};
+ghost use Rattle.xxhsum_program.specs.Said.{count_text, found_text, named_text, numbered, printed_finding, printed_list, printed_summary, told_break, told_finding, told_lines, told_list, told_of_line, told_summary, unread_text};
 ghost use Rattle.xxhsum_program.specs.Told.{TellsOn};
 
 use crate::entry::{Found, compare};
@@ -19,7 +19,8 @@ use itoa::Buffer;
 use std::alloc::Global;
 use xxh_io::ends::{Sink, Source};
 use xxhsum_files::store::Store;
-use xxhsum_line::entry::entry_of;
+use xxhsum_line::entry::{Meaning, meaning_of};
+use xxhsum_line::escapes::{put_escaped, put_mark};
 use xxhsum_words::options::Options;
 
 /// What was found in a list: how many of its lines are of each kind.
@@ -27,7 +28,7 @@ use xxhsum_words::options::Options;
 pub struct Report {
     /// Lines that name a value and a file.
     pub proper: u64,
-    /// Other lines.
+    /// Other lines that are no comments.
     pub improper: u64,
     /// Proper lines whose file could not be opened, or not be read to its end.
     pub unread: u64,
@@ -48,6 +49,18 @@ impl Report {
             unread: 0,
             different: 0,
             is_broken: false,
+        }
+    }
+
+    // Counts a proper line by how its file is.
+    fn count(&mut self, found: &Found)
+        ensures { self.new ≡ count_proper self.old found.now }
+    {
+        self.proper = self.proper.saturating_add(1);
+        match found {
+            Found::Same => {}
+            Found::Different => self.different = self.different.saturating_add(1),
+            Found::Unread(_) => self.unread = self.unread.saturating_add(1),
         }
     }
 
@@ -76,14 +89,14 @@ impl Report {
 
 // A list that is checked.
 #[derive(Clone, Copy)]
-struct List<'a, S> {
+struct ListCheck<'a, S> {
     alloc: Global,
     store: &'a S,
     options: Options,
     name: &'a [u8],
 }
 
-impl<S: Store> List<'_, S> {
+impl<S: Store> ListCheck<'_, S> {
     // Checks the lines of a source, and says what was found of them.
     fn check<R: Source + Drop, W: Sink, E: Sink>(
         &self,
@@ -135,13 +148,11 @@ impl<S: Store> List<'_, S> {
             match lines.next() {
                 Next::End => return Ok(report),
                 Next::Failed => {
-                    if report.proper != 0 {
-                        self.tell_of_line(number, b"A failure occurred reading the list", err);
-                    }
+                    self.tell_of_failure(number, &report, err);
                     return Ok(report.with_broken_end());
                 }
                 Next::TooLong => {
-                    self.tell_of_line(number, b"Line too long", err);
+                    tell_of_line(self.name, number, b"Line too long", err);
                     return Ok(report.with_broken_end());
                 }
                 Next::Line => {
@@ -152,7 +163,7 @@ impl<S: Store> List<'_, S> {
         Ok(report)
     }
 
-    // Compares what the line says with its file, counts it, and says how it is.
+    // Compares what the line says with its file, counts it, and says how it is. A comment is counted as nothing.
     fn check_line<W: Sink, E: Sink>(
         &self,
         line: &[u8],
@@ -164,35 +175,39 @@ impl<S: Store> List<'_, S> {
     ) -> Result<(), Stop>
         requires room { 0 < length buf.old }
         requires writer { W.has_failed out.old ≡ false }
-        ensures checks { (finding : Finding)
-            × IsFinding S.opens S.refuses S.File.gives S.File.fails self.now.store.now
-            self.now.options.is_little_endian line.now finding
-            × (report.new ≡ count_one report.old finding)
-            × PrintsLine W.takes W.refuses
-            (printed_finding self.now.options self.now.name.now number finding) out.old out.new result
-            × TellsOn E.takes E.refuses E.has_failed
-            (told_finding self.now.options self.now.name.now number finding) err.old err.new }
+        ensures checks { ChecksLine
+            (IsFinding S.opens S.refuses S.File.gives S.File.fails self.now.store.now
+            self.now.options.is_little_endian line.now)
+            W.takes W.refuses E.takes E.refuses E.has_failed self.now.options self.now.name.now number
+            report.old report.new out.old out.new err.old err.new result }
         ensures works { IfOk result (λ _. W.has_failed out.new ≡ false) }
-        ensures silent { OnErr result (err.new ≡ err.old) }
     {
-        let Some(entry) = entry_of(line, self.options.is_little_endian) else {
-            report.improper = report.improper.saturating_add(1);
-            if self.options.warns {
-                self.tell_of_line(number, b"Improperly formatted checksum line", err);
+        let entry = match meaning_of(self.alloc, line, self.options.is_little_endian)? {
+            Meaning::Entry(entry) => entry,
+            Meaning::Comment => return Ok(()),
+            Meaning::Malformed => {
+                self.count_improper(number, report, err);
+                return Ok(());
             }
-            return Ok(());
         };
-        report.proper = report.proper.saturating_add(1);
         let found = compare(self.store, &entry, buf);
-        match found {
-            Found::Same => {}
-            Found::Different => report.different = report.different.saturating_add(1),
-            Found::Unread(_) => report.unread = report.unread.saturating_add(1),
-        }
+        report.count(&found);
         if self.options.is_status_only {
             return Ok(());
         }
-        self.say_found(number, entry.name, &found, out)
+        self.say_found(number, &entry.name, &found, out)
+    }
+
+    // Counts a line that is malformed, and tells it where that is asked for.
+    fn count_improper<E: Sink>(&self, number: u64, report: &mut Report, err: &mut E)
+        ensures counts { report.new ≡ count_one report.old Improper }
+        ensures tells { TellsOn E.takes E.refuses E.has_failed
+            (told_finding self.now.options self.now.name.now number Improper) err.old err.new }
+    {
+        report.improper = report.improper.saturating_add(1);
+        if self.options.warns {
+            tell_of_line(self.name, number, b"Improperly formatted checksum line", err);
+        }
     }
 
     // Says how the file of the line of this number is.
@@ -211,40 +226,23 @@ impl<S: Store> List<'_, S> {
     {
         match found {
             Found::Same if self.options.is_quiet => Ok(()),
-            Found::Same => say(self.alloc, &[name, b": OK\n"], out),
-            Found::Different => say(self.alloc, &[name, b": FAILED\n"], out),
+            Found::Same => say_named(self.alloc, name, b": OK\n", out),
+            Found::Different => say_named(self.alloc, name, b": FAILED\n", out),
             Found::Unread(reason) => {
-                let mut digits = Buffer::new();
-                let parts: [&[u8]; 8] = [
-                    self.name,
-                    b":",
-                    digits.format(number).as_bytes(),
-                    b": Could not open or read '",
-                    name,
-                    b"': ",
-                    reason.text(),
-                    b".\n",
-                ];
-                say(self.alloc, &parts, out)
+                say_unread(self.alloc, self.name, number, name, reason.text(), out)
             }
         }
     }
 
-    // Tells what is wrong with the line of this number.
-    fn tell_of_line<E: Sink>(&self, number: u64, what: &[u8], err: &mut E)
-        ensures { TellsOn E.takes E.refuses E.has_failed (told_of_line self.now.name.now number what.now)
-            err.old err.new }
+    // Tells that the list could not be read on. Where it has no proper line so far, that is told at its end.
+    fn tell_of_failure<E: Sink>(&self, number: u64, report: &Report, err: &mut E)
+        ensures { TellsOn E.takes E.refuses E.has_failed
+            (told_break self.now.name.now number report.now FailedRead) err.old err.new }
     {
-        let mut digits = Buffer::new();
-        let parts: [&[u8]; 6] = [
-            self.name,
-            b":",
-            digits.format(number).as_bytes(),
-            b": Error: ",
-            what,
-            b".\n",
-        ];
-        tell_parts(&parts, err);
+        if report.proper == 0 {
+            return;
+        }
+        tell_of_line(self.name, number, b"A failure occurred reading the list", err);
     }
 
     // Says how many lines are not as they should be, or that there is no list.
@@ -296,6 +294,60 @@ impl<S: Store> List<'_, S> {
     }
 }
 
+// Says a word of the file of this name, which stands as lists have it.
+fn say_named<W: Sink>(alloc: Global, name: &[u8], word: &[u8], out: &mut W) -> Result<(), Stop>
+    requires { W.has_failed out.old ≡ false }
+    ensures prints { PrintsLine W.takes W.refuses (named_text name.now word.now)
+        out.old out.new result }
+    ensures works { IfOk result (λ _. W.has_failed out.new ≡ false) }
+{
+    let mut line = Vec::new(alloc);
+    put_mark(&mut line, name)?;
+    put_escaped(&mut line, name)?;
+    line.extend_from_slice(word)?;
+    print(&line, out)
+}
+
+// Says why the file of the line of this number in this list could not be read.
+fn say_unread<'a, W: Sink>(
+    alloc: Global,
+    list: &'a [u8],
+    number: u64,
+    name: &'a [u8],
+    why: &'a [u8],
+    out: &mut W,
+) -> Result<(), Stop>
+    requires { W.has_failed out.old ≡ false }
+    ensures prints { PrintsLine W.takes W.refuses
+        (unread_text list.now number name.now why.now) out.old out.new result }
+    ensures works { IfOk result (λ _. W.has_failed out.new ≡ false) }
+{
+    let mut digits = Buffer::new();
+    let digits = digits.format(number).as_bytes();
+    let parts: [&[u8]; 8] = [
+        list,
+        b":",
+        digits,
+        b": Could not open or read '",
+        name,
+        b"': ",
+        why,
+        b".\n",
+    ];
+    say(alloc, &parts, out)
+}
+
+// Tells what is wrong with the line of this number in this list.
+fn tell_of_line<'a, E: Sink>(list: &'a [u8], number: u64, what: &'a [u8], err: &mut E)
+    ensures { TellsOn E.takes E.refuses E.has_failed (told_of_line list.now number what.now)
+        err.old err.new }
+{
+    let mut digits = Buffer::new();
+    let digits = digits.format(number).as_bytes();
+    let parts: [&[u8]; 6] = [list, b":", digits, b": Error: ", what, b".\n"];
+    tell_parts(&parts, err);
+}
+
 // Says how many there are, in the singular or the plural, where there are any.
 fn say_count<W: Sink>(count: u64, one: &[u8], more: &[u8], out: &mut W) -> Result<(), Stop>
     requires { W.has_failed out.old ≡ false }
@@ -308,7 +360,13 @@ fn say_count<W: Sink>(count: u64, one: &[u8], more: &[u8], out: &mut W) -> Resul
         return Ok(());
     }
     print(Buffer::new().format(count).as_bytes(), out)?;
-    print(if count == 1 { one } else { more }, out)
+    print(word_for(count, one, more), out)
+}
+
+fn word_for<'a>(count: u64, one: &'a [u8], more: &'a [u8]) -> &'a [u8]
+    ensures { result.now ≡ (if nat_eq count 1 then one.now else more.now) }
+{
+    if count == 1 { one } else { more }
 }
 
 /// Checks the lines of a list, which is told by this name: says for each proper line how its file is, and at the end
@@ -336,7 +394,7 @@ pub fn check_list<S: Store, R: Source + Drop, W: Sink, E: Sink>(
     if out.failed() {
         return Err(Stop::WriteFailed);
     }
-    let list = List {
+    let list = ListCheck {
         alloc,
         store,
         options,
@@ -368,7 +426,7 @@ fn check_named<S: Store, W: Sink, E: Sink>(
 {
     match store.open(name) {
         Ok(file) => {
-            let list = List {
+            let list = ListCheck {
                 alloc,
                 store,
                 options,

@@ -19,12 +19,12 @@ pub(crate) enum Found {
 }
 
 // Hashes the file that the line names, with reads that are offered the whole buffer.
-pub(crate) fn compare<S: Store>(store: &S, entry: &Entry<'_>, buf: &mut [u8]) -> Found
+pub(crate) fn compare<S: Store>(store: &S, entry: &Entry, buf: &mut [u8]) -> Found
     requires { 0 < length buf.old }
     ensures { IsFound S.opens S.refuses S.File.gives S.File.fails store.now entry.now.kind
-        entry.now.value entry.now.name.now result }
+        entry.now.value entry.now.name.items result }
 {
-    match value_named(store, entry.kind, entry.name, buf) {
+    match value_named(store, entry.kind, &entry.name, buf) {
         Ok(value) if value == entry.value => Found::Same,
         Ok(_) => Found::Different,
         Err(reason) => Found::Unread(reason),

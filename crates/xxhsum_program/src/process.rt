@@ -2,8 +2,8 @@
 
 ghost use Rattle.std.specs.Prelude.{◌≡◌, false, Bool, List, ℕ, Option, Result, drop, map, IfSome};
 ghost use Rattle.xxhsum_program.specs.Arguments.{AreArguments};
-ghost use Rattle.xxhsum_program.specs.Run.{DoesArguments, DoesTask, PerformsAs, PerformsWatched, end_text, status_of, stop_text};
-ghost use Rattle.xxhsum_program.specs.Task.{IsProgram, task_of, usage_text, waits_for_terminal};
+ghost use Rattle.xxhsum_program.specs.Run.{DoesArguments, DoesTask, HashesAll, PerformsAs, PerformsWatched, cleared_line, end_text, shape_of, status_of, stop_text};
+ghost use Rattle.xxhsum_program.specs.Task.{IsProgram, answer_text, has_none, is_well, shows_progress, task_of, usage_text, waits_for_terminal};
 ghost use Rattle.xxhsum_program.specs.Told.{TellsOn};
 ghost use Rattle.xxhsum_program.specs.declared.stop.Stop.{Stop};
 ghost use Rattle.xxh_io.specs.declared.from_write.FromWrite.{FromWrite};
@@ -62,7 +62,7 @@ where
     requires writer { W.has_failed out.old ≡ false }
     ensures { (args : Option (List (List ℕ))) × (done : Result Bool Stop) × (told : E)
         × IfSome args (AreArguments A.holds A.ends arguments.now)
-        × DoesArguments (PerformsWatched {T = T} {M = FromWrite T} S.opens S.refuses S.holds_directory
+        × DoesArguments (PerformsWatched T (FromWrite T) S.opens S.refuses S.holds_directory
         S.File.gives S.File.fails S.File.has_failed R.gives R.fails R.has_failed
         W.takes W.refuses W.has_failed E.takes E.refuses E.has_failed store.now input
         out.old out.new err.old told done)
@@ -70,11 +70,13 @@ where
         × TellsOn E.takes E.refuses E.has_failed (end_text done) told err.new
         × (result ≡ status_of done) }
 {
-    let done = match all_arguments(alloc, arguments) {
-        Ok(args) => run_words(alloc, &args, store, terminals, input, out, err, screen),
-        Err(AllocError) => Err(Stop::OutOfMemory),
-    };
-    conclude(done, err)
+    match all_arguments(alloc, arguments) {
+        Ok(args) => {
+            let done = run_words(alloc, &args, store, terminals, input, out, err, screen);
+            conclude(done, err)
+        }
+        Err(AllocError) => conclude(Err(Stop::OutOfMemory), err),
+    }
 }
 
 // Does what the words behind the program's name ask for. Answers whether all went well.
@@ -98,33 +100,83 @@ where
     requires writer { W.has_failed out.old ≡ false }
     ensures { let arguments = map (λ argument. argument.items) args.now in (program : List ℕ)
         × IsProgram arguments program
-        × DoesTask (PerformsWatched {T = T} {M = FromWrite T} S.opens S.refuses S.holds_directory
+        × DoesTask (PerformsWatched T (FromWrite T) S.opens S.refuses S.holds_directory
         S.File.gives S.File.fails S.File.has_failed R.gives R.fails R.has_failed
         W.takes W.refuses W.has_failed E.takes E.refuses E.has_failed store.now input
         out.old out.new err.old err.new result)
         E.takes E.refuses E.has_failed (task_of terminals program (drop 1 arguments))
         out.old out.new err.old err.new result }
 {
-    let (program, words) = match args.split_first() {
-        Some((first, rest)) => (last_part(first), rest),
-        None => (b"xxhsum".as_slice(), args),
-    };
-    let good = match asked_by(default_kind(program), words) {
+    let program = program_of(args);
+    let words = words_of(args);
+    let asked = asked_by(default_kind(program), words);
+    match asked {
         Asked::Run {
             options,
-            names_from,
+            names_from: place,
         } => {
-            let names = words.get(names_from..).unwrap_or(&[]);
-            if !waits_for_terminal(terminals, options, names) {
-                let shows = terminals.errors && !options.is_quiet && !options.is_status_only;
-                let files = WatchedFiles::new(store, screen, shows);
-                let meter = Meter::new(FromWrite::new(screen), shows);
-                let input = Watched::new(input, meter);
-                return perform(alloc, &files, options, names, input, out, err);
+            let names = names_from(words, place);
+            if waits_for_terminal(terminals, options, names) {
+                return Ok(tell_answer(program, Asked::BadUsage, err));
             }
-            tell_usage(program, b"Wrong parameters\n\n", err);
-            false
+            let shows = shows_progress(terminals, options);
+            perform_watched(alloc, store, options, names, shows, input, out, err, screen)
         }
+        _ => Ok(tell_answer(program, asked, err)),
+    }
+}
+
+// The name by which the program was called.
+fn program_of(args: &[Vec<u8>]) -> &[u8]
+    ensures { IsProgram (map (λ argument. argument.items) args.now) result.now }
+{
+    match args.split_first() {
+        Some((path, _)) => last_part(path),
+        None => b"xxhsum",
+    }
+}
+
+// The words behind the program's name.
+fn words_of(args: &[Vec<u8>]) -> &[Vec<u8>]
+    ensures { map (λ word. word.items) result.now ≡ drop 1 (map (λ argument. argument.items) args.now) }
+{
+    match args.split_first() {
+        Some((_, words)) => words,
+        None => args,
+    }
+}
+
+// The names from this place on.
+fn names_from(words: &[Vec<u8>], place: usize) -> &[Vec<u8>]
+    ensures { map (λ name. name.items) result.now ≡ drop place (map (λ word. word.items) words.now) }
+{
+    match words.get(place..) {
+        Some(names) => names,
+        None => &[],
+    }
+}
+
+// Whether progress is to be shown.
+fn shows_progress(terminals: Terminals, options: Options) -> bool
+    ensures { result ≡ shows_progress terminals options }
+{
+    terminals.errors && !options.is_quiet && !options.is_status_only
+}
+
+// Whether standard input would be read from a terminal that nobody asked for.
+fn waits_for_terminal(terminals: Terminals, options: Options, names: &[Vec<u8>]) -> bool
+    ensures { result ≡ waits_for_terminal terminals options (map (λ name. name.items) names.now) }
+{
+    has_none(names) && !options.takes_terminal && terminals.input
+}
+
+// Tells what is asked for where that is no run, and answers whether all is well.
+fn tell_answer<E: Sink>(program: &[u8], asked: Asked, err: &mut E) -> bool
+    ensures well { result ≡ is_well asked }
+    ensures tells { TellsOn E.takes E.refuses E.has_failed (answer_text program.now asked)
+        err.old err.new }
+{
+    match asked {
         Asked::Version => {
             tell_parts(&[program, TITLE], err);
             true
@@ -137,7 +189,7 @@ where
             tell_parts(&[program, NO_BENCHMARK], err);
             false
         }
-        Asked::BadUsage => {
+        Asked::BadUsage | Asked::Run { .. } => {
             tell_usage(program, b"Wrong parameters\n\n", err);
             false
         }
@@ -145,19 +197,11 @@ where
             tell(b"Error: numeric value too large \n", err);
             false
         }
-    };
-    Ok(good)
-}
-
-// Whether standard input would be read from a terminal that nobody asked for.
-fn waits_for_terminal(terminals: Terminals, options: Options, names: &[Vec<u8>]) -> bool
-    ensures { result ≡ waits_for_terminal terminals options (map (λ name. name.items) names.now) }
-{
-    names.is_empty() && !options.takes_terminal && terminals.input
+    }
 }
 
 // Tells how the program is used, after these words.
-fn tell_usage<E: Sink>(program: &[u8], before: &[u8], err: &mut E)
+fn tell_usage<'a, E: Sink>(program: &'a [u8], before: &'a [u8], err: &mut E)
     ensures { TellsOn E.takes E.refuses E.has_failed (usage_text before.now program.now)
         err.old err.new }
 {
@@ -165,7 +209,40 @@ fn tell_usage<E: Sink>(program: &[u8], before: &[u8], err: &mut E)
     tell_parts(&parts, err);
 }
 
+// Does what is asked for over the files and the input, whose reads are shown on the screen or not.
+#[tactic(auto, unfolding(crate::specs::Run::PerformsWatched))]
+fn perform_watched<S, R, W, E, T>(
+    alloc: Global,
+    store: &S,
+    options: Options,
+    names: &[Vec<u8>],
+    shows: bool,
+    input: R,
+    out: &mut W,
+    err: &mut E,
+    screen: T,
+) -> Result<bool, Stop>
+where
+    S: Store,
+    R: Source + Drop,
+    W: Sink,
+    E: Sink,
+    T: Write + Copy + Drop,
+    requires reader { R.has_failed input ≡ false }
+    requires writer { W.has_failed out.old ≡ false }
+    ensures { PerformsWatched T (FromWrite T) S.opens S.refuses S.holds_directory
+        S.File.gives S.File.fails S.File.has_failed R.gives R.fails R.has_failed
+        W.takes W.refuses W.has_failed E.takes E.refuses E.has_failed store.now input
+        out.old out.new err.old err.new result options (map (λ name. name.items) names.now) shows }
+{
+    let files = WatchedFiles::new(store, screen, shows);
+    let meter = Meter::new(FromWrite::new(screen), shows);
+    let input = Watched::new(input, meter);
+    perform(alloc, &files, options, names, input, out, err)
+}
+
 // Digests the names, or checks them.
+#[tactic(auto, unfolding(crate::specs::Run::PerformsAs))]
 fn perform<S, R, W, E>(
     alloc: Global,
     store: &S,
@@ -182,28 +259,69 @@ where
     E: Sink,
     requires reader { R.has_failed input ≡ false }
     requires writer { W.has_failed out.old ≡ false }
-    ensures { PerformsAs S.opens S.refuses S.holds_directory S.File.gives S.File.fails
+    ensures { let given = map (λ name. name.items) names.now in
+        PerformsAs S.opens S.refuses S.holds_directory S.File.gives S.File.fails
         S.File.has_failed R.gives R.fails R.has_failed W.takes W.refuses W.has_failed
-        E.takes E.refuses E.has_failed store.now options input out.old out.new err.old err.new result
-        options.checks (map (λ name. name.items) names.now) }
+        E.takes E.refuses E.has_failed store.now options given input out.old out.new err.old err.new
+        result options.checks (has_none given) }
 {
-    let shape = Shape {
+    let mut input = input;
+    if options.checks {
+        if has_none(names) {
+            return check_list(alloc, store, options, INPUT, input, out, err);
+        }
+        return check_lists(alloc, store, options, names, out, err);
+    }
+    if has_none(names) {
+        let shape = shape_of(options);
+        return hash_input(alloc, options.kind, shape, INPUT, &mut input, out, err);
+    }
+    hash_all(alloc, store, options, names, out, err)
+}
+
+// Digests the names, and leaves an empty line behind them.
+fn hash_all<S: Store, W: Sink, E: Sink>(
+    alloc: Global,
+    store: &S,
+    options: Options,
+    names: &[Vec<u8>],
+    out: &mut W,
+    err: &mut E,
+) -> Result<bool, Stop>
+    requires { W.has_failed out.old ≡ false }
+    ensures { HashesAll S.opens S.refuses S.holds_directory S.File.gives S.File.fails W.takes W.refuses
+        E.takes E.refuses E.has_failed store.now options (map (λ name. name.items) names.now)
+        out.old out.new err.old err.new result }
+{
+    let shape = shape_of(options);
+    let all = hash_names(alloc, store, options.kind, shape, names, out, err)?;
+    clear_line(options, err);
+    Ok(all)
+}
+
+// Tells an empty line where progress may have stood, but where all is to be quiet.
+fn clear_line<E: Sink>(options: Options, err: &mut E)
+    ensures { TellsOn E.takes E.refuses E.has_failed (cleared_line options) err.old err.new }
+{
+    if options.is_quiet {
+        return;
+    }
+    tell(CLEARED, err);
+}
+
+fn shape_of(options: Options) -> Shape
+    ensures { result ≡ shape_of options }
+{
+    Shape {
         is_tagged: options.is_tagged,
         is_little: options.is_little_endian,
-    };
-    let mut input = input;
-    match (options.checks, names.is_empty()) {
-        (true, true) => check_list(alloc, store, options, INPUT, input, out, err),
-        (true, false) => check_lists(alloc, store, options, names, out, err),
-        (false, true) => hash_input(alloc, options.kind, shape, INPUT, &mut input, out, err),
-        (false, false) => {
-            let all = hash_names(alloc, store, options.kind, shape, names, out, err)?;
-            if !options.is_quiet {
-                tell(CLEARED, err);
-            }
-            Ok(all)
-        }
     }
+}
+
+fn has_none(names: &[Vec<u8>]) -> bool
+    ensures { result ≡ has_none (map (λ name. name.items) names.now) }
+{
+    names.is_empty()
 }
 
 // Tells why the program stops, and answers the exit status.

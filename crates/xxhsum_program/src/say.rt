@@ -1,6 +1,6 @@
 //! Lines for the standard output, of which none may be lost.
 
-ghost use Rattle.std.specs.Prelude.{◌≡◌, false, IfOk, IfErr};
+ghost use Rattle.std.specs.Prelude.{◌≡◌, ◌++◌, false, IfOk, IfErr};
 ghost use Rattle.xxhsum_program.specs.Joined.{joined};
 ghost use Rattle.xxhsum_program.specs.Lines.{PrintsLine};
 
@@ -9,15 +9,17 @@ use std::alloc::{AllocError, Global};
 use xxh_io::ends::Sink;
 use xxh_io::write::write_all;
 
-// The parts, one after another.
-fn join(alloc: Global, parts: &[&[u8]]) -> Result<Vec<u8>, AllocError>
-    ensures { IfOk result (λ text. text.items ≡ joined parts.now) }
+// Puts the parts behind the text, one after another.
+fn put_parts(text: &mut Vec<u8>, parts: &[&[u8]]) -> Result<(), AllocError>
+    ensures { IfOk result (λ _. text.new.items ≡ text.old.items ++ joined parts.now) }
 {
-    let mut text = Vec::new(alloc);
-    for part in parts {
-        text.extend_from_slice(part)?;
+    match parts.split_first() {
+        Some((part, rest)) => {
+            text.extend_from_slice(part)?;
+            put_parts(text, rest)
+        }
+        None => Ok(()),
     }
-    Ok(text)
 }
 
 // Writes the parts of a line at once.
@@ -26,7 +28,8 @@ pub(crate) fn say<W: Sink>(alloc: Global, parts: &[&[u8]], out: &mut W) -> Resul
     ensures prints { PrintsLine W.takes W.refuses (joined parts.now) out.old out.new result }
     ensures works { IfOk result (λ _. W.has_failed out.new ≡ false) }
 {
-    let text = join(alloc, parts)?;
+    let mut text = Vec::new(alloc);
+    put_parts(&mut text, parts)?;
     print(&text, out)
 }
 

@@ -20,7 +20,8 @@ pub(crate) fn tell<E: Sink>(bytes: &[u8], err: &mut E)
 pub(crate) fn tell_parts<E: Sink>(parts: &[&[u8]], err: &mut E)
     ensures { TellsOn E.takes E.refuses E.has_failed (joined parts.now) err.old err.new }
 {
-    for part in parts {
+    if let Some((part, rest)) = parts.split_first() {
         tell(part, err);
+        tell_parts(rest, err);
     }
 }

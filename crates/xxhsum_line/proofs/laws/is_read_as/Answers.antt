@@ -1,13 +1,16 @@
-use Rattle.xxhsum_line.specs.Parts.{up_to_nul}
-use Rattle.xxhsum_line.proofs.EntryFacts.{says_same}
+use Rattle.std.proofs.Common.{subst}
+use Rattle.xxhsum_line.specs.Meaning.{Means}
+use Rattle.xxhsum_line.proofs.EntryFacts.{not_other, says_same}
 use Rattle.xxhsum_line.proofs.laws.is_read_as.Goals as goal
 
-pub returns-in-Some : goal.returns-in-Some
-returns-in-Some c =
-    let entry = c.in-Some.entry in
-    let same = says_same c.args.is_little (up_to_nul c.args.text.now) entry.kind entry.value entry.name.now
-    c.args.kind c.args.value c.args.name.now c.in-Some.ensures.entry c.requires in
+pub returns-in-Entry : goal.returns-in-Entry
+returns-in-Entry c =
+    let line = c.args.text.now in
+    let entry = c.in-Entry.entry in
+    let says = subst (Means c.args.is_little line) c.in-Entry.is c.in_ok-entry.ensures.meaning in
+    let same = says_same c.args.is_little line entry.kind entry.value entry.name.items c.args.kind c.args.value c.args.name.now says c.requires in
     c.is_same.ensures same.0 same.1 same.2
 
-pub returns-in-None : goal.returns-in-None
-returns-in-None c = absurd (c.in-None.ensures.entry c.args.kind c.args.value c.args.name.now c.requires)
+pub returns-in-Comment : goal.returns-in-Comment
+returns-in-Comment c =
+    absurd (not_other c.args.is_little c.args.text.now c.args.kind c.args.value c.args.name.now c.in_ok-entry.field-0 c.in-Comment.is c.in_ok-entry.ensures.meaning c.requires)

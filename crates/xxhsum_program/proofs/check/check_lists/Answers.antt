@@ -1,4 +1,4 @@
-use Rattle.std.proofs.Common.{◌≡◌, ◌+◌, ◌∷◌, ◌++◌, [], Err, inl, inr, map, take, drop, refl, sym, ◌∙◌, append_assoc, subst, rules}
+use Rattle.std.proofs.Common.{◌≡◌, ◌+◌, ◌∷◌, ◌++◌, [], Err, inl, inr, Bool, map, take, drop, refl, sym, ◌∙◌, append_assoc, subst, rules}
 use Rattle.xxh_io.proofs.WriteFacts.{Took-join}
 use Rattle.xxhsum_program.specs.CheckList.{IsDone, printed_outcome, told_outcome}
 use Rattle.xxhsum_program.specs.Lines.{PrintsLines}
@@ -68,6 +68,10 @@ returns-in_err-good g c =
         EachHas-push _ names so_far.outcomes name outcome so_far.each checked.1,
         inr (so_far.outcomes, outcome, refl, so_far.finished),
       ),
-      inl (rw (lines-push _ (printed_outcome options) names so_far.outcomes name outcome so_far.each) (prints-join g.W.Sink.takes g.W.Sink.refuses _ _ _ _ _ (Err stop) so_far.prints checked.3)),
+      inl (subst (λ bytes. PrintsLines {T = Bool} g.W.Sink.takes g.W.Sink.refuses bytes c.args.out.now c.check_named.new.out (Err stop)) (sym (lines-push _ (printed_outcome options) names so_far.outcomes name outcome so_far.each)) (prints-join {T = Bool} g.W.Sink.takes g.W.Sink.refuses _ _ c.args.out.now c.loop-name.out c.check_named.new.out (Err stop) so_far.prints (subst (λ bytes. PrintsLines {T = Bool} g.W.Sink.takes g.W.Sink.refuses (printed_outcome options bytes outcome) c.loop-name.out c.check_named.new.out (Err stop)) c.deref.ensures.value checked.3))),
       rw (lines-push _ (told_outcome options) names so_far.outcomes name outcome so_far.each) (tells-more g.E.Sink.takes g.E.Sink.refuses g.E.Sink.has_failed _ _ _ _ _ so_far.tells checked.4),
     )
+
+pub returns-then-failed : goal.returns-then-failed
+returns-then-failed g c =
+    ([], [], map (λ name. name.items) c.args.names.now, (refl, tt, inl tt), inr (sym c.failed.ensures ∙ c.if-failed.true, refl, refl), tells-nothing g.E.Sink.takes g.E.Sink.refuses g.E.Sink.has_failed c.args.err.now)

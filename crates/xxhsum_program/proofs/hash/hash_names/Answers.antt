@@ -51,7 +51,7 @@ returns-in_err-print_outcome g c =
     let name = c.name-item.result.items in
     let outcome = c.outcome_of-outcome.result in
     let stop = c.in_err-print_outcome.field-0.0 in
-    let is : c.from_residual-in_err-print_outcome.result ≡ Err stop = is-err c.from_residual-in_err-print_outcome.result stop c.from_residual-in_err-print_outcome.ensures.1 in
+    let is : c.from_residual.result ≡ Err stop = is-err c.from_residual.result stop c.from_residual.ensures.1 in
     rw is (stops-printing (Comes g.S.Store.opens g.S.Store.refuses g.S.Store.holds_directory g.S.File.Source.gives g.S.File.Source.fails c.args.store.now c.args.kind) g.W.Sink.takes g.W.Sink.refuses g.E.Sink.takes g.E.Sink.refuses g.E.Sink.has_failed c.args.kind c.args.shape _ (map (λ name. name.items) (take k c.args.names.now)) (map (λ name. name.items) (drop (k + 1) c.args.names.now)) so_far.outcomes name outcome _ _ _ _ _ stop
     (map-split (λ name. name.items) c.args.names.now k c.name-item.result c.loop-name-test.true c.name-item.is)
     so_far.each (rw c.deref.ensures.value at c.outcome_of-outcome.ensures) so_far.prints so_far.tells

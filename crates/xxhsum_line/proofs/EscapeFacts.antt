@@ -1,0 +1,120 @@
+-- Escaped names: what they mean, and which bytes they lack.
+use Rattle.std.proofs.Common.{◌≡◌, ◌≢◌, ◌⊎◌, ℕ, ◌+◌, ◌<◌, Bool, true, false, ◌||◌, nat_eq, List, [], ◌∷◌, ◌++◌, length, take, drop, get_or, Option, Some, None, refl, sym, ap, ◌∙◌, inl, inr, append-nil, append_assoc, arith}
+use Rattle.std.specs.Option.{option_and_then}
+use Rattle.std.proofs.lemmas.Bool.{cases_eq, cond-false, ne_eqb, or_parts}
+use Rattle.std.proofs.lemmas.List.{take_more}
+use Rattle.xxhsum_line.proofs.LackFacts.{lacks_both}
+use Rattle.xxhsum_line.specs.Escapes.{before, escape, escaped, is_special, meant_behind, meant_by, needs_escape, unescaped}
+use Rattle.xxhsum_line.specs.Parts.{Lacks}
+
+-- ---- what a byte is in an escaped line
+
+stays : (c : ℕ) → nat_eq c 92 ≡ false → nat_eq c 10 ≡ false → nat_eq c 13 ≡ false → escape c ≡ c ∷ []
+stays c e e' e'' = cond-false (nat_eq c 92) _ _ e ∙ cond-false (nat_eq c 10) _ _ e' ∙ cond-false (nat_eq c 13) _ _ e''
+
+cases : (c : ℕ) → (c ≡ 92) ⊎ ((c ≡ 10) ⊎ ((c ≡ 13) ⊎ ((c ≢ 92) × (c ≢ 10) × (escape c ≡ c ∷ []))))
+cases c =
+    elim (cases_eq c 92) [
+      | inl e ↦ inl e
+      | inr n ↦ elim (cases_eq c 10) [
+        | inl e ↦ inr (inl e)
+        | inr n' ↦ elim (cases_eq c 13) [
+          | inl e ↦ inr (inr (inl e))
+          | inr n'' ↦ inr (inr (inr (n, n', stays c (ne_eqb c 92 n) (ne_eqb c 10 n') (ne_eqb c 13 n''))))
+        ]
+      ]
+    ]
+
+escaped_append : (x y : List ℕ) → escaped (x ++ y) ≡ escaped x ++ escaped y
+escaped_append [] y = refl
+escaped_append (c ∷ x) y = ap (λ r. escape c ++ r) (escaped_append x y) ∙ sym (append_assoc (escape c) (escaped x) (escaped y))
+
+-- one byte more of a name
+pub escaped_more : (name : List ℕ) (i : ℕ) → i < length name → escaped (take (i + 1) name) ≡ escaped (take i name) ++ escape (get_or name i 0)
+escaped_more name i h =
+    ap escaped (take_more name i 0 h)
+    ∙ escaped_append (take i name) (get_or name i 0 ∷ [])
+    ∙ ap (λ r. escaped (take i name) ++ r) (append-nil (escape (get_or name i 0)))
+
+-- ---- what is meant
+
+before_before : (x y : List ℕ) (rest : Option (List ℕ)) → before x (before y rest) ≡ before (x ++ y) rest
+before_before x y None = refl
+before_before x y (Some r) = ap Some (sym (append_assoc x y r))
+
+pub meant_none : (rest : List ℕ) (c : ℕ) → meant_by c ≡ None → meant_behind true (c ∷ rest) ≡ None
+meant_none rest c e = ap (option_and_then (λ b. before (b ∷ []) (meant_behind false rest))) e
+
+pub meant_letter : (name rest : List ℕ) (c b : ℕ) → meant_by c ≡ Some b
+    → before name (meant_behind true (c ∷ rest)) ≡ before (name ++ b ∷ []) (meant_behind false rest)
+meant_letter name rest c b e =
+    ap (λ o. before name (option_and_then (λ x. before (x ∷ []) (meant_behind false rest)) o)) e
+    ∙ before_before name (b ∷ []) (meant_behind false rest)
+
+pub meant_backslash : (name rest : List ℕ) (c : ℕ) → c ≡ 92
+    → before name (meant_behind false (c ∷ rest)) ≡ before name (meant_behind true rest)
+meant_backslash name rest c e = ap (λ x. before name (meant_behind false (x ∷ rest))) e
+
+meant_itself : (rest : List ℕ) (c : ℕ) → c ≢ 92 → meant_behind false (c ∷ rest) ≡ before (c ∷ []) (meant_behind false rest)
+meant_itself rest c n = cond-false (nat_eq c 92) _ _ (ne_eqb c 92 n)
+
+pub meant_plain : (name rest : List ℕ) (c : ℕ) → c ≢ 92
+    → before name (meant_behind false (c ∷ rest)) ≡ before (name ++ c ∷ []) (meant_behind false rest)
+meant_plain name rest c n =
+    ap (before name) (meant_itself rest c n) ∙ before_before name (c ∷ []) (meant_behind false rest)
+
+escape_meant : (c : ℕ) (rest : List ℕ) → meant_behind false (escape c ++ rest) ≡ before (c ∷ []) (meant_behind false rest)
+escape_meant c rest =
+    elim (cases c) [
+      | inl e ↦ rw e refl
+      | inr (inl e) ↦ rw e refl
+      | inr (inr (inl e)) ↦ rw e refl
+      | inr (inr (inr p)) ↦ ap (λ x. meant_behind false (x ++ rest)) p.2 ∙ meant_itself rest c p.0
+    ]
+
+pub escape_is_undone : (name : List ℕ) → unescaped (escaped name) ≡ Some name
+escape_is_undone [] = refl
+escape_is_undone (c ∷ name) = escape_meant c (escaped name) ∙ ap (before (c ∷ [])) (escape_is_undone name)
+
+-- a name that needs no escape stands as it is
+pub plain_names_stay : (name : List ℕ) → needs_escape name ≡ false → escaped name ≡ name
+plain_names_stay [] h = refl
+plain_names_stay (c ∷ name) h =
+    let both = or_parts (is_special c) (needs_escape name) h in
+    let first = or_parts (nat_eq c 92) (nat_eq c 10 || nat_eq c 13) both.0 in
+    let second = or_parts (nat_eq c 10) (nat_eq c 13) first.1 in
+    ap (λ e. e ++ escaped name) (stays c first.0 second.0 second.1) ∙ ap (λ r. c ∷ r) (plain_names_stay name both.1)
+
+-- ---- which bytes are lacked
+
+escape_lacks_line_feed : (c : ℕ) → Lacks 10 (escape c)
+escape_lacks_line_feed c =
+    let backslash : ◌≢◌ {A = ℕ} 92 10 = λ (e : ◌≡◌ {A = ℕ} 92 10). omega arith in
+    let n : ◌≢◌ {A = ℕ} 110 10 = λ (e : ◌≡◌ {A = ℕ} 110 10). omega arith in
+    let r : ◌≢◌ {A = ℕ} 114 10 = λ (e : ◌≡◌ {A = ℕ} 114 10). omega arith in
+    elim (cases c) [
+      | inl e ↦ rw e (backslash, (backslash, tt))
+      | inr (inl e) ↦ rw e (backslash, (n, tt))
+      | inr (inr (inl e)) ↦ rw e (backslash, (r, tt))
+      | inr (inr (inr p)) ↦ rw (p.2) (p.1, tt)
+    ]
+
+pub escaped_lacks_line_feed : (name : List ℕ) → Lacks 10 (escaped name)
+escaped_lacks_line_feed [] = tt
+escaped_lacks_line_feed (c ∷ name) = lacks_both 10 (escape c) (escaped name) (escape_lacks_line_feed c) (escaped_lacks_line_feed name)
+
+escape_lacks_nul : (c : ℕ) → c ≢ 0 → Lacks 0 (escape c)
+escape_lacks_nul c h =
+    let backslash : ◌≢◌ {A = ℕ} 92 0 = λ (e : ◌≡◌ {A = ℕ} 92 0). omega arith in
+    let n : ◌≢◌ {A = ℕ} 110 0 = λ (e : ◌≡◌ {A = ℕ} 110 0). omega arith in
+    let r : ◌≢◌ {A = ℕ} 114 0 = λ (e : ◌≡◌ {A = ℕ} 114 0). omega arith in
+    elim (cases c) [
+      | inl e ↦ rw e (backslash, (backslash, tt))
+      | inr (inl e) ↦ rw e (backslash, (n, tt))
+      | inr (inr (inl e)) ↦ rw e (backslash, (r, tt))
+      | inr (inr (inr p)) ↦ rw (p.2) (h, tt)
+    ]
+
+pub escaped_lacks_nul : (name : List ℕ) → Lacks 0 name → Lacks 0 (escaped name)
+escaped_lacks_nul [] h = tt
+escaped_lacks_nul (c ∷ name) h = lacks_both 0 (escape c) (escaped name) (escape_lacks_nul c h.0) (escaped_lacks_nul name h.1)

@@ -1,0 +1,142 @@
+//! Names in lines. A backslash, a line feed and a carriage return are written as `\\`, `\n` and `\r`, and a line
+//! with such a name begins with a backslash.
+
+ghost use Rattle.std.specs.Prelude.{◌≡◌, ◌++◌, IfOk, MatchOption, None, Some};
+ghost use Rattle.xxhsum_line.specs.Escapes.{body_of, escape, escaped, is_blank, is_escaped, is_special, mark_of, meant_by, name_meant, needs_escape, unescaped};
+
+use std::alloc::{AllocError, Global};
+
+/// Whether a name has a backslash, a line feed or a carriage return.
+pub fn needs_escape(name: &[u8]) -> bool
+    ensures { result ≡ needs_escape name.now }
+{
+    for byte in name {
+        if is_special(*byte) {
+            return true;
+        }
+    }
+    false
+}
+
+// A byte that stands otherwise in an escaped line.
+fn is_special(byte: u8) -> bool
+    ensures { result ≡ is_special byte }
+{
+    matches!(byte, b'\\' | b'\n' | b'\r')
+}
+
+/// Puts what the line of this name begins with behind the line: a backslash where the name needs one. `AllocError`
+/// where memory runs out.
+pub fn put_mark(line: &mut Vec<u8>, name: &[u8]) -> Result<(), AllocError>
+    ensures { IfOk result (λ _. line.new.items ≡ line.old.items ++ mark_of name.now) }
+{
+    if needs_escape(name) {
+        line.extend_from_slice(b"\\")?;
+    }
+    Ok(())
+}
+
+/// Puts the name behind the line, each of its bytes as an escaped line has it. `AllocError` where memory runs out.
+pub fn put_escaped(line: &mut Vec<u8>, name: &[u8]) -> Result<(), AllocError>
+    ensures { IfOk result (λ _. line.new.items ≡ line.old.items ++ escaped name.now) }
+{
+    for byte in name {
+        put_byte(line, *byte)?;
+    }
+    Ok(())
+}
+
+fn put_byte(line: &mut Vec<u8>, byte: u8) -> Result<(), AllocError>
+    ensures { IfOk result (λ _. line.new.items ≡ line.old.items ++ escape byte) }
+{
+    match byte {
+        b'\\' => line.extend_from_slice(b"\\\\"),
+        b'\n' => line.extend_from_slice(b"\\n"),
+        b'\r' => line.extend_from_slice(b"\\r"),
+        _ => line.extend_from_slice(&[byte]),
+    }
+}
+
+/// Whether a line is escaped: its first byte that is no space and no tab is a backslash.
+pub fn is_escaped(line: &[u8]) -> bool
+    ensures { result ≡ is_escaped line.now }
+{
+    for byte in line {
+        if !is_blank(*byte) {
+            return *byte == b'\\';
+        }
+    }
+    false
+}
+
+fn is_blank(byte: u8) -> bool
+    ensures { result ≡ is_blank byte }
+{
+    matches!(byte, b' ' | b'\t')
+}
+
+/// What is left of a line where the first byte of an escaped one is taken away.
+pub fn body_of(line: &[u8]) -> &[u8]
+    ensures { result.now ≡ body_of line.now }
+{
+    if is_escaped(line) { &line[1..] } else { line }
+}
+
+/// The name that is meant by what stands in a line, which is escaped or not. `None` where a backslash in an escaped
+/// line has none of its meanings. `AllocError` where memory runs out.
+pub fn name_meant(
+    alloc: Global,
+    text: &[u8],
+    is_escaped: bool,
+) -> Result<Option<Vec<u8>>, AllocError>
+    ensures { IfOk result (λ name. MatchOption name
+        (name_meant is_escaped text.now ≡ None)
+        (λ v. name_meant is_escaped text.now ≡ Some v.items)) }
+{
+    if is_escaped {
+        return unescaped(alloc, text);
+    }
+    let mut name = Vec::new(alloc);
+    name.extend_from_slice(text)?;
+    Ok(Some(name))
+}
+
+/// The name that is meant by what stands in an escaped line. `None` where a backslash has none of its meanings.
+/// `AllocError` where memory runs out.
+pub fn unescaped(alloc: Global, text: &[u8]) -> Result<Option<Vec<u8>>, AllocError>
+    ensures { IfOk result (λ name. MatchOption name
+        (unescaped text.now ≡ None) (λ v. unescaped text.now ≡ Some v.items)) }
+{
+    let mut name = Vec::new(alloc);
+    let mut is_behind_backslash = false;
+    for byte in text {
+        if is_behind_backslash {
+            let Some(meant) = meant_by(*byte) else {
+                return Ok(None);
+            };
+            name.extend_from_slice(&[meant])?;
+            is_behind_backslash = false;
+        } else if *byte == b'\\' {
+            is_behind_backslash = true;
+        } else {
+            name.extend_from_slice(&[*byte])?;
+        }
+    }
+    Ok(if is_behind_backslash {
+        None
+    } else {
+        Some(name)
+    })
+}
+
+// The byte that another one behind a backslash stands for.
+fn meant_by(byte: u8) -> Option<u8>
+    ensures { result ≡ meant_by byte }
+{
+    match byte {
+        b'\\' => Some(b'\\'),
+        b'n' => Some(b'\n'),
+        b'r' => Some(b'\r'),
+        _ => None,
+    }
+}
