@@ -1,5 +1,5 @@
 -- What the arguments ask the program to do.
-use Rattle.std.specs.Prelude.{◌≡◌, ◌⊎◌, ℕ, Bool, true, false, ◌&&◌, not, List, [], ◌∷◌, codes, drop, length, nat_eq, if◌then◌else◌}
+use Rattle.std.specs.Prelude.{◌≡◌, ◌⊎◌, ℕ, Bool, true, false, ◌&&◌, not, List, [], ◌∷◌, Option, Some, None, codes, drop, length, nat_eq, if◌then◌else◌}
 use Rattle.std.specs.List.{concat}
 use Rattle.xxhsum_program.specs.declared.process.Terminals.{Terminals}
 use Rattle.xxhsum_program.specs.declared.usage.TheConstants.{ABOUT, NO_BENCHMARK, OPTIONS, TITLE}
@@ -43,7 +43,7 @@ answer_text program Version = concat (program ∷ TITLE.now ∷ [])
 answer_text program Help = usage_text [] program
 answer_text program Benchmark = concat (program ∷ NO_BENCHMARK.now ∷ [])
 answer_text program BadUsage = usage_text (codes "Wrong parameters\n\n") program
-answer_text program (Run options from) = usage_text (codes "Wrong parameters\n\n") program
+answer_text program (Run options place) = []
 answer_text program NumberTooLarge = codes "Error: numeric value too large \n"
 
 abbrev pub is_well : Asked → Bool
@@ -51,16 +51,27 @@ is_well Version = true
 is_well Help = true
 is_well Benchmark = false
 is_well BadUsage = false
-is_well (Run options from) = false
+is_well (Run options place) = false
 is_well NumberTooLarge = false
 
-abbrev pub task_asked : Terminals → List ℕ → List (List ℕ) → Asked → Task
-task_asked terminals program words (Run options from) =
-    if waits_for_terminal terminals options (drop from words)
+-- the options of a run that is asked for, and which of the words its names begin at
+abbrev pub run_asked : Asked → Option (Options × ℕ)
+run_asked (Run options place) = Some (options, place)
+run_asked Version = None
+run_asked Help = None
+run_asked Benchmark = None
+run_asked BadUsage = None
+run_asked NumberTooLarge = None
+
+abbrev pub task_from : Terminals → List ℕ → List (List ℕ) → Asked → Option (Options × ℕ) → Task
+task_from terminals program words asked None = Tells (answer_text program asked) (is_well asked)
+task_from terminals program words asked (Some run) =
+    if waits_for_terminal terminals run.0 (drop run.1 words)
     then Tells (answer_text program BadUsage) false
-    else Reads options (drop from words) (shows_progress terminals options)
-task_asked terminals program words asked = Tells (answer_text program asked) (is_well asked)
+    else Reads run.0 (drop run.1 words) (shows_progress terminals run.0)
 
 -- the task of the words behind the program's name
 abbrev pub task_of : Terminals → List ℕ → List (List ℕ) → Task
-task_of terminals program words = task_asked terminals program words (asked_of (kind_of_program program) words)
+task_of terminals program words =
+    let asked = asked_of (kind_of_program program) words in
+    task_from terminals program words asked (run_asked asked)

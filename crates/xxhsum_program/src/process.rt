@@ -3,7 +3,7 @@
 ghost use Rattle.std.specs.Prelude.{◌≡◌, false, Bool, List, ℕ, Option, Result, drop, map, IfSome};
 ghost use Rattle.xxhsum_program.specs.Arguments.{AreArguments};
 ghost use Rattle.xxhsum_program.specs.Run.{DoesArguments, DoesTask, HashesAll, PerformsAs, PerformsWatched, cleared_line, end_text, shape_of, status_of, stop_text};
-ghost use Rattle.xxhsum_program.specs.Task.{IsProgram, answer_text, has_none, is_well, shows_progress, task_of, usage_text, waits_for_terminal};
+ghost use Rattle.xxhsum_program.specs.Task.{IsProgram, answer_text, has_none, is_well, run_asked, shows_progress, task_of, usage_text, waits_for_terminal};
 ghost use Rattle.xxhsum_program.specs.Told.{TellsOn};
 ghost use Rattle.xxhsum_program.specs.declared.stop.Stop.{Stop};
 ghost use Rattle.xxh_io.specs.declared.from_write.FromWrite.{FromWrite};
@@ -110,11 +110,10 @@ where
     let program = program_of(args);
     let words = words_of(args);
     let asked = asked_by(default_kind(program), words);
-    match asked {
-        Asked::Run {
-            options,
-            names_from: place,
-        } => {
+    match run_asked(asked) {
+        None => Ok(tell_answer(program, asked, err)),
+        Some(found) => {
+            let (options, place) = found;
             let names = names_from(words, place);
             if waits_for_terminal(terminals, options, names) {
                 return Ok(tell_answer(program, Asked::BadUsage, err));
@@ -122,7 +121,23 @@ where
             let shows = shows_progress(terminals, options);
             perform_watched(alloc, store, options, names, shows, input, out, err, screen)
         }
-        _ => Ok(tell_answer(program, asked, err)),
+    }
+}
+
+// The options of a run that is asked for, and which of the words its names begin at.
+fn run_asked(asked: Asked) -> Option<(Options, usize)>
+    ensures { result ≡ run_asked asked }
+{
+    match asked {
+        Asked::Run {
+            options,
+            names_from,
+        } => Some((options, names_from)),
+        Asked::Benchmark
+        | Asked::Version
+        | Asked::Help
+        | Asked::BadUsage
+        | Asked::NumberTooLarge => None,
     }
 }
 
@@ -150,10 +165,7 @@ fn words_of(args: &[Vec<u8>]) -> &[Vec<u8>]
 fn names_from(words: &[Vec<u8>], place: usize) -> &[Vec<u8>]
     ensures { map (λ name. name.items) result.now ≡ drop place (map (λ word. word.items) words.now) }
 {
-    match words.get(place..) {
-        Some(names) => names,
-        None => &[],
-    }
+    if place < words.len() { &words[place..] } else { &[] }
 }
 
 // Whether progress is to be shown.
@@ -170,7 +182,7 @@ fn waits_for_terminal(terminals: Terminals, options: Options, names: &[Vec<u8>])
     has_none(names) && !options.takes_terminal && terminals.input
 }
 
-// Tells what is asked for where that is no run, and answers whether all is well.
+// Tells what is asked for where that is no run, and answers whether all is well. Of a run nothing is told.
 fn tell_answer<E: Sink>(program: &[u8], asked: Asked, err: &mut E) -> bool
     ensures well { result ≡ is_well asked }
     ensures tells { TellsOn E.takes E.refuses E.has_failed (answer_text program.now asked)
@@ -189,10 +201,11 @@ fn tell_answer<E: Sink>(program: &[u8], asked: Asked, err: &mut E) -> bool
             tell_parts(&[program, NO_BENCHMARK], err);
             false
         }
-        Asked::BadUsage | Asked::Run { .. } => {
+        Asked::BadUsage => {
             tell_usage(program, b"Wrong parameters\n\n", err);
             false
         }
+        Asked::Run { .. } => false,
         Asked::NumberTooLarge => {
             tell(b"Error: numeric value too large \n", err);
             false
