@@ -6,38 +6,68 @@ const KINDS_BY_LENGTH = { 8: ["xxh32"], 16: ["xxh64", "xxh3_64"], 32: ["xxh3_128
 /** The hashes that a name may stand for. */
 const KINDS_BY_NAME = { XXH32: ["xxh32"], XXH64: ["xxh64"], XXH128: ["xxh3_128"], XXH3: ["xxh3_64", "xxh3_128"] };
 
+/** The hash of a tag, by what it begins with. */
+const KINDS_BY_TAG = [["XXH32", "xxh32"], ["XXH64", "xxh64"], ["XXH128", "xxh3_128"], ["XXH3", "xxh3_64"]];
+
+/** The hash of digits with no tag, by how many they are: those of XXH3 of 64 bits have a prefix. */
+const KIND_BY_COUNT = { 8: "xxh32", 16: "xxh64", 32: "xxh3_128" };
+const PREFIX = "XXH3_";
+const DIGITS = { xxh32: 8, xxh64: 16, xxh3_64: 16, xxh3_128: 32 };
+
 /** What the names of files of such lines end with. */
 export const ENDINGS = { xxh32: "xxh32", xxh64: "xxh64", xxh3_64: "xxh3", xxh3_128: "xxh128" };
-
-const TAGGED = /^(XXH32|XXH64|XXH128|XXH3)(_LE)? \((.*)\) = ([0-9a-f]+)$/i;
-const PLAIN = /^(XXH3_)?([0-9a-f]+) [^(](.+)$/i;
 
 /** How a file of lines begins: few enough characters to look at each file that is chosen. */
 const BEGINNING = /^\uFEFF?(#|\s|\\?(XXH(32|64|128|3)(_LE)? \(|(XXH3_)?[0-9a-f]{8}))/i;
 export const BEGINNING_BYTES = 16;
 
-/** What a line wants: lower-case digits, the hashes that they may be of, and a file's name; null where it is no such line. */
+/** Whether a line of a checksum file is a comment, which says nothing and isn't meant to. */
+export function isComment(line) {
+  return line.startsWith("#");
+}
+
+/** What a line says, as the command reads it: lower-case digits, their hash and a file's name; null where it says nothing. */
 export function readLine(line) {
-  const isEscaped = line.startsWith("\\");
-  const text = isEscaped ? line.slice(1) : line;
-  const wanted = readTagged(text) ?? readPlain(text);
-  if (wanted && isEscaped) wanted.name = wanted.name.replace(/\\(.)/g, (_, letter) => ({ n: "\n", r: "\r" })[letter] ?? letter);
-  return wanted;
+  if (isComment(line)) return null;
+  const text = line.split("\0", 1)[0];
+  const isEscaped = /^[ \t]*\\/.test(text);
+  const shown = readText(isEscaped ? text.slice(1) : text);
+  const name = shown && isEscaped ? unescaped(shown.name) : shown?.name;
+  return name === undefined ? null : { ...shown, name };
 }
 
-function readTagged(text) {
-  const [, tag, isTurned, name, digits] = text.match(TAGGED) ?? [];
-  return tag === undefined ? null : wantedOf(isTurned ? turned(digits) : digits, KINDS_BY_NAME[tag.toUpperCase()], name);
+/** What a text of one of the two forms shows, with the name as it stands there. */
+function readText(text) {
+  const space = text.indexOf(" ");
+  if (space < 0 || space + 1 === text.length) return null;
+  const [first, mark, rest] = [text.slice(0, space), text[space + 1], text.slice(space + 2)];
+  return mark === "(" ? readTagged(first, rest) : readPlain(first, rest);
 }
 
-function readPlain(text) {
-  const [, prefix, digits, name] = text.match(PLAIN) ?? [];
-  return digits === undefined ? null : wantedOf(digits, prefix ? ["xxh3_64"] : undefined, name);
+function readPlain(digits, name) {
+  return shownBy(digits.startsWith(PREFIX) ? "xxh3_64" : KIND_BY_COUNT[digits.length], digits, name);
 }
 
-function wantedOf(digits, named, name) {
-  const kinds = (KINDS_BY_LENGTH[digits.length] ?? []).filter((kind) => named?.includes(kind) ?? true);
-  return kinds.length ? { digits: digits.toLowerCase(), kinds, name } : null;
+function readTagged(tag, inside) {
+  const space = inside.lastIndexOf(" ");
+  const [before, digits] = [inside.slice(0, Math.max(space, 0)), inside.slice(space + 1)];
+  if (!before.endsWith(") =")) return null;
+  const kind = KINDS_BY_TAG.find(([name]) => tag.startsWith(name))?.[1] ?? "xxh64";
+  const shown = shownBy(kind, digits, before.slice(0, -3));
+  return shown && tag.includes("_LE") ? { ...shown, digits: turned(shown.digits) } : shown;
+}
+
+function shownBy(kind, written, name) {
+  const digits = kind === "xxh3_64" && written.startsWith(PREFIX) ? written.slice(PREFIX.length) : written;
+  return digits.length === DIGITS[kind] && /^[0-9a-f]+$/i.test(digits) ? { kinds: [kind], digits: digits.toLowerCase(), name } : null;
+}
+
+/** The name that an escaped one means; undefined where a backslash in it has no meaning. */
+function unescaped(shown) {
+  const meant = { "\\": "\\", n: "\n", r: "\r" };
+  const parts = shown.match(/\\?./gsu) ?? [];
+  const isMeant = (part) => part[0] !== "\\" || meant[part[1]] !== undefined;
+  return parts.every(isMeant) ? parts.map((part) => (part[0] === "\\" ? meant[part[1]] : part)).join("") : undefined;
 }
 
 /** The bytes from the last to the first. */
@@ -48,19 +78,23 @@ function turned(digits) {
 /** The digest in what somebody pasted, with or without a name beside it; an error where there is none. */
 export function readExpected(words) {
   const line = readLine(words.trim());
-  if (line) return line;
+  // Who pastes the line of a tool that knows no prefix may mean XXH3.
+  if (line) return line.kinds[0] === "xxh64" && !words.includes("XXH64") ? { ...line, kinds: KINDS_BY_LENGTH[16] } : line;
   const parts = words.split(/[\s:=,()*]+/).filter(Boolean);
   const digits = parts.map((part) => part.replace(/^(0x|XXH3_)/i, "")).find((part) => /^[0-9a-f]{8,}$/i.test(part));
   const name = parts.map((part) => part.match(/^(XXH32|XXH64|XXH128|XXH3)(?![0-9])/i)?.[1].toUpperCase()).find(Boolean);
   if (!KINDS_BY_LENGTH[digits?.length]) throw new Error("This is no digest: one has 8, 16 or 32 hexadecimal digits.");
-  const wanted = wantedOf(digits, KINDS_BY_NAME[name]);
-  if (!wanted) throw new Error(`${name} has another number of digits than these ${digits.length}.`);
-  return wanted;
+  const kinds = KINDS_BY_LENGTH[digits.length].filter((kind) => KINDS_BY_NAME[name]?.includes(kind) ?? true);
+  if (!kinds.length) throw new Error(`${name} has another number of digits than these ${digits.length}.`);
+  return { digits: digits.toLowerCase(), kinds };
 }
 
-/** The lines of a checksum file, and how many others it has; null where the text is none. */
+/**
+ * The lines of a checksum file, and how many others it has; null where the text is none. A carriage return at a line's end
+ * is no part of it, since lists from Windows have one; the command takes it for the last byte of the name.
+ */
 export function readList(text) {
-  const lines = text.split("\n").map((line) => line.replace(/\r$/, "")).filter((line) => line.trim() && !line.startsWith("#"));
+  const lines = text.split("\n").map((line) => line.replace(/\r$/, "")).filter((line) => line.trim() && !isComment(line));
   const entries = lines.map(readLine).filter(Boolean);
   return entries.length * 2 > lines.length ? { entries, others: lines.length - entries.length } : null;
 }

@@ -126,7 +126,19 @@ def tests_in_page(browser, address):
         long_digests()))
 
 
+def lines_read(folder):
+    """The lines of checks/lines.json as the page reads them; a reader that takes each for nothing is noticed."""
+    nothing = write(folder, "nothing.mjs", "export const isComment = () => false; export const readLine = () => null;")
+    script = write(folder, "lines.mjs", f'import {{ misread }} from "file://{HERE}/lines_test.mjs";'
+                                        "console.log(JSON.stringify(await misread(process.argv[2])));")
+    said, planted = (json.loads(must(["node", script, f"file://{reader}"], folder)) for reader in (f"{WEB}/lines.js", nothing))
+    want(said["count"] > 100 and not said["wrong"], json.dumps(said["wrong"][:3]))
+    want(len(planted["wrong"]) > 50, "a reader that reads nothing passes")
+    return f"{said['count']} lines"
+
+
 def check_in_node(checks, folder):
+    checks.run("Node: the page reads lines as the command does", lines_read, folder)
     checks.run("Node: the module's tests", tests_in_node, f"file://{WEB}/node.js", folder)
     checks.run("Node without 64-bit memory is told which versions and which flag have it", refused_in_node, folder)
 

@@ -1,5 +1,5 @@
 -- What a line says is one thing.
-use Rattle.std.proofs.Common.{◌≡◌, ◌⊎◌, ℕ, List, length, inl, inr, sym, ap, subst, ◌∙◌, Bool, true, false, Some, None}
+use Rattle.std.proofs.Common.{◌≡◌, ◌⊎◌, ℕ, List, inl, inr, sym, ap, subst, ◌∙◌, Bool, false, Some, None}
 use Rattle.std.proofs.lemmas.Bool.{both_ways}
 use Rattle.std.proofs.lemmas.Option.{none-some, same_Some}
 use Rattle.xxh_io.specs.declared.kind.Kind.{Kind}

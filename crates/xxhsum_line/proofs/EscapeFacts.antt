@@ -1,5 +1,5 @@
 -- Escaped names: what they mean, and which bytes they lack.
-use Rattle.std.proofs.Common.{◌≡◌, ◌≢◌, ◌⊎◌, ℕ, ◌+◌, ◌<◌, Bool, true, false, ◌||◌, nat_eq, List, [], ◌∷◌, ◌++◌, length, take, drop, get_or, Option, Some, None, refl, sym, ap, ◌∙◌, inl, inr, append-nil, append_assoc, arith}
+use Rattle.std.proofs.Common.{◌≡◌, ◌≢◌, ◌⊎◌, ℕ, ◌+◌, ◌*◌, ◌<◌, ◌≤◌, true, false, ◌||◌, nat_eq, List, [], ◌∷◌, ◌++◌, length, take, get_or, Option, Some, None, refl, sym, ap, ◌∙◌, inl, inr, append-nil, append_assoc, length-append, arith}
 use Rattle.std.specs.Option.{option_and_then}
 use Rattle.std.proofs.lemmas.Bool.{cases_eq, cond-false, ne_eqb, or_parts}
 use Rattle.std.proofs.lemmas.List.{take_more}
@@ -118,3 +118,20 @@ escape_lacks_nul c h =
 pub escaped_lacks_nul : (name : List ℕ) → Lacks 0 name → Lacks 0 (escaped name)
 escaped_lacks_nul [] h = tt
 escaped_lacks_nul (c ∷ name) h = lacks_both 0 (escape c) (escaped name) (escape_lacks_nul c h.0) (escaped_lacks_nul name h.1)
+
+-- ---- how long a name becomes
+
+escape_length : (c : ℕ) → length (escape c) ≤ 2
+escape_length c =
+    elim (cases c) [
+      | inl e ↦ rw e (omega arith)
+      | inr (inl e) ↦ rw e (omega arith)
+      | inr (inr (inl e)) ↦ rw e (omega arith)
+      | inr (inr (inr p)) ↦ rw (p.2) (omega arith)
+    ]
+
+pub escaped_length : (name : List ℕ) → length (escaped name) ≤ 2 * length name
+escaped_length [] = omega arith
+escaped_length (c ∷ name) =
+    let parts : length (escape c ++ escaped name) ≡ length (escape c) + length (escaped name) = length-append (escape c) (escaped name) in
+    omega (arith, parts, escape_length c, escaped_length name)

@@ -1,6 +1,6 @@
 -- Printed lines are accepted.
-use Rattle.std.proofs.Common.{◌≡◌, ◌≢◌, ℕ, ◌<◌, ◌^◌, Bool, true, false, List, [], ◌∷◌, ◌++◌, length, Some, inl, inr, refl, sym, ap, subst, ◌∙◌, arith, ◌≤◌, nat_eq, nat_lt, drop, ◌&&◌, if◌then◌else◌}
-use Rattle.std.proofs.lemmas.Bool.{and_parts, cases_Bool, cond-false, cond-true, ne_eqb}
+use Rattle.std.proofs.Common.{◌≡◌, ◌≢◌, ℕ, ◌<◌, ◌+◌, ◌*◌, ◌^◌, Bool, true, false, List, [], ◌∷◌, ◌++◌, length, Some, inl, inr, refl, sym, ap, subst, ◌∙◌, arith, length-append, ◌≤◌, nat_lt, drop, ◌&&◌, if◌then◌else◌}
+use Rattle.std.proofs.lemmas.Bool.{and_parts, cond-false, ne_eqb}
 use Rattle.std.proofs.lemmas.List.{same_from_push}
 use Rattle.std.proofs.lemmas.Bool.Decides.{nat_tests}
 use Rattle.xxh_io.specs.Kind.{digits_of}
@@ -14,7 +14,7 @@ use Rattle.xxhsum_line.specs.Parts.{Lacks, up_to_nul}
 use Rattle.xxhsum_line.specs.Printed.{formed, full_tag, line_of, plain_text, prefix_of, shown, tagged_text, text_of}
 use Rattle.xxhsum_line.specs.declared.printed.Shape.{Shape}
 use Rattle.xxhsum_line.specs.Tags.{bare, has_prefix, is_little_tag, kind_of_count, kind_of_digits, kind_of_tag}
-use Rattle.xxhsum_line.proofs.EscapeFacts.{escape_is_undone, escaped_lacks_line_feed, escaped_lacks_nul, plain_names_stay}
+use Rattle.xxhsum_line.proofs.EscapeFacts.{escape_is_undone, escaped_lacks_line_feed, escaped_length, escaped_lacks_nul, plain_names_stay}
 use Rattle.xxhsum_line.proofs.LackFacts.{lacks_both, up_to_nul_whole}
 use Rattle.xxhsum_line.proofs.ShownFacts.{lacks_shown, length-shown, value_shown-shown}
 
@@ -295,3 +295,55 @@ pub text_is_accepted : (kind : Kind) (shape : Shape) (value : ℕ) (name text : 
 text_is_accepted kind shape value name text e fits h =
     let same = same_from_push (text_of kind shape value name) text 10 10 e in
     subst (λ t. Says shape.is_little t kind value name) same.0 (printed_is_accepted kind shape value name fits h)
+
+-- ---- how long a line is
+
+tag_length : (kind : Kind) (is_little : Bool) → length (full_tag kind is_little) ≤ 9
+tag_length X32 true = omega arith
+tag_length X32 false = omega arith
+tag_length X64 true = omega arith
+tag_length X64 false = omega arith
+tag_length X3_64 true = omega arith
+tag_length X3_64 false = omega arith
+tag_length X3_128 true = omega arith
+tag_length X3_128 false = omega arith
+
+prefix_length : (kind : Kind) → length (prefix_of kind) ≤ 5
+prefix_length X32 = omega arith
+prefix_length X64 = omega arith
+prefix_length X3_64 = omega arith
+prefix_length X3_128 = omega arith
+
+digits_at_most : (kind : Kind) → digits_of kind ≤ 32
+digits_at_most X32 = omega arith
+digits_at_most X64 = omega arith
+digits_at_most X3_64 = omega arith
+digits_at_most X3_128 = omega arith
+
+either_length : (kind : Kind) (is_little is_tagged : Bool) (value : ℕ) (name : List ℕ)
+    → length (if is_tagged then tagged_text kind is_little value name else plain_text kind is_little value name) ≤ length name + 47
+either_length kind is_little true value name =
+    let digits = shown kind is_little value in
+    let all : length (tagged_text kind is_little value name) ≡ length (full_tag kind is_little) + length (32 ∷ 40 ∷ (name ++ 41 ∷ 32 ∷ 61 ∷ 32 ∷ digits)) =
+    length-append (full_tag kind is_little) (32 ∷ 40 ∷ (name ++ 41 ∷ 32 ∷ 61 ∷ 32 ∷ digits)) in
+    let end : length (name ++ 41 ∷ 32 ∷ 61 ∷ 32 ∷ digits) ≡ length name + length (41 ∷ 32 ∷ 61 ∷ 32 ∷ digits) = length-append name (41 ∷ 32 ∷ 61 ∷ 32 ∷ digits) in
+    omega (arith, all, end, tag_length kind is_little, length-shown kind is_little value, digits_at_most kind)
+either_length kind is_little false value name =
+    let digits = shown kind is_little value in
+    let all : length (plain_text kind is_little value name) ≡ length (prefix_of kind) + length (digits ++ 32 ∷ 32 ∷ name) =
+    length-append (prefix_of kind) (digits ++ 32 ∷ 32 ∷ name) in
+    let end : length (digits ++ 32 ∷ 32 ∷ name) ≡ length digits + length (32 ∷ 32 ∷ name) = length-append digits (32 ∷ 32 ∷ name) in
+    omega (arith, all, end, prefix_length kind, length-shown kind is_little value, digits_at_most kind)
+
+marked_length : (is_marked : Bool) (text : List ℕ) → length ((if is_marked then 92 ∷ [] else []) ++ text) ≤ length text + 1
+marked_length true text = omega arith
+marked_length false text = omega arith
+
+-- each byte of a name becomes two at most
+pub printed_length : (kind : Kind) (shape : Shape) (value : ℕ) (name : List ℕ) → length (text_of kind shape value name) ≤ 2 * length name + 48
+printed_length kind shape value name =
+    let marked : length (text_of kind shape value name) ≤ length (formed kind shape value (escaped name)) + 1 =
+    marked_length (needs_escape name) (formed kind shape value (escaped name)) in
+    let form : length (formed kind shape value (escaped name)) ≤ length (escaped name) + 47 =
+    either_length kind shape.is_little shape.is_tagged value (escaped name) in
+    omega (arith, marked, form, escaped_length name)

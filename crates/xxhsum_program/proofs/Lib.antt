@@ -4,6 +4,7 @@ mod HashFacts
 mod LineEndFacts
 mod LineFacts
 mod OutcomeFacts
+mod PrintedListFacts
 mod ProgressFacts
 mod SaidFacts
 mod StopFacts

@@ -8,6 +8,7 @@ mod entry;
 pub mod hash;
 mod lines;
 pub mod outcome;
+pub mod printed_lists;
 pub mod process;
 pub mod progress;
 mod say;

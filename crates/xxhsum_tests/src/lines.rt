@@ -1,12 +1,14 @@
-//! Lines of the original: those that it wrote, and what it made of others.
+//! Lines of the original: those that it wrote, and what it made of others. Its release 0.8.3 knows each of them, 0.8.1
+//! none with an escape or the prefix of XXH3, and no comment.
 
+use std::alloc::{AllocError, Global};
 use std::test::Fail;
 use xxh_io::kind::Kind::{self, X3_64, X3_128, X32, X64};
-use xxhsum_line::entry::{Entry, entry_of};
+use xxhsum_line::entry::{Entry, Meaning, meaning_of};
 use xxhsum_line::laws::{is_read_back, laws_of_lines};
 use xxhsum_line::printed::{Shape, digest_line};
 
-// The lines that the original wrote of a file with the 10 bytes `some bytes`, by kind and value: plain, plain and
+// The lines that 0.8.3 wrote of a file with the 10 bytes `some bytes`, by kind and value: plain, plain and
 // little-endian, tagged, tagged and little-endian. The name looks like a part of a line.
 const WRITTEN: [(Kind, u128, [&str; 4]); 4] = [
     (
@@ -33,8 +35,8 @@ const WRITTEN: [(Kind, u128, [&str; 4]); 4] = [
         X3_64,
         0x45c9_7cf9_b044_7624,
         [
-            "XXH3 (a b) = c) = 45c97cf9b0447624",
-            "XXH3_LE (a b) = c) = 247644b0f97cc945",
+            "XXH3_45c97cf9b0447624  a b) = c",
+            "XXH3_247644b0f97cc945  a b) = c",
             "XXH3 (a b) = c) = 45c97cf9b0447624",
             "XXH3_LE (a b) = c) = 247644b0f97cc945",
         ],
@@ -53,6 +55,37 @@ const WRITTEN: [(Kind, u128, [&str; 4]); 4] = [
 
 const NAME: &[u8] = b"a b) = c";
 
+// Lines that it wrote of a file with these bytes and another name.
+const NAMED: [(&str, bool, &str); 6] = [
+    ("a\\b", false, "\\55cfd3deadcabb2a  a\\\\b"),
+    ("a\nb", false, "\\55cfd3deadcabb2a  a\\nb"),
+    ("a\rb", false, "\\55cfd3deadcabb2a  a\\rb"),
+    ("\\n\n\\", true, "\\XXH64 (\\\\n\\n\\\\) = 55cfd3deadcabb2a"),
+    ("#a", false, "55cfd3deadcabb2a  #a"),
+    ("", true, "XXH64 () = 55cfd3deadcabb2a"),
+];
+
+// Whether the line says this of a file.
+fn says(
+    alloc: Global,
+    line: &str,
+    is_little: bool,
+    kind: Kind,
+    value: u128,
+    name: &[u8],
+) -> Result<bool, AllocError> {
+    Ok(match meaning_of(alloc, line.as_bytes(), is_little)? {
+        Meaning::Entry(
+            Entry {
+                kind: said_kind,
+                value: said_value,
+                name: said_name,
+            },
+        ) => said_kind == kind && said_value == value && said_name.as_slice() == name,
+        Meaning::Comment | Meaning::Malformed => false,
+    })
+}
+
 #[test]
 fn written_lines(rt: HostRuntime) -> Result<(), Fail> {
     for (kind, value, lines) in WRITTEN {
@@ -66,16 +99,32 @@ fn written_lines(rt: HostRuntime) -> Result<(), Fail> {
                 line.as_slice().strip_suffix(b"\n") == Some(want.as_bytes()),
                 "{want}"
             );
-            let entry = Entry {
-                kind,
-                value,
-                name: NAME,
-            };
             assert!(rt;
-                entry_of(want.as_bytes(), shape.is_little) == Some(entry),
+                says(rt.alloc(), want, shape.is_little, kind, value, NAME)?,
                 "{want}"
             );
         }
+    }
+    Ok(())
+}
+
+#[test]
+fn written_names(rt: HostRuntime) -> Result<(), Fail> {
+    let value = 0x55cf_d3de_adca_bb2a;
+    for (name, is_tagged, want) in NAMED {
+        let shape = Shape {
+            is_tagged,
+            is_little: false,
+        };
+        let line = digest_line(rt.alloc(), X64, shape, value, name.as_bytes())?;
+        assert!(rt;
+            line.as_slice().strip_suffix(b"\n") == Some(want.as_bytes()),
+            "{want}"
+        );
+        assert!(rt;
+            says(rt.alloc(), want, false, X64, value, name.as_bytes())?,
+            "{want}"
+        );
     }
     Ok(())
 }
@@ -88,12 +137,13 @@ fn a_line_is_read_back(rt: HostRuntime) -> Result<(), Fail> {
     };
     laws_of_lines();
     assert!(rt; is_read_back(rt.alloc(), X32, shape, 1, b"name")?);
+    assert!(rt; is_read_back(rt.alloc(), X3_64, shape, 1, b"\\a\nb\r")?);
     Ok(())
 }
 
-// Lines that the original was given with `-c`, of a file without bytes: with `--little-endian` or not, and the
-// kind that it took them for.
-const TAKEN: [(&str, bool, Kind); 9] = [
+// Lines that 0.8.3 was given with `-c`, of a file without bytes: with `--little-endian` or not, and the kind that it
+// took them for.
+const TAKEN: [(&str, bool, Kind); 15] = [
     ("02CC5D05 *empty", false, X32),
     ("055dcc02  empty", true, X32),
     ("02cc5d05  empty\0more", false, X32),
@@ -103,30 +153,44 @@ const TAKEN: [(&str, bool, Kind); 9] = [
     ("x_LEy (empty) = 99e9d85137db46ef", false, X64),
     ("MD5 (empty) = ef46db3751d8e999", false, X64),
     (" (empty) = ef46db3751d8e999", false, X64),
+    ("XXH3_2d06800538d394c2  empty", false, X3_64),
+    ("XXH3 (empty) = XXH3_2d06800538d394c2", false, X3_64),
+    ("XXH3_LE (empty) = XXH3_c294d3380580062d", false, X3_64),
+    ("\\02cc5d05  empty", false, X32),
+    ("\t\\XXH64 (empty) = ef46db3751d8e999", false, X64),
+    ("\\#XXH (empty) = ef46db3751d8e999", false, X64),
 ];
 
-#[test]
-fn taken_lines(rt: HostRuntime) {
-    for (line, is_little, kind) in TAKEN {
-        let value = if kind == X32 {
-            0x02cc_5d05
-        } else {
-            0xef46_db37_51d8_e999
-        };
-        let entry = Entry {
-            kind,
-            value,
-            name: b"empty",
-        };
-        assert!(rt;
-            entry_of(line.as_bytes(), is_little) == Some(entry),
-            "{line}"
-        );
+// The hash of no bytes.
+fn of_nothing(kind: Kind) -> u128 {
+    match kind {
+        X32 => 0x02cc_5d05,
+        X64 => 0xef46_db37_51d8_e999,
+        X3_64 => 0x2d06_8005_38d3_94c2,
+        X3_128 => 0x99aa_06d3_0147_98d8_6001_c324_468d_497f,
     }
 }
 
+#[test]
+fn taken_lines(rt: HostRuntime) -> Result<(), Fail> {
+    for (line, is_little, kind) in TAKEN {
+        assert!(rt;
+            says(
+                rt.alloc(),
+                line,
+                is_little,
+                kind,
+                of_nothing(kind),
+                b"empty"
+            )?,
+            "{line}"
+        );
+    }
+    Ok(())
+}
+
 // Lines that it refused.
-const REFUSED: [&str; 11] = [
+const REFUSED: [&str; 19] = [
     "",
     "02cc5d05",
     "02cc5d05 ",
@@ -137,12 +201,36 @@ const REFUSED: [&str; 11] = [
     "XXH32 (empty)= 02cc5d05",
     "XXH32  (empty) = 02cc5d05",
     "XXH128 (empty) = ef46db3751d8e999",
-    "XXH3_ef46db3751d8e999  empty",
+    "xxh3_2d06800538d394c2  empty",
+    "XXH64 (empty) = XXH3_ef46db3751d8e999",
+    "\\02cc5d05  empty\\",
+    "\\02cc5d05  emp\\ty",
+    "\\\\02cc5d05  empty",
+    " \\02cc5d05  empty",
+    " # a comment",
+    "\\# a comment",
+    "\0# a comment",
 ];
 
 #[test]
-fn refused_lines(rt: HostRuntime) {
+fn refused_lines(rt: HostRuntime) -> Result<(), Fail> {
     for line in REFUSED {
-        assert!(rt; entry_of(line.as_bytes(), false) == None, "{line}");
+        let meaning = meaning_of(rt.alloc(), line.as_bytes(), false)?;
+        assert!(rt; matches!(meaning, Meaning::Malformed), "{line}");
     }
+    Ok(())
+}
+
+#[test]
+fn comments(rt: HostRuntime) -> Result<(), Fail> {
+    for line in [
+        "#",
+        "# a comment",
+        "#02cc5d05  empty",
+        "#XXH (empty) = ef46db3751d8e999",
+    ] {
+        let meaning = meaning_of(rt.alloc(), line.as_bytes(), false)?;
+        assert!(rt; matches!(meaning, Meaning::Comment), "{line}");
+    }
+    Ok(())
 }

@@ -10,7 +10,9 @@ use xxh_io::kind::Kind;
 pub fn default_kind(program: &[u8]) -> Kind
     ensures { result ≡ kind_of_program program.now }
 {
-    if has_part(b"xxh128sum", program) {
+    if has_part(b"xxh3sum", program) {
+        Kind::X3_64
+    } else if has_part(b"xxh128sum", program) {
         Kind::X3_128
     } else if has_part(b"xxh64sum", program) {
         Kind::X64

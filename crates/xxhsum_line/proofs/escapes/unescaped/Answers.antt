@@ -1,4 +1,4 @@
-use Rattle.std.proofs.Common.{rules, Bool, true, false, Some, ◌≡◌, ◌++◌, ◌+◌, ◌∷◌, [], ap, sym, ◌∙◌, drop, get_or}
+use Rattle.std.proofs.Common.{rules, Bool, true, false, Some, ◌≡◌, ◌+◌, ◌∷◌, ap, sym, ◌∙◌, drop, get_or}
 use Rattle.std.proofs.lemmas.List.{drop_more}
 use Rattle.xxhsum_line.specs.Escapes.{before, meant_behind, meant_by, unescaped}
 use Rattle.xxhsum_line.proofs.EscapeFacts.{meant_backslash, meant_letter, meant_plain}

@@ -1,0 +1,119 @@
+-- A list whose lines were printed: which lines are found in it, and what they say.
+use Rattle.std.specs.Prelude.{◌≡◌, ℕ, ◌<◌, ◌≤◌, ◌^◌, Bool, true, false, List, [], ◌∷◌, ◌++◌, length, map}
+use Rattle.std.specs.List.{AllByRecursion, concat}
+use Rattle.xxh_io.specs.Kind.{digits_of}
+use Rattle.xxh_io.specs.declared.kind.Kind.{Kind}
+use Rattle.xxh_io.specs.Pieces.{Pieces, NoneEmpty, Step, Failing}
+use Rattle.xxhsum_files.specs.declared.refusal.Refusal.{Refusal}
+use Rattle.xxhsum_line.specs.Entry.{Says, is_comment}
+use Rattle.xxhsum_line.specs.Parts.{Lacks}
+use Rattle.xxhsum_line.specs.Printed.{line_of, text_of}
+use Rattle.xxhsum_line.specs.declared.printed.Shape.{Shape}
+use Rattle.xxhsum_program.specs.CheckList.{EndsWell, HasLines, ReadsLines, ReadsSome}
+use Rattle.xxhsum_program.specs.EachHas.{EachHas}
+use Rattle.xxhsum_program.specs.Findings.{Finding, IsFinding, Proper}
+use Rattle.xxhsum_program.specs.Found.{IsFound}
+use Rattle.xxhsum_program.specs.ListLines.{BeginsTooLong, CantRead, FailsAfter}
+use Rattle.xxhsum_program.specs.declared.entry.Found.{Found}
+
+-- what a line is printed of
+abbrev pub Listed : Type 0
+Listed = record { kind : Kind; shape : Shape; value : ℕ; name : List ℕ }
+
+-- its line, without the line feed
+abbrev pub text_of_listed : Listed → List ℕ
+text_of_listed e = text_of e.kind e.shape e.value e.name
+
+-- the lines of all, one behind the other
+abbrev pub printed_list : List Listed → List ℕ
+printed_list [] = []
+printed_list (e ∷ es) = line_of e.kind e.shape e.value e.name ++ printed_list es
+
+-- The value is one of its kind, the name has no NUL, the line has at most 32,767 bytes, its line feed among them, and
+-- its digits have the order of bytes that the check of plain lines takes them for.
+abbrev pub IsListed : Bool → Listed → Type 0
+IsListed is_little e =
+    (e.value < 16 ^ digits_of e.kind) × Lacks 0 e.name × (length (text_of_listed e) < 32767)
+    × (e.shape.is_little ≡ is_little)
+
+abbrev pub AreListed : Bool → List Listed → Type 0
+AreListed is_little entries = AllByRecursion (IsListed is_little) entries
+
+-- each line with a name of at most 16,359 bytes is short enough
+abbrev pub ShortNamesFit : Type 0
+ShortNamesFit =
+    (kind : Kind) (shape : Shape) (value : ℕ) (name : List ℕ) → length name ≤ 16359
+    → length (text_of kind shape value name) < 32767
+
+-- ---- the lines
+
+-- the line is that of this entry: it is no comment, and says the entry and nothing else
+abbrev pub IsLineOf : Bool → List ℕ → Listed → Type 0
+IsLineOf is_little line e =
+    (line ≡ text_of_listed e) × (is_comment line ≡ false) × Says is_little line e.kind e.value e.name
+    × ((kind : Kind) (value : ℕ) (name : List ℕ) → Says is_little line kind value name
+    → (kind ≡ e.kind) × (value ≡ e.value) × (name ≡ e.name))
+
+-- the lines that are found in a printed list are those of its entries, in their order
+abbrev pub FindsPrintedLines : Type 0
+FindsPrintedLines =
+    (is_little : Bool) (entries : List Listed) (lines : List (List ℕ)) → AreListed is_little entries
+    → HasLines true (printed_list entries) lines [] → EachHas (IsLineOf is_little) lines entries
+
+-- however reads cut a printed list, the lines of its source are those of its entries
+abbrev pub ReadsPrintedLines : {R : Type 0} → Step R → Type 0
+ReadsPrintedLines {R} gives =
+    (is_little : Bool) (entries : List Listed) (source end : R) (pieces : List (List ℕ)) → AreListed is_little entries
+    → NoneEmpty pieces → Pieces gives source (pieces ++ [] ∷ []) end → concat pieces ≡ printed_list entries
+    → EndsWell gives source (map text_of_listed entries)
+
+-- ---- what a check of the list meets
+
+-- reads of a source, however they go, give a beginning of the text; at the end they have given all; and none fails
+abbrev pub Holds : {R : Type 0} → Step R → Failing R → (R → Bool) → R → List ℕ → Type 0
+Holds {R} gives fails has_failed source text =
+    ((pieces : List (List ℕ)) (met : R) → NoneEmpty pieces → Pieces gives source pieces met
+    → ((more : List ℕ) × (text ≡ concat pieces ++ more)) × ¬ CantRead fails has_failed met)
+    × ((pieces : List (List ℕ)) (end : R) → NoneEmpty pieces → Pieces gives source (pieces ++ [] ∷ []) end
+    → concat pieces ≡ text)
+
+-- Where the source has ended, its lines are these; before, those that were read are the first of these; no line is too
+-- long; and no read fails.
+abbrev pub HasJustLines : {R : Type 0} → Step R → Failing R → (R → Bool) → R → List (List ℕ) → Type 0
+HasJustLines gives fails has_failed source texts =
+    ((lines : List (List ℕ)) → EndsWell gives source lines → texts ≡ lines)
+    × ((lines : List (List ℕ)) → ReadsSome gives source lines → (others : List (List ℕ)) × (texts ≡ lines ++ others))
+    × ((has_ended : Bool) (lines : List (List ℕ)) (rest : List ℕ) → ReadsLines gives source has_ended lines rest
+    → ¬ BeginsTooLong rest)
+    × ((bytes : List ℕ) → ¬ FailsAfter gives fails has_failed source bytes)
+
+-- a source that holds a printed list has the lines of its entries, and no others
+abbrev pub HoldsPrintedLines : {R : Type 0} → Step R → Failing R → (R → Bool) → Type 0
+HoldsPrintedLines {R} gives fails has_failed =
+    (is_little : Bool) (entries : List Listed) (source : R) → AreListed is_little entries
+    → Holds gives fails has_failed source (printed_list entries)
+    → HasJustLines gives fails has_failed source (map text_of_listed entries)
+
+-- the finding is how the file of this entry is
+abbrev pub IsFindingOf : {S F : Type 0} → (S → List ℕ → F → Type 0) → (S → List ℕ → Refusal → Type 0) → Step F
+    → Failing F → S → Listed → Finding → Type 0
+IsFindingOf opens refuses gives fails store e finding =
+    (found : Found) × (finding ≡ Proper e.name found)
+    × IsFound opens refuses gives fails store e.kind e.value e.name found
+
+-- as many findings as entries, each that of its own
+abbrev pub AreFindingsOf : {S F : Type 0} → (S → List ℕ → F → Type 0) → (S → List ℕ → Refusal → Type 0) → Step F
+    → Failing F → S → List Listed → List Finding → Type 0
+AreFindingsOf opens refuses gives fails store [] [] = Unit {0}
+AreFindingsOf opens refuses gives fails store [] (finding ∷ findings) = ⊥
+AreFindingsOf opens refuses gives fails store (e ∷ es) [] = ⊥
+AreFindingsOf opens refuses gives fails store (e ∷ es) (finding ∷ findings) =
+    IsFindingOf opens refuses gives fails store e finding × AreFindingsOf opens refuses gives fails store es findings
+
+-- what is found of the lines of a printed list is how the files of its entries are
+abbrev pub FindsPrintedFiles : {S F : Type 0} → (S → List ℕ → F → Type 0) → (S → List ℕ → Refusal → Type 0)
+    → Step F → Failing F → Type 0
+FindsPrintedFiles {S} opens refuses gives fails =
+    (store : S) (is_little : Bool) (entries : List Listed) (findings : List Finding) → AreListed is_little entries
+    → EachHas (IsFinding opens refuses gives fails store is_little) (map text_of_listed entries) findings
+    → AreFindingsOf opens refuses gives fails store entries findings

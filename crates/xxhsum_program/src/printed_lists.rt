@@ -1,0 +1,24 @@
+//! Lists whose lines were printed, as a law about the check of lists.
+
+ghost use Rattle.xxh_io.specs.Script.{slice_rest};
+ghost use Rattle.xxh_io.specs.declared.script_source.SliceSource.{SliceSource};
+ghost use Rattle.xxhsum_program.specs.PrintedList.{FindsPrintedFiles, FindsPrintedLines, Holds, HoldsPrintedLines, ReadsPrintedLines, ShortNamesFit};
+
+use xxh_io::ends::Source;
+use xxh_io::script_source::SliceSource;
+use xxhsum_files::store::Store;
+
+/// A law, with nothing to run: a list that was printed is accepted whole. Its entries are of any names with no NUL,
+/// and each line has at most 32,767 bytes, as that of a name of at most 16,359 bytes has. However reads cut the list,
+/// its lines are those of the entries in their order; each says its entry and nothing else; and what is found of them
+/// is how the entries' files are. A source holds a list where its reads give just that, as those of a slice do.
+pub fn laws_of_printed_lists<S: Store, R: Source + Drop>()
+    ensures finds_lines { FindsPrintedLines }
+    ensures reads_lines { ReadsPrintedLines R.gives }
+    ensures holds_lines { HoldsPrintedLines R.gives R.fails R.has_failed }
+    ensures finds_files { FindsPrintedFiles S.opens S.refuses S.File.gives S.File.fails }
+    ensures short_names { ShortNamesFit }
+    ensures slices_hold { (source : SliceSource) → Holds ⟦<SliceSource<'static> as Source>⟧.gives
+        ⟦<SliceSource<'static> as Source>⟧.fails
+        ⟦<SliceSource<'static> as Source>⟧.has_failed source (slice_rest source) }
+{}
