@@ -1,5 +1,5 @@
 -- A line that is written in two parts, of which either may be refused.
-use Rattle.std.proofs.Common.{◌≡◌, ◌≢◌, ℕ, List, [], ◌∷◌, ◌++◌, Bool, false, Ok, Err, IfErr, codes, decimal, nat_eq, ◌||◌, refl, subst, if◌then◌else◌, arith, append-nil, ap, ◌∙◌}
+use Rattle.std.proofs.Common.{◌≡◌, ◌≢◌, ℕ, List, [], ◌∷◌, ◌++◌, Bool, false, Ok, Err, IfErr, codes, decimal, nat_eq, ◌||◌, refl, if◌then◌else◌, arith, append-nil, ap, ◌∙◌}
 use Rattle.std.specs.List.{concat}
 use Rattle.std.specs.declared.result.Result.{Result}
 use Rattle.xxh_io.specs.Digest.{Took}

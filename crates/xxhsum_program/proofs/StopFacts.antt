@@ -14,7 +14,7 @@ use Rattle.xxhsum_program.specs.CheckList.{AnswersList, AnswersOutcome, Checked,
 use Rattle.xxhsum_program.specs.EachHas.{EachHas}
 use Rattle.xxhsum_program.specs.Findings.{Finding, Proper, count_proper}
 use Rattle.xxhsum_program.specs.Lines.{PrintsLine, PrintsLines}
-use Rattle.xxhsum_program.specs.ListEnd.{ListEnd, report_at}
+use Rattle.xxhsum_program.specs.ListEnd.{ListEnd}
 use Rattle.xxhsum_program.specs.Report.{is_good}
 use Rattle.xxhsum_program.specs.Said.{found_text, numbered, printed_finding, printed_list, printed_summary, told_break, told_finding, told_lines, told_list, told_summary}
 use Rattle.xxhsum_program.specs.Told.{TellsOn}

@@ -1,5 +1,5 @@
 -- What the words ask for is the task.
-use Rattle.std.proofs.Common.{◌≡◌, ℕ, Bool, true, false, List, Option, Some, None, drop, refl}
+use Rattle.std.proofs.Common.{◌≡◌, ℕ, true, false, List, Option, Some, None, drop, refl}
 use Rattle.xxh_io.specs.declared.kind.Kind.{Kind}
 use Rattle.xxhsum_words.specs.Name.{kind_of_program}
 use Rattle.xxhsum_words.specs.Options.{asked_of}
@@ -7,7 +7,7 @@ use Rattle.xxhsum_words.specs.declared.options.Asked.{Asked}
 use Rattle.xxhsum_words.specs.declared.options.Asked.TheVariants.{BadUsage}
 use Rattle.xxhsum_words.specs.declared.options.Options.{Options}
 use Rattle.xxhsum_program.specs.declared.process.Terminals.{Terminals}
-use Rattle.xxhsum_program.specs.Task.{Reads, Task, Tells, answer_text, is_well, run_asked, shows_progress, task_from, task_of, waits_for_terminal}
+use Rattle.xxhsum_program.specs.Task.{Reads, Tells, answer_text, is_well, run_asked, shows_progress, task_from, task_of, waits_for_terminal}
 
 -- by the words, the kind and what they ask for as they were found
 pub task-is : (terminals : Terminals) (program : List ℕ) (arguments words : List (List ℕ)) (kind : Kind) (asked : Asked) (run : Option (Options × ℕ)) → words ≡ drop 1 arguments → kind ≡ kind_of_program program → asked ≡ asked_of kind words → run ≡ run_asked asked → task_of terminals program (drop 1 arguments) ≡ task_from terminals program words asked run

@@ -1,6 +1,6 @@
 -- What is found of watched lists is found of what they watch. `f` is what a watched source watches, and `s` the files
 -- that watched files watch.
-use Rattle.std.proofs.Common.{ℕ, Bool, List, [], ◌∷◌, ◌++◌, Option, Some, None, inl, inr}
+use Rattle.std.proofs.Common.{ℕ, Bool, List, ◌++◌, Option, Some, None, inl, inr}
 use Rattle.std.specs.declared.result.Result.{Result}
 use Rattle.xxh_io.specs.declared.kind.Kind.{Kind}
 use Rattle.xxh_io.specs.Pieces.{Step, Failing}

@@ -7,7 +7,6 @@ use Rattle.xxh_io.specs.declared.error.DigestError.{DigestError}
 use Rattle.xxh_io.specs.declared.kind.Kind.{Kind}
 use Rattle.xxh_io.specs.Pieces.{Step, Failing}
 use Rattle.xxh_io.specs.Digest.{Took, Refused}
-use Rattle.xxhsum_files.specs.Refusal.{refusal_text}
 use Rattle.xxhsum_line.specs.declared.printed.Shape.{Shape}
 use Rattle.xxhsum_line.specs.Printed.{line_of}
 use Rattle.xxhsum_program.specs.declared.outcome.Outcome.{Outcome}

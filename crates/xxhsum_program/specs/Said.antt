@@ -69,7 +69,7 @@ printed_summary options report =
     (count_text report.improper (codes " line is improperly formatted\n") (codes " lines are improperly formatted\n")
     ∷ count_text report.unread (codes " listed file could not be read\n") (codes " listed files could not be read\n")
     ∷ count_text report.different (codes " computed checksum did NOT match\n")
-        (codes " computed checksums did NOT match\n")
+    (codes " computed checksums did NOT match\n")
     ∷ [])
 
 -- whether the list is one at all

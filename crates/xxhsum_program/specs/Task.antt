@@ -1,5 +1,5 @@
 -- What the arguments ask the program to do.
-use Rattle.std.specs.Prelude.{◌≡◌, ◌⊎◌, ℕ, Bool, true, false, ◌&&◌, not, List, [], ◌∷◌, Option, Some, None, codes, drop, length, nat_eq, if◌then◌else◌}
+use Rattle.std.specs.Prelude.{◌≡◌, ℕ, Bool, true, false, ◌&&◌, not, List, [], ◌∷◌, Option, Some, None, codes, drop, length, nat_eq, if◌then◌else◌}
 use Rattle.std.specs.List.{concat}
 use Rattle.xxhsum_program.specs.declared.process.Terminals.{Terminals}
 use Rattle.xxhsum_program.specs.declared.usage.TheConstants.{ABOUT, NO_BENCHMARK, OPTIONS, TITLE}

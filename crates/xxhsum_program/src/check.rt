@@ -206,7 +206,12 @@ impl<S: Store> ListCheck<'_, S> {
     {
         report.improper = report.improper.saturating_add(1);
         if self.options.warns {
-            tell_of_line(self.name, number, b"Improperly formatted checksum line", err);
+            tell_of_line(
+                self.name,
+                number,
+                b"Improperly formatted checksum line",
+                err,
+            );
         }
     }
 
@@ -242,7 +247,12 @@ impl<S: Store> ListCheck<'_, S> {
         if report.proper == 0 {
             return;
         }
-        tell_of_line(self.name, number, b"A failure occurred reading the list", err);
+        tell_of_line(
+            self.name,
+            number,
+            b"A failure occurred reading the list",
+            err,
+        );
     }
 
     // Says how many lines are not as they should be, or that there is no list.

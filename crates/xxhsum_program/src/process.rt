@@ -133,11 +133,8 @@ fn run_asked(asked: Asked) -> Option<(Options, usize)>
             options,
             names_from,
         } => Some((options, names_from)),
-        Asked::Benchmark
-        | Asked::Version
-        | Asked::Help
-        | Asked::BadUsage
-        | Asked::NumberTooLarge => None,
+        Asked::Benchmark | Asked::Version | Asked::Help | Asked::BadUsage | Asked::NumberTooLarge =>
+            None,
     }
 }
 
@@ -165,7 +162,11 @@ fn words_of(args: &[Vec<u8>]) -> &[Vec<u8>]
 fn names_from(words: &[Vec<u8>], place: usize) -> &[Vec<u8>]
     ensures { map (λ name. name.items) result.now ≡ drop place (map (λ word. word.items) words.now) }
 {
-    if place < words.len() { &words[place..] } else { &[] }
+    if place < words.len() {
+        &words[place..]
+    } else {
+        &[]
+    }
 }
 
 // Whether progress is to be shown.

@@ -82,7 +82,11 @@ fn a_failed_write_alone_stops_the_run(rt: HostRuntime) -> Result<(), AllocError>
     let entries = entries();
     let names = names(rt.alloc(), &[b"a", b"bad", b"b"])?;
     for (write_fails, answer, printed) in [
-        (0, Ok(false), b"26c7827d889f6da3  a\n2d83aaba506794c4  b\n".as_slice()),
+        (
+            0,
+            Ok(false),
+            b"26c7827d889f6da3  a\n2d83aaba506794c4  b\n".as_slice(),
+        ),
         (2, Err(Stop::WriteFailed), b"26c7827d8"),
     ] {
         let mut out = ScriptSink::<99>::new(9, write_fails);
@@ -113,7 +117,11 @@ fn standard_input_has_its_line(rt: HostRuntime) {
     };
     for (read_fails, printed, told) in [
         (0, b"XXH32 (stdin) = fb0077f9\n".as_slice(), b"".as_slice()),
-        (2, b"", b"Error: a failure occurred reading the input file.\n"),
+        (
+            2,
+            b"",
+            b"Error: a failure occurred reading the input file.\n",
+        ),
     ] {
         let mut input = ScriptSource::new(b"hello", &[1, 9], read_fails);
         let mut out = ScriptSink::<99>::new(99, 0);

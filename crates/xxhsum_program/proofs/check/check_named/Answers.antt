@@ -1,4 +1,4 @@
-use Rattle.std.proofs.Common.{[], false, refl}
+use Rattle.std.proofs.Common.{[], refl}
 use Rattle.xxhsum_program.specs.CheckList.{Checked, Unopened}
 use Rattle.xxhsum_program.proofs.StopFacts.{answers-outcome}
 use Rattle.xxhsum_program.proofs.check.check_named.Goals as goal

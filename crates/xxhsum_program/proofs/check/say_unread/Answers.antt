@@ -1,4 +1,4 @@
-use Rattle.std.proofs.Common.{◌∷◌, ◌++◌, [], codes, subst, ◌∙◌}
+use Rattle.std.proofs.Common.{◌∷◌, [], codes, subst, ◌∙◌}
 use Rattle.std.specs.List.{concat}
 use Rattle.xxhsum_program.specs.Lines.{PrintsLine}
 use Rattle.xxhsum_program.proofs.check.say_unread.Goals as goal

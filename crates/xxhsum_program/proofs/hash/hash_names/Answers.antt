@@ -1,4 +1,4 @@
-use Rattle.std.proofs.Common.{◌≡◌, ◌+◌, ◌∷◌, ◌++◌, [], Ok, Err, map, take, drop, refl, sym, subst, rules}
+use Rattle.std.proofs.Common.{◌≡◌, ◌+◌, ◌∷◌, ◌++◌, [], Err, map, take, drop, refl, sym, subst, rules}
 use Rattle.xxh_io.proofs.WriteFacts.{Took-join}
 use Rattle.xxhsum_program.specs.Outcomes.{Comes}
 use Rattle.xxhsum_program.specs.Lines.{PrintsLine, printed_line, told_line}

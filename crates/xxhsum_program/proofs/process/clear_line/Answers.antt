@@ -1,4 +1,4 @@
-use Rattle.std.proofs.Common.{◌≡◌, [], List, ℕ, codes, refl, sym, subst}
+use Rattle.std.proofs.Common.{◌≡◌, [], codes, refl, sym, subst}
 use Rattle.xxhsum_program.specs.Run.{cleared_line}
 use Rattle.xxhsum_program.specs.Told.{TellsOn}
 use Rattle.xxhsum_program.proofs.ToldFacts.{tells-nothing}

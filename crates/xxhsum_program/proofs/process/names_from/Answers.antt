@@ -1,4 +1,4 @@
-use Rattle.std.proofs.Common.{length, map, drop, ap, sym, ◌∙◌}
+use Rattle.std.proofs.Common.{map, ap, sym, ◌∙◌}
 use Rattle.std.proofs.lemmas.List.{drop-map, take_rest}
 use Rattle.xxhsum_program.proofs.process.names_from.Goals as goal
 

@@ -1,4 +1,3 @@
-use Rattle.std.proofs.Common.{sym}
 use Rattle.xxhsum_program.proofs.ToldFacts.{tells-more}
 use Rattle.xxhsum_program.proofs.tell.+tell_parts.Goals as goal
 

@@ -1,4 +1,3 @@
-use Rattle.std.proofs.Common.{Err}
 use Rattle.xxhsum_program.specs.Findings.{IsFinding}
 use Rattle.xxhsum_program.proofs.HashFacts.{is-err}
 use Rattle.xxhsum_program.proofs.StopFacts.{check-ends, check-stops, check-summary-stops}

@@ -1,4 +1,4 @@
-use Rattle.std.proofs.Common.{[], Ok, refl, sym, subst, ◌∙◌, rules}
+use Rattle.std.proofs.Common.{[], refl, subst}
 use Rattle.xxhsum_line.specs.Meaning.{Means}
 use Rattle.xxhsum_program.specs.Findings.{Ignored, Improper, IsFinding, Proper}
 use Rattle.xxhsum_program.proofs.StopFacts.{line-said}

@@ -1,13 +1,11 @@
-use Rattle.std.proofs.Common.{◌≡◌, ◌+◌, ◌-◌, ◌^◌, ◌∷◌, ◌++◌, [], length, Some, Err, refl, sym, ap, subst, ◌∙◌, append-nil, arith, rules}
+use Rattle.std.proofs.Common.{◌≡◌, ◌+◌, ◌-◌, ◌^◌, ◌∷◌, ◌++◌, [], length, Some, Err, refl, sym, ap, subst, ◌∙◌, append-nil, arith}
 use Rattle.std.proofs.lemmas.List.{length_push}
 use Rattle.xxh_io.proofs.WriteFacts.{Took-join}
-use Rattle.xxh_io.specs.Digest.{Took}
 use Rattle.xxhsum_program.specs.CheckList.{ChecksLine}
 use Rattle.xxhsum_program.specs.Findings.{IsFinding, count_one, no_findings, report_of, with_broken_end}
 use Rattle.xxhsum_program.specs.LinesView.{line_of}
 use Rattle.xxhsum_program.specs.ListEnd.{Whole, TooMany, LongLine, FailedRead}
 use Rattle.xxhsum_program.specs.Said.{numbered, printed_finding, told_finding}
-use Rattle.xxhsum_program.specs.Told.{TellsOn}
 use Rattle.xxhsum_program.proofs.CheckFacts.{add_up-push, breaks-failed, breaks-too-long, ends-well, some-read, stands-line, stands-new}
 use Rattle.xxhsum_program.proofs.EachFacts.{EachHas-push}
 use Rattle.xxhsum_program.proofs.HashFacts.{is-err}

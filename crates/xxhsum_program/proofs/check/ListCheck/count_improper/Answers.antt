@@ -1,4 +1,4 @@
-use Rattle.std.proofs.Common.{◌≡◌, true, codes, refl, subst, sym}
+use Rattle.std.proofs.Common.{◌≡◌, codes, refl, subst, sym}
 use Rattle.xxhsum_program.specs.Findings.{Improper}
 use Rattle.xxhsum_program.specs.Said.{told_finding, told_of_line}
 use Rattle.xxhsum_program.specs.Told.{TellsOn}
