@@ -1,5 +1,5 @@
 -- What the program does with its task, and its exit status.
-use Rattle.std.specs.Prelude.{◌≡◌, ℕ, Bool, true, false, List, [], Option, Some, None, codes, drop, if◌then◌else◌}
+use Rattle.std.specs.Prelude.{◌≡◌, ℕ, Bool, true, false, List, [], Option, Some, None, codes, drop}
 use Rattle.std.specs.declared.result.Result.{Result}
 use Rattle.std.specs.declared.result.Result.TheVariants.{Ok, Err}
 use Rattle.xxh_io.specs.Pieces.{Step, Failing}
@@ -14,7 +14,7 @@ use Rattle.xxhsum_program.specs.Findings.{IsFinding}
 use Rattle.xxhsum_program.specs.HashNames.{SaysInput, SaysNames}
 use Rattle.xxhsum_program.specs.declared.watched.Watched.{Watched}
 use Rattle.xxhsum_program.specs.declared.watched.WatchedFiles.{WatchedFiles}
-use Rattle.xxhsum_program.specs.Progress.{cleared, is_shown}
+use Rattle.xxhsum_program.specs.Progress.{is_shown}
 use Rattle.xxhsum_program.specs.Task.{IsProgram, Reads, Task, Tells, has_none, task_of}
 use Rattle.xxhsum_program.specs.Told.{TellsOn}
 use Rattle.xxhsum_program.specs.Watched.{IsFresh, files_of, meter_of, shows_reads, source_of}
@@ -25,24 +25,6 @@ shape_of options = record { is_tagged = options.is_tagged; is_little = options.i
 -- what standard input is called
 abbrev pub input_name : List ℕ
 input_name = codes "stdin"
-
--- an empty line where progress may have stood, but where all is to be quiet
-abbrev pub cleared_line : Options → List ℕ
-cleared_line options = if options.is_quiet then [] else cleared 67108864
-
-abbrev pub line_behind : Options → Result Bool Stop → List ℕ
-line_behind options (Ok all) = cleared_line options
-line_behind options (Err stop) = []
-
--- the names have their outcomes, and an empty line is behind them
-abbrev pub HashesAll : {S F W E : Type 0} → (S → List ℕ → F → Type 0) → (S → List ℕ → Refusal → Type 0)
-    → (S → List ℕ → Bool → Type 0) → Step F → Failing F → Step W → Failing W → Step E → Failing E → (E → Bool)
-    → S → Options → List (List ℕ) → W → W → E → E → Result Bool Stop → Type 0
-HashesAll {S} {F} {W} {E} opens refuses holds_directory gives fails takes w_refuses e_takes e_refuses e_failed store options
-    names w_old w_new e_old e_new result =
-    (told : E) × SaysNames opens refuses holds_directory gives fails takes w_refuses e_takes e_refuses e_failed store
-    options.kind (shape_of options) names w_old w_new e_old told result
-    × TellsOn e_takes e_refuses e_failed (line_behind options result) told e_new
 
 -- by whether lists are checked, and whether there is no name: then standard input is read
 unfoldable pub PerformsAs : {S F R W E : Type 0} → (S → List ℕ → F → Type 0) → (S → List ℕ → Refusal → Type 0)
@@ -63,8 +45,8 @@ PerformsAs {S} {F} {R} {W} {E} opens refuses holds_directory gives fails has_fai
     input_name source end w_old w_new e_old e_new result
 PerformsAs {S} {F} {R} {W} {E} opens refuses holds_directory gives fails has_failed r_gives r_fails r_failed takes w_refuses w_failed
     e_takes e_refuses e_failed store options names source w_old w_new e_old e_new result false false =
-    HashesAll opens refuses holds_directory gives fails takes w_refuses e_takes e_refuses e_failed store options names
-    w_old w_new e_old e_new result
+    SaysNames opens refuses holds_directory gives fails takes w_refuses e_takes e_refuses e_failed store options.kind
+    (shape_of options) names w_old w_new e_old e_new result
 
 -- the same over files and an input that are watched, whose reads are shown or not
 unfoldable pub PerformsWatched : {S F R W E : Type 0} → (T M : Type 0) → (S → List ℕ → F → Type 0) → (S → List ℕ → Refusal → Type 0)

@@ -2,7 +2,7 @@
 
 ghost use Rattle.std.specs.Prelude.{◌≡◌, false, Bool, List, ℕ, Option, Result, drop, map, IfSome};
 ghost use Rattle.xxhsum_program.specs.Arguments.{AreArguments};
-ghost use Rattle.xxhsum_program.specs.Run.{DoesArguments, DoesTask, HashesAll, PerformsAs, PerformsWatched, cleared_line, end_text, shape_of, status_of, stop_text};
+ghost use Rattle.xxhsum_program.specs.Run.{DoesArguments, DoesTask, PerformsAs, PerformsWatched, end_text, shape_of, status_of, stop_text};
 ghost use Rattle.xxhsum_program.specs.Task.{IsProgram, answer_text, has_none, is_well, run_asked, shows_progress, task_of, usage_text, waits_for_terminal};
 ghost use Rattle.xxhsum_program.specs.Told.{TellsOn};
 ghost use Rattle.xxhsum_program.specs.declared.stop.Stop.{Stop};
@@ -11,7 +11,7 @@ ghost use Rattle.xxh_io.specs.declared.from_write.FromWrite.{FromWrite};
 use crate::arguments::{Arguments, all_arguments, last_part};
 use crate::check::{check_list, check_lists};
 use crate::hash::{hash_input, hash_names};
-use crate::progress::{CLEARED, Meter};
+use crate::progress::Meter;
 use crate::stop::Stop;
 use crate::tell::{tell, tell_parts};
 use crate::usage::{ABOUT, NO_BENCHMARK, OPTIONS, TITLE};
@@ -286,41 +286,11 @@ where
         }
         return check_lists(alloc, store, options, names, out, err);
     }
+    let shape = shape_of(options);
     if has_none(names) {
-        let shape = shape_of(options);
         return hash_input(alloc, options.kind, shape, INPUT, &mut input, out, err);
     }
-    hash_all(alloc, store, options, names, out, err)
-}
-
-// Digests the names, and leaves an empty line behind them.
-fn hash_all<S: Store, W: Sink, E: Sink>(
-    alloc: Global,
-    store: &S,
-    options: Options,
-    names: &[Vec<u8>],
-    out: &mut W,
-    err: &mut E,
-) -> Result<bool, Stop>
-    requires { W.has_failed out.old ≡ false }
-    ensures { HashesAll S.opens S.refuses S.holds_directory S.File.gives S.File.fails W.takes W.refuses
-        E.takes E.refuses E.has_failed store.now options (map (λ name. name.items) names.now)
-        out.old out.new err.old err.new result }
-{
-    let shape = shape_of(options);
-    let all = hash_names(alloc, store, options.kind, shape, names, out, err)?;
-    clear_line(options, err);
-    Ok(all)
-}
-
-// Tells an empty line where progress may have stood, but where all is to be quiet.
-fn clear_line<E: Sink>(options: Options, err: &mut E)
-    ensures { TellsOn E.takes E.refuses E.has_failed (cleared_line options) err.old err.new }
-{
-    if options.is_quiet {
-        return;
-    }
-    tell(CLEARED, err);
+    hash_names(alloc, store, options.kind, shape, names, out, err)
 }
 
 fn shape_of(options: Options) -> Shape

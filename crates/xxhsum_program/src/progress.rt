@@ -14,7 +14,7 @@ const STEP: u64 = 67108864;
 const MIB: u64 = 1048576;
 
 // An empty line, with the cursor at its beginning.
-pub(crate) const CLEARED: &[u8] =
+const CLEARED: &[u8] =
     b"\r                                                                      \r";
 
 /// Counts what is read of a file, and shows it on an end at each 64 MiB, or nowhere.
