@@ -93,7 +93,12 @@ impl Stream {
     #[inline(always)]
     pub fn keep_first(&mut self, word: u64) {
         // SAFETY: the buffer has 512 bytes.
-        unsafe { self.buffer.as_mut_ptr().cast::<[u8; 8]>().write(word.to_ne_bytes()) };
+        unsafe {
+            self.buffer
+                .as_mut_ptr()
+                .cast::<[u8; 8]>()
+                .write(word.to_ne_bytes())
+        };
         self.buffer_usage = 8;
         self.total_bytes = 8;
     }

@@ -36,7 +36,10 @@ fn words_are_hashed_as_their_bytes() {
         for seed in [0, 7, u64::MAX] {
             let words = &WORDS[start..];
             let first = words[0].to_ne_bytes();
-            assert_eq!(XxHash64::oneshot(seed, &first), xxhash64::State::with_seed(seed).hash_one(words[0]));
+            assert_eq!(
+                XxHash64::oneshot(seed, &first),
+                xxhash64::State::with_seed(seed).hash_one(words[0])
+            );
             for count in 1..=words.len() {
                 let words = &words[..count];
                 let pairs = [
@@ -44,7 +47,10 @@ fn words_are_hashed_as_their_bytes() {
                     by_words_and_bytes(|| XxHash64::with_seed(seed), words),
                     by_words_and_bytes(XxHash3_64::new, words),
                     by_words_and_bytes(|| XxHash3_64::with_seed(seed), words),
-                    by_words_and_bytes(|| RawHasher::new(SecretBuffer::new(seed, [9; 140]).unwrap()), words),
+                    by_words_and_bytes(
+                        || RawHasher::new(SecretBuffer::new(seed, [9; 140]).unwrap()),
+                        words,
+                    ),
                 ];
                 for (by_words, by_bytes) in pairs {
                     assert_eq!(by_words, by_bytes, "seed {seed}, words {words:x?}");
@@ -60,8 +66,14 @@ fn one_word_is_hashed_as_at_once() {
         let bytes = word.to_ne_bytes();
         for seed in [0, 7, u64::MAX] {
             let short = xxhash32::State::with_seed(seed as u32);
-            assert_eq!(short.hash_one(word), XxHash32::oneshot(seed as u32, &bytes).into());
-            assert_eq!(xxhash64::State::with_seed(seed).hash_one(word), XxHash64::oneshot(seed, &bytes));
+            assert_eq!(
+                short.hash_one(word),
+                XxHash32::oneshot(seed as u32, &bytes).into()
+            );
+            assert_eq!(
+                xxhash64::State::with_seed(seed).hash_one(word),
+                XxHash64::oneshot(seed, &bytes)
+            );
             let mut hasher = XxHash3_64::with_seed(seed);
             hasher.write_u64(word);
             assert_eq!(hasher.finish(), XxHash3_64::oneshot_with_seed(seed, &bytes));

@@ -1,9 +1,28 @@
-//! The program `xxhsum`: digest lines of files, and lists of them that are checked.
+//! `xxhsum` prints and checks digests of files. The page docs/XXHSUM.md says what is proved of it.
 #![tactic(auto)]
 
+use std::io::IsTerminal;
 use std::process::ExitCode;
-use xxhsum_program::process::run_process;
+use xxh_io::from_read::FromRead;
+use xxh_io::from_write::FromWrite;
+use xxhsum_files::system::SystemFiles;
+use xxhsum_program::arguments::ProcessArguments;
+use xxhsum_program::process::{Terminals, run};
 
+// Hands over what the process has: its arguments, files and streams.
 fn main(rt: HostRuntime) -> ExitCode {
-    ExitCode::from(run_process(&rt, rt.stdin(), rt.stdout(), rt.stderr()))
+    let terminals = Terminals {
+        input: rt.stdin().is_terminal(),
+        errors: rt.stderr().is_terminal(),
+    };
+    ExitCode::from(run(
+        rt.alloc(),
+        &ProcessArguments::new(&rt),
+        &SystemFiles::new(&rt),
+        terminals,
+        FromRead::new(rt.stdin()),
+        &mut FromWrite::new(rt.stdout()),
+        &mut FromWrite::new(rt.stderr()),
+        rt.stderr(),
+    ))
 }

@@ -1,33 +1,16 @@
--- Findings of lines, and the report that they add up to.
-use Rattle.std.proofs.Common.{◌≡◌, ◌⊎◌, ℕ, ◌&&◌, Bool, true, List, [], ◌∷◌, ◌++◌, Ok, Err, IfErr, OnOk, refl, sym, ap, subst, ◌∙◌, inl, inr, append-nil, append_assoc}
+-- Findings of lines, and how a list ends behind them.
+use Rattle.std.proofs.Common.{◌≡◌, ◌⊎◌, ℕ, true, List, [], ◌∷◌, ◌++◌, refl, sym, ap, subst, ◌∙◌, inl, inr, append-nil, append_assoc, Bool}
 use Rattle.std.specs.List.{AllByRecursion, concat}
-use Rattle.std.specs.declared.result.Result.{Result}
 use Rattle.xxh_io.specs.Pieces.{Pieces}
-use Rattle.std.specs.Result.{IsErrAnd}
 use Rattle.xxhsum_program.specs.declared.check.Report.{Report}
-use Rattle.xxhsum_program.specs.declared.stop.Stop.{Stop}
-use Rattle.xxhsum_program.specs.Lines.{IsOfWriting}
 use Rattle.xxhsum_program.specs.declared.lines.Lines.{Lines}
 use Rattle.xxhsum_program.specs.declared.lines.Next.TheVariants as Variant
-use Rattle.xxhsum_program.specs.CheckList.{BreaksOff, EndsInLine, EndsWell, HasLines, ReadsSome, StopsEarly, all_true, with_line_feeds}
-use Rattle.xxhsum_program.specs.EachHas.{EachHas}
+use Rattle.xxhsum_program.specs.CheckList.{EndsAs, EndsInLine, EndsWell, HasLines, ReadsSome, with_line_feeds}
 use Rattle.xxhsum_program.specs.Findings.{Finding, add_up, count_one}
 use Rattle.xxhsum_program.specs.LinesView.{HasRead, IsAtEnd, IsNext, line_of, waiting}
+use Rattle.xxhsum_program.specs.ListEnd.{LongLine, FailedRead}
 use Rattle.xxhsum_program.specs.ListLines.{FailsAfter, IsLine, end_piece}
-use Rattle.xxhsum_program.proofs.EachFacts.{and-assoc, and-true}
-
-pub on-ok : {T E P : Type 0} (result : Result T E) → P → OnOk result P
-on-ok (Ok x) p = p
-on-ok (Err e) p = tt
-
--- an error that a `?` passes on
-pub passes-on : {T E : Type 0} (P : E → Type 0) (result : Result T E) (e : E) → IsErrAnd result (λ f. f ≡ e) → P e → IfErr result P
-passes-on P (Ok x) e is p = tt
-passes-on P (Err f) e is p = subst P (sym is) p
-
-pub writing-stops : {T : Type 0} (P : Stop → Type 0) (result : Result T Stop) → IfErr result IsOfWriting → IfErr result (λ stop. IsOfWriting stop ⊎ P stop)
-writing-stops P (Ok x) only = tt
-writing-stops P (Err stop) only = inl only
+use Rattle.xxhsum_program.proofs.EachFacts.{all-push}
 
 pub add_up-push : (report : Report) (findings : List Finding) (finding : Finding) → add_up report (findings ++ finding ∷ []) ≡ count_one (add_up report findings) finding
 add_up-push report [] finding = refl
@@ -50,15 +33,11 @@ line-feeds-push (x ∷ xs) line =
     let before = with_line_feeds xs in
     ap (λ (r : List ℕ). x ++ 10 ∷ r) (line-feeds-push xs line) ∙ sym (append_assoc x (10 ∷ (before ++ line)) (10 ∷ [])) ∙ ap (λ (r : List ℕ). r ++ 10 ∷ []) (sym (append_assoc x (10 ∷ before) line))
 
-all-push : (lines : List (List ℕ)) (line : List ℕ) → AllByRecursion IsLine lines → IsLine line → AllByRecursion IsLine (lines ++ line ∷ [])
-all-push [] line all is = (is, tt)
-all-push (x ∷ xs) line all is = (all.0, all-push xs line all.1 is)
-
 -- one line more
 pub stands-line : {R : Type 0} (gives : R → List ℕ → R → Type 0) (fails : R → R → Type 0) (has_failed : R → Bool) (source : R) (old new : Lines R) (lines : List (List ℕ)) → Stands gives source old lines → ((from : R) (done : List ℕ) → HasRead gives from done old → IsNext gives fails has_failed from done new Variant.Line) → (IsAtEnd old → Variant.Line ≡ Variant.End) → Stands gives source new (lines ++ line_of new ∷ [])
 stands-line gives fails has_failed source old new lines (done, read, inl so_far) next ended =
     elim (next source done read) [
-      | inl more ↦ (done ++ line_of new ++ 10 ∷ [], more.1, inl (all-push lines (line_of new) so_far.0 more.0, ap (λ (d : List ℕ). d ++ line_of new ++ 10 ∷ []) so_far.1 ∙ sym (line-feeds-push lines (line_of new))))
+      | inl more ↦ (done ++ line_of new ++ 10 ∷ [], more.1, inl (all-push IsLine lines (line_of new) so_far.0 more.0, ap (λ (d : List ℕ). d ++ line_of new ++ 10 ∷ []) so_far.1 ∙ sym (line-feeds-push lines (line_of new))))
       | inr last ↦ (done ++ line_of new, last.1, inr (last.2, (lines, line_of new, so_far.0, last.0, ap (λ (d : List ℕ). d ++ line_of new) so_far.1, refl)))
     ]
 stands-line gives fails has_failed source old new lines (done, read, inr so_far) next ended =
@@ -70,13 +49,6 @@ some-read gives source state lines (done, read, inl so_far) =
 some-read gives source state lines (done, read, inr so_far) =
     let whole : concat read.0 ≡ done = read.3 ∙ ap (λ (w : List ℕ). done ++ w) so_far.0.1 ∙ append-nil done in
     (state.has_ended, [], (read.0, state.source, read.1, read.2, inr (so_far.0.0, subst (λ (text : List ℕ). EndsInLine text lines) (sym whole) so_far.1, refl)))
-
--- the check of a line failed
-pub stops-early : {R : Type 0} (is_finding : List ℕ → Finding → Type 0) (fails_on : List ℕ → Stop → Type 0) (gives : R → List ℕ → R → Type 0) (source : R) (old new : Lines R) (lines : List (List ℕ)) (findings : List Finding) (line : List ℕ) (stop : Stop) → EachHas is_finding lines findings → Stands gives source old lines → Stands gives source new (lines ++ line ∷ []) → IsOfWriting stop ⊎ fails_on line stop → StopsEarly is_finding fails_on gives source stop
-stops-early is_finding fails_on gives source old new lines findings line stop each before after (inl writing) =
-    (lines, findings, each, inl (writing, some-read gives source old lines before))
-stops-early is_finding fails_on gives source old new lines findings line stop each before after (inr fails) =
-    (lines, findings, each, inr (line, fails, some-read gives source new (lines ++ line ∷ []) after))
 
 -- ---- the end
 
@@ -93,23 +65,17 @@ ends-well gives fails has_failed source old new lines (done, read, inr so_far) n
     let end = next source done read in
     at-end gives source done new lines end.0 end.1 (inr (refl, so_far.1, refl))
 
-pub breaks-too-long : {R : Type 0} (gives : R → List ℕ → R → Type 0) (fails : R → R → Type 0) (has_failed : R → Bool) (source : R) (old new : Lines R) (lines : List (List ℕ)) → Stands gives source old lines → ((from : R) (done : List ℕ) → HasRead gives from done old → IsNext gives fails has_failed from done new Variant.TooLong) → (IsAtEnd old → Variant.TooLong ≡ Variant.End) → BreaksOff gives fails has_failed source lines
+pub breaks-too-long : {R : Type 0} (gives : R → List ℕ → R → Type 0) (fails : R → R → Type 0) (has_failed : R → Bool) (source : R) (old new : Lines R) (lines : List (List ℕ)) → Stands gives source old lines → ((from : R) (done : List ℕ) → HasRead gives from done old → IsNext gives fails has_failed from done new Variant.TooLong) → (IsAtEnd old → Variant.TooLong ≡ Variant.End) → EndsAs gives fails has_failed source lines LongLine
 breaks-too-long gives fails has_failed source old new lines (done, read, inl so_far) next ended =
     let long = next source done read in
     let state = long.0 in
-    inl (new.has_ended, waiting new, (state.0, new.source, state.1, state.2, inl (so_far.0, state.3 ∙ ap (λ (d : List ℕ). d ++ waiting new) so_far.1)), long.1)
+    (new.has_ended, waiting new, (state.0, new.source, state.1, state.2, inl (so_far.0, state.3 ∙ ap (λ (d : List ℕ). d ++ waiting new) so_far.1)), long.1)
 breaks-too-long gives fails has_failed source old new lines (done, read, inr so_far) next ended =
     let never = ended so_far.0 in cc
 
-pub breaks-failed : {R : Type 0} (gives : R → List ℕ → R → Type 0) (fails : R → R → Type 0) (has_failed : R → Bool) (source : R) (old new : Lines R) (lines : List (List ℕ)) → Stands gives source old lines → ((from : R) (done : List ℕ) → HasRead gives from done old → IsNext gives fails has_failed from done new Variant.Failed) → (IsAtEnd old → Variant.Failed ≡ Variant.End) → BreaksOff gives fails has_failed source lines
+pub breaks-failed : {R : Type 0} (gives : R → List ℕ → R → Type 0) (fails : R → R → Type 0) (has_failed : R → Bool) (source : R) (old new : Lines R) (lines : List (List ℕ)) → Stands gives source old lines → ((from : R) (done : List ℕ) → HasRead gives from done old → IsNext gives fails has_failed from done new Variant.Failed) → (IsAtEnd old → Variant.Failed ≡ Variant.End) → EndsAs gives fails has_failed source lines FailedRead
 breaks-failed gives fails has_failed source old new lines (done, read, inl so_far) next ended =
     let failed = next source done read in
-    inr (waiting new, subst (λ (d : List ℕ). FailsAfter gives fails has_failed source (d ++ waiting new)) so_far.1 failed.0, failed.1, so_far.0)
+    (waiting new, subst (λ (d : List ℕ). FailsAfter gives fails has_failed source (d ++ waiting new)) so_far.1 failed.0, failed.1, so_far.0)
 breaks-failed gives fails has_failed source old new lines (done, read, inr so_far) next ended =
     let never = ended so_far.0 in cc
-
--- ---- several lists
-
-pub all_true-push : (answers : List Bool) (answer : Bool) → all_true (answers ++ answer ∷ []) ≡ (all_true answers && answer)
-all_true-push [] answer = and-true answer
-all_true-push (a ∷ rest) answer = ap (λ b. a && b) (all_true-push rest answer) ∙ and-assoc a (all_true rest) answer

@@ -1,6 +1,7 @@
 -- Names or lines and what each has, where one more comes.
 use Rattle.std.proofs.Common.{◌≡◌, ℕ, ◌+◌, ◌<◌, ◌&&◌, Bool, true, false, List, [], ◌∷◌, ◌++◌, length, map, take, drop, get_or, refl, sym, ap, ◌∙◌, take-append-drop}
 use Rattle.std.proofs.lemmas.List.{drop_more, map-append, take_more}
+use Rattle.std.specs.List.{AllByRecursion}
 use Rattle.xxhsum_program.specs.EachHas.{EachHas}
 
 pub EachHas-push : {T : Type 0} (has : List ℕ → T → Type 0) (lines : List (List ℕ)) (xs : List T) (line : List ℕ) (x : T) → EachHas has lines xs → has line x → EachHas has (lines ++ line ∷ []) (xs ++ x ∷ [])
@@ -8,6 +9,10 @@ EachHas-push has [] [] line x each more = (more, tt)
 EachHas-push has [] (y ∷ ys) line x each more = absurd each
 EachHas-push has (l ∷ ls) [] line x each more = absurd each
 EachHas-push has (l ∷ ls) (y ∷ ys) line x each more = (each.0, EachHas-push has ls ys line x each.1 more)
+
+pub all-push : {A : Type 0} (holds : A → Type 0) (xs : List A) (x : A) → AllByRecursion holds xs → holds x → AllByRecursion holds (xs ++ x ∷ [])
+all-push holds [] x all is = (is, tt)
+all-push holds (y ∷ ys) x all is = (all.0, all-push holds ys x all.1 is)
 
 -- a list up to one of its elements
 pub map-more : {A B : Type 0} (f : A → B) (xs : List A) (k : ℕ) (x : A) → k < length xs → x ≡ get_or xs k x → map f (take (k + 1) xs) ≡ map f (take k xs) ++ f x ∷ []

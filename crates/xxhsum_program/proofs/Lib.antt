@@ -1,10 +1,14 @@
 mod CheckFacts
 mod EachFacts
 mod HashFacts
+mod LineEndFacts
 mod LineFacts
 mod OutcomeFacts
 mod PrintedListFacts
 mod ProgressFacts
+mod SaidFacts
+mod StopFacts
+mod TaskFacts
 mod ToldFacts
 mod WatchedFacts
 mod WatchedListFacts

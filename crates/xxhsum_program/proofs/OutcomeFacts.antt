@@ -1,15 +1,21 @@
 -- Names and their outcomes, where one more comes.
-use Rattle.std.proofs.Common.{◌≡◌, ◌≢◌, ◌&&◌, ℕ, List, [], ◌∷◌, ◌++◌, refl, sym, ap, ◌∙◌, append-nil, append_assoc}
+use Rattle.std.proofs.Common.{◌≡◌, ◌≢◌, ◌&&◌, ℕ, Bool, List, [], ◌∷◌, ◌++◌, refl, sym, ap, ◌∙◌, append-nil, append_assoc, Ok, Err}
+use Rattle.std.specs.declared.result.Result.{Result}
+use Rattle.xxh_io.specs.Digest.{Took}
+use Rattle.xxh_io.proofs.WriteFacts.{Refused-join, Took-join}
+use Rattle.xxh_io.specs.declared.error.DigestError.{DigestError}
 use Rattle.xxh_io.specs.declared.error.DigestError.TheVariants.{ReadFailed, WriteFailed, TooLong}
+use Rattle.xxhsum_files.specs.declared.refusal.Refusal.{Refusal}
 use Rattle.xxhsum_program.specs.declared.outcome.Outcome.{Outcome}
+use Rattle.xxhsum_program.specs.Outcomes.{FailsOn, HasNoValue, are_digested, is_digested, reason_of}
+use Rattle.xxhsum_program.specs.CheckList.{ListOutcome, are_good, is_good_outcome}
 use Rattle.xxhsum_program.specs.declared.stop.Stop.{Stop}
-use Rattle.xxhsum_program.specs.declared.stop.Stop.TheVariants.{Digest, OutOfMemory}
-use Rattle.xxhsum_program.specs.Outcomes.{FailsOn, is_digested, are_digested}
-use Rattle.xxhsum_program.specs.Lines.{lines_of}
+use Rattle.xxhsum_program.specs.declared.stop.Stop.TheVariants as Stopped
+use Rattle.xxhsum_program.specs.Lines.{PrintsLines, lines_of}
 use Rattle.xxhsum_program.specs.EachHas.{EachHas}
 use Rattle.xxhsum_program.proofs.EachFacts.{and-assoc, and-true}
 
-pub lines-push : (comes : List ℕ → Outcome → Type 0) (line : List ℕ → Outcome → List ℕ) (names : List (List ℕ)) (outcomes : List Outcome) (name : List ℕ) (outcome : Outcome) → EachHas comes names outcomes → lines_of line (names ++ name ∷ []) (outcomes ++ outcome ∷ []) ≡ lines_of line names outcomes ++ line name outcome
+pub lines-push : {T : Type 0} (comes : List ℕ → T → Type 0) (line : List ℕ → T → List ℕ) (names : List (List ℕ)) (outcomes : List T) (name : List ℕ) (outcome : T) → EachHas comes names outcomes → lines_of line (names ++ name ∷ []) (outcomes ++ outcome ∷ []) ≡ lines_of line names outcomes ++ line name outcome
 lines-push comes line [] [] name outcome each = append-nil (line name outcome)
 lines-push comes line [] (o ∷ os) name outcome each = absurd each
 lines-push comes line (n ∷ ns) [] name outcome each = absurd each
@@ -20,9 +26,22 @@ pub are_digested-push : (outcomes : List Outcome) (outcome : Outcome) → are_di
 are_digested-push [] outcome = and-true (is_digested outcome)
 are_digested-push (o ∷ os) outcome = ap (λ b. is_digested o && b) (are_digested-push os outcome) ∙ and-assoc (is_digested o) (are_digested os) (is_digested outcome)
 
--- what fails on a file is its reading
-pub never-writing : {S F : Type 0} (opens : S → List ℕ → F → Type 0) (gives : F → List ℕ → F → Type 0) (fails : F → F → Type 0) (store : S) (name : List ℕ) (stop : Stop) → FailsOn opens gives fails store name stop → stop ≢ Digest WriteFailed
-never-writing opens gives fails store name OutOfMemory on = absurd on
-never-writing opens gives fails store name (Digest ReadFailed) on = λ is. cc
-never-writing opens gives fails store name (Digest TooLong) on = λ is. cc
-never-writing opens gives fails store name (Digest WriteFailed) (file, end, pieces, read, fact, opened, some, reads, never) = absurd (never refl)
+-- what ends a reading too early is no write
+pub has-no-value : {S F : Type 0} (opens : S → List ℕ → F → Type 0) (refuses : S → List ℕ → Refusal → Type 0) (gives : F → List ℕ → F → Type 0) (fails : F → F → Type 0) (store : S) (name : List ℕ) (e : DigestError) → e ≢ WriteFailed → FailsOn opens gives fails store name e → HasNoValue opens refuses gives fails store name (reason_of e)
+has-no-value opens refuses gives fails store name ReadFailed never on = on
+has-no-value opens refuses gives fails store name WriteFailed never on = absurd (never refl)
+has-no-value opens refuses gives fails store name TooLong never on = on
+
+-- ---- what is printed of them
+
+pub prints-join : {W T : Type 0} (takes : W → List ℕ → W → Type 0) (refuses : W → W → Type 0) (a b : List ℕ) (old mid new : W) (result : Result T Stop) → Took takes a old mid → PrintsLines takes refuses b mid new result → PrintsLines takes refuses (a ++ b) old new result
+prints-join takes refuses a b old mid new (Ok x) took prints = Took-join takes a b old mid new took prints
+prints-join takes refuses a b old mid new (Err Stopped.WriteFailed) took prints =
+    Refused-join takes refuses a b old mid new took prints
+prints-join takes refuses a b old mid new (Err Stopped.OutOfMemory) took prints = Took-join takes a b old mid new took prints
+
+-- ---- lists
+
+pub are_good-push : (is_strict : Bool) (outcomes : List ListOutcome) (outcome : ListOutcome) → are_good is_strict (outcomes ++ outcome ∷ []) ≡ (are_good is_strict outcomes && is_good_outcome is_strict outcome)
+are_good-push is_strict [] outcome = and-true (is_good_outcome is_strict outcome)
+are_good-push is_strict (o ∷ os) outcome = ap (λ b. is_good_outcome is_strict o && b) (are_good-push is_strict os outcome) ∙ and-assoc (is_good_outcome is_strict o) (are_good is_strict os) (is_good_outcome is_strict outcome)

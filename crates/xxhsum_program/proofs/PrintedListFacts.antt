@@ -174,11 +174,11 @@ found_one : {S F : Type 0} (opens : S → List ℕ → F → Type 0) (refuses : 
     → IsFindingOf opens refuses gives fails store e finding
 found_one opens refuses gives fails store is_little line e Ignored of is = absurd (both_ways (is_comment line) of.1 is)
 found_one opens refuses gives fails store is_little line e Improper of is = absurd (is.1 e.kind e.value e.name of.2)
-found_one opens refuses gives fails store is_little line e (Proper found) of (kind, value, name, says, is) =
+found_one opens refuses gives fails store is_little line e (Proper name found) of (kind, value, says, is) =
     let same = of.3 kind value name says in
     let at_kind = subst (λ k. IsFound opens refuses gives fails store k value name found) same.0 is in
     let at_value = subst (λ v. IsFound opens refuses gives fails store e.kind v name found) same.1 at_kind in
-    (found, refl, subst (λ n. IsFound opens refuses gives fails store e.kind e.value n found) same.2 at_value)
+    (found, ap (λ n. Proper n found) same.2, subst (λ n. IsFound opens refuses gives fails store e.kind e.value n found) same.2 at_value)
 
 pub finds_printed_files : {S F : Type 0} (opens : S → List ℕ → F → Type 0) (refuses : S → List ℕ → Refusal → Type 0) (gives : Step F) (fails : Failing F)
     → FindsPrintedFiles opens refuses gives fails

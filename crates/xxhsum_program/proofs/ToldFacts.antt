@@ -1,11 +1,11 @@
 -- What was told, where more is told after it.
-use Rattle.std.proofs.Common.{◌≡◌, ◌↔◌, ℕ, Bool, true, false, List, ◌++◌, refl, ap, ◌∙◌, subst, append_assoc, is_err, Ok, Err, IfErr}
+use Rattle.std.proofs.Common.{◌≡◌, ◌↔◌, ℕ, Bool, true, false, List, [], ◌++◌, refl, sym, ap, subst, append-nil, append_assoc, is_err, Ok, Err, IfErr}
 use Rattle.std.specs.declared.result.Result.{Result}
 use Rattle.xxh_io.specs.declared.error.DigestError.{DigestError}
 use Rattle.xxh_io.specs.declared.error.DigestError.TheVariants.{ReadFailed, WriteFailed, TooLong}
 use Rattle.xxh_io.specs.Digest.{Writes}
 use Rattle.xxh_io.proofs.WriteFacts.{Writes-join, Refused-more}
-use Rattle.xxhsum_program.specs.Told.{Told}
+use Rattle.xxhsum_program.specs.Told.{TellsOn, Told}
 
 -- a sink that has failed takes nothing more
 pub Told-failed : {E : Type 0} (takes : E → List ℕ → E → Type 0) (refuses : E → E → Type 0) (has_failed : E → Bool) (a b : List ℕ) (old new : E) → has_failed new ≡ true → Told takes refuses has_failed a old new → Told takes refuses has_failed (a ++ b) old new
@@ -25,17 +25,16 @@ Told-write takes refuses has_failed a b old mid new result works (Ok x, done, on
     (result, Writes-join takes refuses a b old mid new result fails done writes, fails, failed-is result (has_failed new) fails says)
 Told-write takes refuses has_failed a b old mid new result works (Err e, done, only, is) writes fails says = cc
 
--- three parts, one after another
-three-parts : (before a b c : List ℕ) → ((before ++ a) ++ b) ++ c ≡ before ++ (a ++ b ++ c)
-three-parts before a b c = ap (λ bytes. bytes ++ c) (append_assoc before a b) ∙ append_assoc before (a ++ b) c
+-- ---- what is told behind it
 
-pub Told-three : {E : Type 0} (takes : E → List ℕ → E → Type 0) (refuses : E → E → Type 0) (has_failed : E → Bool) (before a b c : List ℕ) (old new : E) → Told takes refuses has_failed (((before ++ a) ++ b) ++ c) old new → Told takes refuses has_failed (before ++ (a ++ b ++ c)) old new
-Told-three takes refuses has_failed before a b c old new told =
-    subst (λ bytes. Told takes refuses has_failed bytes old new) (three-parts before a b c) told
+pub tells-nothing : {E : Type 0} (takes : E → List ℕ → E → Type 0) (refuses : E → E → Type 0) (has_failed : E → Bool) (old : E) → TellsOn takes refuses has_failed [] old old
+tells-nothing takes refuses has_failed old = λ initial before told.
+    subst (λ bytes. Told takes refuses has_failed bytes initial old) (sym (append-nil before)) told
 
--- five parts
-pub Told-five : {E : Type 0} (takes : E → List ℕ → E → Type 0) (refuses : E → E → Type 0) (has_failed : E → Bool) (before a b c d e : List ℕ) (old new : E) → Told takes refuses has_failed (((((before ++ a) ++ b) ++ c) ++ d) ++ e) old new → Told takes refuses has_failed (before ++ (a ++ b ++ c ++ d ++ e)) old new
-Told-five takes refuses has_failed before a b c d e old new told =
-    let regrouped : ((((before ++ a) ++ b) ++ c) ++ d) ++ e ≡ before ++ (a ++ b ++ c ++ d ++ e) =
-    ap (λ bytes. (bytes ++ d) ++ e) (three-parts before a b c) ∙ three-parts before (a ++ b ++ c) d e in
-    subst (λ bytes. Told takes refuses has_failed bytes old new) regrouped told
+pub tells-more : {E : Type 0} (takes : E → List ℕ → E → Type 0) (refuses : E → E → Type 0) (has_failed : E → Bool) (a b : List ℕ) (old mid new : E) → TellsOn takes refuses has_failed a old mid → TellsOn takes refuses has_failed b mid new → TellsOn takes refuses has_failed (a ++ b) old new
+tells-more takes refuses has_failed a b old mid new first second = λ initial before told.
+    subst (λ bytes. Told takes refuses has_failed bytes initial new) (append_assoc before a b) (second initial (before ++ a) (first initial before told))
+
+-- from an end that has not failed
+pub tells-first : {E : Type 0} (takes : E → List ℕ → E → Type 0) (refuses : E → E → Type 0) (has_failed : E → Bool) (bytes : List ℕ) (old new : E) → has_failed old ≡ false → TellsOn takes refuses has_failed bytes old new → Told takes refuses has_failed bytes old new
+tells-first takes refuses has_failed bytes old new works tells = tells old [] (Ok tt, ([], refl, refl), tt, works)

@@ -9,12 +9,13 @@ use Rattle.xxh_io.specs.Digest.{ReadsOn}
 use Rattle.xxh_io.specs.Pieces.{Pieces, Step, Failing}
 use Rattle.xxhsum_files.specs.declared.refusal.Refusal.{Refusal}
 use Rattle.xxhsum_program.specs.declared.outcome.Outcome.{Outcome}
-use Rattle.xxhsum_program.specs.declared.outcome.Outcome.TheVariants.{Digested, IsDirectory, Unopened}
+use Rattle.xxhsum_program.specs.declared.outcome.Outcome.TheVariants.{Digested, IsDirectory, Unread}
+use Rattle.xxhsum_program.specs.declared.outcome.Reason.{Reason}
+use Rattle.xxhsum_program.specs.declared.outcome.Reason.TheVariants as Why
 use Rattle.xxhsum_program.specs.declared.stop.Stop.{Stop}
-use Rattle.xxhsum_program.specs.declared.stop.Stop.TheVariants.{Digest, OutOfMemory}
 use Rattle.xxhsum_program.specs.EachHas.{EachHas}
-use Rattle.xxhsum_program.specs.HashNames.{EndsWith, HashesNames}
-use Rattle.xxhsum_program.specs.Outcomes.{Comes, FailsOn, IsValueOf}
+use Rattle.xxhsum_program.specs.HashNames.{HashesNames}
+use Rattle.xxhsum_program.specs.Outcomes.{Comes, FailsOn, HasNoValue, IsValueOf}
 
 -- a step of what is watched
 abbrev pub Inner : {V R : Type 0} → (V → R) → Step R → Step V
@@ -42,15 +43,19 @@ pub inner-value : {A S V F : Type 0} (s : A → S) (f : V → F) (watched : A �
 inner-value s f watched opens gives fails files kind name value same (file, end, pieces, read, is, opened, some, reads, hash) =
     (f file, f end, pieces, read, is, same files name file opened, some, inner-reads f gives fails _ pieces file end read reads, hash)
 
-inner-comes : {A S V F : Type 0} (s : A → S) (f : V → F) (watched : A → List ℕ → V → Type 0) (opens : S → List ℕ → F → Type 0) (refuses : S → List ℕ → Refusal → Type 0) (holds_directory : S → List ℕ → Bool → Type 0) (gives : Step F) (fails : Failing F) (files : A) (kind : Kind) (name : List ℕ) (outcome : Outcome) → OpensInner s f watched opens → Comes watched (λ a. refuses (s a)) (λ a. holds_directory (s a)) (Inner f gives) (InnerFails f fails) files kind name outcome → Comes opens refuses holds_directory gives fails (s files) kind name outcome
-inner-comes s f watched opens refuses holds_directory gives fails files kind name (Digested value) same comes = inner-value s f watched opens gives fails files kind name value same comes
-inner-comes s f watched opens refuses holds_directory gives fails files kind name IsDirectory same comes = comes
-inner-comes s f watched opens refuses holds_directory gives fails files kind name (Unopened refusal) same comes = comes
+inner-fails : {A S V F : Type 0} (s : A → S) (f : V → F) (watched : A → List ℕ → V → Type 0) (opens : S → List ℕ → F → Type 0) (gives : Step F) (fails : Failing F) (files : A) (name : List ℕ) (e : DigestError) → OpensInner s f watched opens → FailsOn watched (Inner f gives) (InnerFails f fails) files name e → FailsOn opens gives fails (s files) name e
+inner-fails s f watched opens gives fails files name e same (file, end, pieces, read, is, opened, some, reads) =
+    (f file, f end, pieces, read, is, same files name file opened, some, inner-reads f gives fails _ pieces file end read reads)
 
-pub inner-fails : {A S V F : Type 0} (s : A → S) (f : V → F) (watched : A → List ℕ → V → Type 0) (opens : S → List ℕ → F → Type 0) (gives : Step F) (fails : Failing F) (files : A) (name : List ℕ) (stop : Stop) → OpensInner s f watched opens → FailsOn watched (Inner f gives) (InnerFails f fails) files name stop → FailsOn opens gives fails (s files) name stop
-inner-fails s f watched opens gives fails files name OutOfMemory same on = absurd on
-inner-fails s f watched opens gives fails files name (Digest e) same (file, end, pieces, read, is, opened, some, reads, never) =
-    (f file, f end, pieces, read, is, same files name file opened, some, inner-reads f gives fails _ pieces file end read reads, never)
+pub inner-none : {A S V F : Type 0} (s : A → S) (f : V → F) (watched : A → List ℕ → V → Type 0) (opens : S → List ℕ → F → Type 0) (refuses : S → List ℕ → Refusal → Type 0) (gives : Step F) (fails : Failing F) (files : A) (name : List ℕ) (reason : Reason) → OpensInner s f watched opens → HasNoValue watched (λ a. refuses (s a)) (Inner f gives) (InnerFails f fails) files name reason → HasNoValue opens refuses gives fails (s files) name reason
+inner-none s f watched opens refuses gives fails files name (Why.Unopened refusal) same none = none
+inner-none s f watched opens refuses gives fails files name Why.ReadFailed same none = inner-fails s f watched opens gives fails files name ReadFailed same none
+inner-none s f watched opens refuses gives fails files name Why.TooLong same none = inner-fails s f watched opens gives fails files name TooLong same none
+
+inner-comes : {A S V F : Type 0} (s : A → S) (f : V → F) (watched : A → List ℕ → V → Type 0) (opens : S → List ℕ → F → Type 0) (refuses : S → List ℕ → Refusal → Type 0) (holds_directory : S → List ℕ → Bool → Type 0) (gives : Step F) (fails : Failing F) (files : A) (kind : Kind) (name : List ℕ) (outcome : Outcome) → OpensInner s f watched opens → Comes watched (λ a. refuses (s a)) (λ a. holds_directory (s a)) (Inner f gives) (InnerFails f fails) files kind name outcome → Comes opens refuses holds_directory gives fails (s files) kind name outcome
+inner-comes s f watched opens refuses holds_directory gives fails files kind name (Digested value) same comes = (comes.0, inner-value s f watched opens gives fails files kind name value same comes.1)
+inner-comes s f watched opens refuses holds_directory gives fails files kind name IsDirectory same comes = comes
+inner-comes s f watched opens refuses holds_directory gives fails files kind name (Unread reason) same comes = (comes.0, inner-none s f watched opens refuses gives fails files name reason same comes.1)
 
 pub each-other : {T : Type 0} (has other : List ℕ → T → Type 0) (names : List (List ℕ)) (xs : List T) → ((name : List ℕ) (x : T) → has name x → other name x) → EachHas has names xs → EachHas other names xs
 each-other has other [] [] other-too each = tt
@@ -59,17 +64,7 @@ each-other has other (name ∷ names) [] other-too each = absurd each
 each-other has other (name ∷ names) (x ∷ xs) other-too each =
     (other-too name x each.0, each-other has other names xs other-too each.1)
 
-ends-other : (fails other : List ℕ → Stop → Type 0) (rest : List (List ℕ)) (outcomes : List Outcome) (result : Result Bool Stop) → ((name : List ℕ) (stop : Stop) → fails name stop → other name stop) → EndsWith fails rest outcomes result → EndsWith other rest outcomes result
-ends-other fails other rest outcomes (Ok all) other-too ends = ends
-ends-other fails other rest outcomes (Err OutOfMemory) other-too ends = tt
-ends-other fails other rest outcomes (Err (Digest WriteFailed)) other-too ends = tt
-ends-other fails other rest outcomes (Err (Digest ReadFailed)) other-too (name, after, is, on) = (name, after, is, other-too name (Digest ReadFailed) on)
-ends-other fails other rest outcomes (Err (Digest TooLong)) other-too (name, after, is, on) = (name, after, is, other-too name (Digest TooLong) on)
-
 pub inner-names : {A S V F : Type 0} (s : A → S) (f : V → F) (watched : A → List ℕ → V → Type 0) (opens : S → List ℕ → F → Type 0) (refuses : S → List ℕ → Refusal → Type 0) (holds_directory : S → List ℕ → Bool → Type 0) (gives : Step F) (fails : Failing F) (files : A) (kind : Kind) (names done rest : List (List ℕ)) (outcomes : List Outcome) (result : Result Bool Stop) → OpensInner s f watched opens
     → HashesNames watched (λ a. refuses (s a)) (λ a. holds_directory (s a)) (Inner f gives) (InnerFails f fails) files kind names done rest outcomes result → HashesNames opens refuses holds_directory gives fails (s files) kind names done rest outcomes result
-inner-names s f watched opens refuses holds_directory gives fails files kind names done rest outcomes result same (parts, each, ends) = (
-  parts,
-  each-other _ _ done outcomes (λ name outcome comes. inner-comes s f watched opens refuses holds_directory gives fails files kind name outcome same comes) each,
-  ends-other _ _ rest outcomes result (λ name stop on. inner-fails s f watched opens gives fails files name stop same on) ends,
-)
+inner-names s f watched opens refuses holds_directory gives fails files kind names done rest outcomes result same (parts, each, ends) =
+    (parts, each-other _ _ done outcomes (λ name outcome comes. inner-comes s f watched opens refuses holds_directory gives fails files kind name outcome same comes) each, ends)

@@ -1,16 +1,23 @@
 -- The check of a list: each of its lines is found once, in their order.
-use Rattle.std.specs.Prelude.{◌≡◌, ◌⊎◌, ℕ, ◌-◌, ◌^◌, Bool, true, false, ◌&&◌, List, [], ◌∷◌, ◌++◌, length}
+use Rattle.std.specs.Prelude.{◌≡◌, ◌⊎◌, ℕ, ◌-◌, ◌^◌, Bool, true, false, ◌&&◌, List, [], ◌∷◌, ◌++◌, Option, Some, None, length}
 use Rattle.std.specs.List.{AllByRecursion, concat}
+use Rattle.std.specs.declared.result.Result.{Result}
+use Rattle.std.specs.declared.result.Result.TheVariants.{Ok, Err}
+use Rattle.xxh_io.specs.Digest.{Refused, Took}
 use Rattle.xxh_io.specs.Pieces.{Pieces, NoneEmpty, Step, Failing}
 use Rattle.xxhsum_files.specs.declared.refusal.Refusal.{Refusal}
+use Rattle.xxhsum_words.specs.declared.options.Options.{Options}
 use Rattle.xxhsum_program.specs.declared.check.Report.{Report}
 use Rattle.xxhsum_program.specs.declared.stop.Stop.{Stop}
-use Rattle.xxhsum_program.specs.declared.stop.Stop.TheVariants.{OutOfMemory}
+use Rattle.xxhsum_program.specs.declared.stop.Stop.TheVariants.{WriteFailed, OutOfMemory}
 use Rattle.xxhsum_program.specs.EachHas.{EachHas}
-use Rattle.xxhsum_program.specs.Findings.{Finding, report_of, with_broken_end}
-use Rattle.xxhsum_program.specs.Lines.{IsOfWriting}
+use Rattle.xxhsum_program.specs.Findings.{Finding, count_one}
+use Rattle.xxhsum_program.specs.Lines.{PrintsUnlessFailed, lines_of}
+use Rattle.xxhsum_program.specs.ListEnd.{ListEnd, Whole, TooMany, LongLine, FailedRead, report_at}
 use Rattle.xxhsum_program.specs.ListLines.{BeginsTooLong, FailsAfter, IsLastLine, IsLine, IsUnended, end_piece}
 use Rattle.xxhsum_program.specs.Report.{is_good}
+use Rattle.xxhsum_program.specs.Said.{printed_finding, printed_list, told_finding, told_list, told_refusal}
+use Rattle.xxhsum_program.specs.Told.{TellsOn}
 
 -- lines, each with its line feed
 abbrev pub with_line_feeds : List (List ℕ) → List ℕ
@@ -43,71 +50,152 @@ EndsWell gives source lines = ReadsLines gives source true lines []
 abbrev pub ReadsSome : {R : Type 0} → Step R → R → List (List ℕ) → Type 0
 ReadsSome gives source lines = (has_ended : Bool) × (rest : List ℕ) × ReadsLines gives source has_ended lines rest
 
--- the line behind these is too long, or a read failed before its line feed came
-abbrev pub BreaksOff : {R : Type 0} → Step R → Failing R → (R → Bool) → R → List (List ℕ) → Type 0
-BreaksOff gives fails has_failed source lines =
-    ((has_ended : Bool) × (rest : List ℕ) × ReadsLines gives source has_ended lines rest × BeginsTooLong rest)
-    ⊎ ((rest : List ℕ) × FailsAfter gives fails has_failed source (with_line_feeds lines ++ rest)
-    × IsUnended rest × AllByRecursion IsLine lines)
+-- how the lines of a source end
+abbrev pub EndsAs : {R : Type 0} → Step R → Failing R → (R → Bool) → R → List (List ℕ) → ListEnd → Type 0
+EndsAs gives fails has_failed source lines Whole = EndsWell gives source lines
+EndsAs gives fails has_failed source lines TooMany = ReadsSome gives source lines × (length lines ≡ 2 ^ 64 - 2)
+EndsAs gives fails has_failed source lines LongLine =
+    (has_ended : Bool) × (rest : List ℕ) × ReadsLines gives source has_ended lines rest × BeginsTooLong rest
+EndsAs gives fails has_failed source lines FailedRead =
+    (rest : List ℕ) × FailsAfter gives fails has_failed source (with_line_feeds lines ++ rest)
+    × IsUnended rest × AllByRecursion IsLine lines
 
--- What the findings of these lines add up to: with a broken end where the list breaks off behind them, and without one
--- where it ends well or has more lines than are read.
-abbrev pub AddsUpTo : {R : Type 0} → Step R → Failing R → (R → Bool) → R → List (List ℕ) → List Finding → Report
-    → Type 0
-AddsUpTo gives fails has_failed source lines findings report =
-    (EndsWell gives source lines × (report ≡ report_of findings))
-    ⊎ ((ReadsSome gives source lines × (length lines ≡ 2 ^ 64 - 2) × (report ≡ report_of findings))
-    ⊎ (BreaksOff gives fails has_failed source lines × (report ≡ with_broken_end (report_of findings))))
+-- the first lines of a source, or all of them and how they end
+abbrev pub MeetsLines : {R : Type 0} → Step R → Failing R → (R → Bool) → R → List (List ℕ) → Option ListEnd → Type 0
+MeetsLines gives fails has_failed source lines None = ReadsSome gives source lines
+MeetsLines gives fails has_failed source lines (Some end) = EndsAs gives fails has_failed source lines end
 
--- the report of a source: each of its lines has a finding
-abbrev pub IsReport : {R : Type 0} → (List ℕ → Finding → Type 0) → Step R → Failing R → (R → Bool) → R → Report
-    → Type 0
-IsReport is_finding gives fails has_failed source report =
-    (lines : List (List ℕ)) × (findings : List Finding) × EachHas is_finding lines findings
-    × AddsUpTo gives fails has_failed source lines findings report
+-- each of the lines of a source, as far as its check has come, has a finding
+abbrev pub FindsLines : {R : Type 0} → (List ℕ → Finding → Type 0) → Step R → Failing R → (R → Bool) → R → List Finding
+    → Option ListEnd → Type 0
+FindsLines is_finding gives fails has_failed source findings end =
+    (lines : List (List ℕ)) × EachHas is_finding lines findings × MeetsLines gives fails has_failed source lines end
 
--- whether a source is a good list
-abbrev pub IsVerdict : {R : Type 0} → (List ℕ → Finding → Type 0) → Step R → Failing R → (R → Bool) → R → Bool
-    → Bool → Type 0
-IsVerdict is_finding gives fails has_failed source is_strict good =
-    (report : Report) × IsReport is_finding gives fails has_failed source report × (good ≡ is_good is_strict report)
+-- A line has a finding, which is counted and said. Where a write failed, it was counted, and a beginning of its line was
+-- printed; where there was no memory, nothing was said.
+abbrev pub ChecksLine : {W E : Type 0} → (Finding → Type 0) → Step W → Failing W → Step E → Failing E → (E → Bool)
+    → Options → List ℕ → ℕ → Report → Report → W → W → E → E → Result (Unit {0}) Stop → Type 0
+ChecksLine is_finding takes w_refuses e_takes e_refuses e_failed options list number r_old r_new w_old w_new e_old e_new
+    (Ok _) =
+    (finding : Finding) × is_finding finding × (r_new ≡ count_one r_old finding)
+    × Took takes (printed_finding options list number finding) w_old w_new
+    × TellsOn e_takes e_refuses e_failed (told_finding options list number finding) e_old e_new
+ChecksLine is_finding takes w_refuses e_takes e_refuses e_failed options list number r_old r_new w_old w_new e_old e_new
+    (Err WriteFailed) =
+    (finding : Finding) × is_finding finding
+    × Refused takes w_refuses (printed_finding options list number finding) w_old w_new
+    × TellsOn e_takes e_refuses e_failed (told_finding options list number finding) e_old e_new
+ChecksLine is_finding takes w_refuses e_takes e_refuses e_failed options list number r_old r_new w_old w_new e_old e_new
+    (Err OutOfMemory) =
+    (w_new ≡ w_old) × (e_new ≡ e_old)
 
--- Some lines of a source have findings, and then a write failed or memory ran out, or the file of the next line could
--- not be read to its end.
-abbrev pub StopsEarly : {R : Type 0} → (List ℕ → Finding → Type 0) → (List ℕ → Stop → Type 0) → Step R → R → Stop
-    → Type 0
-StopsEarly is_finding fails_on gives source stop =
-    (lines : List (List ℕ)) × (findings : List Finding) × EachHas is_finding lines findings
-    × ((IsOfWriting stop × ReadsSome gives source lines)
-    ⊎ ((line : List ℕ) × fails_on line stop × ReadsSome gives source (lines ++ line ∷ [])))
+-- whether the list is good, once its end is known
+abbrev pub is_good_list : Bool → List Finding → Option ListEnd → Bool
+is_good_list is_strict findings None = false
+is_good_list is_strict findings (Some end) = is_good is_strict (report_at end findings)
+
+-- the check has come to the end
+abbrev pub HasEnded : Option ListEnd → Type 0
+HasEnded None = ⊥
+HasEnded (Some end) = Unit {0}
+
+-- An answer is that of the whole list. Only a write that failed or want of memory keeps the check from it.
+abbrev pub AnswersList : Bool → List Finding → Option ListEnd → Result Bool Stop → Type 0
+AnswersList is_strict findings end (Ok good) = HasEnded end × (good ≡ is_good_list is_strict findings end)
+AnswersList is_strict findings end (Err stop) = Unit {0}
+
+-- a report is that of the whole list
+abbrev pub ReportsLines : List Finding → Option ListEnd → Result Report Stop → Type 0
+ReportsLines findings None (Ok report) = ⊥
+ReportsLines findings (Some end) (Ok report) = report ≡ report_at end findings
+ReportsLines findings end (Err stop) = end ≡ None
 
 -- ---- lists by their names
 
--- the list of this name can be opened and is good or not, or can't be opened
-abbrev pub IsAnswer : {S F : Type 0} → (List ℕ → Finding → Type 0) → (S → List ℕ → F → Type 0)
-    → (S → List ℕ → Refusal → Type 0) → Step F → Failing F → (F → Bool) → S → Bool → List ℕ → Bool → Type 0
-IsAnswer {S} {F} is_finding opens refuses gives fails has_failed store is_strict name good =
-    ((file : F) × opens store name file × IsVerdict is_finding gives fails has_failed file is_strict good)
-    ⊎ ((refusal : Refusal) × refuses store name refusal × (good ≡ false))
+-- what became of a name of a list: it was checked, as far as that has come, or can't be opened
+pub data ListOutcome : Type 0 where
+  Checked : List Finding → Option ListEnd → ListOutcome
+  Unopened : Refusal → ListOutcome
 
-abbrev pub all_true : List Bool → Bool
-all_true [] = true
-all_true (answer ∷ answers) = answer && all_true answers
+abbrev pub IsListOutcome : {S F : Type 0} → (List ℕ → Finding → Type 0) → (S → List ℕ → F → Type 0)
+    → (S → List ℕ → Refusal → Type 0) → Step F → Failing F → (F → Bool) → S → List ℕ → ListOutcome → Type 0
+IsListOutcome {S} {F} is_finding opens refuses gives fails has_failed store name (Checked findings end) =
+    (file : F) × opens store name file × FindsLines is_finding gives fails has_failed file findings end
+IsListOutcome is_finding opens refuses gives fails has_failed store name (Unopened refusal) =
+    refuses store name refusal
 
--- each of the names has its answer, and `all` says whether all are good
-abbrev pub AnswersFor : (List ℕ → Bool → Type 0) → List (List ℕ) → Bool → Type 0
-AnswersFor is_answer names all =
-    (answers : List Bool) × EachHas is_answer names answers × (all ≡ all_true answers)
+-- what is printed and told of it
+abbrev pub printed_outcome : Options → List ℕ → ListOutcome → List ℕ
+printed_outcome options list (Checked findings end) = printed_list options list findings end
+printed_outcome options list (Unopened refusal) = []
 
--- the list of this name was opened, and stopped early; or it can't be opened, and there was no memory to say so
-abbrev pub StopsInList : {S F : Type 0} → (List ℕ → Finding → Type 0) → (List ℕ → Stop → Type 0)
-    → (S → List ℕ → F → Type 0) → (S → List ℕ → Refusal → Type 0) → Step F → S → List ℕ → Stop → Type 0
-StopsInList {S} {F} is_finding fails_on opens refuses gives store name stop =
-    ((file : F) × opens store name file × StopsEarly is_finding fails_on gives file stop)
-    ⊎ ((refusal : Refusal) × refuses store name refusal × (stop ≡ OutOfMemory))
+abbrev pub told_outcome : Options → List ℕ → ListOutcome → List ℕ
+told_outcome options list (Checked findings end) = told_list options list findings end
+told_outcome options list (Unopened refusal) = told_refusal list refusal
 
--- the first of the names have their answers, and the next one's list stopped for this reason
-abbrev pub StopsAtList : (List ℕ → Bool → Type 0) → (List ℕ → Stop → Type 0) → List (List ℕ) → Stop → Type 0
-StopsAtList is_answer stops_in names stop =
-    (done after : List (List ℕ)) × (name : List ℕ) × (answers : List Bool)
-    × (names ≡ done ++ name ∷ after) × EachHas is_answer done answers × stops_in name stop
+-- the list was checked to its end, or can't be opened
+abbrev pub IsDone : ListOutcome → Type 0
+IsDone (Checked findings end) = HasEnded end
+IsDone (Unopened refusal) = Unit {0}
+
+abbrev pub AreAllDone : List ListOutcome → Type 0
+AreAllDone outcomes = AllByRecursion IsDone outcomes
+
+-- all but the last, at which the run may have stopped
+abbrev pub AreDoneButLast : List ListOutcome → Type 0
+AreDoneButLast outcomes =
+    AreAllDone outcomes
+    ⊎ ((before : List ListOutcome) × (last : ListOutcome) × (outcomes ≡ before ++ last ∷ []) × AreAllDone before)
+
+abbrev pub is_good_outcome : Bool → ListOutcome → Bool
+is_good_outcome is_strict (Checked findings end) = is_good_list is_strict findings end
+is_good_outcome is_strict (Unopened refusal) = false
+
+abbrev pub are_good : Bool → List ListOutcome → Bool
+are_good is_strict [] = true
+are_good is_strict (outcome ∷ outcomes) = is_good_outcome is_strict outcome && are_good is_strict outcomes
+
+-- an answer is that of this list; without one its check has stopped
+abbrev pub AnswersOutcome : Bool → ListOutcome → Result Bool Stop → Type 0
+AnswersOutcome is_strict outcome (Ok good) = IsDone outcome × (good ≡ is_good_outcome is_strict outcome)
+AnswersOutcome is_strict outcome (Err stop) = Unit {0}
+
+-- an answer is that of all lists; without one the run has stopped at the last of those that have an outcome
+abbrev pub AnswersLists : Bool → List (List ℕ) → List ListOutcome → Result Bool Stop → Type 0
+AnswersLists is_strict rest outcomes (Ok all) =
+    (rest ≡ []) × AreAllDone outcomes × (all ≡ are_good is_strict outcomes)
+AnswersLists is_strict rest outcomes (Err stop) = AreDoneButLast outcomes
+
+-- the lists that are done, each with its outcome, and then the rest
+abbrev pub ChecksLists : {S F : Type 0} → (List ℕ → Finding → Type 0) → (S → List ℕ → F → Type 0)
+    → (S → List ℕ → Refusal → Type 0) → Step F → Failing F → (F → Bool) → S → Bool → List (List ℕ)
+    → List (List ℕ) → List (List ℕ) → List ListOutcome → Result Bool Stop → Type 0
+ChecksLists is_finding opens refuses gives fails has_failed store is_strict names done rest outcomes result =
+    (names ≡ done ++ rest)
+    × EachHas (IsListOutcome is_finding opens refuses gives fails has_failed store) done outcomes
+    × AnswersLists is_strict rest outcomes result
+
+-- ---- what is found, and what is said of it
+
+-- the lines of a list have their findings, and both ends have just what is said of these
+abbrev pub SaysList : {R W E : Type 0} → (List ℕ → Finding → Type 0) → Step R → Failing R → (R → Bool) → Step W
+    → Failing W → (W → Bool) → Step E → Failing E → (E → Bool) → Options → List ℕ → R → W → W → E → E
+    → Result Bool Stop → Type 0
+SaysList is_finding gives fails has_failed takes w_refuses w_failed e_takes e_refuses e_failed options name source w_old
+    w_new e_old e_new result =
+    (findings : List Finding) × (end : Option ListEnd)
+    × FindsLines is_finding gives fails has_failed source findings end
+    × AnswersList options.is_strict findings end result
+    × PrintsUnlessFailed takes w_refuses w_failed (printed_list options name findings end) w_old w_new result
+    × TellsOn e_takes e_refuses e_failed (told_list options name findings end) e_old e_new
+
+-- each of the lists has its outcome, and both ends have just what is said of these
+abbrev pub SaysLists : {S F W E : Type 0} → (List ℕ → Finding → Type 0) → (S → List ℕ → F → Type 0)
+    → (S → List ℕ → Refusal → Type 0) → Step F → Failing F → (F → Bool) → Step W → Failing W → (W → Bool)
+    → Step E → Failing E → (E → Bool) → S → Options → List (List ℕ) → W → W → E → E → Result Bool Stop → Type 0
+SaysLists is_finding opens refuses gives fails has_failed takes w_refuses w_failed e_takes e_refuses e_failed store options
+    names w_old w_new e_old e_new result =
+    (outcomes : List ListOutcome) × (done rest : List (List ℕ))
+    × ChecksLists is_finding opens refuses gives fails has_failed store options.is_strict names done rest outcomes result
+    × PrintsUnlessFailed takes w_refuses w_failed (lines_of (printed_outcome options) done outcomes) w_old w_new result
+    × TellsOn e_takes e_refuses e_failed (lines_of (told_outcome options) done outcomes) e_old e_new

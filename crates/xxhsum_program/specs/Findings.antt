@@ -7,31 +7,22 @@ use Rattle.xxh_io.specs.declared.kind.Kind.{Kind}
 use Rattle.xxhsum_program.specs.declared.check.Report.{Report}
 use Rattle.xxhsum_program.specs.declared.entry.Found.{Found}
 use Rattle.xxhsum_program.specs.declared.entry.Found.TheVariants.{Same, Different, Unread}
-use Rattle.xxhsum_program.specs.declared.stop.Stop.{Stop}
 use Rattle.xxhsum_program.specs.Found.{IsFound}
-use Rattle.xxhsum_program.specs.Outcomes.{FailsOn}
 
 -- a line is a comment, or malformed, or names a file that was found like this
 pub data Finding : Type 0 where
   Ignored : Finding
   Improper : Finding
-  Proper : Found → Finding
+  Proper : List ℕ → Found → Finding
 
 -- what is found of a line
 abbrev pub IsFinding : {S F : Type 0} → (S → List ℕ → F → Type 0) → (S → List ℕ → Refusal → Type 0) → Step F
     → Failing F → S → Bool → List ℕ → Finding → Type 0
 IsFinding opens refuses gives fails store is_little line Ignored = is_comment line ≡ true
 IsFinding opens refuses gives fails store is_little line Improper = SaysNothing is_little line
-IsFinding opens refuses gives fails store is_little line (Proper found) =
-    (kind : Kind) × (value : ℕ) × (name : List ℕ) × Says is_little line kind value name
+IsFinding opens refuses gives fails store is_little line (Proper name found) =
+    (kind : Kind) × (value : ℕ) × Says is_little line kind value name
     × IsFound opens refuses gives fails store kind value name found
-
--- a line names a file that could not be read to its end, for this reason
-abbrev pub FailsOnLine : {S F : Type 0} → (S → List ℕ → F → Type 0) → Step F → Failing F → S → Bool → List ℕ → Stop
-    → Type 0
-FailsOnLine opens gives fails store is_little line stop =
-    (kind : Kind) × (value : ℕ) × (name : List ℕ) × Says is_little line kind value name
-    × FailsOn opens gives fails store name stop
 
 -- one more, but no more than the largest number of 64 bits
 abbrev pub one_more : ℕ → ℕ
@@ -41,20 +32,16 @@ one_more count = min (count + 1) (2 ^ 64 - 1)
 abbrev pub count_found : Report → Found → Report
 count_found report Same = report
 count_found report Different = record report { different = one_more report.different }
-count_found report (Unread refusal) = record report { unread = one_more report.unread }
+count_found report (Unread reason) = record report { unread = one_more report.unread }
+
+abbrev pub count_proper : Report → Found → Report
+count_proper report found = count_found (record report { proper = one_more report.proper }) found
 
 -- a comment is counted as nothing
 abbrev pub count_one : Report → Finding → Report
 count_one report Ignored = report
 count_one report Improper = record report { improper = one_more report.improper }
-count_one report (Proper found) = count_found (record report { proper = one_more report.proper }) found
-
--- a line was counted once, as what is found of it
-abbrev pub CountsLine : {S F : Type 0} → (S → List ℕ → F → Type 0) → (S → List ℕ → Refusal → Type 0) → Step F
-    → Failing F → S → Bool → List ℕ → Report → Report → Type 0
-CountsLine opens refuses gives fails store is_little line old new =
-    (finding : Finding) × IsFinding opens refuses gives fails store is_little line finding
-    × (new ≡ count_one old finding)
+count_one report (Proper name found) = count_proper report found
 
 -- ---- a report of all
 

@@ -1,29 +1,28 @@
 -- A hashing run over names: one outcome a name, in their order.
-use Rattle.std.specs.Prelude.{◌≡◌, ℕ, Bool, List, [], ◌∷◌, ◌++◌}
+use Rattle.std.specs.Prelude.{◌≡◌, ℕ, Bool, List, [], ◌++◌, is_ok, IfOk}
+use Rattle.std.specs.List.{concat}
 use Rattle.std.specs.declared.result.Result.{Result}
 use Rattle.std.specs.declared.result.Result.TheVariants.{Ok, Err}
-use Rattle.xxh_io.specs.declared.error.DigestError.TheVariants.{ReadFailed, WriteFailed, TooLong}
 use Rattle.xxh_io.specs.declared.kind.Kind.{Kind}
-use Rattle.xxh_io.specs.Pieces.{Step, Failing}
+use Rattle.xxh_io.specs.declared.error.DigestError.{DigestError}
+use Rattle.xxh_io.specs.Digest.{ReadsOn}
+use Rattle.xxh_io.specs.Pieces.{NoneEmpty, Step, Failing}
+use Rattle.xxh_program.specs.Kind.{value_of}
+use Rattle.xxh_program.specs.States.{most_reads}
 use Rattle.xxhsum_files.specs.declared.refusal.Refusal.{Refusal}
+use Rattle.xxhsum_line.specs.declared.printed.Shape.{Shape}
 use Rattle.xxhsum_program.specs.declared.outcome.Outcome.{Outcome}
 use Rattle.xxhsum_program.specs.declared.stop.Stop.{Stop}
-use Rattle.xxhsum_program.specs.declared.stop.Stop.TheVariants.{Digest, OutOfMemory}
 use Rattle.xxhsum_program.specs.EachHas.{EachHas}
-use Rattle.xxhsum_program.specs.Outcomes.{Comes, FailsOn, are_digested}
-pub use Rattle.xxhsum_program.specs.Lines.{PrintsLine, PrintsLines, printed_line, told_line, lines_of}
-pub use Rattle.xxhsum_program.specs.Told.{Told}
+use Rattle.xxhsum_program.specs.Outcomes.{Comes, are_digested}
+use Rattle.xxhsum_program.specs.Lines.{PrintsLine, PrintsLines, lines_of, printed_input, printed_line, told_input, told_line}
+use Rattle.xxhsum_program.specs.Told.{TellsOn}
 
--- where the run ended well, no name is left, and the answer is whether each has a value; where a read failed, it was
--- that of the first name that is left
-abbrev pub EndsWith : (List ℕ → Stop → Type 0) → List (List ℕ) → List Outcome → Result Bool Stop → Type 0
-EndsWith fails_on rest outcomes (Ok all) = (rest ≡ []) × (all ≡ are_digested outcomes)
-EndsWith fails_on rest outcomes (Err OutOfMemory) = Unit {0}
-EndsWith fails_on rest outcomes (Err (Digest WriteFailed)) = Unit {0}
-EndsWith fails_on rest outcomes (Err (Digest ReadFailed)) =
-    (name : List ℕ) × (after : List (List ℕ)) × (rest ≡ name ∷ after) × fails_on name (Digest ReadFailed)
-EndsWith fails_on rest outcomes (Err (Digest TooLong)) =
-    (name : List ℕ) × (after : List (List ℕ)) × (rest ≡ name ∷ after) × fails_on name (Digest TooLong)
+-- Where the run came to its end, no name is left, and the answer is whether each has a value. Only a write that failed
+-- or want of memory keeps it from there: no reason of a `Stop` is another.
+abbrev pub EndsWith : List (List ℕ) → List Outcome → Result Bool Stop → Type 0
+EndsWith rest outcomes (Ok all) = (rest ≡ []) × (all ≡ are_digested outcomes)
+EndsWith rest outcomes (Err stop) = Unit {0}
 
 -- the names that are done, each with its outcome, and then the rest
 abbrev pub HashesNames : {S F : Type 0} → (S → List ℕ → F → Type 0) → (S → List ℕ → Refusal → Type 0)
@@ -32,4 +31,30 @@ abbrev pub HashesNames : {S F : Type 0} → (S → List ℕ → F → Type 0) �
 HashesNames opens refuses holds_directory gives fails store kind names done rest outcomes result =
     (names ≡ done ++ rest)
     × EachHas (Comes opens refuses holds_directory gives fails store kind) done outcomes
-    × EndsWith (FailsOn opens gives fails store) rest outcomes result
+    × EndsWith rest outcomes result
+
+-- ---- what becomes of names, and what is said of it
+
+-- Each of the names has its outcome. Standard output has the lines of those with a value, and standard error those of
+-- the others.
+abbrev pub SaysNames : {S F W E : Type 0} → (S → List ℕ → F → Type 0) → (S → List ℕ → Refusal → Type 0)
+    → (S → List ℕ → Bool → Type 0) → Step F → Failing F → Step W → Failing W → Step E → Failing E → (E → Bool)
+    → S → Kind → Shape → List (List ℕ) → W → W → E → E → Result Bool Stop → Type 0
+SaysNames opens refuses holds_directory gives fails takes w_refuses e_takes e_refuses e_failed store kind shape names w_old
+    w_new e_old e_new result =
+    (outcomes : List Outcome) × (done rest : List (List ℕ))
+    × HashesNames opens refuses holds_directory gives fails store kind names done rest outcomes result
+    × PrintsLines takes w_refuses (lines_of (printed_line kind shape) done outcomes) w_old w_new result
+    × TellsOn e_takes e_refuses e_failed (lines_of told_line done outcomes) e_old e_new
+
+-- A source was read to its end, or not. Standard output has the line of its value, or standard error why there is none;
+-- the answer is whether there is one.
+abbrev pub SaysInput : {R W E : Type 0} → Step R → Failing R → Step W → Failing W → Step E → Failing E → (E → Bool)
+    → Kind → Shape → List ℕ → R → R → W → W → E → E → Result Bool Stop → Type 0
+SaysInput gives fails takes w_refuses e_takes e_refuses e_failed kind shape name r_old r_new w_old w_new e_old e_new result =
+    (pieces : List (List ℕ)) × (read : Result ℕ DigestError) × NoneEmpty pieces
+    × ReadsOn gives fails most_reads pieces r_old r_new read
+    × IfOk result (λ all. all ≡ is_ok read)
+    × PrintsLine takes w_refuses (printed_input kind shape name (value_of kind 0 (concat pieces)) read)
+    w_old w_new result
+    × TellsOn e_takes e_refuses e_failed (told_input read) e_old e_new

@@ -1,64 +1,75 @@
 -- The lines of the names, and what was written of them.
-use Rattle.std.specs.Prelude.{◌≡◌, ℕ, List, [], ◌∷◌, ◌++◌, codes, IfErr}
+use Rattle.std.specs.Prelude.{◌≡◌, ◌⊎◌, ℕ, Bool, true, List, [], ◌∷◌, ◌++◌, codes}
+use Rattle.std.specs.List.{concat}
 use Rattle.std.specs.declared.result.Result.{Result}
 use Rattle.std.specs.declared.result.Result.TheVariants.{Ok, Err}
 use Rattle.xxh_io.specs.declared.error.DigestError.{DigestError}
-use Rattle.xxh_io.specs.declared.error.DigestError.TheVariants.{ReadFailed, WriteFailed, TooLong}
 use Rattle.xxh_io.specs.declared.kind.Kind.{Kind}
 use Rattle.xxh_io.specs.Pieces.{Step, Failing}
 use Rattle.xxh_io.specs.Digest.{Took, Refused}
-use Rattle.xxhsum_files.specs.Refusal.{refusal_text}
 use Rattle.xxhsum_line.specs.declared.printed.Shape.{Shape}
 use Rattle.xxhsum_line.specs.Printed.{line_of}
 use Rattle.xxhsum_program.specs.declared.outcome.Outcome.{Outcome}
-use Rattle.xxhsum_program.specs.declared.outcome.Outcome.TheVariants.{Digested, IsDirectory, Unopened}
+use Rattle.xxhsum_program.specs.declared.outcome.Outcome.TheVariants.{Digested, IsDirectory, Unread}
+use Rattle.xxhsum_program.specs.declared.outcome.Reason.{Reason}
+use Rattle.xxhsum_program.specs.declared.outcome.Reason.TheVariants as Why
 use Rattle.xxhsum_program.specs.declared.stop.Stop.{Stop}
-use Rattle.xxhsum_program.specs.declared.stop.Stop.TheVariants.{Digest, OutOfMemory}
+use Rattle.xxhsum_program.specs.declared.stop.Stop.TheVariants.{WriteFailed, OutOfMemory}
+use Rattle.xxhsum_program.specs.Outcomes.{reason_of, reason_text}
 
 -- the line of a name on standard output: that of its value
 abbrev pub printed_line : Kind → Shape → List ℕ → Outcome → List ℕ
 printed_line kind shape name (Digested value) = line_of kind shape value name
 printed_line kind shape name IsDirectory = []
-printed_line kind shape name (Unopened refusal) = []
+printed_line kind shape name (Unread reason) = []
+
+-- what could not be done with a file
+abbrev pub step_text : Reason → List ℕ
+step_text (Why.Unopened refusal) = codes "open"
+step_text Why.ReadFailed = codes "read"
+step_text Why.TooLong = codes "read"
 
 -- the line of a name on standard error: why it has no value
 abbrev pub told_line : List ℕ → Outcome → List ℕ
 told_line name (Digested value) = []
-told_line name IsDirectory = codes "xxhsum: " ++ name ++ codes ": Is a directory \n"
-told_line name (Unopened refusal) =
-    codes "Error: Could not open '" ++ name ++ codes "': " ++ refusal_text refusal ++ codes ". \n"
+told_line name IsDirectory = concat (codes "xxhsum: " ∷ name ∷ codes ": Is a directory \n" ∷ [])
+told_line name (Unread reason) =
+    concat (codes "Error: Could not " ∷ step_text reason ∷ codes " '" ∷ name ∷ codes "': " ∷ reason_text reason
+    ∷ codes ". \n" ∷ [])
 
 -- the lines of all names, in their order
-abbrev pub lines_of : (List ℕ → Outcome → List ℕ) → List (List ℕ) → List Outcome → List ℕ
+abbrev pub lines_of : {T : Type 0} → (List ℕ → T → List ℕ) → List (List ℕ) → List T → List ℕ
 lines_of line (name ∷ names) (outcome ∷ outcomes) = line name outcome ++ lines_of line names outcomes
 lines_of line [] outcomes = []
 lines_of line (name ∷ names) [] = []
 
--- a write failed, or there was no memory for a line
-abbrev pub IsOfWriting : Stop → Type 0
-IsOfWriting (Digest e) = e ≡ WriteFailed
-IsOfWriting OutOfMemory = Unit {0}
-
--- a line was written: all of it; where a write failed, a beginning of it; where something else failed, nothing
+-- a line was written: all of it; where a write failed, a beginning of it; where there was no memory, nothing
 abbrev pub PrintsLine : {W T : Type 0} → Step W → Failing W → List ℕ → W → W → Result T Stop → Type 0
 PrintsLine takes refuses line old new (Ok _) = Took takes line old new
-PrintsLine takes refuses line old new (Err (Digest WriteFailed)) = Refused takes refuses line old new
-PrintsLine takes refuses line old new (Err (Digest ReadFailed)) = new ≡ old
-PrintsLine takes refuses line old new (Err (Digest TooLong)) = new ≡ old
+PrintsLine takes refuses line old new (Err WriteFailed) = Refused takes refuses line old new
 PrintsLine takes refuses line old new (Err OutOfMemory) = new ≡ old
 
 -- the lines were written: all of them; where a write failed, a beginning
 abbrev pub PrintsLines : {W T : Type 0} → Step W → Failing W → List ℕ → W → W → Result T Stop → Type 0
 PrintsLines takes refuses lines old new (Ok _) = Took takes lines old new
-PrintsLines takes refuses lines old new (Err (Digest WriteFailed)) = Refused takes refuses lines old new
-PrintsLines takes refuses lines old new (Err (Digest ReadFailed)) = Took takes lines old new
-PrintsLines takes refuses lines old new (Err (Digest TooLong)) = Took takes lines old new
+PrintsLines takes refuses lines old new (Err WriteFailed) = Refused takes refuses lines old new
 PrintsLines takes refuses lines old new (Err OutOfMemory) = Took takes lines old new
 
--- Where the reading came to its end, the line was written, as far as the answer says; where it didn't, nothing was, and
--- the answer says why.
-abbrev pub PrintsInput : {W T V : Type 0} → Step W → Failing W → List ℕ → Result V DigestError → W → W
-    → Result T Stop → Type 0
-PrintsInput takes refuses line (Ok value) old new result =
-    PrintsLine takes refuses line old new result × IfErr result IsOfWriting
-PrintsInput takes refuses line (Err e) old new result = (result ≡ Err (Digest e)) × (new ≡ old)
+-- the lines were written; or a write had failed before, and nothing was
+abbrev pub PrintsUnlessFailed : {W T : Type 0} → Step W → Failing W → (W → Bool) → List ℕ → W → W → Result T Stop
+    → Type 0
+PrintsUnlessFailed takes refuses has_failed lines old new result =
+    PrintsLines takes refuses lines old new result
+    ⊎ ((has_failed old ≡ true) × (new ≡ old) × (result ≡ Err WriteFailed))
+
+-- ---- standard input
+
+-- its line on standard output: that of its value
+abbrev pub printed_input : Kind → Shape → List ℕ → ℕ → Result ℕ DigestError → List ℕ
+printed_input kind shape name value (Ok _) = line_of kind shape value name
+printed_input kind shape name value (Err e) = []
+
+-- its line on standard error: why it has no value
+abbrev pub told_input : Result ℕ DigestError → List ℕ
+told_input (Ok value) = []
+told_input (Err e) = concat (codes "Error: " ∷ reason_text (reason_of e) ∷ codes ".\n" ∷ [])

@@ -1,20 +1,21 @@
 -- What becomes of the names of a hashing run.
-use Rattle.std.specs.Prelude.{◌≡◌, ◌≢◌, ◌&&◌, ℕ, Bool, true, false, List, [], ◌∷◌}
+use Rattle.std.specs.Prelude.{◌≡◌, ◌&&◌, ℕ, Bool, true, false, List, [], ◌∷◌, codes}
 use Rattle.std.specs.List.{concat}
 use Rattle.std.specs.declared.result.Result.{Result}
 use Rattle.std.specs.declared.result.Result.TheVariants.{Ok, Err}
 use Rattle.xxh_io.specs.declared.error.DigestError.{DigestError}
-use Rattle.xxh_io.specs.declared.error.DigestError.TheVariants.{WriteFailed}
+use Rattle.xxh_io.specs.declared.error.DigestError.TheVariants.{ReadFailed, WriteFailed, TooLong}
 use Rattle.xxh_io.specs.declared.kind.Kind.{Kind}
 use Rattle.xxh_io.specs.Pieces.{NoneEmpty, Step, Failing}
 use Rattle.xxh_io.specs.Digest.{ReadsOn}
 use Rattle.xxh_program.specs.Kind.{value_of}
 use Rattle.xxh_program.specs.States.{most_reads}
 use Rattle.xxhsum_files.specs.declared.refusal.Refusal.{Refusal}
+use Rattle.xxhsum_files.specs.Refusal.{refusal_text}
 use Rattle.xxhsum_program.specs.declared.outcome.Outcome.{Outcome}
-use Rattle.xxhsum_program.specs.declared.outcome.Outcome.TheVariants.{Digested, IsDirectory, Unopened}
-use Rattle.xxhsum_program.specs.declared.stop.Stop.{Stop}
-use Rattle.xxhsum_program.specs.declared.stop.Stop.TheVariants.{Digest, OutOfMemory}
+use Rattle.xxhsum_program.specs.declared.outcome.Outcome.TheVariants.{Digested, IsDirectory, Unread}
+use Rattle.xxhsum_program.specs.declared.outcome.Reason.{Reason}
+use Rattle.xxhsum_program.specs.declared.outcome.Reason.TheVariants as Why
 
 -- the name leads to a file that was read to its end, and this is the hash of what its reads gave
 abbrev pub IsValueOf : {S F : Type 0} → (S → List ℕ → F → Type 0) → Step F → Failing F → S → Kind → List ℕ
@@ -24,30 +25,47 @@ IsValueOf {S} {F} opens gives fails store kind name value =
     × opens store name file × NoneEmpty pieces × ReadsOn gives fails most_reads pieces file end read
     × (value ≡ value_of kind 0 (concat pieces))
 
--- what became of a name, by what the store says of it
+-- the name leads to a file whose reading came to no end, for this reason
+abbrev pub FailsOn : {S F : Type 0} → (S → List ℕ → F → Type 0) → Step F → Failing F → S → List ℕ → DigestError
+    → Type 0
+FailsOn {S} {F} opens gives fails store name e =
+    (file end : F) × (pieces : List (List ℕ)) × (read : Result ℕ DigestError) × (read ≡ Err e)
+    × opens store name file × NoneEmpty pieces × ReadsOn gives fails most_reads pieces file end read
+
+-- the name has no value, for this reason
+abbrev pub HasNoValue : {S F : Type 0} → (S → List ℕ → F → Type 0) → (S → List ℕ → Refusal → Type 0) → Step F
+    → Failing F → S → List ℕ → Reason → Type 0
+HasNoValue opens refuses gives fails store name (Why.Unopened refusal) = refuses store name refusal
+HasNoValue opens refuses gives fails store name Why.ReadFailed = FailsOn opens gives fails store name ReadFailed
+HasNoValue opens refuses gives fails store name Why.TooLong = FailsOn opens gives fails store name TooLong
+
+-- what became of a name: a directory is told exactly where the store says that it is one
 abbrev pub Comes : {S F : Type 0} → (S → List ℕ → F → Type 0) → (S → List ℕ → Refusal → Type 0)
     → (S → List ℕ → Bool → Type 0) → Step F → Failing F → S → Kind → List ℕ → Outcome → Type 0
 Comes opens refuses holds_directory gives fails store kind name (Digested value) =
-    IsValueOf opens gives fails store kind name value
+    holds_directory store name false × IsValueOf opens gives fails store kind name value
 Comes opens refuses holds_directory gives fails store kind name IsDirectory =
     holds_directory store name true
-Comes opens refuses holds_directory gives fails store kind name (Unopened refusal) =
-    refuses store name refusal
+Comes opens refuses holds_directory gives fails store kind name (Unread reason) =
+    holds_directory store name false × HasNoValue opens refuses gives fails store name reason
 
--- the name leads to a file whose reading came to no end, for this reason
-abbrev pub FailsOn : {S F : Type 0} → (S → List ℕ → F → Type 0) → Step F → Failing F → S → List ℕ → Stop
-    → Type 0
-FailsOn {S} {F} opens gives fails store name OutOfMemory = ⊥
-FailsOn {S} {F} opens gives fails store name (Digest e) =
-    (file end : F) × (pieces : List (List ℕ)) × (read : Result ℕ DigestError) × (read ≡ Err e)
-    × opens store name file × NoneEmpty pieces × ReadsOn gives fails most_reads pieces file end read
-    × (e ≢ WriteFailed)
+-- the reason by what ended the reading: no write does
+abbrev pub reason_of : DigestError → Reason
+reason_of ReadFailed = Why.ReadFailed
+reason_of WriteFailed = Why.ReadFailed
+reason_of TooLong = Why.TooLong
+
+-- a reason in words
+abbrev pub reason_text : Reason → List ℕ
+reason_text (Why.Unopened refusal) = refusal_text refusal
+reason_text Why.ReadFailed = codes "a failure occurred reading the input file"
+reason_text Why.TooLong = codes "the input file is too long"
 
 -- whether a name has a value
 abbrev pub is_digested : Outcome → Bool
 is_digested (Digested value) = true
 is_digested IsDirectory = false
-is_digested (Unopened refusal) = false
+is_digested (Unread reason) = false
 
 -- whether each of them has
 abbrev pub are_digested : List Outcome → Bool

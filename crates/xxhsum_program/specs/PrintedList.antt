@@ -98,7 +98,7 @@ HoldsPrintedLines {R} gives fails has_failed =
 abbrev pub IsFindingOf : {S F : Type 0} → (S → List ℕ → F → Type 0) → (S → List ℕ → Refusal → Type 0) → Step F
     → Failing F → S → Listed → Finding → Type 0
 IsFindingOf opens refuses gives fails store e finding =
-    (found : Found) × (finding ≡ Proper found)
+    (found : Found) × (finding ≡ Proper e.name found)
     × IsFound opens refuses gives fails store e.kind e.value e.name found
 
 -- as many findings as entries, each that of its own

@@ -2,7 +2,7 @@
 use Rattle.std.specs.Prelude.{◌≡◌, ℕ, ◌+◌, ◌-◌, ◌^◌, ◌/◌, Bool, true, false, List, [], ◌++◌, codes, decimal, if◌then◌else◌, min, nat_eq, nat_lt}
 use Rattle.xxh_io.specs.Pieces.{Step, Failing}
 use Rattle.xxhsum_program.specs.declared.progress.Meter.{Meter}
-use Rattle.xxhsum_program.specs.Told.{Told}
+use Rattle.xxhsum_program.specs.Told.{TellsOn}
 
 -- where a meter shows what it counts
 abbrev pub end_of : {E : Type 0} → Meter E → E
@@ -40,9 +40,8 @@ shown_text true before count =
 
 -- a read of so many bytes was counted and shown; without a place to show it nothing was written
 abbrev pub Shows : {E : Type 0} → Step E → Failing E → (E → Bool) → ℕ → Meter E → Meter E → Type 0
-Shows {E} takes refuses has_failed count old new =
+Shows takes refuses has_failed count old new =
     (is_shown new ≡ is_shown old)
     × (bytes_read new ≡ count_after (bytes_read old) count)
     × (is_shown old ≡ false → end_of new ≡ end_of old)
-    × ((initial : E) (told : List ℕ) → Told takes refuses has_failed told initial (end_of old)
-    → Told takes refuses has_failed (told ++ shown_text (is_shown old) (bytes_read old) count) initial (end_of new))
+    × TellsOn takes refuses has_failed (shown_text (is_shown old) (bytes_read old) count) (end_of old) (end_of new)

@@ -1,21 +1,26 @@
 //! Lists of checksum lines, and whether their files are as the lines say.
 
-ghost use Rattle.std.specs.Prelude.{◌≡◌, ◌⊎◌, ◌<◌, length, map, IfErr, IfOk, OnOk};
-ghost use Rattle.xxhsum_program.specs.CheckList.{AnswersFor, IsAnswer, IsReport, IsVerdict, StopsAtList, StopsEarly, StopsInList};
-ghost use Rattle.xxhsum_program.specs.Findings.{CountsLine, FailsOnLine, Improper, IsFinding, count_one, no_findings, with_broken_end};
-ghost use Rattle.xxhsum_program.specs.Lines.{IsOfWriting};
+ghost use Rattle.std.specs.Prelude.{◌≡◌, ◌<◌, List, Option, false, length, map, nat_eq, IfErr, IfOk, if◌then◌else◌};
+ghost use Rattle.xxhsum_program.specs.CheckList.{AnswersList, AnswersOutcome, ChecksLine, FindsLines, IsListOutcome, ListOutcome, ReportsLines, SaysList, SaysLists, printed_outcome, told_outcome};
+ghost use Rattle.xxhsum_program.specs.Findings.{Finding, Improper, IsFinding, count_one, count_proper, no_findings, with_broken_end};
+ghost use Rattle.xxhsum_program.specs.Lines.{PrintsLine, PrintsLines};
+ghost use Rattle.xxhsum_program.specs.ListEnd.{FailedRead, ListEnd};
 ghost use Rattle.xxhsum_program.specs.Report.{is_good};
+ghost use Rattle.xxhsum_program.specs.Said.{count_text, found_text, named_text, numbered, printed_finding, printed_list, printed_summary, told_break, told_finding, told_lines, told_list, told_of_line, told_summary, unread_text};
+ghost use Rattle.xxhsum_program.specs.Told.{TellsOn};
 
-use crate::entry::{Found, compare, say_found};
+use crate::entry::{Found, compare};
 use crate::lines::{Lines, Next};
 use crate::outcome::OFFERED;
-use crate::say::{decimal, joined, say};
+use crate::say::{print, say};
 use crate::stop::Stop;
-use crate::tell::tell;
-use std::alloc::{AllocError, Global};
+use crate::tell::tell_parts;
+use itoa::Buffer;
+use std::alloc::Global;
 use xxh_io::ends::{Sink, Source};
 use xxhsum_files::store::Store;
 use xxhsum_line::entry::{Meaning, meaning_of};
+use xxhsum_line::escapes::{put_escaped, put_mark};
 use xxhsum_words::options::Options;
 
 /// What was found in a list: how many of its lines are of each kind.
@@ -25,7 +30,7 @@ pub struct Report {
     pub proper: u64,
     /// Other lines that are no comments.
     pub improper: u64,
-    /// Proper lines whose file could not be opened.
+    /// Proper lines whose file could not be opened, or not be read to its end.
     pub unread: u64,
     /// Proper lines whose file has another value.
     pub different: u64,
@@ -44,6 +49,18 @@ impl Report {
             unread: 0,
             different: 0,
             is_broken: false,
+        }
+    }
+
+    // Counts a proper line by how its file is.
+    fn count(&mut self, found: &Found)
+        ensures { self.new ≡ count_proper self.old found.now }
+    {
+        self.proper = self.proper.saturating_add(1);
+        match found {
+            Found::Same => {}
+            Found::Different => self.different = self.different.saturating_add(1),
+            Found::Unread(_) => self.unread = self.unread.saturating_add(1),
         }
     }
 
@@ -72,70 +89,36 @@ impl Report {
 
 // A list that is checked.
 #[derive(Clone, Copy)]
-struct List<'a, S> {
+struct ListCheck<'a, S> {
     alloc: Global,
     store: &'a S,
     options: Options,
     name: &'a [u8],
 }
 
-impl<S: Store> List<'_, S> {
-    // Compares what the line says with its file, and counts it. A comment is counted as nothing.
-    fn check_line<W: Sink, E: Sink>(
+impl<S: Store> ListCheck<'_, S> {
+    // Checks the lines of a source, and says what was found of them.
+    fn check<R: Source + Drop, W: Sink, E: Sink>(
         &self,
-        line: &[u8],
-        number: u64,
-        report: &mut Report,
-        buf: &mut [u8],
+        source: R,
         out: &mut W,
         err: &mut E,
-    ) -> Result<(), Stop>
-        requires { 0 < length buf.old }
-        ensures counts { OnOk result
-            (CountsLine S.opens S.refuses S.File.gives S.File.fails self.now.store.now
-            self.now.options.is_little_endian line.now report.old report.new) }
-        ensures stops { IfErr result (λ stop. IsOfWriting stop
-            ⊎ FailsOnLine S.opens S.File.gives S.File.fails self.now.store.now
-            self.now.options.is_little_endian line.now stop) }
+    ) -> Result<bool, Stop>
+        requires { W.has_failed out.old ≡ false }
+        ensures checks { (findings : List Finding) × (end : Option ListEnd)
+            × FindsLines (IsFinding S.opens S.refuses S.File.gives S.File.fails
+            self.now.store.now self.now.options.is_little_endian)
+            R.gives R.fails R.has_failed source findings end
+            × AnswersList self.now.options.is_strict findings end result
+            × PrintsLines W.takes W.refuses
+            (printed_list self.now.options self.now.name.now findings end) out.old out.new result
+            × TellsOn E.takes E.refuses E.has_failed
+            (told_list self.now.options self.now.name.now findings end) err.old err.new }
+        ensures works { IfOk result (λ _. W.has_failed out.new ≡ false) }
     {
-        let entry = match meaning_of(self.alloc, line, self.options.is_little_endian)? {
-            Meaning::Entry(entry) => entry,
-            Meaning::Comment => return Ok(()),
-            Meaning::Malformed => return self.count_improper(number, report, err),
-        };
-        report.proper = report.proper.saturating_add(1);
-        let found = compare(self.store, &entry, buf)?;
-        match found {
-            Found::Same => {}
-            Found::Different => report.different = report.different.saturating_add(1),
-            Found::Unread(_) => report.unread = report.unread.saturating_add(1),
-        }
-        say_found(
-            self.alloc,
-            self.options,
-            self.name,
-            number,
-            &entry.name,
-            &found,
-            out,
-        )
-    }
-
-    // Counts a line that is malformed, and tells it where that is asked for.
-    fn count_improper<E: Sink>(
-        &self,
-        number: u64,
-        report: &mut Report,
-        err: &mut E,
-    ) -> Result<(), Stop>
-        ensures counts { OnOk result (report.new ≡ count_one report.old Improper) }
-        ensures stops { IfErr result IsOfWriting }
-    {
-        report.improper = report.improper.saturating_add(1);
-        if self.options.warns {
-            self.tell_of_line(number, b"Improperly formatted checksum line", err)?;
-        }
-        Ok(())
+        let report = self.check_lines(source, out, err)?;
+        self.sum_up(&report, out, err)?;
+        Ok(report.is_good(self.options.is_strict))
     }
 
     // Checks the lines of a source, up to its end or the first that is too long, or as many as a number can count.
@@ -145,15 +128,18 @@ impl<S: Store> List<'_, S> {
         out: &mut W,
         err: &mut E,
     ) -> Result<Report, Stop>
-        ensures report { IfOk result
-            (IsReport (IsFinding S.opens S.refuses S.File.gives S.File.fails
+        requires { W.has_failed out.old ≡ false }
+        ensures checks { (findings : List Finding) × (end : Option ListEnd)
+            × FindsLines (IsFinding S.opens S.refuses S.File.gives S.File.fails
             self.now.store.now self.now.options.is_little_endian)
-            R.gives R.fails R.has_failed source) }
-        ensures stops { IfErr result
-            (StopsEarly (IsFinding S.opens S.refuses S.File.gives S.File.fails
-            self.now.store.now self.now.options.is_little_endian)
-            (FailsOnLine S.opens S.File.gives S.File.fails
-            self.now.store.now self.now.options.is_little_endian) R.gives source) }
+            R.gives R.fails R.has_failed source findings end
+            × ReportsLines findings end result
+            × PrintsLines W.takes W.refuses
+            (numbered (printed_finding self.now.options self.now.name.now) 1 findings)
+            out.old out.new result
+            × TellsOn E.takes E.refuses E.has_failed
+            (told_lines self.now.options self.now.name.now findings end) err.old err.new }
+        ensures works { IfOk result (λ _. W.has_failed out.new ≡ false) }
     {
         let mut lines = Lines::new(source);
         let mut report = Report::new();
@@ -162,11 +148,11 @@ impl<S: Store> List<'_, S> {
             match lines.next() {
                 Next::End => return Ok(report),
                 Next::Failed => {
-                    self.tell_of_failure(number, &report, err)?;
+                    self.tell_of_failure(number, &report, err);
                     return Ok(report.with_broken_end());
                 }
                 Next::TooLong => {
-                    self.tell_of_line(number, b"Line too long", err)?;
+                    tell_of_line(self.name, number, b"Line too long", err);
                     return Ok(report.with_broken_end());
                 }
                 Next::Line => {
@@ -177,50 +163,119 @@ impl<S: Store> List<'_, S> {
         Ok(report)
     }
 
-    // Tells what is wrong with a line.
-    fn tell_of_line<E: Sink>(
+    // Compares what the line says with its file, counts it, and says how it is. A comment is counted as nothing.
+    fn check_line<W: Sink, E: Sink>(
+        &self,
+        line: &[u8],
+        number: u64,
+        report: &mut Report,
+        buf: &mut [u8],
+        out: &mut W,
+        err: &mut E,
+    ) -> Result<(), Stop>
+        requires room { 0 < length buf.old }
+        requires writer { W.has_failed out.old ≡ false }
+        ensures checks { ChecksLine
+            (IsFinding S.opens S.refuses S.File.gives S.File.fails self.now.store.now
+            self.now.options.is_little_endian line.now)
+            W.takes W.refuses E.takes E.refuses E.has_failed self.now.options self.now.name.now number
+            report.old report.new out.old out.new err.old err.new result }
+        ensures works { IfOk result (λ _. W.has_failed out.new ≡ false) }
+    {
+        let entry = match meaning_of(self.alloc, line, self.options.is_little_endian)? {
+            Meaning::Entry(entry) => entry,
+            Meaning::Comment => return Ok(()),
+            Meaning::Malformed => {
+                self.count_improper(number, report, err);
+                return Ok(());
+            }
+        };
+        let found = compare(self.store, &entry, buf);
+        report.count(&found);
+        if self.options.is_status_only {
+            return Ok(());
+        }
+        self.say_found(number, &entry.name, &found, out)
+    }
+
+    // Counts a line that is malformed, and tells it where that is asked for.
+    fn count_improper<E: Sink>(&self, number: u64, report: &mut Report, err: &mut E)
+        ensures counts { report.new ≡ count_one report.old Improper }
+        ensures tells { TellsOn E.takes E.refuses E.has_failed
+            (told_finding self.now.options self.now.name.now number Improper) err.old err.new }
+    {
+        report.improper = report.improper.saturating_add(1);
+        if self.options.warns {
+            tell_of_line(
+                self.name,
+                number,
+                b"Improperly formatted checksum line",
+                err,
+            );
+        }
+    }
+
+    // Says how the file of the line of this number is.
+    fn say_found<W: Sink>(
         &self,
         number: u64,
-        what: &[u8],
-        err: &mut E,
-    ) -> Result<(), AllocError> {
-        let number = decimal(self.alloc, number)?;
-        tell(
-            &joined(
-                self.alloc,
-                &[self.name, b":", &number, b": Error: ", what, b".\n"],
-            )?,
-            err,
-        );
-        Ok(())
+        name: &[u8],
+        found: &Found,
+        out: &mut W,
+    ) -> Result<(), Stop>
+        requires { W.has_failed out.old ≡ false }
+        ensures prints { PrintsLine W.takes W.refuses
+            (found_text self.now.options.is_quiet self.now.name.now number name.now found.now)
+            out.old out.new result }
+        ensures works { IfOk result (λ _. W.has_failed out.new ≡ false) }
+    {
+        match found {
+            Found::Same if self.options.is_quiet => Ok(()),
+            Found::Same => say_named(self.alloc, name, b": OK\n", out),
+            Found::Different => say_named(self.alloc, name, b": FAILED\n", out),
+            Found::Unread(reason) => {
+                say_unread(self.alloc, self.name, number, name, reason.text(), out)
+            }
+        }
     }
 
     // Tells that the list could not be read on. Where it has no proper line so far, that is told at its end.
-    fn tell_of_failure<E: Sink>(
-        &self,
-        number: u64,
-        report: &Report,
-        err: &mut E,
-    ) -> Result<(), AllocError> {
+    fn tell_of_failure<E: Sink>(&self, number: u64, report: &Report, err: &mut E)
+        ensures { TellsOn E.takes E.refuses E.has_failed
+            (told_break self.now.name.now number report.now FailedRead) err.old err.new }
+    {
         if report.proper == 0 {
-            return Ok(());
+            return;
         }
-        self.tell_of_line(number, b"A failure occurred reading the list", err)
+        tell_of_line(
+            self.name,
+            number,
+            b"A failure occurred reading the list",
+            err,
+        );
     }
 
-    // Says how many lines are not as they should be.
+    // Says how many lines are not as they should be, or that there is no list.
     fn sum_up<W: Sink, E: Sink>(
         &self,
         report: &Report,
         out: &mut W,
         err: &mut E,
     ) -> Result<(), Stop>
-        ensures { IfErr result IsOfWriting }
+        requires { W.has_failed out.old ≡ false }
+        ensures prints { PrintsLine W.takes W.refuses (printed_summary self.now.options report.now)
+            out.old out.new result }
+        ensures works { IfOk result (λ _. W.has_failed out.new ≡ false) }
+        ensures only { IfErr result (λ stop. stop ≡ Stop.WriteFailed) }
+        ensures tells { TellsOn E.takes E.refuses E.has_failed (told_summary self.now.name.now report.now)
+            err.old err.new }
     {
         if report.proper == 0 {
-            tell(self.name, err);
-            tell(
-                b": no properly formatted xxHash checksum lines found\n",
+            tell_parts(
+                &[
+                    self.name,
+                    b": no properly formatted xxHash checksum lines found\n",
+                ],
                 err,
             );
             return Ok(());
@@ -228,23 +283,19 @@ impl<S: Store> List<'_, S> {
         if self.options.is_status_only {
             return Ok(());
         }
-        let alloc = self.alloc;
         say_count(
-            alloc,
             report.improper,
             b" line is improperly formatted\n",
             b" lines are improperly formatted\n",
             out,
         )?;
         say_count(
-            alloc,
             report.unread,
             b" listed file could not be read\n",
             b" listed files could not be read\n",
             out,
         )?;
         say_count(
-            alloc,
             report.different,
             b" computed checksum did NOT match\n",
             b" computed checksums did NOT match\n",
@@ -253,32 +304,90 @@ impl<S: Store> List<'_, S> {
     }
 }
 
-// Says how many there are, in the singular or the plural, where there are any.
-fn say_count<W: Sink>(
+// Says a word of the file of this name, which stands as lists have it.
+fn say_named<W: Sink>(alloc: Global, name: &[u8], word: &[u8], out: &mut W) -> Result<(), Stop>
+    requires { W.has_failed out.old ≡ false }
+    ensures prints { PrintsLine W.takes W.refuses (named_text name.now word.now)
+        out.old out.new result }
+    ensures works { IfOk result (λ _. W.has_failed out.new ≡ false) }
+{
+    let mut line = Vec::new(alloc);
+    put_mark(&mut line, name)?;
+    put_escaped(&mut line, name)?;
+    line.extend_from_slice(word)?;
+    print(&line, out)
+}
+
+// Says why the file of the line of this number in this list could not be read.
+fn say_unread<'a, W: Sink>(
     alloc: Global,
-    count: u64,
-    one: &'static [u8],
-    more: &'static [u8],
+    list: &'a [u8],
+    number: u64,
+    name: &'a [u8],
+    why: &'a [u8],
     out: &mut W,
 ) -> Result<(), Stop>
-    ensures { IfErr result IsOfWriting }
+    requires { W.has_failed out.old ≡ false }
+    ensures prints { PrintsLine W.takes W.refuses
+        (unread_text list.now number name.now why.now) out.old out.new result }
+    ensures works { IfOk result (λ _. W.has_failed out.new ≡ false) }
+{
+    let mut digits = Buffer::new();
+    let digits = digits.format(number).as_bytes();
+    let parts: [&[u8]; 8] = [
+        list,
+        b":",
+        digits,
+        b": Could not open or read '",
+        name,
+        b"': ",
+        why,
+        b".\n",
+    ];
+    say(alloc, &parts, out)
+}
+
+// Tells what is wrong with the line of this number in this list.
+fn tell_of_line<'a, E: Sink>(list: &'a [u8], number: u64, what: &'a [u8], err: &mut E)
+    ensures { TellsOn E.takes E.refuses E.has_failed (told_of_line list.now number what.now)
+        err.old err.new }
+{
+    let mut digits = Buffer::new();
+    let digits = digits.format(number).as_bytes();
+    let parts: [&[u8]; 6] = [list, b":", digits, b": Error: ", what, b".\n"];
+    tell_parts(&parts, err);
+}
+
+// Says how many there are, in the singular or the plural, where there are any.
+fn say_count<W: Sink>(count: u64, one: &[u8], more: &[u8], out: &mut W) -> Result<(), Stop>
+    requires { W.has_failed out.old ≡ false }
+    ensures prints { PrintsLine W.takes W.refuses (count_text count one.now more.now)
+        out.old out.new result }
+    ensures works { IfOk result (λ _. W.has_failed out.new ≡ false) }
+    ensures only { IfErr result (λ stop. stop ≡ Stop.WriteFailed) }
 {
     if count == 0 {
         return Ok(());
     }
-    let number = decimal(alloc, count)?;
-    let what = if count == 1 { one } else { more };
-    say(alloc, &[number.as_slice(), what], out)
+    print(Buffer::new().format(count).as_bytes(), out)?;
+    print(word_for(count, one, more), out)
+}
+
+fn word_for<'a>(count: u64, one: &'a [u8], more: &'a [u8]) -> &'a [u8]
+    ensures { result.now ≡ (if nat_eq count 1 then one.now else more.now) }
+{
+    if count == 1 { one } else { more }
 }
 
 /// Checks the lines of a list, which is told by this name: says for each proper line how its file is, and at the end
 /// how many lines are not as they should be. Answers whether the list is good, by what is found of each of its lines,
-/// up to its end, or to a line that is too long or a read that fails. No clause says what is printed: tests do.
+/// up to its end, or to a line that is too long or a read of the list that fails. A file that can't be read is said to
+/// be so, and the next line is checked.
 ///
 /// # Errors
 ///
-/// [`Stop`] where a read of a file or a write fails, or memory runs out: at once. Where a read of the list fails, the
-/// list ends there, and isn't good.
+/// [`Stop::WriteFailed`] where a write to standard output fails, or one had failed before; [`Stop::OutOfMemory`] where
+/// there is no memory for a line: at once. What was found before it is said.
 pub fn check_list<S: Store, R: Source + Drop, W: Sink, E: Sink>(
     alloc: Global,
     store: &S,
@@ -288,24 +397,20 @@ pub fn check_list<S: Store, R: Source + Drop, W: Sink, E: Sink>(
     out: &mut W,
     err: &mut E,
 ) -> Result<bool, Stop>
-    ensures verdict { IfOk result
-        (IsVerdict (IsFinding S.opens S.refuses S.File.gives S.File.fails store.now
-        options.is_little_endian) R.gives R.fails R.has_failed source options.is_strict) }
-    ensures stops { IfErr result
-        (StopsEarly (IsFinding S.opens S.refuses S.File.gives S.File.fails store.now
-        options.is_little_endian)
-        (FailsOnLine S.opens S.File.gives S.File.fails store.now options.is_little_endian)
-        R.gives source) }
+    ensures { SaysList (IsFinding S.opens S.refuses S.File.gives S.File.fails store.now
+        options.is_little_endian) R.gives R.fails R.has_failed W.takes W.refuses W.has_failed
+        E.takes E.refuses E.has_failed options name.now source out.old out.new err.old err.new result }
 {
-    let list = List {
+    if out.failed() {
+        return Err(Stop::WriteFailed);
+    }
+    let list = ListCheck {
         alloc,
         store,
         options,
         name,
     };
-    let report = list.check_lines(source, out, err)?;
-    list.sum_up(&report, out, err)?;
-    Ok(report.is_good(options.is_strict))
+    list.check(source, out, err)
 }
 
 // Checks the list of this name. One that can't be opened is told, and isn't good.
@@ -317,21 +422,30 @@ fn check_named<S: Store, W: Sink, E: Sink>(
     out: &mut W,
     err: &mut E,
 ) -> Result<bool, Stop>
-    ensures answer { IfOk result
-        (IsAnswer (IsFinding S.opens S.refuses S.File.gives S.File.fails store.now
+    requires { W.has_failed out.old ≡ false }
+    ensures checks { (outcome : ListOutcome)
+        × IsListOutcome (IsFinding S.opens S.refuses S.File.gives S.File.fails store.now
         options.is_little_endian) S.opens S.refuses S.File.gives S.File.fails S.File.has_failed
-        store.now options.is_strict name.now) }
-    ensures stops { IfErr result
-        (StopsInList (IsFinding S.opens S.refuses S.File.gives S.File.fails store.now
-        options.is_little_endian)
-        (FailsOnLine S.opens S.File.gives S.File.fails store.now options.is_little_endian)
-        S.opens S.refuses S.File.gives store.now name.now) }
+        store.now name.now outcome
+        × AnswersOutcome options.is_strict outcome result
+        × PrintsLines W.takes W.refuses (printed_outcome options name.now outcome)
+        out.old out.new result
+        × TellsOn E.takes E.refuses E.has_failed (told_outcome options name.now outcome)
+        err.old err.new }
+    ensures works { IfOk result (λ _. W.has_failed out.new ≡ false) }
 {
     match store.open(name) {
-        Ok(file) => check_list(alloc, store, options, name, file, out, err),
-        Err(refusal) => {
-            let text = joined(
+        Ok(file) => {
+            let list = ListCheck {
                 alloc,
+                store,
+                options,
+                name,
+            };
+            list.check(file, out, err)
+        }
+        Err(refusal) => {
+            tell_parts(
                 &[
                     b"Error: Could not open '",
                     name,
@@ -339,19 +453,18 @@ fn check_named<S: Store, W: Sink, E: Sink>(
                     refusal.text(),
                     b"\n",
                 ],
-            )?;
-            tell(&text, err);
+                err,
+            );
             Ok(false)
         }
     }
 }
 
-/// Checks each named list. Answers whether all are good.
+/// Checks each named list. Answers whether all are good. A list that can't be opened is told, and isn't good.
 ///
 /// # Errors
 ///
-/// As [`check_list`], at once: the lists before have their answers, and those after are not opened. A list that can't
-/// be opened is told, and isn't good.
+/// As [`check_list`], at once: the lists before have their answers, and those after are not opened.
 pub fn check_lists<S: Store, W: Sink, E: Sink>(
     alloc: Global,
     store: &S,
@@ -360,19 +473,14 @@ pub fn check_lists<S: Store, W: Sink, E: Sink>(
     out: &mut W,
     err: &mut E,
 ) -> Result<bool, Stop>
-    ensures answers { IfOk result
-        (AnswersFor (IsAnswer (IsFinding S.opens S.refuses S.File.gives S.File.fails store.now
+    ensures { SaysLists (IsFinding S.opens S.refuses S.File.gives S.File.fails store.now
         options.is_little_endian) S.opens S.refuses S.File.gives S.File.fails S.File.has_failed
-        store.now options.is_strict) (map (λ name. name.items) names.now)) }
-    ensures stops { IfErr result
-        (StopsAtList (IsAnswer (IsFinding S.opens S.refuses S.File.gives S.File.fails store.now
-        options.is_little_endian) S.opens S.refuses S.File.gives S.File.fails S.File.has_failed
-        store.now options.is_strict)
-        (StopsInList (IsFinding S.opens S.refuses S.File.gives S.File.fails store.now
-        options.is_little_endian)
-        (FailsOnLine S.opens S.File.gives S.File.fails store.now options.is_little_endian)
-        S.opens S.refuses S.File.gives store.now) (map (λ name. name.items) names.now)) }
+        W.takes W.refuses W.has_failed E.takes E.refuses E.has_failed store.now options
+        (map (λ name. name.items) names.now) out.old out.new err.old err.new result }
 {
+    if out.failed() {
+        return Err(Stop::WriteFailed);
+    }
     let mut all = true;
     for name in names {
         let good = check_named(alloc, store, options, name, out, err)?;

@@ -2,7 +2,7 @@
 //! checked.
 #![tactic(auto)]
 
-mod arguments;
+pub mod arguments;
 pub mod check;
 mod entry;
 pub mod hash;

@@ -1,10 +1,10 @@
 //! What becomes of one name of a hashing run.
 
-ghost use Rattle.std.specs.Prelude.{◌≡◌, ◌<◌, false, length, IfOk, OnErr, IfErr};
-ghost use Rattle.xxhsum_program.specs.Outcomes.{Comes, FailsOn};
+ghost use Rattle.std.specs.Prelude.{◌≡◌, ◌<◌, false, length, IfOk, IfErr};
+ghost use Rattle.xxhsum_program.specs.Outcomes.{Comes, HasNoValue, IsValueOf, reason_of};
 
-use crate::stop::Stop;
 use xxh_io::ends::Source;
+use xxh_io::error::DigestError;
 use xxh_io::kind::Kind;
 use xxh_program::program::value_of_source;
 use xxhsum_files::refusal::Refusal;
@@ -23,8 +23,19 @@ pub enum Outcome {
     Digested { value: u128 },
     /// It is a directory.
     IsDirectory,
+    /// It has no value, for this reason.
+    Unread { reason: Reason },
+}
+
+/// Why a name that is no directory has no value.
+#[derive(Clone, Copy, Debug, PartialEq, Eq)]
+pub enum Reason {
     /// It leads to no file, for this reason.
     Unopened { refusal: Refusal },
+    /// A read of its file failed.
+    ReadFailed,
+    /// Its file is too long: 2^64 - 1 reads each gave some of it.
+    TooLong,
 }
 
 impl Outcome {
@@ -36,37 +47,84 @@ impl Outcome {
     {
         match self {
             Outcome::Digested { .. } => true,
-            Outcome::IsDirectory | Outcome::Unopened { .. } => false,
+            Outcome::IsDirectory | Outcome::Unread { .. } => false,
         }
     }
 }
 
-/// Opens the name and hashes its file, with reads that are offered the whole buffer.
-///
-/// # Errors
-///
-/// [`Stop::Digest`] where a read of the file fails.
-pub fn outcome_of<S: Store>(
+impl Reason {
+    ghost use Rattle.xxhsum_program.specs.Lines.{step_text};
+    ghost use Rattle.xxhsum_program.specs.Outcomes.{reason_text};
+
+    // It in words: the system's where the file can't be opened.
+    pub(crate) fn text(&self) -> &[u8]
+        ensures { result.now ≡ reason_text self.now }
+    {
+        match self {
+            Reason::Unopened { refusal } => refusal.text(),
+            Reason::ReadFailed => b"a failure occurred reading the input file",
+            Reason::TooLong => b"the input file is too long",
+        }
+    }
+
+    // What could not be done with the file.
+    pub(crate) fn step(&self) -> &[u8]
+        ensures { result.now ≡ step_text self.now }
+    {
+        match self {
+            Reason::Unopened { .. } => b"open",
+            Reason::ReadFailed | Reason::TooLong => b"read",
+        }
+    }
+}
+
+impl From<DigestError> for Reason {
+    ghost from_gives = { λ error reason. reason ≡ reason_of error };
+
+    // No write is made where a file is read.
+    fn from(error: DigestError) -> Reason {
+        match error {
+            DigestError::ReadFailed | DigestError::WriteFailed => Reason::ReadFailed,
+            DigestError::TooLong => Reason::TooLong,
+        }
+    }
+}
+
+/// Opens the name and hashes its file, with reads that are offered the whole buffer. An error says why there is no
+/// value.
+pub(crate) fn value_named<S: Store>(
     store: &S,
     kind: Kind,
     name: &[u8],
     buf: &mut [u8],
-) -> Result<Outcome, Stop>
+) -> Result<u128, Reason>
     requires { 0 < length buf.old }
-    ensures comes { IfOk result
-        (Comes S.opens S.refuses S.holds_directory S.File.gives S.File.fails store.now kind name.now) }
-    ensures fails { IfErr result
-        (FailsOn S.opens S.File.gives S.File.fails store.now name.now) }
+    ensures value { IfOk result
+        (IsValueOf S.opens S.File.gives S.File.fails store.now kind name.now) }
+    ensures reason { IfErr result
+        (HasNoValue S.opens S.refuses S.File.gives S.File.fails store.now name.now) }
 {
-    if store.is_directory(name) {
-        return Ok(Outcome::IsDirectory);
-    }
     match store.open(name) {
         Ok(file) => {
             let mut file = file;
-            let value = value_of_source(kind, 0, MAX_READS, &mut file, buf)?;
-            Ok(Outcome::Digested { value })
+            Ok(value_of_source(kind, 0, MAX_READS, &mut file, buf)?)
         }
-        Err(refusal) => Ok(Outcome::Unopened { refusal }),
+        Err(refusal) => Err(Reason::Unopened { refusal }),
+    }
+}
+
+/// Opens the name and hashes its file, with reads that are offered the whole buffer. A directory is one exactly where
+/// the store says so.
+pub fn outcome_of<S: Store>(store: &S, kind: Kind, name: &[u8], buf: &mut [u8]) -> Outcome
+    requires { 0 < length buf.old }
+    ensures { Comes S.opens S.refuses S.holds_directory S.File.gives S.File.fails store.now kind
+        name.now result }
+{
+    if store.is_directory(name) {
+        return Outcome::IsDirectory;
+    }
+    match value_named(store, kind, name, buf) {
+        Ok(value) => Outcome::Digested { value },
+        Err(reason) => Outcome::Unread { reason },
     }
 }

@@ -1,26 +1,26 @@
-//! The program over a process: its arguments and its streams.
+//! The program over its arguments, a store of files and its ends.
 
-ghost use Rattle.std.specs.Prelude.{◌≡◌, ◌≤◌, false};
+ghost use Rattle.std.specs.Prelude.{◌≡◌, false, Bool, List, ℕ, Option, Result, drop, map, IfSome};
+ghost use Rattle.xxhsum_program.specs.Arguments.{AreArguments};
+ghost use Rattle.xxhsum_program.specs.Run.{DoesArguments, DoesTask, HashesAll, PerformsAs, PerformsWatched, cleared_line, end_text, shape_of, status_of, stop_text};
+ghost use Rattle.xxhsum_program.specs.Task.{IsProgram, answer_text, has_none, is_well, run_asked, shows_progress, task_of, usage_text, waits_for_terminal};
+ghost use Rattle.xxhsum_program.specs.Told.{TellsOn};
+ghost use Rattle.xxhsum_program.specs.declared.stop.Stop.{Stop};
+ghost use Rattle.xxh_io.specs.declared.from_write.FromWrite.{FromWrite};
 
-use crate::arguments::{arguments, last_part};
+use crate::arguments::{Arguments, all_arguments, last_part};
 use crate::check::{check_list, check_lists};
 use crate::hash::{hash_input, hash_names};
 use crate::progress::{CLEARED, Meter};
-use crate::say::joined;
 use crate::stop::Stop;
-use crate::tell::tell;
+use crate::tell::{tell, tell_parts};
 use crate::usage::{ABOUT, NO_BENCHMARK, OPTIONS, TITLE};
 use crate::watched::{Watched, WatchedFiles};
 use std::alloc::{AllocError, Global};
-use std::fs::Files;
-use std::io::{IsTerminal, Read, Write};
-use std::rt::Env;
+use std::io::Write;
 use xxh_io::ends::{Sink, Source};
-use xxh_io::error::DigestError;
-use xxh_io::from_read::FromRead;
 use xxh_io::from_write::FromWrite;
 use xxhsum_files::store::Store;
-use xxhsum_files::system::SystemFiles;
 use xxhsum_line::printed::Shape;
 use xxhsum_words::name::default_kind;
 use xxhsum_words::options::{Asked, Options, asked_by};
@@ -28,61 +28,63 @@ use xxhsum_words::options::{Asked, Options, asked_by};
 // What standard input is called in lines.
 const INPUT: &[u8] = b"stdin";
 
-/// Runs the program with the arguments of the process over these streams, and answers the exit status: 0 where every
-/// file was digested, or is as its line says, and else 1.
-pub fn run_process<P, R, W, E>(process: &P, input: R, output: W, errors: E) -> u8
-where
-    P: Env + AllocGlobal + Files,
-    R: Read + IsTerminal + Drop,
-    W: Write + Drop,
-    E: Write + IsTerminal + Copy + Drop,
-    ensures { result ≤ 1 }
-{
-    let mut out = FromWrite::new(output);
-    let mut err = FromWrite::new(errors);
-    let done = match arguments(process) {
-        Ok(args) => {
-            let store = SystemFiles::new(process);
-            run(
-                process.alloc(),
-                &store,
-                &args,
-                input,
-                &mut out,
-                &mut err,
-                errors,
-            )
-        }
-        Err(AllocError) => Err(Stop::OutOfMemory),
-    };
-    match done {
-        Ok(true) => 0,
-        Ok(false) => 1,
-        Err(stop) => {
-            tell(line_of(stop), &mut err);
-            1
-        }
-    }
+/// Which of the standard streams are terminals.
+#[derive(Clone, Copy, Debug, PartialEq, Eq)]
+pub struct Terminals {
+    /// Standard input.
+    pub input: bool,
+    /// Standard error.
+    pub errors: bool,
 }
 
-// The line that tells why the program stops.
-fn line_of(stop: Stop) -> &'static [u8] {
-    match stop {
-        Stop::Digest(DigestError::WriteFailed) =>
-            b"Error: a failure occurred writing the output.\n",
-        Stop::Digest(DigestError::ReadFailed | DigestError::TooLong) => {
-            b"Error: a failure occurred reading the input file.\n"
-        }
-        Stop::OutOfMemory => b"\nError: Out of memory.\n",
-    }
-}
-
-// Does what the arguments ask for. Progress is shown on the screen, which is standard error too. Answers whether all
-// went well.
-fn run<S, R, W, E, T>(
+/// Does what the arguments ask for, over a store of files and these ends. Progress is shown on the screen, which is
+/// standard error too. Answers the exit status: 0 where every file was digested, or is as its line says, and else 1.
+///
+/// The caller shows that neither the input nor the output has failed.
+pub fn run<A, S, R, W, E, T>(
     alloc: Global,
+    arguments: &A,
     store: &S,
+    terminals: Terminals,
+    input: R,
+    out: &mut W,
+    err: &mut E,
+    screen: T,
+) -> u8
+where
+    A: Arguments,
+    S: Store,
+    R: Source + Drop,
+    W: Sink,
+    E: Sink,
+    T: Write + Copy + Drop,
+    requires reader { R.has_failed input ≡ false }
+    requires writer { W.has_failed out.old ≡ false }
+    ensures { (args : Option (List (List ℕ))) × (done : Result Bool Stop) × (told : E)
+        × IfSome args (AreArguments A.holds A.ends arguments.now)
+        × DoesArguments (PerformsWatched T (FromWrite T) S.opens S.refuses S.holds_directory
+        S.File.gives S.File.fails S.File.has_failed R.gives R.fails R.has_failed
+        W.takes W.refuses W.has_failed E.takes E.refuses E.has_failed store.now input
+        out.old out.new err.old told done)
+        E.takes E.refuses E.has_failed terminals args out.old out.new err.old told done
+        × TellsOn E.takes E.refuses E.has_failed (end_text done) told err.new
+        × (result ≡ status_of done) }
+{
+    match all_arguments(alloc, arguments) {
+        Ok(args) => {
+            let done = run_words(alloc, &args, store, terminals, input, out, err, screen);
+            conclude(done, err)
+        }
+        Err(AllocError) => conclude(Err(Stop::OutOfMemory), err),
+    }
+}
+
+// Does what the words behind the program's name ask for. Answers whether all went well.
+fn run_words<S, R, W, E, T>(
+    alloc: Global,
     args: &[Vec<u8>],
+    store: &S,
+    terminals: Terminals,
     input: R,
     out: &mut W,
     err: &mut E,
@@ -90,67 +92,171 @@ fn run<S, R, W, E, T>(
 ) -> Result<bool, Stop>
 where
     S: Store,
-    R: Read + IsTerminal + Drop,
+    R: Source + Drop,
     W: Sink,
     E: Sink,
-    T: Write + IsTerminal + Copy + Drop,
+    T: Write + Copy + Drop,
+    requires reader { R.has_failed input ≡ false }
     requires writer { W.has_failed out.old ≡ false }
-    requires errors { E.has_failed err.old ≡ false }
+    ensures { let arguments = map (λ argument. argument.items) args.now in (program : List ℕ)
+        × IsProgram arguments program
+        × DoesTask (PerformsWatched T (FromWrite T) S.opens S.refuses S.holds_directory
+        S.File.gives S.File.fails S.File.has_failed R.gives R.fails R.has_failed
+        W.takes W.refuses W.has_failed E.takes E.refuses E.has_failed store.now input
+        out.old out.new err.old err.new result)
+        E.takes E.refuses E.has_failed (task_of terminals program (drop 1 arguments))
+        out.old out.new err.old err.new result }
 {
-    let (program, words) = match args.split_first() {
-        Some((first, rest)) => (last_part(first), rest),
-        None => (b"xxhsum".as_slice(), args),
-    };
-    match asked_by(default_kind(program), words) {
+    let program = program_of(args);
+    let words = words_of(args);
+    let asked = asked_by(default_kind(program), words);
+    match run_asked(asked) {
+        None => Ok(tell_answer(program, asked, err)),
+        Some(found) => {
+            let (options, place) = found;
+            let names = names_from(words, place);
+            if waits_for_terminal(terminals, options, names) {
+                return Ok(tell_answer(program, Asked::BadUsage, err));
+            }
+            let shows = shows_progress(terminals, options);
+            perform_watched(alloc, store, options, names, shows, input, out, err, screen)
+        }
+    }
+}
+
+// The options of a run that is asked for, and which of the words its names begin at.
+fn run_asked(asked: Asked) -> Option<(Options, usize)>
+    ensures { result ≡ run_asked asked }
+{
+    match asked {
         Asked::Run {
             options,
             names_from,
-        } => {
-            let names = words.get(names_from..).unwrap_or(&[]);
-            if names.is_empty() && !options.takes_terminal && input.is_terminal() {
-                return tell_usage(alloc, program, b"Wrong parameters\n\n", err);
-            }
-            let shows = screen.is_terminal() && !options.is_quiet && !options.is_status_only;
-            let files = WatchedFiles::new(store, screen, shows);
-            let meter = Meter::new(FromWrite::new(screen), shows);
-            let input = Watched::new(FromRead::new(input), meter);
-            perform(alloc, &files, options, names, input, out, err)
-        }
+        } => Some((options, names_from)),
+        Asked::Benchmark | Asked::Version | Asked::Help | Asked::BadUsage | Asked::NumberTooLarge =>
+            None,
+    }
+}
+
+// The name by which the program was called.
+fn program_of(args: &[Vec<u8>]) -> &[u8]
+    ensures { IsProgram (map (λ argument. argument.items) args.now) result.now }
+{
+    match args.split_first() {
+        Some((path, _)) => last_part(path),
+        None => b"xxhsum",
+    }
+}
+
+// The words behind the program's name.
+fn words_of(args: &[Vec<u8>]) -> &[Vec<u8>]
+    ensures { map (λ word. word.items) result.now ≡ drop 1 (map (λ argument. argument.items) args.now) }
+{
+    match args.split_first() {
+        Some((_, words)) => words,
+        None => args,
+    }
+}
+
+// The names from this place on.
+fn names_from(words: &[Vec<u8>], place: usize) -> &[Vec<u8>]
+    ensures { map (λ name. name.items) result.now ≡ drop place (map (λ word. word.items) words.now) }
+{
+    if place < words.len() {
+        &words[place..]
+    } else {
+        &[]
+    }
+}
+
+// Whether progress is to be shown.
+fn shows_progress(terminals: Terminals, options: Options) -> bool
+    ensures { result ≡ shows_progress terminals options }
+{
+    terminals.errors && !options.is_quiet && !options.is_status_only
+}
+
+// Whether standard input would be read from a terminal that nobody asked for.
+fn waits_for_terminal(terminals: Terminals, options: Options, names: &[Vec<u8>]) -> bool
+    ensures { result ≡ waits_for_terminal terminals options (map (λ name. name.items) names.now) }
+{
+    has_none(names) && !options.takes_terminal && terminals.input
+}
+
+// Tells what is asked for where that is no run, and answers whether all is well. Of a run nothing is told.
+fn tell_answer<E: Sink>(program: &[u8], asked: Asked, err: &mut E) -> bool
+    ensures well { result ≡ is_well asked }
+    ensures tells { TellsOn E.takes E.refuses E.has_failed (answer_text program.now asked)
+        err.old err.new }
+{
+    match asked {
         Asked::Version => {
-            tell(&joined(alloc, &[program, TITLE])?, err);
-            Ok(true)
+            tell_parts(&[program, TITLE], err);
+            true
         }
         Asked::Help => {
-            tell_usage(alloc, program, b"", err)?;
-            Ok(true)
+            tell_usage(program, b"", err);
+            true
         }
         Asked::Benchmark => {
-            tell(&joined(alloc, &[program, NO_BENCHMARK])?, err);
-            Ok(false)
+            tell_parts(&[program, NO_BENCHMARK], err);
+            false
         }
-        Asked::BadUsage => tell_usage(alloc, program, b"Wrong parameters\n\n", err),
+        Asked::BadUsage => {
+            tell_usage(program, b"Wrong parameters\n\n", err);
+            false
+        }
+        Asked::Run { .. } => false,
         Asked::NumberTooLarge => {
             tell(b"Error: numeric value too large \n", err);
-            Ok(false)
+            false
         }
     }
 }
 
 // Tells how the program is used, after these words.
-fn tell_usage<E: Sink>(
+fn tell_usage<'a, E: Sink>(program: &'a [u8], before: &'a [u8], err: &mut E)
+    ensures { TellsOn E.takes E.refuses E.has_failed (usage_text before.now program.now)
+        err.old err.new }
+{
+    let parts: [&[u8]; 6] = [before, program, TITLE, ABOUT, program, OPTIONS];
+    tell_parts(&parts, err);
+}
+
+// Does what is asked for over the files and the input, whose reads are shown on the screen or not.
+#[tactic(auto, unfolding(crate::specs::Run::PerformsWatched))]
+fn perform_watched<S, R, W, E, T>(
     alloc: Global,
-    program: &[u8],
-    before: &[u8],
+    store: &S,
+    options: Options,
+    names: &[Vec<u8>],
+    shows: bool,
+    input: R,
+    out: &mut W,
     err: &mut E,
-) -> Result<bool, Stop> {
-    tell(
-        &joined(alloc, &[before, program, TITLE, ABOUT, program, OPTIONS])?,
-        err,
-    );
-    Ok(false)
+    screen: T,
+) -> Result<bool, Stop>
+where
+    S: Store,
+    R: Source + Drop,
+    W: Sink,
+    E: Sink,
+    T: Write + Copy + Drop,
+    requires reader { R.has_failed input ≡ false }
+    requires writer { W.has_failed out.old ≡ false }
+    ensures { PerformsWatched T (FromWrite T) S.opens S.refuses S.holds_directory
+        S.File.gives S.File.fails S.File.has_failed R.gives R.fails R.has_failed
+        W.takes W.refuses W.has_failed E.takes E.refuses E.has_failed store.now input
+        out.old out.new err.old err.new result options (map (λ name. name.items) names.now) shows }
+{
+    let files = WatchedFiles::new(store, screen, shows);
+    let meter = Meter::new(FromWrite::new(screen), shows);
+    let input = Watched::new(input, meter);
+    perform(alloc, &files, options, names, input, out, err)
 }
 
 // Digests the names, or checks them.
+#[tactic(auto, unfolding(crate::specs::Run::PerformsAs))]
 fn perform<S, R, W, E>(
     alloc: Global,
     store: &S,
@@ -167,26 +273,92 @@ where
     E: Sink,
     requires reader { R.has_failed input ≡ false }
     requires writer { W.has_failed out.old ≡ false }
-    requires errors { E.has_failed err.old ≡ false }
+    ensures { let given = map (λ name. name.items) names.now in
+        PerformsAs S.opens S.refuses S.holds_directory S.File.gives S.File.fails
+        S.File.has_failed R.gives R.fails R.has_failed W.takes W.refuses W.has_failed
+        E.takes E.refuses E.has_failed store.now options given input out.old out.new err.old err.new
+        result options.checks (has_none given) }
 {
-    let shape = Shape {
+    let mut input = input;
+    if options.checks {
+        if has_none(names) {
+            return check_list(alloc, store, options, INPUT, input, out, err);
+        }
+        return check_lists(alloc, store, options, names, out, err);
+    }
+    if has_none(names) {
+        let shape = shape_of(options);
+        return hash_input(alloc, options.kind, shape, INPUT, &mut input, out, err);
+    }
+    hash_all(alloc, store, options, names, out, err)
+}
+
+// Digests the names, and leaves an empty line behind them.
+fn hash_all<S: Store, W: Sink, E: Sink>(
+    alloc: Global,
+    store: &S,
+    options: Options,
+    names: &[Vec<u8>],
+    out: &mut W,
+    err: &mut E,
+) -> Result<bool, Stop>
+    requires { W.has_failed out.old ≡ false }
+    ensures { HashesAll S.opens S.refuses S.holds_directory S.File.gives S.File.fails W.takes W.refuses
+        E.takes E.refuses E.has_failed store.now options (map (λ name. name.items) names.now)
+        out.old out.new err.old err.new result }
+{
+    let shape = shape_of(options);
+    let all = hash_names(alloc, store, options.kind, shape, names, out, err)?;
+    clear_line(options, err);
+    Ok(all)
+}
+
+// Tells an empty line where progress may have stood, but where all is to be quiet.
+fn clear_line<E: Sink>(options: Options, err: &mut E)
+    ensures { TellsOn E.takes E.refuses E.has_failed (cleared_line options) err.old err.new }
+{
+    if options.is_quiet {
+        return;
+    }
+    tell(CLEARED, err);
+}
+
+fn shape_of(options: Options) -> Shape
+    ensures { result ≡ shape_of options }
+{
+    Shape {
         is_tagged: options.is_tagged,
         is_little: options.is_little_endian,
-    };
-    let mut input = input;
-    match (options.checks, names.is_empty()) {
-        (true, true) => check_list(alloc, store, options, INPUT, input, out, err),
-        (true, false) => check_lists(alloc, store, options, names, out, err),
-        (false, true) => {
-            hash_input(alloc, options.kind, shape, INPUT, &mut input, out)?;
-            Ok(true)
+    }
+}
+
+fn has_none(names: &[Vec<u8>]) -> bool
+    ensures { result ≡ has_none (map (λ name. name.items) names.now) }
+{
+    names.is_empty()
+}
+
+// Tells why the program stops, and answers the exit status.
+fn conclude<E: Sink>(done: Result<bool, Stop>, err: &mut E) -> u8
+    ensures status { result ≡ status_of done }
+    ensures tells { TellsOn E.takes E.refuses E.has_failed (end_text done) err.old err.new }
+{
+    match done {
+        Ok(true) => 0,
+        Ok(false) => 1,
+        Err(stop) => {
+            tell(line_of(stop), err);
+            1
         }
-        (false, false) => {
-            let all = hash_names(alloc, store, options.kind, shape, names, out, err)?;
-            if !options.is_quiet {
-                tell(CLEARED, err);
-            }
-            Ok(all)
-        }
+    }
+}
+
+// The line that tells why the program stops.
+fn line_of(stop: Stop) -> &'static [u8]
+    ensures { result.now ≡ stop_text stop }
+{
+    match stop {
+        Stop::WriteFailed => b"Error: a failure occurred writing the output.\n",
+        Stop::OutOfMemory => b"\nError: Out of memory.\n",
     }
 }

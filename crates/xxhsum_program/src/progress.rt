@@ -1,10 +1,10 @@
 //! How much of a long file was read so far, on standard error where that is a terminal.
 
-ghost use Rattle.std.specs.Prelude.{◌≡◌, ◌++◌, List, ℕ};
+ghost use Rattle.std.specs.Prelude.{◌≡◌};
 ghost use Rattle.xxhsum_program.specs.Progress.{Shows, bytes_read, end_of, is_shown, progress_line, cleared};
-ghost use Rattle.xxhsum_program.specs.Told.{Told};
+ghost use Rattle.xxhsum_program.specs.Told.{TellsOn};
 
-use crate::tell::tell;
+use crate::tell::{tell, tell_parts};
 use itoa::Buffer;
 use xxh_io::ends::Sink;
 
@@ -69,22 +69,18 @@ impl<E: Sink> Meter<E> {
 
 // Shows the second count where a step ends between both.
 fn show_between<E: Sink>(before: u64, count: u64, end: &mut E)
-    ensures { (initial : E) (told : List ℕ)
-        → Told E.takes E.refuses E.has_failed told initial end.old
-        → Told E.takes E.refuses E.has_failed (told ++ progress_line before count) initial end.new }
+    ensures { TellsOn E.takes E.refuses E.has_failed (progress_line before count) end.old end.new }
 {
     if before / STEP < count / STEP {
-        tell(b"\r", end);
-        tell(Buffer::new().format(count / MIB).as_bytes(), end);
-        tell(b" MiB\r", end);
+        let mut digits = Buffer::new();
+        let number = digits.format(count / MIB).as_bytes();
+        tell_parts(&[b"\r", number, b" MiB\r"], end);
     }
 }
 
 // Takes the line away, where so many bytes had one.
 fn clear_after<E: Sink>(count: u64, end: &mut E)
-    ensures { (initial : E) (told : List ℕ)
-        → Told E.takes E.refuses E.has_failed told initial end.old
-        → Told E.takes E.refuses E.has_failed (told ++ cleared count) initial end.new }
+    ensures { TellsOn E.takes E.refuses E.has_failed (cleared count) end.old end.new }
 {
     if count >= STEP {
         tell(CLEARED, end);

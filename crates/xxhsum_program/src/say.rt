@@ -1,36 +1,47 @@
-//! Texts of several parts, as one write each.
+//! Lines for the standard output, of which none may be lost.
 
-ghost use Rattle.std.specs.Prelude.{IfErr};
-ghost use Rattle.xxhsum_program.specs.Lines.{IsOfWriting};
+ghost use Rattle.std.specs.Prelude.{◌≡◌, ◌++◌, false, IfOk, IfErr};
+ghost use Rattle.xxhsum_program.specs.Joined.{joined};
+ghost use Rattle.xxhsum_program.specs.Lines.{PrintsLine};
 
 use crate::stop::Stop;
 use std::alloc::{AllocError, Global};
 use xxh_io::ends::Sink;
-use xxh_io::error::DigestError;
 use xxh_io::write::write_all;
 
-// The parts, one after another.
-pub(crate) fn joined(alloc: Global, parts: &[&[u8]]) -> Result<Vec<u8>, AllocError> {
-    let mut text = Vec::new(alloc);
-    for part in parts {
-        text.extend_from_slice(part)?;
-    }
-    Ok(text)
-}
-
-// Writes the parts to standard output, where no write has failed before.
-pub(crate) fn say<W: Sink>(alloc: Global, parts: &[&[u8]], out: &mut W) -> Result<(), Stop>
-    ensures { IfErr result IsOfWriting }
+// Puts the parts behind the text, one after another.
+fn put_parts(text: &mut Vec<u8>, parts: &[&[u8]]) -> Result<(), AllocError>
+    ensures { IfOk result (λ _. text.new.items ≡ text.old.items ++ joined parts.now) }
 {
-    let text = joined(alloc, parts)?;
-    if out.failed() {
-        return Err(Stop::Digest(DigestError::WriteFailed));
+    match parts.split_first() {
+        Some((part, rest)) => {
+            text.extend_from_slice(part)?;
+            put_parts(text, rest)
+        }
+        None => Ok(()),
     }
-    Ok(write_all(&text, out)?)
 }
 
-// The number in decimal digits.
-pub(crate) fn decimal(alloc: Global, number: u64) -> Result<Vec<u8>, AllocError> {
-    let text = format!(in alloc; "{number}")?;
-    text.as_bytes().to_vec(alloc)
+// Writes the parts of a line at once.
+pub(crate) fn say<W: Sink>(alloc: Global, parts: &[&[u8]], out: &mut W) -> Result<(), Stop>
+    requires { W.has_failed out.old ≡ false }
+    ensures prints { PrintsLine W.takes W.refuses (joined parts.now) out.old out.new result }
+    ensures works { IfOk result (λ _. W.has_failed out.new ≡ false) }
+{
+    let mut text = Vec::new(alloc);
+    put_parts(&mut text, parts)?;
+    print(&text, out)
+}
+
+// Writes the bytes.
+pub(crate) fn print<W: Sink>(bytes: &[u8], out: &mut W) -> Result<(), Stop>
+    requires { W.has_failed out.old ≡ false }
+    ensures prints { PrintsLine W.takes W.refuses bytes.now out.old out.new result }
+    ensures works { IfOk result (λ _. W.has_failed out.new ≡ false) }
+    ensures only { IfErr result (λ stop. stop ≡ Stop.WriteFailed) }
+{
+    match write_all(bytes, out) {
+        Ok(()) => Ok(()),
+        Err(_) => Err(Stop::WriteFailed),
+    }
 }

@@ -3,25 +3,14 @@
 ghost use Rattle.std.specs.Prelude.{◌≡◌};
 
 use std::alloc::AllocError;
-use xxh_io::error::DigestError;
 
-/// Why the program stops before it has come to its last name.
+/// Why the program stops before it has come to its last name. A file that can't be read stops nothing.
 #[derive(Clone, Copy, Debug, PartialEq, Eq)]
 pub enum Stop {
-    /// A read of a file or a write of a line failed.
-    Digest(DigestError),
+    /// A write to standard output failed.
+    WriteFailed,
     /// There was no memory.
     OutOfMemory,
-}
-
-impl From<DigestError> for Stop {
-    ghost use Rattle.xxhsum_program.specs.declared.stop.Stop.TheVariants.{Digest};
-
-    ghost from_gives = { λ e stop. stop ≡ Digest e };
-
-    fn from(error: DigestError) -> Stop {
-        Stop::Digest(error)
-    }
 }
 
 impl From<AllocError> for Stop {

@@ -1,11 +1,12 @@
 //! Sources and stores whose reads are shown, and which give just what they give without.
 
-ghost use Rattle.std.specs.Prelude.{◌≡◌, ◌<◌, ◌≤◌, false, List, ℕ, Bool, Result, length, take, is_err, IfOk, OnErr};
+ghost use Rattle.std.specs.Prelude.{◌≡◌, ◌<◌, ◌≤◌, false, List, ℕ, Bool, Option, Result, length, take, is_err, IfOk, OnErr};
 ghost use Rattle.xxh_io.specs.Pieces.{Pieces};
 ghost use Rattle.xxhsum_program.specs.Watched.{IsFresh, ShowsRead, files_of, meter_of, shows_reads, source_of};
 ghost use Rattle.xxh_io.specs.declared.kind.Kind.{Kind};
-ghost use Rattle.xxhsum_program.specs.CheckList.{AnswersFor, IsAnswer, IsVerdict, StopsAtList, StopsEarly, StopsInList};
-ghost use Rattle.xxhsum_program.specs.Findings.{FailsOnLine, IsFinding};
+ghost use Rattle.xxhsum_program.specs.CheckList.{ChecksLists, FindsLines, ListOutcome};
+ghost use Rattle.xxhsum_program.specs.Findings.{Finding, IsFinding};
+ghost use Rattle.xxhsum_program.specs.ListEnd.{ListEnd};
 ghost use Rattle.xxhsum_program.specs.HashNames.{HashesNames};
 ghost use Rattle.xxhsum_program.specs.declared.outcome.Outcome.{Outcome};
 ghost use Rattle.xxhsum_program.specs.declared.stop.Stop.{Stop};
@@ -135,40 +136,28 @@ pub fn watched_names<S: Store, W: Write + Copy + Drop>()
         (files_of files) kind names done rest outcomes result }
 {}
 
-/// A law, with nothing to run: what the check of a watched list over watched files says it says of the list and the
+/// A law, with nothing to run: what the check of a watched list over watched files finds is found of the list and the
 /// files.
 pub fn watched_list<S: Store, W: Write + Copy + Drop, R: Source, E: Sink>()
-    ensures verdict { (files : WatchedFiles S W) (list : Watched R E)
-        → (is_little is_strict good : Bool)
-        → IsVerdict (IsFinding ⟦<WatchedFiles<'static, S, W> as Store>⟧.opens
+    ensures { (files : WatchedFiles S W) (list : Watched R E) (is_little : Bool)
+        → (findings : List Finding) (end : Option ListEnd)
+        → FindsLines (IsFinding ⟦<WatchedFiles<'static, S, W> as Store>⟧.opens
         ⟦<WatchedFiles<'static, S, W> as Store>⟧.refuses
         ⟦<Watched<S::File, FromWrite<W>> as Source>⟧.gives
         ⟦<Watched<S::File, FromWrite<W>> as Source>⟧.fails files is_little)
         ⟦<Watched<R, E> as Source>⟧.gives ⟦<Watched<R, E> as Source>⟧.fails
-        ⟦<Watched<R, E> as Source>⟧.has_failed list is_strict good
-        → IsVerdict (IsFinding S.opens S.refuses S.File.gives S.File.fails
+        ⟦<Watched<R, E> as Source>⟧.has_failed list findings end
+        → FindsLines (IsFinding S.opens S.refuses S.File.gives S.File.fails
         (files_of files) is_little)
-        R.gives R.fails R.has_failed (source_of list) is_strict good }
-    ensures stops { (files : WatchedFiles S W) (list : Watched R E) (is_little : Bool) (stop : Stop)
-        → StopsEarly (IsFinding ⟦<WatchedFiles<'static, S, W> as Store>⟧.opens
-        ⟦<WatchedFiles<'static, S, W> as Store>⟧.refuses
-        ⟦<Watched<S::File, FromWrite<W>> as Source>⟧.gives
-        ⟦<Watched<S::File, FromWrite<W>> as Source>⟧.fails files is_little)
-        (FailsOnLine ⟦<WatchedFiles<'static, S, W> as Store>⟧.opens
-        ⟦<Watched<S::File, FromWrite<W>> as Source>⟧.gives
-        ⟦<Watched<S::File, FromWrite<W>> as Source>⟧.fails files is_little)
-        ⟦<Watched<R, E> as Source>⟧.gives list stop
-        → StopsEarly (IsFinding S.opens S.refuses S.File.gives S.File.fails
-        (files_of files) is_little)
-        (FailsOnLine S.opens S.File.gives S.File.fails (files_of files) is_little)
-        R.gives (source_of list) stop }
+        R.gives R.fails R.has_failed (source_of list) findings end }
 {}
 
 /// A law, with nothing to run: what the check of watched lists says it says of the lists.
 pub fn watched_lists<S: Store, W: Write + Copy + Drop>()
-    ensures answers { (files : WatchedFiles S W) (names : List (List ℕ))
-        → (is_little is_strict all : Bool)
-        → AnswersFor (IsAnswer (IsFinding ⟦<WatchedFiles<'static, S, W> as Store>⟧.opens
+    ensures { (files : WatchedFiles S W) (is_little is_strict : Bool)
+        → (names done rest : List (List ℕ)) (outcomes : List ListOutcome)
+        → (result : Result Bool Stop)
+        → ChecksLists (IsFinding ⟦<WatchedFiles<'static, S, W> as Store>⟧.opens
         ⟦<WatchedFiles<'static, S, W> as Store>⟧.refuses
         ⟦<Watched<S::File, FromWrite<W>> as Source>⟧.gives
         ⟦<Watched<S::File, FromWrite<W>> as Source>⟧.fails files is_little)
@@ -176,36 +165,9 @@ pub fn watched_lists<S: Store, W: Write + Copy + Drop>()
         ⟦<WatchedFiles<'static, S, W> as Store>⟧.refuses
         ⟦<Watched<S::File, FromWrite<W>> as Source>⟧.gives
         ⟦<Watched<S::File, FromWrite<W>> as Source>⟧.fails
-        ⟦<Watched<S::File, FromWrite<W>> as Source>⟧.has_failed files is_strict) names all
-        → AnswersFor (IsAnswer (IsFinding S.opens S.refuses S.File.gives S.File.fails
+        ⟦<Watched<S::File, FromWrite<W>> as Source>⟧.has_failed
+        files is_strict names done rest outcomes result
+        → ChecksLists (IsFinding S.opens S.refuses S.File.gives S.File.fails
         (files_of files) is_little) S.opens S.refuses S.File.gives S.File.fails
-        S.File.has_failed (files_of files) is_strict) names all }
-    ensures stops { (files : WatchedFiles S W) (names : List (List ℕ)) (is_little is_strict : Bool)
-        → (stop : Stop)
-        → StopsAtList (IsAnswer (IsFinding ⟦<WatchedFiles<'static, S, W> as Store>⟧.opens
-        ⟦<WatchedFiles<'static, S, W> as Store>⟧.refuses
-        ⟦<Watched<S::File, FromWrite<W>> as Source>⟧.gives
-        ⟦<Watched<S::File, FromWrite<W>> as Source>⟧.fails files is_little)
-        ⟦<WatchedFiles<'static, S, W> as Store>⟧.opens
-        ⟦<WatchedFiles<'static, S, W> as Store>⟧.refuses
-        ⟦<Watched<S::File, FromWrite<W>> as Source>⟧.gives
-        ⟦<Watched<S::File, FromWrite<W>> as Source>⟧.fails
-        ⟦<Watched<S::File, FromWrite<W>> as Source>⟧.has_failed files is_strict)
-        (StopsInList (IsFinding ⟦<WatchedFiles<'static, S, W> as Store>⟧.opens
-        ⟦<WatchedFiles<'static, S, W> as Store>⟧.refuses
-        ⟦<Watched<S::File, FromWrite<W>> as Source>⟧.gives
-        ⟦<Watched<S::File, FromWrite<W>> as Source>⟧.fails files is_little)
-        (FailsOnLine ⟦<WatchedFiles<'static, S, W> as Store>⟧.opens
-        ⟦<Watched<S::File, FromWrite<W>> as Source>⟧.gives
-        ⟦<Watched<S::File, FromWrite<W>> as Source>⟧.fails files is_little)
-        ⟦<WatchedFiles<'static, S, W> as Store>⟧.opens
-        ⟦<WatchedFiles<'static, S, W> as Store>⟧.refuses
-        ⟦<Watched<S::File, FromWrite<W>> as Source>⟧.gives files) names stop
-        → StopsAtList (IsAnswer (IsFinding S.opens S.refuses S.File.gives S.File.fails
-        (files_of files) is_little) S.opens S.refuses S.File.gives S.File.fails
-        S.File.has_failed (files_of files) is_strict)
-        (StopsInList (IsFinding S.opens S.refuses S.File.gives S.File.fails
-        (files_of files) is_little)
-        (FailsOnLine S.opens S.File.gives S.File.fails (files_of files) is_little)
-        S.opens S.refuses S.File.gives (files_of files)) names stop }
+        S.File.has_failed (files_of files) is_strict names done rest outcomes result }
 {}

@@ -2,7 +2,6 @@
 
 use crate::entry::entry;
 use std::alloc::{AllocError, Global};
-use xxh_io::error::DigestError;
 use xxh_io::kind::Kind;
 use xxh_io::script_sink::ScriptSink;
 use xxh_io::script_source::ScriptSource;
@@ -24,6 +23,9 @@ const LIST: &[u8] =
 // What is printed of it.
 const CHECKED: &[u8] =
     b"a: OK\nb: FAILED\nL:4: Could not open or read 'gone': No such file or directory.\nb: OK\n1 line is improperly formatted\n1 listed file could not be read\n1 computed checksum did NOT match\n";
+
+// What is told of the file whose second read fails, as docs/XXHSUM.md has it.
+const BAD: &[u8] = b"Error: Could not read 'bad': a failure occurred reading the input file. \n";
 
 // The files a and b, the folder d, a file whose second read fails, and a list.
 fn entries<'a>() -> [MemoryEntry<'a, ScriptSource<'a>>; 5] {
@@ -74,17 +76,18 @@ fn each_name_has_its_line(rt: HostRuntime) -> Result<(), AllocError> {
     Ok(())
 }
 
+// A file that can't be read stops nothing; a write that fails does, at once.
 #[test]
-fn a_fault_stops_the_run(rt: HostRuntime) -> Result<(), AllocError> {
+fn a_failed_write_alone_stops_the_run(rt: HostRuntime) -> Result<(), AllocError> {
     let entries = entries();
     let names = names(rt.alloc(), &[b"a", b"bad", b"b"])?;
-    for (write_fails, stop, printed) in [
+    for (write_fails, answer, printed) in [
         (
             0,
-            Stop::Digest(DigestError::ReadFailed),
-            b"26c7827d889f6da3  a\n".as_slice(),
+            Ok(false),
+            b"26c7827d889f6da3  a\n2d83aaba506794c4  b\n".as_slice(),
         ),
-        (2, Stop::Digest(DigestError::WriteFailed), b"26c7827d8"),
+        (2, Err(Stop::WriteFailed), b"26c7827d8"),
     ] {
         let mut out = ScriptSink::<99>::new(9, write_fails);
         let mut err = ScriptSink::<99>::new(99, 0);
@@ -97,8 +100,11 @@ fn a_fault_stops_the_run(rt: HostRuntime) -> Result<(), AllocError> {
             &mut out,
             &mut err,
         );
-        assert!(rt; all == Err(stop));
+        assert!(rt; all == answer);
         assert!(rt; out.bytes() == printed);
+        if write_fails == 0 {
+            assert!(rt; err.bytes() == BAD);
+        }
     }
     Ok(())
 }
@@ -109,11 +115,30 @@ fn standard_input_has_its_line(rt: HostRuntime) {
         is_tagged: true,
         is_little: false,
     };
-    let mut input = ScriptSource::new(b"hello", &[1, 9], 0);
-    let mut out = ScriptSink::<99>::new(99, 0);
-    let done = hash_input(rt.alloc(), Kind::X32, shape, b"stdin", &mut input, &mut out);
-    assert!(rt; done == Ok(()));
-    assert!(rt; out.bytes() == b"XXH32 (stdin) = fb0077f9\n".as_slice());
+    for (read_fails, printed, told) in [
+        (0, b"XXH32 (stdin) = fb0077f9\n".as_slice(), b"".as_slice()),
+        (
+            2,
+            b"",
+            b"Error: a failure occurred reading the input file.\n",
+        ),
+    ] {
+        let mut input = ScriptSource::new(b"hello", &[1, 9], read_fails);
+        let mut out = ScriptSink::<99>::new(99, 0);
+        let mut err = ScriptSink::<99>::new(99, 0);
+        let all = hash_input(
+            rt.alloc(),
+            Kind::X32,
+            shape,
+            b"stdin",
+            &mut input,
+            &mut out,
+            &mut err,
+        );
+        assert!(rt; all == Ok(read_fails == 0));
+        assert!(rt; out.bytes() == printed);
+        assert!(rt; err.bytes() == told);
+    }
 }
 
 #[test]

@@ -1,9 +1,24 @@
-use Rattle.std.proofs.Common.{◌≡◌, ◌+◌, ◌∷◌, ◌++◌, [], map, take, drop, refl, sym}
-use Rattle.xxhsum_program.specs.CheckList.{StopsAtList}
-use Rattle.xxhsum_program.proofs.CheckFacts.{all_true-push, passes-on}
-use Rattle.xxhsum_program.proofs.EachFacts.{EachHas-push, map-more, map-split}
+use Rattle.std.proofs.Common.{◌≡◌, ◌+◌, ◌∷◌, ◌++◌, [], Err, inl, inr, Bool, map, take, drop, refl, sym, ◌∙◌, append_assoc, subst, rules}
+use Rattle.xxh_io.proofs.WriteFacts.{Took-join}
+use Rattle.xxhsum_program.specs.CheckList.{IsDone, printed_outcome, told_outcome}
+use Rattle.xxhsum_program.specs.Lines.{PrintsLines}
+use Rattle.xxhsum_program.proofs.EachFacts.{EachHas-push, all-push, map-more, map-split}
+use Rattle.xxhsum_program.proofs.HashFacts.{is-err}
+use Rattle.xxhsum_program.proofs.OutcomeFacts.{are_good-push, lines-push, prints-join}
+use Rattle.xxhsum_program.proofs.ToldFacts.{tells-more, tells-nothing}
 use Rattle.xxhsum_program.proofs.check.check_lists.Goals as goal
 use Rattle.xxhsum_program.proofs.check.check_lists.Goals.{then-all, else-all}
+
+pub loop-name-init : goal.loop-name-init
+loop-name-init g c = record {
+  outcomes = [];
+  each = tt;
+  finished = tt;
+  all = refl;
+  prints = ([], refl, refl);
+  tells = tells-nothing g.E.Sink.takes g.E.Sink.refuses g.E.Sink.has_failed c.args.err.now;
+  works = search rules;
+}
 
 pub loop-name-preserved : goal.loop-name-preserved
 loop-name-preserved g c =
@@ -12,29 +27,51 @@ loop-name-preserved g c =
     let names = map (λ name. name.items) (take k c.args.names.now) in
     let name = c.name-item.result.items in
     let good = c.in_ok-good.good in
+    let checked = rw c.deref.ensures.value at c.in_ok-good.ensures.checks in
+    let outcome = checked.0 in
+    let options = c.args.options in
     let longer : map (λ name. name.items) (take (k + 1) c.args.names.now) ≡ names ++ name ∷ [] =
     map-more (λ name. name.items) c.args.names.now k c.name-item.result c.loop-name-test.true c.name-item.is in
     rw longer record {
-      answers = so_far.answers ++ good ∷ [];
-      each = EachHas-push _ names so_far.answers name good so_far.each (rw (sym c.deref.ensures.value) c.in_ok-good.ensures.answer);
-      all = rw (all_true-push so_far.answers good, sym so_far.all)
+      outcomes = so_far.outcomes ++ outcome ∷ [];
+      each = EachHas-push _ names so_far.outcomes name outcome so_far.each checked.1;
+      finished = all-push IsDone so_far.outcomes outcome so_far.finished checked.2.0;
+      all = rw (are_good-push options.is_strict so_far.outcomes outcome, sym so_far.all, sym checked.2.1)
           (elim c.if-all.branch [
             | then-all w ↦ rw (w.all-is, w.if-all.true) refl
             | else-all w ↦ rw (w.all-is, w.if-all.false) refl
           ]);
+      prints = rw (lines-push _ (printed_outcome options) names so_far.outcomes name outcome so_far.each)
+          (Took-join g.W.Sink.takes _ _ _ _ _ so_far.prints checked.3);
+      tells = rw (lines-push _ (told_outcome options) names so_far.outcomes name outcome so_far.each)
+          (tells-more g.E.Sink.takes g.E.Sink.refuses g.E.Sink.has_failed _ _ _ _ _ so_far.tells checked.4);
+      works = c.in_ok-good.ensures.works;
     }
 
-pub returns-in_err-good-clause-stops : goal.returns-in_err-good-clause-stops
-returns-in_err-good-clause-stops g c =
+pub returns-in_err-good : goal.returns-in_err-good
+returns-in_err-good g c =
     let so_far = c.loop-name.invariant in
     let k = c.loop-name.name-index in
+    let names = map (λ name. name.items) (take k c.args.names.now) in
+    let after = map (λ name. name.items) (drop (k + 1) c.args.names.now) in
+    let name = c.name-item.result.items in
     let stop = c.in_err-good.field-0.0 in
-    passes-on (StopsAtList _ _ (map (λ name. name.items) c.args.names.now)) c.from_residual.result stop c.from_residual.ensures.1 (
-      map (λ name. name.items) (take k c.args.names.now),
-      map (λ name. name.items) (drop (k + 1) c.args.names.now),
-      c.name-item.result.items,
-      so_far.answers,
-      map-split (λ name. name.items) c.args.names.now k c.name-item.result c.loop-name-test.true c.name-item.is,
-      so_far.each,
-      rw c.deref.ensures.value at c.in_err-good.ensures.stops,
+    let checked = rw c.deref.ensures.value at c.in_err-good.ensures.checks in
+    let outcome = checked.0 in
+    let options = c.args.options in
+    rw (is-err c.from_residual.result stop c.from_residual.ensures.1) (
+      so_far.outcomes ++ outcome ∷ [],
+      names ++ name ∷ [],
+      after,
+      (
+        map-split (λ name. name.items) c.args.names.now k c.name-item.result c.loop-name-test.true c.name-item.is ∙ sym (append_assoc names (name ∷ []) after),
+        EachHas-push _ names so_far.outcomes name outcome so_far.each checked.1,
+        inr (so_far.outcomes, outcome, refl, so_far.finished),
+      ),
+      inl (subst (λ bytes. PrintsLines {T = Bool} g.W.Sink.takes g.W.Sink.refuses bytes c.args.out.now c.check_named.new.out (Err stop)) (sym (lines-push _ (printed_outcome options) names so_far.outcomes name outcome so_far.each)) (prints-join {T = Bool} g.W.Sink.takes g.W.Sink.refuses _ _ c.args.out.now c.loop-name.out c.check_named.new.out (Err stop) so_far.prints (subst (λ bytes. PrintsLines {T = Bool} g.W.Sink.takes g.W.Sink.refuses (printed_outcome options bytes outcome) c.loop-name.out c.check_named.new.out (Err stop)) c.deref.ensures.value checked.3))),
+      rw (lines-push _ (told_outcome options) names so_far.outcomes name outcome so_far.each) (tells-more g.E.Sink.takes g.E.Sink.refuses g.E.Sink.has_failed _ _ _ _ _ so_far.tells checked.4),
     )
+
+pub returns-then-failed : goal.returns-then-failed
+returns-then-failed g c =
+    ([], [], map (λ name. name.items) c.args.names.now, (refl, tt, inl tt), inr (sym c.failed.ensures ∙ c.if-failed.true, refl, refl), tells-nothing g.E.Sink.takes g.E.Sink.refuses g.E.Sink.has_failed c.args.err.now)

@@ -1,15 +1,13 @@
-use Rattle.std.proofs.Common.{inr, refl}
-use Rattle.xxhsum_program.specs.CheckList.{StopsInList}
-use Rattle.xxhsum_program.specs.declared.stop.Stop.TheVariants.{OutOfMemory}
-use Rattle.xxhsum_program.specs.Findings.{FailsOnLine, IsFinding}
-use Rattle.xxhsum_program.proofs.CheckFacts.{passes-on}
+use Rattle.std.proofs.Common.{[], refl}
+use Rattle.xxhsum_program.specs.CheckList.{Checked, Unopened}
+use Rattle.xxhsum_program.proofs.StopFacts.{answers-outcome}
 use Rattle.xxhsum_program.proofs.check.check_named.Goals as goal
 
-pub returns-in_ok-text-in-Err-clause-answer : goal.returns-in_ok-text-in-Err-clause-answer
-returns-in_ok-text-in-Err-clause-answer g c = inr (c.in-Err.refusal, c.in-Err.ensures.refuses, refl)
+pub returns-in-Ok-clause-checks : goal.returns-in-Ok-clause-checks
+returns-in-Ok-clause-checks g c =
+    let checks = c.check.ensures.checks in
+    (Checked checks.0 checks.1, (c.in-Ok.file, c.in-Ok.ensures.opens, checks.2), answers-outcome c.args.options.is_strict checks.0 checks.1 c.check.result checks.3, checks.4, checks.5)
 
-pub returns-in_err-text-in-Err-clause-stops : goal.returns-in_err-text-in-Err-clause-stops
-returns-in_err-text-in-Err-clause-stops g c =
-    let is_finding = IsFinding g.S.Store.opens g.S.Store.refuses g.S.File.Source.gives g.S.File.Source.fails c.args.store.now c.args.options.is_little_endian in
-    let fails_on = FailsOnLine g.S.Store.opens g.S.File.Source.gives g.S.File.Source.fails c.args.store.now c.args.options.is_little_endian in
-    passes-on (StopsInList is_finding fails_on g.S.Store.opens g.S.Store.refuses g.S.File.Source.gives c.args.store.now c.args.name.now) c.from_residual.result OutOfMemory c.from_residual.ensures.1 (inr (c.in-Err.refusal, c.in-Err.ensures.refuses, refl))
+pub returns-in-Err-clause-checks : goal.returns-in-Err-clause-checks
+returns-in-Err-clause-checks g c =
+    (Unopened c.in-Err.refusal, c.in-Err.ensures.refuses, (tt, refl), ([], refl, refl), rw c.text.ensures at c.tell_parts.ensures)

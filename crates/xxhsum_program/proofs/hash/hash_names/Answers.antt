@@ -1,10 +1,11 @@
-use Rattle.std.proofs.Common.{◌≡◌, ◌+◌, ◌∷◌, ◌++◌, [], Ok, Err, map, take, drop, refl, sym, subst, rules}
+use Rattle.std.proofs.Common.{◌≡◌, ◌+◌, ◌∷◌, ◌++◌, [], Err, map, take, drop, refl, sym, subst, rules}
 use Rattle.xxh_io.proofs.WriteFacts.{Took-join}
-use Rattle.xxhsum_program.specs.Outcomes.{Comes, FailsOn}
+use Rattle.xxhsum_program.specs.Outcomes.{Comes}
 use Rattle.xxhsum_program.specs.Lines.{PrintsLine, printed_line, told_line}
 use Rattle.xxhsum_program.proofs.EachFacts.{EachHas-push, map-more, map-split}
-use Rattle.xxhsum_program.proofs.HashFacts.{is-err, ends-reading, prints-reading, stops-printing}
-use Rattle.xxhsum_program.proofs.OutcomeFacts.{lines-push, are_digested-push, never-writing}
+use Rattle.xxhsum_program.proofs.HashFacts.{is-err, stops-printing}
+use Rattle.xxhsum_program.proofs.OutcomeFacts.{lines-push, are_digested-push}
+use Rattle.xxhsum_program.proofs.ToldFacts.{tells-more, tells-nothing}
 use Rattle.xxhsum_program.proofs.hash.hash_names.Goals as goal
 use Rattle.xxhsum_program.proofs.hash.hash_names.Goals.{then-all, else-all}
 
@@ -13,9 +14,9 @@ loop-name-init g c = record {
   outcomes = [];
   each = tt;
   prints = ([], refl, refl);
-  told = (Ok tt, ([], refl, refl), tt, c.requires.errors);
+  tells = tells-nothing g.E.Sink.takes g.E.Sink.refuses g.E.Sink.has_failed c.args.err.now;
   all = refl;
-  works = c.requires.writer;
+  works = c.requires;
 }
 
 pub loop-name-preserved : goal.loop-name-preserved
@@ -24,17 +25,17 @@ loop-name-preserved g c =
     let k = c.loop-name.name-index in
     let names = map (λ name. name.items) (take k c.args.names.now) in
     let name = c.name-item.result.items in
-    let outcome = c.in_ok-outcome.outcome in
+    let outcome = c.outcome_of-outcome.result in
     let longer : map (λ name. name.items) (take (k + 1) c.args.names.now) ≡ names ++ name ∷ [] =
     map-more (λ name. name.items) c.args.names.now k c.name-item.result c.loop-name-test.true c.name-item.is in
     let line = printed_line c.args.kind c.args.shape in
     rw longer record {
       outcomes = so_far.outcomes ++ outcome ∷ [];
-      each = EachHas-push _ names so_far.outcomes name outcome so_far.each (rw (sym c.deref.ensures.value) c.in_ok-outcome.ensures.comes);
+      each = EachHas-push _ names so_far.outcomes name outcome so_far.each (rw (sym c.deref.ensures.value) c.outcome_of-outcome.ensures);
       prints = rw (lines-push _ line names so_far.outcomes name outcome so_far.each, sym c.deref-in-loop-name.ensures.value)
           (Took-join g.W.Sink.takes _ _ _ _ _ so_far.prints c.in_ok-print_outcome.ensures.prints);
-      told = rw (lines-push _ told_line names so_far.outcomes name outcome so_far.each, sym c.deref-in-loop-name-2.ensures.value)
-          (c.tell_outcome.ensures c.args.err.now _ so_far.told);
+      tells = rw (lines-push _ told_line names so_far.outcomes name outcome so_far.each, sym c.deref-in-loop-name-2.ensures.value)
+          (tells-more g.E.Sink.takes g.E.Sink.refuses g.E.Sink.has_failed _ _ _ _ _ so_far.tells c.tell_outcome.ensures);
       all = rw (are_digested-push so_far.outcomes outcome, sym so_far.all)
           (elim c.if-all.branch [
             | then-all w ↦ rw (w.all-is, w.if-all.true) w.is_digested-all.ensures
@@ -43,39 +44,15 @@ loop-name-preserved g c =
       works = search rules;
     }
 
-pub returns-in_err-outcome : goal.returns-in_err-outcome
-returns-in_err-outcome g c =
-    let so_far = c.loop-name.invariant in
-    let k = c.loop-name.name-index in
-    let names = map (λ name. name.items) (take k c.args.names.now) in
-    let after = map (λ name. name.items) (drop (k + 1) c.args.names.now) in
-    let name = c.name-item.result.items in
-    let stop = c.in_err-outcome.field-0.0 in
-    let fails = c.in_err-outcome.ensures.fails in
-    let is : c.from_residual.result ≡ Err stop = is-err c.from_residual.result stop c.from_residual.ensures.1 in
-    rw is (
-      so_far.outcomes,
-      names,
-      name ∷ after,
-      (
-        map-split (λ name. name.items) c.args.names.now k c.name-item.result c.loop-name-test.true c.name-item.is,
-        so_far.each,
-        ends-reading (FailsOn g.S.Store.opens g.S.File.Source.gives g.S.File.Source.fails c.args.store.now) name after so_far.outcomes stop (rw c.deref.ensures.value at fails),
-      ),
-      prints-reading g.W.Sink.takes g.W.Sink.refuses _ _ _ stop (never-writing g.S.Store.opens g.S.File.Source.gives g.S.File.Source.fails c.args.store.now c.deref.result.now stop fails) so_far.prints,
-      so_far.told,
-    )
-
 pub returns-in_err-print_outcome : goal.returns-in_err-print_outcome
 returns-in_err-print_outcome g c =
     let so_far = c.loop-name.invariant in
     let k = c.loop-name.name-index in
     let name = c.name-item.result.items in
-    let outcome = c.in_ok-outcome.outcome in
+    let outcome = c.outcome_of-outcome.result in
     let stop = c.in_err-print_outcome.field-0.0 in
-    let is : c.from_residual-in_err-print_outcome.result ≡ Err stop = is-err c.from_residual-in_err-print_outcome.result stop c.from_residual-in_err-print_outcome.ensures.1 in
-    rw is (stops-printing (Comes g.S.Store.opens g.S.Store.refuses g.S.Store.holds_directory g.S.File.Source.gives g.S.File.Source.fails c.args.store.now c.args.kind) (FailsOn g.S.Store.opens g.S.File.Source.gives g.S.File.Source.fails c.args.store.now) g.W.Sink.takes g.W.Sink.refuses g.E.Sink.takes g.E.Sink.refuses g.E.Sink.has_failed c.args.kind c.args.shape _ (map (λ name. name.items) (take k c.args.names.now)) (map (λ name. name.items) (drop (k + 1) c.args.names.now)) so_far.outcomes name outcome _ _ _ _ _ stop
+    let is : c.from_residual.result ≡ Err stop = is-err c.from_residual.result stop c.from_residual.ensures.1 in
+    rw is (stops-printing (Comes g.S.Store.opens g.S.Store.refuses g.S.Store.holds_directory g.S.File.Source.gives g.S.File.Source.fails c.args.store.now c.args.kind) g.W.Sink.takes g.W.Sink.refuses g.E.Sink.takes g.E.Sink.refuses g.E.Sink.has_failed c.args.kind c.args.shape _ (map (λ name. name.items) (take k c.args.names.now)) (map (λ name. name.items) (drop (k + 1) c.args.names.now)) so_far.outcomes name outcome _ _ _ _ _ stop
     (map-split (λ name. name.items) c.args.names.now k c.name-item.result c.loop-name-test.true c.name-item.is)
-    so_far.each (rw c.deref.ensures.value at c.in_ok-outcome.ensures.comes) so_far.prints so_far.told
-    (subst (λ bytes. PrintsLine {T = Unit {0}} g.W.Sink.takes g.W.Sink.refuses (printed_line c.args.kind c.args.shape bytes outcome) c.loop-name.out c.print_outcome.new.out (Err stop)) c.deref-in-loop-name.ensures.value c.in_err-print_outcome.ensures.prints)
-    c.in_err-print_outcome.ensures.only)
+    so_far.each (rw c.deref.ensures.value at c.outcome_of-outcome.ensures) so_far.prints so_far.tells
+    (subst (λ bytes. PrintsLine {T = Unit {0}} g.W.Sink.takes g.W.Sink.refuses (printed_line c.args.kind c.args.shape bytes outcome) c.loop-name.out c.print_outcome.new.out (Err stop)) c.deref-in-loop-name.ensures.value c.in_err-print_outcome.ensures.prints))

@@ -4,7 +4,7 @@ use Rattle.xxhsum_program.specs.declared.outcome.Outcome.{Outcome}
 use Rattle.xxhsum_program.specs.Outcomes.{Comes, are_digested}
 use Rattle.xxhsum_program.specs.Lines.{lines_of, printed_line, told_line}
 use Rattle.xxhsum_program.specs.EachHas.{EachHas}
-use Rattle.xxhsum_program.specs.Told.{Told}
+use Rattle.xxhsum_program.specs.Told.{TellsOn}
 use Rattle.xxhsum_program.proofs.hash.hash_names.Given as goal
 
 -- an outcome for each name so far, and the lines of them all
@@ -13,7 +13,7 @@ invariant-loop-name g l = record {
   outcomes : List Outcome;
   each : EachHas (Comes g.S.Store.opens g.S.Store.refuses g.S.Store.holds_directory g.S.File.Source.gives g.S.File.Source.fails l.fn.store l.fn.kind) (map (λ name. name.items) (take l.name-index l.names)) outcomes;
   prints : Took g.W.Sink.takes (lines_of (printed_line l.fn.kind l.fn.shape) (map (λ name. name.items) (take l.name-index l.names)) outcomes) l.initial.out l.out;
-  told : Told g.E.Sink.takes g.E.Sink.refuses g.E.Sink.has_failed (lines_of told_line (map (λ name. name.items) (take l.name-index l.names)) outcomes) l.initial.err l.err;
+  tells : TellsOn g.E.Sink.takes g.E.Sink.refuses g.E.Sink.has_failed (lines_of told_line (map (λ name. name.items) (take l.name-index l.names)) outcomes) l.initial.err l.err;
   all : l.all ≡ are_digested outcomes;
   works : g.W.Sink.has_failed l.out ≡ false;
 }

@@ -1,0 +1,51 @@
+-- A line that is written in two parts, of which either may be refused.
+use Rattle.std.proofs.Common.{◌≡◌, ◌≢◌, ℕ, List, [], ◌∷◌, ◌++◌, Bool, false, Ok, Err, IfErr, codes, decimal, nat_eq, ◌||◌, refl, if◌then◌else◌, arith, append-nil, ap, ◌∙◌}
+use Rattle.std.specs.List.{concat}
+use Rattle.std.specs.declared.result.Result.{Result}
+use Rattle.xxh_io.specs.Digest.{Took}
+use Rattle.xxh_io.proofs.WriteFacts.{Refused-join, Refused-more, Took-join}
+use Rattle.xxhsum_words.specs.declared.options.Options.{Options}
+use Rattle.xxhsum_program.specs.declared.check.Report.{Report}
+use Rattle.xxhsum_program.specs.declared.stop.Stop.{Stop}
+use Rattle.xxhsum_program.specs.declared.stop.Stop.TheVariants.{WriteFailed, OutOfMemory}
+use Rattle.xxhsum_program.specs.Lines.{PrintsLine}
+use Rattle.xxhsum_program.specs.ListEnd.{FailedRead}
+use Rattle.xxhsum_program.specs.Said.{count_text, printed_summary, told_break, told_of_line, told_summary}
+
+-- the first part was refused
+pub line-more : {W T : Type 0} (takes : W → List ℕ → W → Type 0) (refuses : W → W → Type 0) (a b : List ℕ) (old new : W) (result : Result T Stop) (stop : Stop) → result ≡ Err stop → stop ≡ WriteFailed → PrintsLine {T = T} takes refuses a old new (Err stop) → PrintsLine takes refuses (a ++ b) old new result
+line-more takes refuses a b old new (Ok x) stop is only prints = cc
+line-more takes refuses a b old new (Err WriteFailed) WriteFailed is only prints = Refused-more takes refuses a b old new prints
+line-more takes refuses a b old new (Err OutOfMemory) WriteFailed is only prints = cc
+line-more takes refuses a b old new (Err e) OutOfMemory is only prints = cc
+
+-- the first part was taken
+pub line-join : {W T : Type 0} (takes : W → List ℕ → W → Type 0) (refuses : W → W → Type 0) (a b : List ℕ) (old mid new : W) (result : Result T Stop) → Took takes a old mid → IfErr result (λ stop. stop ≡ WriteFailed) → PrintsLine takes refuses b mid new result → PrintsLine takes refuses (a ++ b) old new result
+line-join takes refuses a b old mid new (Ok x) took only prints = Took-join takes a b old mid new took prints
+line-join takes refuses a b old mid new (Err WriteFailed) took only prints = Refused-join takes refuses a b old mid new took prints
+line-join takes refuses a b old mid new (Err OutOfMemory) took only prints = cc
+
+pub count-is : (count : ℕ) (one more word : List ℕ) → count ≢ 0 → word ≡ (if nat_eq count 1 then one else more) → count_text count one more ≡ decimal count ++ word
+count-is count one more word some is = rw is (grind arith)
+
+one-of : (count : ℕ) (silent : Bool) (text : List ℕ) → count ≢ 0 → silent ≡ false → (if nat_eq count 0 || silent then [] else text) ≡ text
+one-of count silent text some speaks = rw speaks (grind arith)
+
+pub summary-is : (options : Options) (report : Report) → report.proper ≢ 0 → options.is_status_only ≡ false → printed_summary options report ≡ count_text report.improper (codes " line is improperly formatted\n") (codes " lines are improperly formatted\n") ++ (count_text report.unread (codes " listed file could not be read\n") (codes " listed files could not be read\n") ++ count_text report.different (codes " computed checksum did NOT match\n") (codes " computed checksums did NOT match\n"))
+summary-is options report some speaks =
+    let improper = count_text report.improper (codes " line is improperly formatted\n") (codes " lines are improperly formatted\n") in
+    let unread = count_text report.unread (codes " listed file could not be read\n") (codes " listed files could not be read\n") in
+    let different = count_text report.different (codes " computed checksum did NOT match\n") (codes " computed checksums did NOT match\n") in
+    one-of report.proper options.is_status_only (concat (improper ∷ unread ∷ different ∷ [])) some speaks ∙ ap (λ bytes. improper ++ (unread ++ bytes)) (append-nil different)
+
+pub none-is : (list : List ℕ) (report : Report) → report.proper ≡ 0 → told_summary list report ≡ concat (list ∷ codes ": no properly formatted xxHash checksum lines found\n" ∷ [])
+none-is list report none = rw none refl
+
+pub break-none : (list : List ℕ) (number : ℕ) (report : Report) → report.proper ≡ 0 → told_break list number report FailedRead ≡ []
+break-none list number report none = rw none refl
+
+else-of : (count : ℕ) (text : List ℕ) → count ≢ 0 → (if nat_eq count 0 then [] else text) ≡ text
+else-of count text some = grind arith
+
+pub break-some : (list : List ℕ) (number : ℕ) (report : Report) → report.proper ≢ 0 → told_break list number report FailedRead ≡ told_of_line list number (codes "A failure occurred reading the list")
+break-some list number report some = else-of report.proper _ some

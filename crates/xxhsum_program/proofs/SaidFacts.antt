@@ -1,0 +1,12 @@
+-- What is said of the lines of a list, where one more comes.
+use Rattle.std.proofs.Common.{◌≡◌, ℕ, ◌+◌, List, [], ◌∷◌, ◌++◌, length, sym, ap, ◌∙◌, append-nil, append_assoc, arith}
+use Rattle.xxhsum_program.specs.Findings.{Finding}
+use Rattle.xxhsum_program.specs.Said.{numbered}
+
+pub numbered-push : (text : ℕ → Finding → List ℕ) (first : ℕ) (findings : List Finding) (finding : Finding) (number : ℕ) → number ≡ first + length findings → numbered text first (findings ++ finding ∷ []) ≡ numbered text first findings ++ text number finding
+numbered-push text first [] finding number is =
+    let same : first ≡ number = omega (arith, is) in
+    append-nil (text first finding) ∙ ap (λ n. text n finding) same
+numbered-push text first (f ∷ fs) finding number is =
+    let more : number ≡ first + 1 + length fs = omega (arith, is) in
+    ap (λ bytes. text first f ++ bytes) (numbered-push text (first + 1) fs finding number more) ∙ sym (append_assoc (text first f) (numbered text (first + 1) fs) (text number finding))

@@ -1,0 +1,18 @@
+-- How the lines of a list end, and the report of a list that ends so.
+use Rattle.std.specs.Prelude.{List}
+use Rattle.xxhsum_program.specs.declared.check.Report.{Report}
+use Rattle.xxhsum_program.specs.Findings.{Finding, report_of, with_broken_end}
+
+-- with the list; at as many lines as have numbers; before a line that is too long; at a read that failed
+pub data ListEnd : Type 0 where
+  Whole : ListEnd
+  TooMany : ListEnd
+  LongLine : ListEnd
+  FailedRead : ListEnd
+
+-- what the findings add up to: with a broken end where the list breaks off behind them
+abbrev pub report_at : ListEnd → List Finding → Report
+report_at Whole findings = report_of findings
+report_at TooMany findings = report_of findings
+report_at LongLine findings = with_broken_end (report_of findings)
+report_at FailedRead findings = with_broken_end (report_of findings)

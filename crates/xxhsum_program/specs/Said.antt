@@ -1,0 +1,120 @@
+-- What the check of a list says: the texts on both ends, by the options and by what was found. A list's name stands as
+-- it was given, and lines are numbered from 1.
+use Rattle.std.specs.Prelude.{ℕ, ◌+◌, Bool, List, [], ◌∷◌, ◌++◌, Option, Some, None, ◌||◌, codes, decimal, length, nat_eq, if◌then◌else◌}
+use Rattle.std.specs.List.{concat}
+use Rattle.xxhsum_files.specs.declared.refusal.Refusal.{Refusal}
+use Rattle.xxhsum_files.specs.Refusal.{refusal_text}
+use Rattle.xxhsum_line.specs.Escapes.{escaped, mark_of}
+use Rattle.xxhsum_words.specs.declared.options.Options.{Options}
+use Rattle.xxhsum_program.specs.declared.check.Report.{Report}
+use Rattle.xxhsum_program.specs.declared.entry.Found.{Found}
+use Rattle.xxhsum_program.specs.declared.entry.Found.TheVariants.{Same, Different, Unread}
+use Rattle.xxhsum_program.specs.Findings.{Finding, Ignored, Improper, Proper, report_of}
+use Rattle.xxhsum_program.specs.ListEnd.{ListEnd, Whole, TooMany, LongLine, FailedRead, report_at}
+use Rattle.xxhsum_program.specs.Outcomes.{reason_text}
+
+-- ---- a line
+
+-- what is wrong with the line of this number
+abbrev pub told_of_line : List ℕ → ℕ → List ℕ → List ℕ
+told_of_line list number what =
+    concat (list ∷ codes ":" ∷ decimal number ∷ codes ": Error: " ∷ what ∷ codes ".\n" ∷ [])
+
+-- a word of the file of this name, which stands as lists have it
+abbrev pub named_text : List ℕ → List ℕ → List ℕ
+named_text name word = mark_of name ++ escaped name ++ word
+
+-- why the file of a line could not be read
+abbrev pub unread_text : List ℕ → ℕ → List ℕ → List ℕ → List ℕ
+unread_text list number name why =
+    concat (list ∷ codes ":" ∷ decimal number ∷ codes ": Could not open or read '" ∷ name ∷ codes "': " ∷ why
+    ∷ codes ".\n" ∷ [])
+
+-- "OK" exactly where the file has the line's value
+abbrev pub found_text : Bool → List ℕ → ℕ → List ℕ → Found → List ℕ
+found_text is_quiet list number name Same = if is_quiet then [] else named_text name (codes ": OK\n")
+found_text is_quiet list number name Different = named_text name (codes ": FAILED\n")
+found_text is_quiet list number name (Unread reason) = unread_text list number name (reason_text reason)
+
+-- what is printed of a line
+abbrev pub printed_finding : Options → List ℕ → ℕ → Finding → List ℕ
+printed_finding options list number Ignored = []
+printed_finding options list number Improper = []
+printed_finding options list number (Proper name found) =
+    if options.is_status_only then [] else found_text options.is_quiet list number name found
+
+-- what is told of a line
+abbrev pub told_finding : Options → List ℕ → ℕ → Finding → List ℕ
+told_finding options list number Ignored = []
+told_finding options list number Improper =
+    if options.warns then told_of_line list number (codes "Improperly formatted checksum line") else []
+told_finding options list number (Proper name found) = []
+
+-- the texts of all lines, of which the first has this number
+abbrev pub numbered : (ℕ → Finding → List ℕ) → ℕ → List Finding → List ℕ
+numbered text number [] = []
+numbered text number (finding ∷ findings) = text number finding ++ numbered text (number + 1) findings
+
+-- ---- the end of a list
+
+-- so many, in the singular or the plural, where there are any
+abbrev pub count_text : ℕ → List ℕ → List ℕ → List ℕ
+count_text count one more =
+    if nat_eq count 0 then [] else decimal count ++ (if nat_eq count 1 then one else more)
+
+-- how many lines are not as they should be
+abbrev pub printed_summary : Options → Report → List ℕ
+printed_summary options report =
+    if nat_eq report.proper 0 || options.is_status_only then [] else concat
+    (count_text report.improper (codes " line is improperly formatted\n") (codes " lines are improperly formatted\n")
+    ∷ count_text report.unread (codes " listed file could not be read\n") (codes " listed files could not be read\n")
+    ∷ count_text report.different (codes " computed checksum did NOT match\n")
+    (codes " computed checksums did NOT match\n")
+    ∷ [])
+
+-- whether the list is one at all
+abbrev pub told_summary : List ℕ → Report → List ℕ
+told_summary list report =
+    if nat_eq report.proper 0
+    then concat (list ∷ codes ": no properly formatted xxHash checksum lines found\n" ∷ [])
+    else []
+
+-- Why the list breaks off at the line of this number. Where a read failed and no line was proper, that is told by the
+-- summary.
+abbrev pub told_break : List ℕ → ℕ → Report → ListEnd → List ℕ
+told_break list number report Whole = []
+told_break list number report TooMany = []
+told_break list number report LongLine = told_of_line list number (codes "Line too long")
+told_break list number report FailedRead =
+    if nat_eq report.proper 0 then [] else told_of_line list number (codes "A failure occurred reading the list")
+
+-- ---- a list, as far as its check has come: to the end of its lines, or to the summary behind them
+
+abbrev pub printed_end : Options → List Finding → Option ListEnd → List ℕ
+printed_end options findings None = []
+printed_end options findings (Some end) = printed_summary options (report_at end findings)
+
+abbrev pub told_stop : List ℕ → List Finding → Option ListEnd → List ℕ
+told_stop list findings None = []
+told_stop list findings (Some end) = told_break list (length findings + 1) (report_of findings) end
+
+abbrev pub told_end : List ℕ → List Finding → Option ListEnd → List ℕ
+told_end list findings None = []
+told_end list findings (Some end) = told_summary list (report_at end findings)
+
+-- what is told before the summary
+abbrev pub told_lines : Options → List ℕ → List Finding → Option ListEnd → List ℕ
+told_lines options list findings end =
+    numbered (told_finding options list) 1 findings ++ told_stop list findings end
+
+abbrev pub printed_list : Options → List ℕ → List Finding → Option ListEnd → List ℕ
+printed_list options list findings end =
+    numbered (printed_finding options list) 1 findings ++ printed_end options findings end
+
+abbrev pub told_list : Options → List ℕ → List Finding → Option ListEnd → List ℕ
+told_list options list findings end = told_lines options list findings end ++ told_end list findings end
+
+-- a list that can't be opened
+abbrev pub told_refusal : List ℕ → Refusal → List ℕ
+told_refusal list refusal =
+    concat (codes "Error: Could not open '" ∷ list ∷ codes "': " ∷ refusal_text refusal ∷ codes "\n" ∷ [])
