@@ -1,6 +1,7 @@
 -- The lines that are found in a printed list.
 use Rattle.std.proofs.Common.{◌≡◌, ℕ, ◌+◌, ◌<◌, Bool, true, false, List, [], ◌∷◌, ◌++◌, length, map, refl, sym, ap, subst, ◌∙◌, inl, inr, append-nil, append_assoc, length-append, arith}
 use Rattle.std.proofs.lemmas.Bool.{both_ways, false≢true}
+use Rattle.std.proofs.lemmas.List.{length-map}
 use Rattle.std.specs.List.{AllByRecursion, concat}
 use Rattle.xxh_io.specs.Pieces.{Pieces, NoneEmpty, Step, Failing}
 use Rattle.xxh_io.specs.Script.{SliceGives, slice_rest}
@@ -15,8 +16,9 @@ use Rattle.xxhsum_program.specs.CheckList.{EndsWell, HasLines, ReadsLines, with_
 use Rattle.xxhsum_program.specs.EachHas.{EachHas}
 use Rattle.xxhsum_program.specs.Findings.{Finding, Ignored, Improper, IsFinding, Proper}
 use Rattle.xxhsum_program.specs.Found.{IsFound}
+use Rattle.xxhsum_program.specs.ListEnd.{FailedRead, LongLine, TooMany, Whole}
 use Rattle.xxhsum_program.specs.ListLines.{BeginsTooLong, IsLastLine, IsLine, end_piece}
-use Rattle.xxhsum_program.specs.PrintedList.{AreListed, FindsPrintedFiles, FindsPrintedLines, HasJustLines, Holds, HoldsPrintedLines, IsFindingOf, IsLineOf, IsListed, Listed, ShortNamesFit, printed_list, text_of_listed}
+use Rattle.xxhsum_program.specs.PrintedList.{AreListed, ChecksPrinted, FindsPrintedFiles, FindsPrintedLines, HasJustLines, Holds, HoldsPrintedLines, IsFindingOf, IsLineOf, IsListed, Listed, ShortNamesFit, printed_list, text_of_listed}
 
 -- ---- lines and the rest of a text of lines
 
@@ -189,6 +191,25 @@ finds_printed_files opens refuses gives fails store is_little (e ∷ es) (findin
   found_one opens refuses gives fails store is_little (text_of_listed e) e finding (is_line_of is_little e all.0) each.0,
   finds_printed_files opens refuses gives fails store is_little es findings all.1 each.1,
 )
+
+pub checks_printed : {S F R : Type 0} (opens : S → List ℕ → F → Type 0) (refuses : S → List ℕ → Refusal → Type 0) (gives : Step F) (fails : Failing F) (gives_list : Step R) (fails_list : Failing R) (has_failed : R → Bool)
+    → ChecksPrinted opens refuses gives fails gives_list fails_list has_failed
+checks_printed opens refuses gives fails gives_list fails_list has_failed store is_little entries source findings Whole all few holds (lines, each, well) =
+    let same = (holds_printed_lines gives_list fails_list has_failed is_little entries source all holds).0 lines well in (
+      refl,
+      finds_printed_files opens refuses gives fails store is_little entries findings all
+          (subst (λ ls. EachHas (IsFinding opens refuses gives fails store is_little) ls findings) (sym same) each),
+    )
+checks_printed opens refuses gives fails gives_list fails_list has_failed store is_little entries source findings TooMany all few holds (lines, each, (some, count)) =
+    let texts = map text_of_listed entries in
+    let rest = (holds_printed_lines gives_list fails_list has_failed is_little entries source all holds).1 lines some in
+    let parts : length texts ≡ length lines + length rest.0 = ap length rest.1 ∙ length-append lines rest.0 in
+    let as_many : length texts ≡ length entries = length-map entries text_of_listed in
+    absurd (omega (arith, parts, as_many, count, few))
+checks_printed opens refuses gives fails gives_list fails_list has_failed store is_little entries source findings LongLine all few holds (lines, each, (has_ended, rest, reads, long)) =
+    absurd ((holds_printed_lines gives_list fails_list has_failed is_little entries source all holds).2 has_ended lines rest reads long)
+checks_printed opens refuses gives fails gives_list fails_list has_failed store is_little entries source findings FailedRead all few holds (lines, each, (rest, failed, behind, are)) =
+    absurd ((holds_printed_lines gives_list fails_list has_failed is_little entries source all holds).3 (with_line_feeds lines ++ rest) failed)
 
 -- ---- a source of a slice
 

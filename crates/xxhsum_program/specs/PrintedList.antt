@@ -1,5 +1,5 @@
 -- A list whose lines were printed: which lines are found in it, and what they say.
-use Rattle.std.specs.Prelude.{◌≡◌, ℕ, ◌<◌, ◌≤◌, ◌^◌, Bool, true, false, List, [], ◌∷◌, ◌++◌, length, map}
+use Rattle.std.specs.Prelude.{◌≡◌, ℕ, ◌-◌, ◌<◌, ◌≤◌, ◌^◌, Bool, true, false, List, Some, [], ◌∷◌, ◌++◌, length, map}
 use Rattle.std.specs.List.{AllByRecursion, concat}
 use Rattle.xxh_io.specs.Kind.{digits_of}
 use Rattle.xxh_io.specs.declared.kind.Kind.{Kind}
@@ -9,7 +9,8 @@ use Rattle.xxhsum_line.specs.Entry.{Says, is_comment}
 use Rattle.xxhsum_line.specs.Parts.{Lacks}
 use Rattle.xxhsum_line.specs.Printed.{line_of, text_of}
 use Rattle.xxhsum_line.specs.declared.printed.Shape.{Shape}
-use Rattle.xxhsum_program.specs.CheckList.{EndsWell, HasLines, ReadsLines, ReadsSome}
+use Rattle.xxhsum_program.specs.CheckList.{EndsWell, FindsLines, HasLines, ReadsLines, ReadsSome}
+use Rattle.xxhsum_program.specs.ListEnd.{ListEnd, Whole}
 use Rattle.xxhsum_program.specs.EachHas.{EachHas}
 use Rattle.xxhsum_program.specs.Findings.{Finding, IsFinding, Proper}
 use Rattle.xxhsum_program.specs.Found.{IsFound}
@@ -117,3 +118,15 @@ FindsPrintedFiles {S} opens refuses gives fails =
     (store : S) (is_little : Bool) (entries : List Listed) (findings : List Finding) → AreListed is_little entries
     → EachHas (IsFinding opens refuses gives fails store is_little) (map text_of_listed entries) findings
     → AreFindingsOf opens refuses gives fails store entries findings
+
+-- A check that comes to the end of a source that holds a printed list has come to the end of the list, with the findings of
+-- its entries and no others.
+abbrev pub ChecksPrinted : {S F R : Type 0} → (S → List ℕ → F → Type 0) → (S → List ℕ → Refusal → Type 0) → Step F
+    → Failing F → Step R → Failing R → (R → Bool) → Type 0
+ChecksPrinted {S} {F} {R} opens refuses gives fails gives_list fails_list has_failed =
+    (store : S) (is_little : Bool) (entries : List Listed) (source : R) (findings : List Finding) (end : ListEnd)
+    → AreListed is_little entries → length entries < 2 ^ 64 - 2
+    → Holds gives_list fails_list has_failed source (printed_list entries)
+    → FindsLines (IsFinding opens refuses gives fails store is_little) gives_list fails_list has_failed source findings
+    (Some end)
+    → (end ≡ Whole) × AreFindingsOf opens refuses gives fails store entries findings

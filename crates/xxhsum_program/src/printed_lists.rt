@@ -2,7 +2,7 @@
 
 ghost use Rattle.xxh_io.specs.Script.{slice_rest};
 ghost use Rattle.xxh_io.specs.declared.script_source.SliceSource.{SliceSource};
-ghost use Rattle.xxhsum_program.specs.PrintedList.{FindsPrintedFiles, FindsPrintedLines, Holds, HoldsPrintedLines, ReadsPrintedLines, ShortNamesFit};
+ghost use Rattle.xxhsum_program.specs.PrintedList.{ChecksPrinted, FindsPrintedFiles, FindsPrintedLines, Holds, HoldsPrintedLines, ReadsPrintedLines, ShortNamesFit};
 
 use xxh_io::ends::Source;
 use xxh_io::script_source::SliceSource;
@@ -17,6 +17,8 @@ pub fn laws_of_printed_lists<S: Store, R: Source + Drop>()
     ensures reads_lines { ReadsPrintedLines R.gives }
     ensures holds_lines { HoldsPrintedLines R.gives R.fails R.has_failed }
     ensures finds_files { FindsPrintedFiles S.opens S.refuses S.File.gives S.File.fails }
+    ensures checks { ChecksPrinted S.opens S.refuses S.File.gives S.File.fails
+        R.gives R.fails R.has_failed }
     ensures short_names { ShortNamesFit }
     ensures slices_hold { (source : SliceSource) → Holds ⟦<SliceSource<'static> as Source>⟧.gives
         ⟦<SliceSource<'static> as Source>⟧.fails
