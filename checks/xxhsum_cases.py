@@ -39,6 +39,21 @@ EMPTY, WRONG = b'ef46db3751d8e999', b'26c7827d889f6da4'
 GOOD = X64 + b'  a\n'
 
 
+def unread(place, name, why=b'a failure occurred reading the input file'):
+    """What is said of a file of a list that could not be read to its end, or opened for another reason."""
+    return place + b": Could not open or read '" + name + b"': " + why + b'.\n'
+
+
+def no_stdin(place):
+    """What is said of the file stdin, which isn't there, as of each missing file."""
+    return unread(place, b'stdin', b'No such file or directory')
+
+
+# A file that opens, and of which each read fails.
+FAILING = '/proc/self/mem'
+NOT_READ = b"Error: Could not read '/proc/self/mem': a failure occurred reading the input file. \n"
+
+
 def gen(count):
     """Bytes that repeat after 251."""
     return bytes(i * 7 % 251 for i in range(count))
@@ -109,6 +124,9 @@ def names():
         Case('devices', ('/dev/null', '/proc/self/gone')),
         Case('a file named stdin', ('stdin',), given=b'world', files={'stdin': HELLO}),
         Case('no file named stdin', ('stdin',), given=b'world'),
+        Case('a read that fails', (FAILING,), wanted={'out': b'', 'err': NOT_READ, 'status': 1}),
+        Case('reads that fail, among others', ('a', FAILING, FAILING, 'gone', 'a'), wanted={
+            'out': GOOD * 2, 'err': NOT_READ * 2 + b"Error: Could not open 'gone': No such file or directory. \n", 'status': 1}),
         Case('2,000 names', ('a', 'e') * 1000),
         Case('words of 100,000 bytes', ('y' * 100000, 'a', 'z/' * 50000)),
         Case('500 long names', ('n' * 255, 'x' * 255) * 250),
@@ -216,11 +234,6 @@ def of_list(name, text, *options, given=b'', wanted=None):
     return Case(name, (*(options or ('-c',)), 'L'), given=given, files={'L': text}, wanted=wanted)
 
 
-def no_stdin(place):
-    """What is said of the file stdin, which isn't there, in the words for each missing file."""
-    return place + b": Could not open or read 'stdin': No such file or directory.\n"
-
-
 def verdicts():
     """What is said of a list, by its options."""
     mixed = b'junk\n' + WRONG + b'  a\n' + X64 + b'  gone\n' + GOOD
@@ -239,8 +252,11 @@ def verdicts():
         of_list('a missing file alone', X64 + b'  gone\n'),
         of_list('a missing file, quiet', X64 + b'  gone\n', '-cq'),
         of_list('a missing file, status', X64 + b'  gone\n', '-c', '--status'),
-        of_list('a folder in a list', GOOD + X64 + b'  d\n' + GOOD),
-        of_list('a folder in a list, status', X64 + b'  d\n' + GOOD, '-c', '--status'),
+        of_list('a folder in a list', GOOD + X64 + b'  d\n' + GOOD, wanted={
+            'out': b'a: OK\n' + unread(b'L:2', b'd') + b'a: OK\n1 listed file could not be read\n', 'err': b'', 'status': 1}),
+        of_list('a folder in a list, status', X64 + b'  d\n' + GOOD, '-c', '--status', wanted=refused()),
+        of_list('a read that fails in a list', X64 + b'  ' + FAILING.encode() + b'\n' + GOOD, wanted={
+            'out': unread(b'L:1', FAILING.encode()) + b'a: OK\n1 listed file could not be read\n', 'err': b'', 'status': 1}),
         of_list('an empty list', b''),
         of_list('an empty list, status', b'', '-c', '--status'),
         of_list('blank lines alone', b'\n\n'),
@@ -331,6 +347,7 @@ def several_lists():
         Case('a missing list alone', ('-c', 'gone')),
         Case('a missing list, status', ('-c', '--status', 'gone')),
         Case('a folder as a list', ('-c', 'd', 'good')),
+        Case('a list of which each read fails', ('-c', FAILING, 'good')),
         Case('options after a list are lists', ('-c', 'good', '-q')),
         Case('lists after --', ('-c', '--', 'good', '-x')),
         Case('the last of two options', ('-q', '-c', 'wrong')),
