@@ -13,7 +13,7 @@ macro_rules! of_word {
         #[inline(always)]
         #[allow(dead_code, reason = "each hash is a feature")]
         pub fn $name(word: u64, seed: $seed) -> $value {
-            let value: $value;
+            let value: u64;
             // SAFETY: the code has no jump and touches no memory. These registers are those that it names.
             #[cfg(target_arch = "x86_64")]
             unsafe {
@@ -41,7 +41,7 @@ macro_rules! of_word {
                     options(raw, pure, nomem, nostack),
                 );
             }
-            value
+            value as $value
         })*
     };
 }
