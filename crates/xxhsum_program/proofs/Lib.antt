@@ -4,6 +4,7 @@ mod HashFacts
 mod LineEndFacts
 mod LineFacts
 mod OutcomeFacts
+mod PrintedIsGoodFacts
 mod PrintedListFacts
 mod ProgressFacts
 mod SaidFacts

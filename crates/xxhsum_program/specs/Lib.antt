@@ -10,6 +10,7 @@ pub mod LinesView
 pub mod ListEnd
 pub mod ListLines
 pub mod Outcomes
+pub mod PrintedIsGood
 pub mod PrintedList
 pub mod Progress
 pub mod Report

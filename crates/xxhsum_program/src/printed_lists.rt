@@ -2,6 +2,7 @@
 
 ghost use Rattle.xxh_io.specs.Script.{slice_rest};
 ghost use Rattle.xxh_io.specs.declared.script_source.SliceSource.{SliceSource};
+ghost use Rattle.xxhsum_program.specs.PrintedIsGood.{PrintedIsGood};
 ghost use Rattle.xxhsum_program.specs.PrintedList.{ChecksPrinted, FindsPrintedFiles, FindsPrintedLines, Holds, HoldsPrintedLines, ReadsPrintedLines, ShortNamesFit};
 
 use xxh_io::ends::Source;
@@ -23,4 +24,12 @@ pub fn laws_of_printed_lists<S: Store, R: Source + Drop>()
     ensures slices_hold { (source : SliceSource) → Holds ⟦<SliceSource<'static> as Source>⟧.gives
         ⟦<SliceSource<'static> as Source>⟧.fails
         ⟦<SliceSource<'static> as Source>⟧.has_failed source (slice_rest source) }
+{}
+
+/// A law, with nothing to run: what a hashing run prints of names, some of them with a value, is a good list while the
+/// files stay as they are. Whatever directories and files that could not be read stood among the names, each check of
+/// the list that comes to an end says so, strict or not.
+pub fn printed_is_good<S: Store, R: Source + Drop>()
+    ensures { PrintedIsGood S.opens S.refuses S.holds_directory S.File.gives S.File.fails
+        R.gives R.fails R.has_failed }
 {}

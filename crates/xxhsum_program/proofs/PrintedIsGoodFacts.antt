@@ -1,0 +1,103 @@
+-- What a hashing run prints is a good list while the files stay as they are.
+use Rattle.std.proofs.Common.{◌≡◌, ℕ, ◌+◌, ◌<◌, Bool, true, false, List, [], ◌∷◌, ◌++◌, length, refl, ap, subst, ◌∙◌, arith}
+use Rattle.std.proofs.lemmas.Bool.Decides.{nat_tests}
+use Rattle.std.specs.List.{AllByRecursion}
+use Rattle.std.specs.Prelude.{nat_lt}
+use Rattle.xxh_io.specs.declared.kind.Kind.{Kind}
+use Rattle.xxh_io.specs.Pieces.{Step, Failing}
+use Rattle.xxhsum_files.specs.declared.refusal.Refusal.{Refusal}
+use Rattle.xxhsum_line.specs.Printed.{line_of}
+use Rattle.xxhsum_line.specs.declared.printed.Shape.{Shape}
+use Rattle.xxhsum_program.specs.EachHas.{EachHas}
+use Rattle.xxhsum_program.specs.Findings.{Finding, Proper, add_up, no_findings, one_more}
+use Rattle.xxhsum_program.specs.Lines.{lines_of, printed_line}
+use Rattle.xxhsum_program.specs.ListEnd.{report_at}
+use Rattle.xxhsum_program.specs.Outcomes.{Comes}
+use Rattle.xxhsum_program.specs.PrintedIsGood.{FilesStay, PrintedIsGood, entries_of}
+use Rattle.xxhsum_program.specs.PrintedList.{AreFindingsOf, Holds, Listed, printed_list}
+use Rattle.xxhsum_program.specs.Report.{is_good}
+use Rattle.xxhsum_program.specs.declared.check.Report.{Report}
+use Rattle.xxhsum_program.specs.declared.entry.Found.{Found}
+use Rattle.xxhsum_program.specs.declared.entry.Found.TheVariants.{Same, Different}
+use Rattle.xxhsum_program.specs.declared.entry.Found.TheVariants as Is
+use Rattle.xxhsum_program.specs.declared.outcome.Outcome.{Outcome}
+use Rattle.xxhsum_program.specs.declared.outcome.Outcome.TheVariants.{Digested, IsDirectory, Unread}
+use Rattle.xxhsum_program.proofs.PrintedListFacts.{checks_printed}
+
+-- the lines that are printed are those of the entries
+printed_text : (kind : Kind) (shape : Shape) (names : List (List ℕ)) (outcomes : List Outcome)
+    → lines_of (printed_line kind shape) names outcomes ≡ printed_list (entries_of kind shape names outcomes)
+printed_text kind shape [] outcomes = refl
+printed_text kind shape (name ∷ names) [] = refl
+printed_text kind shape (name ∷ names) (Digested value ∷ outcomes) = ap (λ t. line_of kind shape value name ++ t) (printed_text kind shape names outcomes)
+printed_text kind shape (name ∷ names) (IsDirectory ∷ outcomes) = printed_text kind shape names outcomes
+printed_text kind shape (name ∷ names) (Unread reason ∷ outcomes) = printed_text kind shape names outcomes
+
+-- ---- the findings
+
+abbrev IsSame : Finding → Type 0
+IsSame finding = (name : List ℕ) × (finding ≡ Proper name Same)
+
+one_same : {S F : Type 0} (opens : S → List ℕ → F → Type 0) (refuses : S → List ℕ → Refusal → Type 0) (gives : Step F) (fails : Failing F) (store : S) (e : Listed) (finding : Finding) (found : Found)
+    → FilesStay opens refuses gives fails store e.kind → Rattle.xxhsum_program.specs.Outcomes.IsValueOf opens gives fails store e.kind e.name e.value
+    → finding ≡ Proper e.name found → Rattle.xxhsum_program.specs.Found.IsFound opens refuses gives fails store e.kind e.value e.name found → IsSame finding
+one_same opens refuses gives fails store e finding Same stay has is found = (e.name, is)
+one_same opens refuses gives fails store e finding Different stay has is (other, value, differs) = absurd (differs ((stay e.name e.value has).0 other value))
+one_same opens refuses gives fails store e finding (Is.Unread reason) stay has is none = absurd ((stay e.name e.value has).1 reason none)
+
+all_same : {S F : Type 0} (opens : S → List ℕ → F → Type 0) (refuses : S → List ℕ → Refusal → Type 0) (holds_directory : S → List ℕ → Bool → Type 0) (gives : Step F) (fails : Failing F)
+    → (store : S) (kind : Kind) (shape : Shape) (names : List (List ℕ)) (outcomes : List Outcome) (findings : List Finding)
+    → EachHas (Comes opens refuses holds_directory gives fails store kind) names outcomes → FilesStay opens refuses gives fails store kind
+    → AreFindingsOf opens refuses gives fails store (entries_of kind shape names outcomes) findings → AllByRecursion IsSame findings
+all_same opens refuses holds_directory gives fails store kind shape [] outcomes [] come stay are = tt
+all_same opens refuses holds_directory gives fails store kind shape [] outcomes (f ∷ fs) come stay are = absurd are
+all_same opens refuses holds_directory gives fails store kind shape (name ∷ names) [] findings come stay are = absurd come
+all_same opens refuses holds_directory gives fails store kind shape (name ∷ names) (Digested value ∷ outcomes) [] come stay are = absurd are
+all_same opens refuses holds_directory gives fails store kind shape (name ∷ names) (Digested value ∷ outcomes) (f ∷ fs) come stay are = (
+  one_same opens refuses gives fails store (record { kind = kind; shape = shape; value = value; name = name }) f are.0.0 stay come.0.1 are.0.1 are.0.2,
+  all_same opens refuses holds_directory gives fails store kind shape names outcomes fs come.1 stay are.1,
+)
+all_same opens refuses holds_directory gives fails store kind shape (name ∷ names) (IsDirectory ∷ outcomes) findings come stay are =
+    all_same opens refuses holds_directory gives fails store kind shape names outcomes findings come.1 stay are
+all_same opens refuses holds_directory gives fails store kind shape (name ∷ names) (Unread reason ∷ outcomes) findings come stay are =
+    all_same opens refuses holds_directory gives fails store kind shape names outcomes findings come.1 stay are
+
+as_many : {S F : Type 0} (opens : S → List ℕ → F → Type 0) (refuses : S → List ℕ → Refusal → Type 0) (gives : Step F) (fails : Failing F) (store : S) (entries : List Listed) (findings : List Finding)
+    → AreFindingsOf opens refuses gives fails store entries findings → length findings ≡ length entries
+as_many opens refuses gives fails store [] [] are = refl
+as_many opens refuses gives fails store [] (f ∷ fs) are = absurd are
+as_many opens refuses gives fails store (e ∷ es) [] are = absurd are
+as_many opens refuses gives fails store (e ∷ es) (f ∷ fs) are = let rest = as_many opens refuses gives fails store es fs are.1 in omega (arith, rest)
+
+-- ---- their report
+
+-- how many proper lines are counted
+abbrev proper_after : ℕ → List Finding → ℕ
+proper_after count [] = count
+proper_after count (finding ∷ findings) = proper_after (one_more count) findings
+
+adds_up : (report : Report) (findings : List Finding) → AllByRecursion IsSame findings
+    → add_up report findings ≡ record report { proper = proper_after report.proper findings }
+adds_up report [] all = refl
+adds_up report (finding ∷ findings) all =
+    rw all.0.1 (adds_up (record report { proper = one_more report.proper }) findings all.1)
+
+counted : (count : ℕ) (findings : List Finding) → 0 < count + length findings → 0 < proper_after count findings
+counted count [] some = omega (arith, some)
+counted count (finding ∷ findings) some = counted (one_more count) findings (omega arith)
+
+good : (is_strict : Bool) (proper : ℕ) → 0 < proper → is_good is_strict (record { proper = proper; improper = 0; unread = 0; different = 0; is_broken = false }) ≡ true
+good true proper some = let test : nat_lt 0 proper ≡ true = grind (arith, nat_tests, some) in rw test refl
+good false proper some = let test : nat_lt 0 proper ≡ true = grind (arith, nat_tests, some) in rw test refl
+
+pub printed_is_good : {S F R : Type 0} (opens : S → List ℕ → F → Type 0) (refuses : S → List ℕ → Refusal → Type 0) (holds_directory : S → List ℕ → Bool → Type 0) (gives : Step F) (fails : Failing F) (gives_list : Step R) (fails_list : Failing R) (has_failed : R → Bool)
+    → PrintedIsGood opens refuses holds_directory gives fails gives_list fails_list has_failed
+printed_is_good opens refuses holds_directory gives fails gives_list fails_list has_failed store kind shape names outcomes source findings end is_strict come stay listed some few holds finds =
+    let entries = entries_of kind shape names outcomes in
+    let held = subst (Holds gives_list fails_list has_failed source) (printed_text kind shape names outcomes) holds in
+    let found = checks_printed opens refuses gives fails gives_list fails_list has_failed store shape.is_little entries source findings end listed few held finds in
+    let same = all_same opens refuses holds_directory gives fails store kind shape names outcomes findings come stay found.1 in
+    let some_findings : 0 < 0 + length findings = omega (arith, as_many opens refuses gives fails store entries findings found.1, some) in
+    let sum : report_at end findings ≡ record { proper = proper_after 0 findings; improper = 0; unread = 0; different = 0; is_broken = false } =
+    ap (λ e. report_at e findings) found.0 ∙ adds_up no_findings findings same in
+    ap (is_good is_strict) sum ∙ good is_strict (proper_after 0 findings) (counted 0 findings some_findings)

@@ -1,0 +1,50 @@
+-- What a hashing run prints, and the check of it over the same files.
+use Rattle.std.specs.Prelude.{◌≡◌, ℕ, ◌-◌, ◌<◌, ◌^◌, Bool, true, List, Some, [], ◌∷◌, length}
+use Rattle.xxh_io.specs.declared.kind.Kind.{Kind}
+use Rattle.xxh_io.specs.Pieces.{Step, Failing}
+use Rattle.xxhsum_files.specs.declared.refusal.Refusal.{Refusal}
+use Rattle.xxhsum_line.specs.declared.printed.Shape.{Shape}
+use Rattle.xxhsum_program.specs.CheckList.{FindsLines, is_good_list}
+use Rattle.xxhsum_program.specs.EachHas.{EachHas}
+use Rattle.xxhsum_program.specs.Findings.{Finding, IsFinding}
+use Rattle.xxhsum_program.specs.Lines.{lines_of, printed_line}
+use Rattle.xxhsum_program.specs.ListEnd.{ListEnd}
+use Rattle.xxhsum_program.specs.Outcomes.{Comes, HasNoValue, IsValueOf}
+use Rattle.xxhsum_program.specs.PrintedList.{AreListed, Holds, Listed}
+use Rattle.xxhsum_program.specs.declared.outcome.Outcome.{Outcome}
+use Rattle.xxhsum_program.specs.declared.outcome.Outcome.TheVariants.{Digested, IsDirectory, Unread}
+use Rattle.xxhsum_program.specs.declared.outcome.Reason.{Reason}
+
+-- the entries of the lines that are printed: those of the names with a value
+abbrev pub entries_of : Kind → Shape → List (List ℕ) → List Outcome → List Listed
+entries_of kind shape [] outcomes = []
+entries_of kind shape (name ∷ names) [] = []
+entries_of kind shape (name ∷ names) (Digested value ∷ outcomes) =
+    record { kind = kind; shape = shape; value = value; name = name } ∷ entries_of kind shape names outcomes
+entries_of kind shape (name ∷ names) (IsDirectory ∷ outcomes) = entries_of kind shape names outcomes
+entries_of kind shape (name ∷ names) (Unread reason ∷ outcomes) = entries_of kind shape names outcomes
+
+-- the files stay as they are: where a name has a value, it has no other, and there is no reason for none
+abbrev pub FilesStay : {S F : Type 0} → (S → List ℕ → F → Type 0) → (S → List ℕ → Refusal → Type 0) → Step F
+    → Failing F → S → Kind → Type 0
+FilesStay opens refuses gives fails store kind =
+    (name : List ℕ) (value : ℕ) → IsValueOf opens gives fails store kind name value
+    → ((other : ℕ) → IsValueOf opens gives fails store kind name other → other ≡ value)
+    × ((reason : Reason) → ¬ HasNoValue opens refuses gives fails store name reason)
+
+-- The names have their outcomes, of which one is a value; and the files stay as they are. Then a list that holds the lines
+-- which are printed is good where its check comes to an end, strict or not.
+abbrev pub PrintedIsGood : {S F R : Type 0} → (S → List ℕ → F → Type 0) → (S → List ℕ → Refusal → Type 0)
+    → (S → List ℕ → Bool → Type 0) → Step F → Failing F → Step R → Failing R → (R → Bool) → Type 0
+PrintedIsGood {S} {F} {R} opens refuses holds_directory gives fails gives_list fails_list has_failed =
+    (store : S) (kind : Kind) (shape : Shape) (names : List (List ℕ)) (outcomes : List Outcome) (source : R)
+    → (findings : List Finding) (end : ListEnd) (is_strict : Bool)
+    → EachHas (Comes opens refuses holds_directory gives fails store kind) names outcomes
+    → FilesStay opens refuses gives fails store kind
+    → AreListed shape.is_little (entries_of kind shape names outcomes)
+    → 0 < length (entries_of kind shape names outcomes)
+    → length (entries_of kind shape names outcomes) < 2 ^ 64 - 2
+    → Holds gives_list fails_list has_failed source (lines_of (printed_line kind shape) names outcomes)
+    → FindsLines (IsFinding opens refuses gives fails store shape.is_little) gives_list fails_list has_failed source
+    findings (Some end)
+    → is_good_list is_strict findings (Some end) ≡ true
