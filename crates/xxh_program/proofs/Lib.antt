@@ -1,3 +1,4 @@
 pub mod BlockEndFacts
 pub mod BlockFacts
 pub mod FedFacts
+pub mod ValueFacts

@@ -1,7 +1,8 @@
 -- What a hashing run prints is a good list while the files stay as they are.
-use Rattle.std.proofs.Common.{◌≡◌, ℕ, ◌+◌, ◌<◌, Bool, true, false, List, [], ◌∷◌, ◌++◌, length, refl, ap, subst, ◌∙◌, arith}
+use Rattle.std.proofs.Common.{◌≡◌, ℕ, ◌+◌, ◌<◌, Bool, true, false, List, [], ◌∷◌, ◌++◌, length, refl, sym, ap, subst, ◌∙◌, arith, ◌^◌}
 use Rattle.std.proofs.lemmas.Bool.Decides.{nat_tests}
-use Rattle.std.specs.List.{AllByRecursion}
+use Rattle.std.specs.List.{AllByRecursion, concat}
+use Rattle.xxh_io.specs.Kind.{digits_of}
 use Rattle.std.specs.Prelude.{nat_lt}
 use Rattle.xxh_io.specs.declared.kind.Kind.{Kind}
 use Rattle.xxh_io.specs.Pieces.{Step, Failing}
@@ -13,8 +14,8 @@ use Rattle.xxhsum_program.specs.Findings.{Finding, Proper, add_up, no_findings, 
 use Rattle.xxhsum_program.specs.Lines.{lines_of, printed_line}
 use Rattle.xxhsum_program.specs.ListEnd.{report_at}
 use Rattle.xxhsum_program.specs.Outcomes.{Comes}
-use Rattle.xxhsum_program.specs.PrintedIsGood.{FilesStay, PrintedIsGood, entries_of}
-use Rattle.xxhsum_program.specs.PrintedList.{AreFindingsOf, Holds, Listed, printed_list}
+use Rattle.xxhsum_program.specs.PrintedIsGood.{FilesStay, IsName, PrintedIsGood, entries_of}
+use Rattle.xxhsum_program.specs.PrintedList.{AreListed, AreFindingsOf, Holds, Listed, printed_list}
 use Rattle.xxhsum_program.specs.Report.{is_good}
 use Rattle.xxhsum_program.specs.declared.check.Report.{Report}
 use Rattle.xxhsum_program.specs.declared.entry.Found.{Found}
@@ -22,7 +23,8 @@ use Rattle.xxhsum_program.specs.declared.entry.Found.TheVariants.{Same, Differen
 use Rattle.xxhsum_program.specs.declared.entry.Found.TheVariants as Is
 use Rattle.xxhsum_program.specs.declared.outcome.Outcome.{Outcome}
 use Rattle.xxhsum_program.specs.declared.outcome.Outcome.TheVariants.{Digested, IsDirectory, Unread}
-use Rattle.xxhsum_program.proofs.PrintedListFacts.{checks_printed}
+use Rattle.xxhsum_program.proofs.PrintedListFacts.{checks_printed, short_names_fit}
+use Rattle.xxh_program.proofs.ValueFacts.{value-lt}
 
 -- the lines that are printed are those of the entries
 printed_text : (kind : Kind) (shape : Shape) (names : List (List ℕ)) (outcomes : List Outcome)
@@ -32,6 +34,20 @@ printed_text kind shape (name ∷ names) [] = refl
 printed_text kind shape (name ∷ names) (Digested value ∷ outcomes) = ap (λ t. line_of kind shape value name ++ t) (printed_text kind shape names outcomes)
 printed_text kind shape (name ∷ names) (IsDirectory ∷ outcomes) = printed_text kind shape names outcomes
 printed_text kind shape (name ∷ names) (Unread reason ∷ outcomes) = printed_text kind shape names outcomes
+
+-- the entries of names that are short enough are those of a list
+listed : {S F : Type 0} (opens : S → List ℕ → F → Type 0) (refuses : S → List ℕ → Refusal → Type 0) (holds_directory : S → List ℕ → Bool → Type 0) (gives : Step F) (fails : Failing F)
+    → (store : S) (kind : Kind) (shape : Shape) (names : List (List ℕ)) (outcomes : List Outcome) → AllByRecursion IsName names
+    → EachHas (Comes opens refuses holds_directory gives fails store kind) names outcomes → AreListed shape.is_little (entries_of kind shape names outcomes)
+listed opens refuses holds_directory gives fails store kind shape [] outcomes are come = tt
+listed opens refuses holds_directory gives fails store kind shape (name ∷ names) [] are come = absurd come
+listed opens refuses holds_directory gives fails store kind shape (name ∷ names) (Digested value ∷ outcomes) are ((free, (file, end, pieces, read, told, opened, some, on, is)), come) =
+    let small : value < 16 ^ digits_of kind = subst (λ v. v < 16 ^ digits_of kind) (sym is) (value-lt kind (concat pieces)) in
+    ((small, are.0.0, short_names_fit kind shape value name are.0.1, refl), listed opens refuses holds_directory gives fails store kind shape names outcomes are.1 come)
+listed opens refuses holds_directory gives fails store kind shape (name ∷ names) (IsDirectory ∷ outcomes) are come =
+    listed opens refuses holds_directory gives fails store kind shape names outcomes are.1 come.1
+listed opens refuses holds_directory gives fails store kind shape (name ∷ names) (Unread reason ∷ outcomes) are come =
+    listed opens refuses holds_directory gives fails store kind shape names outcomes are.1 come.1
 
 -- ---- the findings
 
@@ -92,10 +108,10 @@ good false proper some = let test : nat_lt 0 proper ≡ true = grind (arith, nat
 
 pub printed_is_good : {S F R : Type 0} (opens : S → List ℕ → F → Type 0) (refuses : S → List ℕ → Refusal → Type 0) (holds_directory : S → List ℕ → Bool → Type 0) (gives : Step F) (fails : Failing F) (gives_list : Step R) (fails_list : Failing R) (has_failed : R → Bool)
     → PrintedIsGood opens refuses holds_directory gives fails gives_list fails_list has_failed
-printed_is_good opens refuses holds_directory gives fails gives_list fails_list has_failed store kind shape names outcomes source findings end is_strict come stay listed some few holds finds =
+printed_is_good opens refuses holds_directory gives fails gives_list fails_list has_failed store kind shape names outcomes source findings end is_strict come stay are some few holds finds =
     let entries = entries_of kind shape names outcomes in
     let held = subst (Holds gives_list fails_list has_failed source) (printed_text kind shape names outcomes) holds in
-    let found = checks_printed opens refuses gives fails gives_list fails_list has_failed store shape.is_little entries source findings end listed few held finds in
+    let found = checks_printed opens refuses gives fails gives_list fails_list has_failed store shape.is_little entries source findings end (listed opens refuses holds_directory gives fails store kind shape names outcomes are come) few held finds in
     let same = all_same opens refuses holds_directory gives fails store kind shape names outcomes findings come stay found.1 in
     let some_findings : 0 < 0 + length findings = omega (arith, as_many opens refuses gives fails store entries findings found.1, some) in
     let sum : report_at end findings ≡ record { proper = proper_after 0 findings; improper = 0; unread = 0; different = 0; is_broken = false } =

@@ -1,8 +1,10 @@
 -- What a hashing run prints, and the check of it over the same files.
-use Rattle.std.specs.Prelude.{◌≡◌, ℕ, ◌-◌, ◌<◌, ◌^◌, Bool, true, List, Some, [], ◌∷◌, length}
+use Rattle.std.specs.Prelude.{◌≡◌, ℕ, ◌-◌, ◌<◌, ◌≤◌, ◌^◌, Bool, true, List, Some, [], ◌∷◌, length}
+use Rattle.std.specs.List.{AllByRecursion}
 use Rattle.xxh_io.specs.declared.kind.Kind.{Kind}
 use Rattle.xxh_io.specs.Pieces.{Step, Failing}
 use Rattle.xxhsum_files.specs.declared.refusal.Refusal.{Refusal}
+use Rattle.xxhsum_line.specs.Parts.{Lacks}
 use Rattle.xxhsum_line.specs.declared.printed.Shape.{Shape}
 use Rattle.xxhsum_program.specs.CheckList.{FindsLines, is_good_list}
 use Rattle.xxhsum_program.specs.EachHas.{EachHas}
@@ -10,7 +12,7 @@ use Rattle.xxhsum_program.specs.Findings.{Finding, IsFinding}
 use Rattle.xxhsum_program.specs.Lines.{lines_of, printed_line}
 use Rattle.xxhsum_program.specs.ListEnd.{ListEnd}
 use Rattle.xxhsum_program.specs.Outcomes.{Comes, HasNoValue, IsValueOf}
-use Rattle.xxhsum_program.specs.PrintedList.{AreListed, Holds, Listed}
+use Rattle.xxhsum_program.specs.PrintedList.{Holds, Listed}
 use Rattle.xxhsum_program.specs.declared.outcome.Outcome.{Outcome}
 use Rattle.xxhsum_program.specs.declared.outcome.Outcome.TheVariants.{Digested, IsDirectory, Unread}
 use Rattle.xxhsum_program.specs.declared.outcome.Reason.{Reason}
@@ -32,6 +34,10 @@ FilesStay opens refuses gives fails store kind =
     → ((other : ℕ) → IsValueOf opens gives fails store kind name other → other ≡ value)
     × ((reason : Reason) → ¬ HasNoValue opens refuses gives fails store name reason)
 
+-- a name of no more bytes than any of the system's, and with no NUL, as those are
+abbrev pub IsName : List ℕ → Type 0
+IsName name = Lacks 0 name × (length name ≤ 16359)
+
 -- The names have their outcomes, of which one is a value; and the files stay as they are. Then a list that holds the lines
 -- which are printed is good where its check comes to an end, strict or not.
 abbrev pub PrintedIsGood : {S F R : Type 0} → (S → List ℕ → F → Type 0) → (S → List ℕ → Refusal → Type 0)
@@ -41,7 +47,7 @@ PrintedIsGood {S} {F} {R} opens refuses holds_directory gives fails gives_list f
     → (findings : List Finding) (end : ListEnd) (is_strict : Bool)
     → EachHas (Comes opens refuses holds_directory gives fails store kind) names outcomes
     → FilesStay opens refuses gives fails store kind
-    → AreListed shape.is_little (entries_of kind shape names outcomes)
+    → AllByRecursion IsName names
     → 0 < length (entries_of kind shape names outcomes)
     → length (entries_of kind shape names outcomes) < 2 ^ 64 - 2
     → Holds gives_list fails_list has_failed source (lines_of (printed_line kind shape) names outcomes)
