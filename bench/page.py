@@ -4,7 +4,7 @@
   bench/page.py [--check | FOLDER]
 
 With --check it says whether the page in docs is as it would be drawn; with a folder, data and page are there. The page
-has figures alone: causes that were found stand in docs/TUNING.md."""
+has figures alone: causes that were found stand in docs/SHAPES.md and docs/history/TUNING.md."""
 import math
 import os
 import statistics
@@ -221,7 +221,7 @@ A peer's time over ours: 1 is level, more is faster. A cell is the median over h
 ## The lowest rows, and what we want to reach
 
 #LOWEST
-What is known of them, and what the code has gained since, stands in [TUNING.md](TUNING.md).
+What is known of them, and what the code has gained since, stands in [history/TUNING.md](history/TUNING.md#rows-that-stay-below-what-we-want).
 
 #GOALS
 #TWOX_HASH
