@@ -3,9 +3,15 @@
 
     fleet.py [options] SCHEDULER TREE MANIFEST
 
-MANIFEST gets a line for each regular file below TREE, as `xxhsum -H2` prints it, in the order of their names:
-`cd TREE && xxhsum -c MANIFEST` checks them. With --indexes FOLDER each file of at least --large bytes also gets a file
-FOLDER/NAME.blocks, with the lines of `xxh blocks SIZE`.
+MANIFEST gets a line for each regular file below TREE, as our `xxhsum -H2` prints it, in the order of their names' bytes:
+`cd TREE && xxhsum -c MANIFEST` checks them. MANIFEST.files has the same lines with the length, the time of change and the
+inode of each file. With --since OLDER files that are as OLDER.files says aren't read again, and keep their lines.
+
+Lines are written as they come, to MANIFEST.parts. A run that was killed leaves that folder, and the next one goes on from
+it: files that are as they were when they were hashed aren't read again.
+
+With --indexes FOLDER each file of at least --large bytes also gets a file FOLDER/NAME.blocks, with the lines of
+`xxh blocks SIZE`.
 
 A file that can't be hashed has no line; standard error names it and says why. The status is 0 where each file has its
 line, 1 where one has none, or where there is no manifest, and 2 where the words are at fault."""
@@ -15,14 +21,21 @@ import os
 import sys
 import time
 
+from files import Known, walk
+from parts import Parts, write
+
 PIECE = 1 << 20
 # What one task hashes: enough that its way to a worker and back costs little.
 FILES, BYTES = 200, 32 << 20
+# How many tasks are under way: a few for each thread of a worker, and some before there is one.
+FOR_A_THREAD, AT_LEAST = 4, 16
 
 
 class WrongLibrary(Exception):
     """A worker's python3-xxhash runs on another library."""
 
+
+# ---- What a worker does. It is handed over by value, and names no other file of this folder. ----
 
 def hashing(library):
     """The module xxhash, which has to run on the libxxhash of this folder."""
@@ -37,7 +50,7 @@ def hashing(library):
 
 
 def fingerprint(xxhash, path, block):
-    """The digest of a file, and the lines of its blocks where a block has a size."""
+    """The digest of a file, the lines of its blocks where a block has a size, and how many bytes it had."""
     whole, lines, offset = xxhash.xxh3_128(), [], 0
     with open(path, 'rb') as file:
         while piece := file.read(block or PIECE):
@@ -49,126 +62,165 @@ def fingerprint(xxhash, path, block):
 
 
 def fingerprints(library, tree, names, block):
-    """What a worker does: of each name its digest, lines and length, or why there is none."""
+    """Of each name its digest, lines and length, or why there is none."""
     xxhash, found = hashing(library), []
     for name in names:
         try:
-            found.append((name, fingerprint(xxhash, os.path.join(tree, name), block), None))
+            found.append((fingerprint(xxhash, os.path.join(os.fsencode(tree), name), block), None))
         except OSError as fault:
-            found.append((name, None, fault.strerror))
+            found.append((None, fault.strerror))
     return found
 
 
-class Run:
-    """One run: what it found, and what failed."""
+# ---- What the driver does ----
 
-    def __init__(self, words):
-        self.words = words
-        self.found, self.bytes, self.indexes, self.failed = {}, 0, 0, 0
+class Task:
+    """Files that one call hashes, at most so many and so many bytes. A file with an index is a task of its own, whose
+    block has a size."""
+
+    def __init__(self, number, block=0):
+        self.number, self.block, self.entries, self.bytes = number, block, [], 0
+
+    def add(self, entry):
+        self.entries.append(entry)
+        self.bytes += entry.length
+
+    def is_full(self):
+        return self.block or len(self.entries) == FILES or self.bytes >= BYTES
+
+
+class Run:
+    """One run: how far it is, and what failed."""
+
+    def __init__(self, words, parts):
+        self.words, self.parts = words, parts
+        self.hashed = self.kept = self.bytes = self.indexes = self.failed = 0
+        self.began = self.shown = time.monotonic()
 
     def fail(self, name, why):
         self.failed += 1
-        print(f'fleet: {os.fsencode(name).decode(errors="backslashreplace")}: {why}', file=sys.stderr)
-
-    def files(self, folder=''):
-        """The names of the regular files below the tree, with their lengths."""
-        path = os.path.join(self.words.tree, folder)
-        try:
-            with os.scandir(path) as entries:
-                entries = sorted(entries, key=lambda entry: entry.name)
-        except OSError as fault:
-            self.fail(path, fault.strerror)
-            return
-        for entry in entries:
-            name = os.path.join(folder, entry.name)
-            if entry.is_dir(follow_symlinks=False):
-                yield from self.files(name)
-            elif '\n' in name:
-                self.fail(name.replace('\n', '\\n'), 'a line feed in its name')
-            elif entry.is_file(follow_symlinks=False):
-                yield name, self.length(entry)
-
-    @staticmethod
-    def length(entry):
-        """That of a file which is gone by now is 0: its worker tells."""
-        try:
-            return entry.stat(follow_symlinks=False).st_size
-        except OSError:
-            return 0
+        self.clear()
+        said = name.decode(errors='backslashreplace').replace('\n', '\\n').replace('\r', '\\r')
+        print(f'fleet: {said}: {why}', file=sys.stderr)
 
     def tasks(self):
-        """Names for one task each, and the size of its blocks or 0. A file with an index has a task of its own."""
-        names, total = [], 0
-        for name, length in self.files():
-            if self.words.indexes and length >= self.words.large:
-                yield [name], self.words.block
-                continue
-            names.append(name)
-            total += length
-            if len(names) == FILES or total >= BYTES:
-                yield names, 0
-                names, total = [], 0
-        if names:
-            yield names, 0
+        """The tasks, in the order of the files' names, while the tree is walked."""
+        task = Task(0)
+        for entry in self.changed():
+            block = self.block_of(entry)
+            if task.entries and (block or task.is_full()):
+                yield task
+                task = Task(task.number + 1)
+            task.block = block
+            task.add(entry)
+            if block:
+                yield task
+                task = Task(task.number + 1)
+        if task.entries:
+            yield task
 
-    def take(self, names, block, answer):
+    def changed(self):
+        """The files that have to be read. Those that are as they were in an earlier run are kept."""
+        known = Known(self.parts.before())
+        for entry in walk(self.words.tree, self.fail):
+            older = known.of(entry.name)
+            if older and entry.is_as(older) and self.has_index(entry):
+                self.parts.keep(older)
+                self.kept += 1
+            else:
+                yield entry
+
+    def block_of(self, entry):
+        """The bytes of a block of a file that gets an index, or 0."""
+        return self.words.block if self.words.indexes and entry.length >= self.words.large else 0
+
+    def index_of(self, entry):
+        return os.path.join(os.fsencode(self.words.indexes), entry.name + b'.blocks')
+
+    def has_index(self, entry):
+        """Whether the file has the index that it should have, if any."""
+        return not self.block_of(entry) or os.path.exists(self.index_of(entry))
+
+    def take(self, task, answer):
         """What one task answered: what a worker found, or the error that ended it."""
-        if isinstance(answer, list):
-            for name, found, why in answer:
-                if found:
-                    self.keep(name, block, *found)
-                else:
-                    self.fail(name, why)
-            return
-        fault = answer[1]
-        if isinstance(fault, WrongLibrary):
-            sys.exit(f'fleet: {fault}')
-        for name in names:
-            self.fail(name, f'its task ended by {type(fault).__name__}')
+        if not isinstance(answer, list):
+            if isinstance(answer[1], WrongLibrary):
+                sys.exit(f'fleet: {answer[1]}')
+            answer = [(None, f'its task ended by {type(answer[1]).__name__}')] * len(task.entries)
+        hashed = []
+        for entry, (found, why) in zip(task.entries, answer):
+            if found:
+                hashed.append(self.taken(entry, task.block, *found))
+            else:
+                self.fail(entry.name, why)
+        self.parts.add(task.number, hashed)
 
-    def keep(self, name, block, digest, lines, length):
-        self.found[os.fsencode(name)] = digest
-        self.bytes += length
+    def taken(self, entry, block, digest, lines, length):
+        """The entry with its digest. Its index is there before its line is."""
         if block:
-            self.write(os.path.join(self.words.indexes, name + '.blocks'), [lines.encode()])
+            write(os.fsdecode(self.index_of(entry)), [lines.encode()])
             self.indexes += 1
-
-    @staticmethod
-    def write(path, lines):
-        """The file is there when it is whole."""
-        os.makedirs(os.path.dirname(path), exist_ok=True)
-        with open(path + '.part', 'wb') as file:
-            file.writelines(lines)
-        os.replace(path + '.part', path)
+        self.hashed, self.bytes = self.hashed + 1, self.bytes + length
+        return entry._replace(digest=digest)
 
     def hash_all(self, client):
-        """Hands all tasks to Dask, which gives those of a lost worker to another one, and takes what they answer."""
+        """Hands tasks to Dask, a bounded number at a time, and takes what they answer. Dask gives those of a lost worker
+        to another one."""
         from distributed import as_completed
-        tasks = {}
-        for names, block in sorted(self.tasks(), key=lambda task: -task[1]):
-            words = self.words.library, self.words.tree, names, block
-            tasks[client.submit(fingerprints, *words, pure=False)] = names, block
-        ended, seen = as_completed(tasks, with_results=True, raise_errors=False), time.monotonic()
-        while not ended.is_empty():
+        coming, waiting, seen = self.tasks(), {}, time.monotonic()
+        ended = as_completed([], with_results=True, raise_errors=False)
+        while self.hand_out(client, coming, waiting, ended) or waiting:
             for future, answer in ended.next_batch(block=False):
                 if client.status != 'running' or future.cancelled():
                     sys.exit(f'fleet: the scheduler {self.words.scheduler} is gone')
                 if isinstance(answer, list) or future.status == 'error':
-                    self.take(*tasks.pop(future), answer)
+                    self.take(waiting.pop(future), answer)
                 else:  # The worker is gone that had the answer: Dask asks another one.
                     ended.add(future)
             if client.scheduler_info()['workers']:
                 seen = time.monotonic()
             elif time.monotonic() - seen > self.words.patience:
                 sys.exit(f'fleet: no worker at {self.words.scheduler} for {self.words.patience} seconds')
+            self.show()
             time.sleep(0.01)
+        self.clear()
+
+    def hand_out(self, client, coming, waiting, ended):
+        """Submits tasks until enough are under way. Whether there was one."""
+        workers = client.scheduler_info()['workers'].values()
+        most, before = max(AT_LEAST, FOR_A_THREAD * sum(it['nthreads'] for it in workers)), len(waiting)
+        while len(waiting) < most and (task := next(coming, None)):
+            words = self.words.library, self.words.tree, [it.name for it in task.entries], task.block
+            future = client.submit(fingerprints, *words, pure=False)
+            waiting[future] = task
+            ended.add(future)
+        return len(waiting) > before
+
+    def rates(self):
+        took = max(time.monotonic() - self.began, 0.001)
+        return f'{self.hashed / took:.0f} files and {self.bytes / took / 1e6:.0f} MB a second'
+
+    def show(self):
+        """How far it is, on a terminal, twice a second."""
+        if sys.stderr.isatty() and time.monotonic() - self.shown > 0.5:
+            self.shown = time.monotonic()
+            print(f'\r{self.hashed} files hashed, {self.kept} kept; {self.rates()} \x1b[K', end='', file=sys.stderr, flush=True)
+
+    def clear(self):
+        if sys.stderr.isatty():
+            print('\r\x1b[K', end='', file=sys.stderr)
+
+    def summary(self):
+        return (f'{self.hashed + self.kept} files, {self.kept} of them kept, {self.indexes} indexes, {self.bytes} bytes in '
+                f'{time.monotonic() - self.began:.1f} s: {self.rates()}; {self.failed} failed')
 
 
 def read_words():
-    words = argparse.ArgumentParser(prog='fleet.py', description=__doc__.split('\n')[0])
+    words = argparse.ArgumentParser(prog='fleet.py', description=__doc__, formatter_class=argparse.RawDescriptionHelpFormatter)
     words.add_argument('scheduler', help='where it listens, as tcp://host:8786')
     words.add_argument('tree')
     words.add_argument('manifest')
+    words.add_argument('--since', metavar='OLDER', help='the manifest of an earlier run over the tree, beside its OLDER.files')
     words.add_argument('--indexes', metavar='FOLDER')
     words.add_argument('--large', type=int, default=64 << 20, help='the bytes from which a file has an index')
     words.add_argument('--block', type=int, default=1 << 20, help='the bytes of a block')
@@ -181,6 +233,8 @@ def read_words():
             words.error(f'{name} lies in the tree')
     if not os.path.isdir(chosen.tree):
         words.error(f'{chosen.tree} is no folder')
+    if chosen.since and not os.path.isfile(chosen.since + '.files'):
+        words.error(f'there is no {chosen.since}.files')
     if chosen.block < 1:
         words.error('a block has at least one byte')
     return chosen
@@ -188,19 +242,19 @@ def read_words():
 
 def main():
     from distributed import Client
-    run, began = Run(read_words()), time.monotonic()
+    words = read_words()
     # What Dask has to say of workers that are gone is no fault of this run.
     logging.disable(logging.CRITICAL)
     try:
-        with Client(run.words.scheduler, timeout=10) as client:
+        run = Run(words, Parts(words.manifest, words.tree, words.since))
+        with Client(words.scheduler, timeout=10) as client:
             run.hash_all(client)
-        lines = (digest.encode() + b'  ./' + name + b'\n' for name, digest in sorted(run.found.items()))
-        run.write(run.words.manifest, lines)
+        run.parts.join()
+    except BlockingIOError:
+        sys.exit(f'fleet: another run is at work in {words.manifest}.parts')
     except (OSError, ValueError) as fault:
         sys.exit(f'fleet: {fault}')
-    took = time.monotonic() - began
-    print(f'{len(run.found)} files, {run.indexes} indexes, {run.bytes} bytes in {took:.1f} s: '
-          f'{len(run.found) / took:.0f} files and {run.bytes / took / 1e6:.0f} MB a second; {run.failed} failed')
+    print(run.summary())
     sys.exit(1 if run.failed else 0)
 
 

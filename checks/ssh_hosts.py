@@ -1,0 +1,170 @@
+"""GNU parallel over two ssh servers of this machine, which a check may have die or answer wrong. They listen on loopback,
+with ports, keys and settings in a folder of the check's own."""
+import os
+import shutil
+import signal
+import socket
+import subprocess
+import sys
+import time
+
+from report import Fault, want
+
+SSHD = '/usr/sbin/sshd'
+PACKAGES = {'parallel': 'parallel', 'ssh': 'openssh-client', 'ssh-keygen': 'openssh-client', SSHD: 'openssh-server'}
+
+# The program as the hosts have it: it notes which host was asked, stops in the middle of its work where it is told to, and
+# answers wrong where it is told to.
+OF_HOSTS = '''#!/bin/sh
+host=${SSH_CONNECTION##* }
+echo "$host" >> {room}/asked
+if [ -e {room}/stops-$host ]; then
+    {part}
+    touch {room}/stopped-$host
+    exec sleep 60
+fi
+[ ! -e {room}/lies-$host ] || { {program} "$@" | tr 0 1; exit; }
+exec {program} "$@"
+'''
+
+
+def install_packages():
+    """A server that is installed is started where systemd runs, which is for the machine's owner to do."""
+    missing = {package for name, package in PACKAGES.items() if not shutil.which(name)}
+    if 'openssh-server' in missing and os.path.isdir('/run/systemd/system'):
+        sys.exit('no sshd: install the package openssh-server, which starts a server')
+    for words in (['update'], ['install', '-y', '--no-install-recommends', *sorted(missing)]) if missing else ():
+        done = subprocess.run(['apt-get', '-qq', *words], stdout=subprocess.PIPE, stderr=subprocess.STDOUT, text=True,
+                              env={**os.environ, 'DEBIAN_FRONTEND': 'noninteractive'})
+        if done.returncode:
+            sys.exit(f'without {", ".join(sorted(missing))}:\n{done.stdout[-2000:]}')
+
+
+def built(crate):
+    """A program, proved and built anew, from the folder of its crate. Run with no words, as here, it may answer any status."""
+    program = os.path.join(crate, 'out', os.path.basename(crate))
+    if os.path.exists(program):
+        os.remove(program)
+    done = subprocess.run(['rt', 'run'], cwd=crate, stdin=subprocess.DEVNULL, stdout=subprocess.PIPE,
+                          stderr=subprocess.STDOUT, text=True)
+    if not os.path.exists(program):
+        sys.exit(done.stdout[-2000:] + f'\n{program} was not built')
+    return program
+
+
+class RoomOfSshd:
+    """The folder that sshd wants, also where it serves no other user."""
+
+    def __enter__(self):
+        self.is_made = os.geteuid() == 0 and not os.path.isdir('/run/sshd')
+        if self.is_made:
+            os.mkdir('/run/sshd', 0o755)
+
+    def __exit__(self, *_):
+        if self.is_made:
+            os.rmdir('/run/sshd')
+
+
+def free_port():
+    with socket.socket() as probe:
+        probe.bind(('127.0.0.1', 0))
+        return probe.getsockname()[1]
+
+
+class Server:
+    """An ssh server on loopback, whose files lie in a folder."""
+
+    def __init__(self, room):
+        self.room, self.port = room, free_port()
+        self.process = None
+
+    def start(self):
+        settings = {'ListenAddress': '127.0.0.1', 'Port': self.port, 'HostKey': f'{self.room}/host', 'UsePAM': 'no',
+                    'AuthorizedKeysFile': f'{self.room}/user.pub', 'PidFile': 'none', 'StrictModes': 'no',
+                    'PasswordAuthentication': 'no', 'PermitRootLogin': 'prohibit-password'}
+        words = [word for name, value in settings.items() for word in ('-o', f'{name}={value}')]
+        self.process = subprocess.Popen([SSHD, '-D', '-f', '/dev/null', '-E', f'{self.room}/log-{self.port}', *words])
+        for _ in range(200):
+            with socket.socket() as probe:
+                if probe.connect_ex(('127.0.0.1', self.port)) == 0:
+                    return
+            time.sleep(0.05)
+        sys.exit(f'no ssh server:\n{open(f"{self.room}/log-{self.port}").read()}')
+
+    def die(self):
+        """The server is gone at once, and with it each connection that it serves."""
+        if self.process:
+            found = subprocess.run(['ps', '-o', 'pid=', '--ppid', str(self.process.pid)], stdout=subprocess.PIPE)
+            for process in [self.process.pid, *map(int, found.stdout.split())]:
+                os.kill(process, signal.SIGKILL)
+            self.process.wait()
+        self.process = None
+
+
+class Hosts:
+    """Two servers, and GNU parallel over them. `part` is how the program does a part of its work."""
+
+    def __init__(self, room, program, part):
+        self.room, self.servers = room, [Server(room), Server(room)]
+        for key in ('host', 'user'):
+            subprocess.run(['ssh-keygen', '-q', '-t', 'ed25519', '-N', '', '-f', f'{room}/{key}'], check=True)
+        with open(f'{room}/host.pub') as file:
+            key = ' '.join(file.read().split()[:2])
+        self.write('known', ''.join(f'[127.0.0.1]:{server.port} {key}\n' for server in self.servers))
+        self.write('ssh', f'#!/bin/sh\nexec ssh -F none -i {room}/user -o UserKnownHostsFile={room}/known '
+                          '-o GlobalKnownHostsFile=none -o BatchMode=yes "$@"\n')
+        self.program = self.write(os.path.basename(program),
+                                  OF_HOSTS.replace('{part}', part).replace('{room}', room).replace('{program}', program))
+        logins = ','.join(f'127.0.0.1:{server.port}' for server in self.servers)
+        self.environment = {**os.environ, 'PARALLEL_HOME': f'{room}/parallel',
+                            'PARALLEL': f'--ssh {room}/ssh --sshlogin {logins}'}
+        os.makedirs(f'{room}/parallel', exist_ok=True)
+
+    def write(self, name, text):
+        path = os.path.join(self.room, name)
+        with open(path, 'w') as file:
+            file.write(text)
+        os.chmod(path, 0o700)
+        return path
+
+    def forget(self):
+        """What an earlier check told the hosts, and what they noted, is gone."""
+        for name in os.listdir(self.room):
+            if name.startswith(('stops-', 'stopped-', 'lies-', 'asked')):
+                os.remove(os.path.join(self.room, name))
+
+    def run(self, words, more=(), told='', number=0):
+        """The words over both servers, the first `number` of which do as they are told: to answer wrong, or to stop in the
+        middle of a job, where they then die. Answers how it ended, what it printed and what it said."""
+        self.forget()
+        for server in self.servers:
+            if not server.process:
+                server.start()
+        for server in self.servers[:number]:
+            self.write(f'{told}-{server.port}', '')
+        done = subprocess.Popen(words, stdout=subprocess.PIPE, stderr=subprocess.PIPE, env={**self.environment, **dict(more)})
+        try:
+            for server in self.servers[:number] if told == 'stops' else ():
+                self.wait_for(f'stopped-{server.port}', done)
+                server.die()
+            printed, said = done.communicate(timeout=300)
+        finally:
+            done.kill()
+        return done.returncode, printed, said.decode(errors='replace')
+
+    def wait_for(self, name, done):
+        path = os.path.join(self.room, name)
+        for _ in range(600):
+            if os.path.exists(path):
+                return
+            want(done.poll() is None, 'it ended before a host stopped')
+            time.sleep(0.1)
+        raise Fault('no host stopped')
+
+    def asked(self):
+        with open(f'{self.room}/asked') as file:
+            return {line.strip() for line in file} - {''}
+
+    def end(self):
+        for server in self.servers:
+            server.die()

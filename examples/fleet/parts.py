@@ -1,0 +1,84 @@
+"""A run that isn't over, as it stands on disk: the folder MANIFEST.parts.
+
+    tree     which tree the run is of
+    lock     held while a run is at work
+    before   records of earlier runs
+    kept     records of `before` whose files are as they were, in this run
+    0, 1 ..  records of this run, a file for each task, in the order of the names
+
+Each file but `kept` is written beside and renamed, so it is whole or not there. A run that finds the folder goes on
+from it, and the folder goes when the manifest is there."""
+import fcntl
+import os
+import shutil
+
+from files import newest, records_of
+
+
+class Parts:
+    def __init__(self, manifest, tree, since):
+        """Begins a run, or goes on with one. `since` is the manifest of an earlier run, whose records count too."""
+        self.manifest, self.folder = manifest, manifest + '.parts'
+        self.is_resumed = os.path.isdir(self.folder)
+        os.makedirs(self.folder, exist_ok=True)
+        self.lock = open(self.path('lock'), 'wb')
+        fcntl.flock(self.lock, fcntl.LOCK_EX | fcntl.LOCK_NB)
+        self.hold_to(tree)
+        earlier = [records_of(since + '.files')] if since else []
+        write(self.path('before'), (it.record() for it in newest(*earlier, records_of(self.path('before')), self.in_parts())))
+        for number in self.numbers():
+            os.remove(self.path(number))
+        self.kept = open(self.path('kept'), 'wb')
+
+    def path(self, name):
+        return os.path.join(self.folder, str(name))
+
+    def hold_to(self, tree):
+        """Refuses to go on with a run of another tree."""
+        if not os.path.exists(self.path('tree')):
+            write(self.path('tree'), [os.fsencode(tree)])
+        with open(self.path('tree'), 'rb') as file:
+            if (other := os.fsdecode(file.read())) != tree:
+                raise ValueError(f'{self.folder} is of a run over {other}: go on with that, or remove the folder')
+
+    def numbers(self):
+        return sorted(int(name) for name in os.listdir(self.folder) if name.isdecimal())
+
+    def in_parts(self):
+        """The entries of the parts, which follow one another in the order of the names."""
+        for number in self.numbers():
+            yield from records_of(self.path(number))
+
+    def before(self):
+        """The entries of earlier runs."""
+        return records_of(self.path('before'))
+
+    def keep(self, entry):
+        """An entry of an earlier run, whose file is as it was."""
+        self.kept.write(entry.record())
+
+    def add(self, number, entries):
+        """What the task of this number has hashed."""
+        if entries:
+            write(self.path(number), (it.record() for it in entries))
+
+    def join(self):
+        """Writes the manifest, and beside it the records, of all that was kept and added."""
+        self.kept.close()
+        found = newest(records_of(self.path('kept')), self.in_parts())
+        files = self.manifest + '.files'
+        with open(self.manifest + '.part', 'wb') as lines, open(files + '.part', 'wb') as records:
+            for entry in found:
+                lines.write(entry.line())
+                records.write(entry.record())
+        os.replace(files + '.part', files)
+        os.replace(self.manifest + '.part', self.manifest)
+        shutil.rmtree(self.folder)
+
+
+def write(path, lines):
+    """The file is there when it is whole."""
+    os.makedirs(os.path.dirname(path), exist_ok=True)
+    with open(path + '.part', 'wb') as file:
+        file.writelines(lines)
+    os.replace(path + '.part', path)
