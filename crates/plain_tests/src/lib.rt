@@ -7,8 +7,6 @@
 #[cfg(test)]
 mod copies;
 #[cfg(test)]
-mod fast_and_slow;
-#[cfg(test)]
 mod forged;
 #[cfg(test)]
 mod laws;

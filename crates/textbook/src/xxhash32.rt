@@ -1,5 +1,5 @@
-//! XXH32 (the xxHash specification, "XXH32 algorithm description", steps 1 to 6). Each function is named for
-//! the definition's line that it computes.
+//! XXH32 from its accumulators on (the xxHash specification, "XXH32 algorithm description", steps 2 to 6). Each
+//! function is named for the definition's line that it computes.
 
 ghost use Rattle.std.specs.Prelude.{◌≡◌, ◌+◌, ◌*◌, ◌/◌, ◌<◌, ◌≤◌, drop, length};
 ghost use Rattle.std.specs.Int.{w32};
@@ -7,7 +7,7 @@ ghost use Rattle.twox_words.specs.Word.{word_at};
 ghost use Rattle.twox_plain.specs.Units.{after_units};
 ghost use Rattle.twox_plain.specs.Core32.{core_after_stripes};
 ghost use Rattle.twox_plain.specs.Record32.{value_of};
-ghost use Rattle.twox_plain.specs.Xxh32.{round, accumulator, convergence, start, take_word, take_byte, after_words, after_tail, avalanche, xxh32};
+ghost use Rattle.twox_plain.specs.Xxh32.{round, convergence, take_word, take_byte, after_words, after_tail, avalanche};
 
 use twox_plain::xxhash32::Core;
 
@@ -48,20 +48,6 @@ fn accumulator_after(a: u32, m: &[u8], at: usize) -> u32
     a
 }
 
-// Accumulator j after every whole stripe.
-fn accumulator(seed: u32, m: &[u8], j: usize) -> u32
-    requires { j < 4 }
-    ensures { result ≡ accumulator seed m.now j (length m.now / 16) }
-{
-    let initial = [
-        seed.wrapping_add(P1).wrapping_add(P2),
-        seed.wrapping_add(P2),
-        seed,
-        seed.wrapping_sub(P1),
-    ];
-    accumulator_after(initial[j], m, j * 4)
-}
-
 // The four accumulators as one value.
 fn convergence(a: u32, b: u32, c: u32, d: u32) -> u32
     ensures { result ≡ convergence a b c d }
@@ -69,19 +55,6 @@ fn convergence(a: u32, b: u32, c: u32, d: u32) -> u32
     let sum = a.rotate_left(1).wrapping_add(b.rotate_left(7));
     let sum = sum.wrapping_add(c.rotate_left(12));
     sum.wrapping_add(d.rotate_left(18))
-}
-
-// The accumulators, or the seed where there is no stripe, and the low 32 bits of the length.
-fn start(seed: u32, m: &[u8]) -> u32
-    ensures { result ≡ start seed m.now }
-{
-    let len = (m.len() % 0x1_0000_0000) as u32;
-    if m.len() < 16 {
-        return seed.wrapping_add(P5).wrapping_add(len);
-    }
-    let (a, b) = (accumulator(seed, m, 0), accumulator(seed, m, 1));
-    let (c, d) = (accumulator(seed, m, 2), accumulator(seed, m, 3));
-    convergence(a, b, c, d).wrapping_add(len)
 }
 
 fn take_word(x: u32, word: u32) -> u32
@@ -127,19 +100,6 @@ fn avalanche(x: u32) -> u32
     let x = (x ^ (x >> 15)).wrapping_mul(P2);
     let x = (x ^ (x >> 13)).wrapping_mul(P3);
     x ^ (x >> 16)
-}
-
-/// XXH32 of the whole input under a seed.
-///
-/// ```
-/// textbook::xxh32(0, b"Hello, world!\0") // 0x9e5e7e93
-/// ```
-#[tactic(auto, unfolding(twox_plain::specs::Xxh32::xxh32))]
-pub fn xxh32(seed: u32, input: &[u8]) -> u32
-    ensures { result ≡ xxh32 seed input.now }
-{
-    let n = input.len();
-    avalanche(after_tail(input, n / 16 * 16, start(seed, input), n % 16))
 }
 
 // The four accumulators of the record after every whole stripe, as one value.

@@ -1,5 +1,5 @@
-//! XXH64 (the xxHash specification, "XXH64 algorithm description", steps 1 to 6). Each function is named for
-//! the definition's line that it computes.
+//! XXH64 from its accumulators on (the xxHash specification, "XXH64 algorithm description", steps 2 to 6). Each
+//! function is named for the definition's line that it computes.
 
 ghost use Rattle.std.specs.Prelude.{◌≡◌, ◌+◌, ◌*◌, ◌/◌, ◌<◌, ◌≤◌, drop, length};
 ghost use Rattle.std.specs.Int.{w32, w64};
@@ -7,7 +7,7 @@ ghost use Rattle.twox_words.specs.Word.{word_at};
 ghost use Rattle.twox_plain.specs.Units.{after_units};
 ghost use Rattle.twox_plain.specs.Core64.{core_after_stripes};
 ghost use Rattle.twox_plain.specs.Record64.{value_of};
-ghost use Rattle.twox_plain.specs.Xxh64.{round, accumulator, merge, convergence, start, take_eight, take_four, take_byte, after_eights, after_words, after_tail, avalanche, xxh64};
+ghost use Rattle.twox_plain.specs.Xxh64.{round, merge, convergence, take_eight, take_four, take_byte, after_eights, after_words, after_tail, avalanche};
 
 use twox_plain::xxhash64::Core;
 
@@ -64,20 +64,6 @@ fn accumulator_after(a: u64, m: &[u8], at: usize) -> u64
     a
 }
 
-// Accumulator j after every whole stripe.
-fn accumulator(seed: u64, m: &[u8], j: usize) -> u64
-    requires { j < 4 }
-    ensures { result ≡ accumulator seed m.now j (length m.now / 32) }
-{
-    let initial = [
-        seed.wrapping_add(P1).wrapping_add(P2),
-        seed.wrapping_add(P2),
-        seed,
-        seed.wrapping_sub(P1),
-    ];
-    accumulator_after(initial[j], m, j * 8)
-}
-
 fn merge(x: u64, a: u64) -> u64
     ensures { result ≡ merge x a }
 {
@@ -92,19 +78,6 @@ fn convergence(a: u64, b: u64, c: u64, d: u64) -> u64
     let sum = sum.wrapping_add(c.rotate_left(12));
     let sum = sum.wrapping_add(d.rotate_left(18));
     merge(merge(merge(merge(sum, a), b), c), d)
-}
-
-// The accumulators, or the seed where there is no stripe, and the length.
-fn start(seed: u64, m: &[u8]) -> u64
-    ensures { result ≡ start seed m.now }
-{
-    let len = m.len() as u64;
-    if len < 32 {
-        return seed.wrapping_add(P5).wrapping_add(len);
-    }
-    let (a, b) = (accumulator(seed, m, 0), accumulator(seed, m, 1));
-    let (c, d) = (accumulator(seed, m, 2), accumulator(seed, m, 3));
-    convergence(a, b, c, d).wrapping_add(len)
 }
 
 fn take_eight(x: u64, word: u64) -> u64
@@ -170,19 +143,6 @@ fn avalanche(x: u64) -> u64
     let x = (x ^ (x >> 33)).wrapping_mul(P2);
     let x = (x ^ (x >> 29)).wrapping_mul(P3);
     x ^ (x >> 32)
-}
-
-/// XXH64 of the whole input under a seed.
-///
-/// ```
-/// textbook::xxh64(1234, b"some bytes") // 0xeab55659a496d78b
-/// ```
-#[tactic(auto, unfolding(twox_plain::specs::Xxh64::xxh64))]
-pub fn xxh64(seed: u64, input: &[u8]) -> u64
-    ensures { result ≡ xxh64 seed input.now }
-{
-    let n = input.len();
-    avalanche(after_tail(input, n / 32 * 32, start(seed, input), n % 32))
 }
 
 // The four accumulators of the record after every whole stripe, as one value.
