@@ -1,15 +1,18 @@
-"""A crate with copies of its functions: each further edit of a function changes a copy of its own, so that one check may
-try all of them. A copy has the function's contract and its answers, under another name, and nothing calls it."""
+"""A crate with copies of its functions: an edit of a copy leaves the function as it is, so one check may try all edits of a
+function, and those of the functions that call it. A copy has the function's contract and its answers, under another name,
+and nothing calls it."""
 import copy
 import os
+import re
 import shutil
 
 from . import edits, kit
 
 
 def with_copies(crate, tried, folder):
-    """The crate, written to the folder with its copies, and the name of one copy of each function that has any. The further
-    edits of these functions now change the copies."""
+    """The crate, written to the folder with its copies, and the name of one copy of each function that has any. The edits of
+    these functions now change the copies: all but the first, and the first too where another changed function may call
+    it, since what calls a refused function has no line of its own."""
     for part in kit.rt.rtlib.PARTS:
         if os.path.isdir(f"{crate.folder}/{part}"):
             shutil.copytree(f"{crate.folder}/{part}", f"{folder}/{part}")
@@ -18,14 +21,25 @@ def with_copies(crate, tried, folder):
     of_functions = {}
     for it in tried:
         of_functions.setdefault(it.function, []).append(it)
-    return twin, [name for its in of_functions.values() for name in add_copies(folder, its)[:1]]
+    bodies = {function: text_of_body(crate, its[0]) for function, its in of_functions.items()}
+    found = []
+    for function, its in of_functions.items():
+        word = re.compile(rf"\b{its[0].body.name}\b")
+        is_called = any(word.search(text) for other, text in bodies.items() if other != function)
+        found += add_copies(folder, its if is_called else its[1:])[:1]
+    return twin, found
+
+
+def text_of_body(crate, edit):
+    lines = kit.read(f"{crate.folder}/{edit.path}").split("\n")
+    return "\n".join(lines[edit.body.first:edit.body.last])
 
 
 def add_copies(folder, its):
-    """Adds a copy for each of these edits of one function but the first, and returns the copies' names."""
-    function, names = its[0].function, []
-    for number, edit in enumerate(its[1:], 2):
-        name = f"{edit.body.name}_copy_{number}"
+    """Adds a copy for each of these edits of one function, and returns the copies' names."""
+    names = []
+    for number, edit in enumerate(its, 1):
+        function, name = edit.function, f"{edit.body.name}_copy_{number}"
         text = kit.read(f"{folder}/{edit.path}")
         found = edit.body.copied(text.rstrip("\n").split("\n"), name)
         if not found:

@@ -2,13 +2,14 @@
 import glob
 import os
 import re
+import sys
 
 from . import kit, source
 
 
 class Edit:
     def __init__(self, file, crate, names):
-        self.file, self.name, self.function, self.spots = file, os.path.basename(file), None, []
+        self.file, self.name, self.function, self.body, self.spots = file, os.path.basename(file), None, None, []
         named = re.search(r"^refused by: (\S+)$", kit.read(file), re.M)
         self.refused_by = named and f"{crate.name}::{named[1]}"
         # Functions whose edits hid this one in a check: it isn't tried beside them again.
@@ -56,8 +57,25 @@ def parsed(text):
     return (paths.pop() if len(paths) == 1 and len(olds) == len(news) else None), list(zip(olds, news))
 
 
-def files_of(crate):
-    return sorted(file for it in ("must-fail", "wrong-bodies") for file in glob.glob(f"{crate.folder}/{it}/*.edit"))
+def files_of(crate, room):
+    """The crate's edits, each a file as `rt must-fail` takes it: what stands in must-fail/, or where `checks/all` has put it,
+    and the blocks of wrong-bodies.edits, which are written to the room."""
+    folder = f"{room}/{crate.name}"
+    os.makedirs(folder)
+    for name, text in blocks_of(f"{crate.folder}/wrong-bodies.edits"):
+        kit.write(f"{folder}/{name}.edit", text)
+    found = [file for it in (f"{crate.folder}/must-fail", f"{crate.folder}/wrong-bodies", f"{crate.folder}/in-batches", folder) for file in glob.glob(f"{it}/*.edit")]
+    return sorted(found, key=os.path.basename)
+
+
+def blocks_of(path):
+    """The edits of a file, by name: each begins with a line `== NAME`."""
+    heads = re.split(r"^== (\S+)\n", kit.read(path), flags=re.M) if os.path.exists(path) else [""]
+    names = heads[1::2]
+    twice = sorted({it for it in names if names.count(it) > 1})
+    if heads[0].strip() or twice:
+        sys.exit(f"wrong-bodies: {path} {f'has {twice[0]} twice' if twice else 'begins with no line == NAME'}")
+    return zip(names, heads[2::2])
 
 
 def texts_with(crate, edits):

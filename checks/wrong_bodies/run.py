@@ -8,28 +8,33 @@ import sys
 import tempfile
 import time
 
-from . import edits, kit, source
+from . import aims, edits, kit, source
 from .proofs import Built, Heard
 from .trial import BY_NAMES, Trial
 
 
 def main(given):
     os.chdir(kit.TOP)
-    crates = kit.crates()
-    unknown = [it for it in given.crates if it not in crates]
-    if unknown:
-        sys.exit(f"wrong-bodies: crates.txt has no {unknown[0]}")
-    chosen = [it for name, it in crates.items() if not given.crates or name in given.crates]
-    if given.since:
-        chosen = [it for it in chosen if has_changed(it, given.since)]
-    files = {it: found for it in chosen if (found := edits.files_of(it))}
-    proofs = Heard(given.jobs) if given.beside_ci else Built(files, given.jobs)
-    trials = try_all(files, proofs, given.jobs, lambda it: tell(it, given.v))
+    with tempfile.TemporaryDirectory(prefix="wrong-bodies-edits-") as room:
+        files = {it: found for it in chosen_crates(given) if (found := edits.files_of(it, room))}
+        if given.unaimed:
+            return aims.main(files)
+        proofs = Heard(given.jobs) if given.beside_ci else Built(files, given.jobs)
+        trials = try_all(files, proofs, given.jobs, lambda it: tell(it, given.v))
     verdicts = [well for trial in trials for well, _ in trial.said.values()]
     used = resource.getrusage(resource.RUSAGE_CHILDREN)
     print(f"{used.ru_utime + used.ru_stime:.0f} seconds of processor time")
     print(f"{verdicts.count(True)} passed, {verdicts.count(False)} failed")
     return 0 if all(verdicts) else 1
+
+
+def chosen_crates(given):
+    crates = kit.crates()
+    unknown = [it for it in given.crates if it not in crates]
+    if unknown:
+        sys.exit(f"wrong-bodies: crates.txt has no {unknown[0]}")
+    chosen = [it for name, it in crates.items() if not given.crates or name in given.crates]
+    return [it for it in chosen if not given.since or has_changed(it, given.since)]
 
 
 def tell(trial, is_told_all):
@@ -43,9 +48,10 @@ def tell(trial, is_told_all):
     at_limits = [edit.name for edit, (_, said) in told if kit.BY_LIMIT in said]
     print(
         f"{trial.crate.name}: {refused} of {len(told)} refused, {len(by_names)} of them only because a proof names what is "
-        f"gone, {len(at_limits)} only at a limit of the prover, in {trial.checks} checks of {trial.seconds:.0f} s",
+        f"gone, {len(at_limits)} only at a limit of the prover, in {len(trial.checks)} checks of {trial.seconds():.0f} s",
         *(f"  only by a name: {name}" for name in by_names),
         *(f"  only at a limit: {name}" for name in at_limits),
+        *(f"  {took:.0f} s: {what[:200]}" for took, what in trial.checks if is_told_all),
         sep="\n",
         flush=True,
     )
@@ -64,7 +70,7 @@ def try_all(files, proofs, jobs, tell_end):
             for trial in [it for it in waiting if proofs.has(it.crate) or is_last]:
                 waiting.remove(trial)
                 ready.append((trial, trial.begin if proofs.has(trial.crate) else trial.give_up))
-            ready.sort(key=lambda it: (it[0].kept_files is not None, -it[0].seconds))
+            ready.sort(key=lambda it: (it[0].kept_files is not None, -it[0].seconds()))
             while ready and len(running) < proofs.at_a_time():
                 trial, check = ready.pop(0)
                 running[pool.submit(check)] = trial

@@ -30,7 +30,8 @@ class Trial:
         self.waiting, self.alone, self.said, self.is_ended = [], [], {}, False
         # What the check of the crate as it stands has kept, once it has ended.
         self.kept_files = None
-        self.checks, self.seconds = 0, 0
+        # Each check: how long it took, and what it tried.
+        self.checks = []
 
     def begin(self):
         """Sorts the edits of the crate."""
@@ -56,22 +57,25 @@ class Trial:
 
     def check_as_it_stands(self, crate, only):
         os.makedirs(self.kept, exist_ok=True)
-        status, lines = self.timed(kit.check, crate, {}, self.kept, only)
+        status, lines = self.timed("as it stands", kit.check, crate, {}, self.kept, only)
         if status:
             why = [it for it in lines if kit.PLACE.match(it) or ": not proved" in it or ": no proof" in it] or lines[-5:]
             sys.exit("\n".join([f"wrong-bodies: {crate.name} is not proved as it stands", *why[:5]]))
 
-    def check(self, crate, texts, only):
+    def check(self, what, crate, texts, only):
         """Checks the crate with these texts over a copy of the kept work."""
         with kit.copy_of(self.kept) as kept:
-            return self.timed(kit.check, crate, texts, kept, only)
+            return self.timed(what, kit.check, crate, texts, kept, only)
 
-    def timed(self, work, *words):
+    def timed(self, what, work, *words):
         began = time.monotonic()
         result = work(*words)
         with self.lock:
-            self.checks, self.seconds = self.checks + 1, self.seconds + time.monotonic() - began
+            self.checks.append((time.monotonic() - began, what))
         return result
+
+    def seconds(self):
+        return sum(took for took, _ in self.checks)
 
     def end(self):
         """Sees that no check of an edit has changed the kept work, and proves the whole crate over it where nothing else
@@ -108,7 +112,7 @@ class Trial:
     def try_batch(self, batch):
         """Tries these edits in one check. What it can't judge waits again, or waits to be tried alone."""
         texts = edits.texts_with(self.twin, batch)
-        status, lines = self.check(self.twin, texts, [it.function for it in batch])
+        status, lines = self.check(f"{len(batch)} edits", self.twin, texts, [it.function for it in batch])
         with self.lock:
             if status not in (0, 1) or not lines[-1].startswith("only=") or any(kit.is_front_end_error(it, texts) for it in lines):
                 self.without_verdict(batch, lines)
@@ -147,22 +151,22 @@ class Trial:
                 self.alone.append((it, f"its line in a check with others: {said}"))
 
     def try_alone(self, edit, why):
-        status, said = self.by_one(edit) if edit.refused_by else (None, None)
+        status, said = self.by_one(edit, why) if edit.refused_by else (None, None)
         if said:
             self.said[edit] = True, said
             return
         # What its function's own check has let through is tried from nothing at once.
         with contextlib.nullcontext() if status == 0 else kit.copy_of(self.kept) as kept:
-            refused, said = self.timed(kit.try_alone, self.crate, edit.file, kept)
+            refused, said = self.timed(f"{edit.name} as rt must-fail does", kit.try_alone, self.crate, edit.file, kept)
         with self.lock:
             self.said[edit] = refused, f"{said} ({why})"
 
-    def by_one(self, edit):
+    def by_one(self, edit, why):
         """The status of a check of the edit's function alone, or of the one that it names, and what refuses the edit there."""
         texts, _ = kit.rt.read_edit(edit.file, self.crate.folder)
         if not texts:
             return None, None
-        status, lines = self.check(self.crate, texts, [edit.refused_by])
+        status, lines = self.check(f"{edit.name} alone: {why}", self.crate, texts, [edit.refused_by])
         says = {it[2]: it[3] for it in map(kit.LINE.fullmatch, lines) if it}
         said = says.get(edit.refused_by, "")
         if status != 1 or not lines[-1].startswith("only=") or any(kit.is_front_end_error(it, texts) for it in lines):
