@@ -72,7 +72,8 @@ pub fn joined_coefficients()
 /// Of a factor only the bits that count are kept, where the coefficient ends in zeros; and a part of a sum that was
 /// narrowed no further than to these may be the whole.
 pub fn narrowed_factor()
-    ensures { (c v j k w : ℕ) → w ≤ j + k → (c * 2 ^ k * (v % 2 ^ j)) % 2 ^ w ≡ (c * 2 ^ k * v) % 2 ^ w }
+    ensures { (c v j k w : ℕ) → w ≤ j + k
+        → (c * 2 ^ k * (v % 2 ^ j)) % 2 ^ w ≡ (c * 2 ^ k * v) % 2 ^ w }
 {}
 
 /// A number that is narrowed twice is as narrow as the narrower one.

@@ -30,7 +30,8 @@ pub extern "C" fn twox_rust_xxh64_of_word(word: u64, seed: u64) -> u64
 /// XXH3 of 64 bits of the word's eight bytes, with a seed.
 #[unsafe(no_mangle)]
 pub extern "C" fn twox_rust_xxh3_64_of_word(word: u64, seed: u64) -> u64
-    ensures { let bytes = to_le_bytes w64 word in let s = effective_secret (derived_secret seed) bytes in
+    ensures { let bytes = to_le_bytes w64 word in
+        let s = effective_secret (derived_secret seed) bytes in
         result ≡ xxh3_64 seed s bytes }
 {
     XxHash3_64::oneshot_with_seed(seed, &word.to_le_bytes())

@@ -267,8 +267,8 @@ impl<S: Store> ListCheck<'_, S> {
             out.old out.new result }
         ensures works { IfOk result (λ _. W.has_failed out.new ≡ false) }
         ensures only { IfErr result (λ stop. stop ≡ Stop.WriteFailed) }
-        ensures tells { TellsOn E.takes E.refuses E.has_failed (told_summary self.now.name.now report.now)
-            err.old err.new }
+        ensures tells { TellsOn E.takes E.refuses E.has_failed
+            (told_summary self.now.name.now report.now) err.old err.new }
     {
         if report.proper == 0 {
             tell_parts(

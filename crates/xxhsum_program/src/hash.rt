@@ -113,7 +113,8 @@ fn print_outcome<W: Sink>(
 
 // Tells why a name has no value.
 fn tell_outcome<'a, E: Sink>(name: &'a [u8], outcome: &'a Outcome, err: &mut E)
-    ensures { TellsOn E.takes E.refuses E.has_failed (told_line name.now outcome.now) err.old err.new }
+    ensures { TellsOn E.takes E.refuses E.has_failed (told_line name.now outcome.now)
+        err.old err.new }
 {
     match outcome {
         Outcome::Digested { .. } => {}

@@ -150,7 +150,8 @@ fn program_of(args: &[Vec<u8>]) -> &[u8]
 
 // The words behind the program's name.
 fn words_of(args: &[Vec<u8>]) -> &[Vec<u8>]
-    ensures { map (λ word. word.items) result.now ≡ drop 1 (map (λ argument. argument.items) args.now) }
+    ensures { map (λ word. word.items) result.now
+        ≡ drop 1 (map (λ argument. argument.items) args.now) }
 {
     match args.split_first() {
         Some((_, words)) => words,
@@ -160,7 +161,8 @@ fn words_of(args: &[Vec<u8>]) -> &[Vec<u8>]
 
 // The names from this place on.
 fn names_from(words: &[Vec<u8>], place: usize) -> &[Vec<u8>]
-    ensures { map (λ name. name.items) result.now ≡ drop place (map (λ word. word.items) words.now) }
+    ensures { map (λ name. name.items) result.now
+        ≡ drop place (map (λ word. word.items) words.now) }
 {
     if place < words.len() {
         &words[place..]
