@@ -1,4 +1,8 @@
-//! What XXH3 of 64 bits and of 128 share.
+//! XXH3: what both widths share, and the values of each.
+//!
+//! Callers of the library have `xxhash3` under `twox_hash`, which makes its own calls of the two others.
 #![tactic(auto)]
 
+pub mod width_128;
+pub mod width_64;
 pub mod xxhash3;

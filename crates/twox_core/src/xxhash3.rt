@@ -17,7 +17,8 @@ pub use derivation::{
     DEFAULT_SECRET_LENGTH, DEFAULT_SECRET_RAW, DefaultSecret, default_secret, derive_secret,
     derived_secret,
 };
-pub use large::{ANY_LENGTH, Algorithm, DEFAULT_LENGTH, DERIVED, Finalize, Kernel};
+pub use large::{Algorithm, Finalize, Kernel};
+pub(crate) use large::{AnyLength, DefaultLength, Derived};
 pub use mixing::{
     avalanche, avalanche_xxh64, fold, full_product, impl_1_to_3_bytes_combined, mix_step,
     mix_words, to_u64s,
@@ -28,7 +29,8 @@ pub use streaming::{
     AllocRawHasher, BUFFERED_BYTES, ClonedBuffer, CoreState, FixedBuffer, FixedMutBuffer,
     RawHasherCore, SecretBuffer, SecretTooShortError, SecretWithSeedError, TakenStripes,
 };
-pub use stripes::{MANY_BYTES, StripeAccumulator};
+pub(crate) use stripes::MANY_BYTES;
+pub use stripes::StripeAccumulator;
 pub use vector::{INITIAL_ACCUMULATORS, Vector};
 
 /// The greatest length that is hashed with the default secret and no stripes.

@@ -1,10 +1,10 @@
-//! What the saved texts of both hashes share: numbers and bytes as members of a JSON object.
+//! What the saved texts of both hashes share: numbers and bytes as members of a JSON object, and that object.
 
 ghost use Rattle.std.specs.Prelude.{◌≡◌, ◌^◌, length, Some, IfOk};
 ghost use Rattle.serde_json.specs.View.{view, items_view};
-ghost use Rattle.twox_plain.specs.SavedText.{whole_number, number_member, bytes_of_data, items_of_bytes, bytes_data};
+ghost use Rattle.twox_plain.specs.SavedText.{whole_number, number_member, bytes_of_data, items_of_bytes, bytes_data, core_data, record_data};
 
-use serde_json::Value;
+use serde_json::{Value, json};
 use std::alloc::{AllocError, Global};
 
 // The whole number, where it is below the limit.
@@ -68,4 +68,32 @@ pub(crate) fn byte_array_value(alloc: Global, bytes: &[u8]) -> Result<Value, All
     ensures reads_back { bytes_of_data (length bytes.now) (bytes_data bytes.now) ≡ Some bytes.now }
 {
     Ok(Value::Array(byte_values(alloc, bytes)?))
+}
+
+/// The object of four accumulators.
+pub(crate) fn core_value(
+    alloc: Global,
+    v1: u64,
+    v2: u64,
+    v3: u64,
+    v4: u64,
+) -> Result<Value, AllocError>
+    ensures { IfOk result (λ value. view value ≡ core_data v1 v2 v3 v4) }
+{
+    json!(in alloc; {"v1": v1, "v2": v2, "v3": v3, "v4": v4})
+}
+
+/// The object of a record's members, of which the buffer and the core are values already.
+pub(crate) fn record_value(
+    alloc: Global,
+    buffer: Value,
+    core: Value,
+    usage: usize,
+    seed: u64,
+    total_len: u64,
+) -> Result<Value, AllocError>
+    ensures { IfOk result (λ value.
+        view value ≡ record_data total_len seed (view core) (view buffer) usage) }
+{
+    json!(in alloc; {"buffer": buffer, "buffer_usage": usage, "core": core, "seed": seed, "total_len": total_len})
 }

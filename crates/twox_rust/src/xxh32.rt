@@ -7,7 +7,7 @@ ghost use Rattle.twox_plain.specs.Xxh32.{xxh32};
 
 use crate::Answer;
 use twox_exports::{DONE, NOT_A_STREAM};
-use twox_plain::xxhash32::{Core, Hasher, SavedState, StateInMemory};
+use twox_plain::xxhash32::{Hasher, StateInMemory};
 
 const _: () = prove!(size_of::<StateInMemory>() == 64);
 
@@ -102,27 +102,8 @@ pub extern "C" fn twox_rust_xxh32_test(stream: &StateInMemory) -> u32
     ensures done { result ≡ DONE ↔ IsReachable (record_of stream.now) }
     ensures refused { result ≡ NOT_A_STREAM ↔ (¬ IsReachable (record_of stream.now)) }
 {
-    if Hasher::from_state(record(stream)).is_err() {
+    if Hasher::from_state(stream.record()).is_err() {
         return NOT_A_STREAM;
     }
     DONE
-}
-
-// The record, as it is saved.
-fn record(stream: &StateInMemory) -> SavedState
-    ensures { result ≡ record_of stream.now }
-{
-    let buffer = stream.buffer;
-    SavedState {
-        total_len: stream.total_len,
-        seed: stream.seed,
-        core: Core {
-            v1: stream.v1,
-            v2: stream.v2,
-            v3: stream.v3,
-            v4: stream.v4,
-        },
-        buffer,
-        buffer_usage: stream.buffer_usage,
-    }
 }

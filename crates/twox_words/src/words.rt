@@ -11,7 +11,7 @@ mod halves;
 mod widening;
 
 pub use chunks::{bp_as_chunks, bp_as_chunks_mut};
-pub use copies::{copy_short, copy_up_to_128};
+pub use copies::{copy_front, copy_short, copy_up_to_128};
 pub use halves::Halves;
 pub use widening::{IntoU32, IntoU64, IntoU128};
 

@@ -61,14 +61,14 @@ pub trait Finalize {
             ≡ large_of self.now acc last_block.now last_stripe.now (secret_bytes secret.entry) len };
 }
 
-/// A caller of `Algorithm::oneshot_of` with a secret of any length.
-pub const ANY_LENGTH: usize = 0;
+// A caller of `Algorithm::oneshot_of` with a secret of any length.
+pub(crate) struct AnyLength;
 
-/// One with a secret that is as long as the default one.
-pub const DEFAULT_LENGTH: usize = 1;
+// One with a secret that is as long as the default one.
+pub(crate) struct DefaultLength;
 
-/// One with a secret that it derived from a seed itself.
-pub const DERIVED: usize = 2;
+// One with a secret that it derived from a seed itself.
+pub(crate) struct Derived;
 
 /// The hash of long inputs over a kernel.
 #[derive(Clone, Copy)]
@@ -91,17 +91,16 @@ impl<V: Vector> Algorithm<V> {
             result ≡ F.large_of finalize (block_accumulators s m) (last_block s m) (last_stripe m) s (length m) }
     {
         if input.len() < MANY_BYTES {
-            self.oneshot_of::<F, false, ANY_LENGTH>(secret, input, finalize)
+            self.oneshot_of::<F, AnyLength, false>(secret, input, finalize)
         } else {
-            self.oneshot_of::<F, true, ANY_LENGTH>(secret, input, finalize)
+            self.oneshot_of::<F, AnyLength, true>(secret, input, finalize)
         }
     }
 
-    /// [`Algorithm::oneshot`], where the caller says whether the bytes are many: those that are few then keep no register
-    /// for a call. Each `CALLER` has code of its own, in which its secret's length may be known. The value depends on
-    /// neither.
+    // `oneshot`, where the caller says whether the bytes are many: those that are few then keep no register for a call.
+    // Each `Caller` has code of its own, in which its secret's length may be known. The value depends on neither.
     #[inline(always)]
-    pub fn oneshot_of<F: Finalize + Drop, const MANY: bool, const CALLER: usize>(
+    pub(crate) fn oneshot_of<F: Finalize + Drop, Caller, const MANY: bool>(
         &self,
         secret: Secret<'_>,
         input: &[u8],
@@ -114,7 +113,7 @@ impl<V: Vector> Algorithm<V> {
         let count = stripes_before_last_block(input.len(), secret.n_stripes());
         let (blocks, last_block) = input.split_at(64 * count);
         let mut stripes = StripeAccumulator::new();
-        stripes.process_blocks::<V, MANY>(self.0, blocks, secret);
+        stripes.process_oneshot::<V, MANY>(self.0, blocks, secret);
         finalize.large(
             self.0,
             stripes.accumulators(),

@@ -1,4 +1,18 @@
-//! The accumulators, and their place in the secret.
+//! The accumulators, their place in the secret, and the ways to take stripes.
+//!
+//! What is named `process` stands in its caller's code, and what is named `take` is a call of its own:
+//!
+//! | name | takes | of how many bytes |
+//! |---|---|---|
+//! | `process_oneshot` | a one-shot's stripes before its last block | any |
+//! | `process_piece` | a stream's stripes, which begin and end anywhere in a block | any |
+//! | `process_stripes`, `take_stripes` | one after another, under any secret | any |
+//! | `process_blocks` | whole blocks of a one-shot | less than 31 KiB |
+//! | `take_many_stripes` | by one of the next two or `take_stripes` | 2 KiB and more of a piece, 31 of a one-shot |
+//! | `process_by_fours` | four at a time, from any place | 1 to 31 KiB |
+//! | `process_by_blocks` | whole blocks, by `take_many_blocks`, and what stands around them | 31 KiB and more |
+//!
+//! `process_blocks` and the last two are for secrets of 192 bytes, as the default one and each derived one has.
 
 ghost use Rattle.std.specs.Prelude.{◌≡◌, ◌/◌, ◌<◌, ◌≤◌, length};
 ghost use Rattle.twox_core.specs.Long.{stripes_of};
@@ -9,13 +23,13 @@ mod blocks;
 mod fours;
 
 pub(super) use self::blocks::STRIPES_IN_BLOCK;
-use self::blocks::{BYTES_IN_BLOCK, take_blocks, take_many_blocks};
+use self::blocks::{BYTES_IN_BLOCK, process_blocks, take_many_blocks};
 use super::{INITIAL_ACCUMULATORS, Secret, Vector};
 use twox_words::words::bp_as_chunks;
 
-/// From how many bytes on a one-shot takes its stripes out of line, in the way that is fastest for their number: 32 KiB
-/// without the last block, which a one-shot takes by itself.
-pub const MANY_BYTES: usize = 31 * BYTES_IN_BLOCK;
+// From how many bytes on a one-shot takes its stripes out of line, in the way that is fastest for their number: 32 KiB
+// without the last block, which a one-shot takes by itself.
+pub(crate) const MANY_BYTES: usize = 31 * BYTES_IN_BLOCK;
 
 /// The accumulators, and how many stripes they have taken since the last scramble.
 #[repr(C)]
@@ -96,7 +110,7 @@ impl StripeAccumulator {
     // Takes the whole stripes of `bytes`, which mostly are whole blocks from the secret's start on. The caller says
     // whether the bytes are many.
     #[inline(always)]
-    pub(crate) fn process_blocks<V: Vector, const MANY: bool>(
+    pub(crate) fn process_oneshot<V: Vector, const MANY: bool>(
         &mut self,
         v: V,
         bytes: &[u8],
@@ -109,16 +123,16 @@ impl StripeAccumulator {
         if MANY {
             *self = take_many_stripes(*self, v, bytes, secret);
         } else if secret.n_stripes() == STRIPES_IN_BLOCK && has_whole_blocks {
-            let taken = take_blocks::<V, false>(self.accumulator, v, bytes, secret);
+            let taken = process_blocks::<V, false>(self.accumulator, v, bytes, secret);
             *self = StripeAccumulator::starting_with(taken);
         } else {
-            self.process_near(v, bytes, secret);
+            self.process_stripes(v, bytes, secret);
         }
     }
 
     // Takes the whole stripes of bytes that begin and end anywhere in a block. The caller says whether the bytes are many.
     #[inline(always)]
-    pub(crate) fn process<V: Vector, const MANY: bool>(
+    pub(crate) fn process_piece<V: Vector, const MANY: bool>(
         &mut self,
         v: V,
         bytes: &[u8],
@@ -130,13 +144,13 @@ impl StripeAccumulator {
         if MANY {
             *self = take_many_stripes(*self, v, bytes, secret);
         } else {
-            self.process_near(v, bytes, secret);
+            self.process_stripes(v, bytes, secret);
         }
     }
 
     // Takes the stripes. The accumulators are a copy in the loop, so that they stay in registers.
     #[inline(always)]
-    pub(crate) fn process_near<V: Vector>(&mut self, v: V, bytes: &[u8], secret: Secret<'_>)
+    pub(crate) fn process_stripes<V: Vector>(&mut self, v: V, bytes: &[u8], secret: Secret<'_>)
         requires { current_stripe_of self.old < stripes_of (secret_bytes secret) }
         ensures { AfterStripes (secret_bytes secret.entry) self.old bytes.now self.new }
     {
@@ -162,7 +176,7 @@ fn take_stripes<V: Vector>(
     ensures { AfterStripes (secret_bytes secret.entry) from bytes.now result }
 {
     let mut taken = from;
-    taken.process_near(v, bytes, secret);
+    taken.process_stripes(v, bytes, secret);
     taken
 }
 
@@ -180,33 +194,18 @@ fn take_many_stripes<V: Vector>(
     if secret.n_stripes() != STRIPES_IN_BLOCK || bytes.len() < BYTES_IN_BLOCK {
         take_stripes(from, v, bytes, secret)
     } else if bytes.len() < MANY_BYTES {
-        take_stripes_by_fours(from, v, bytes, secret)
+        let mut taken = from;
+        taken.process_by_fours(v, bytes, secret);
+        taken
     } else {
-        take_stripes_by_blocks(from, v, bytes, secret)
+        process_by_blocks(from, v, bytes, secret)
     }
-}
-
-// The accumulators with the stripes taken four at a time, under a secret of 192 bytes.
-#[inline(always)]
-fn take_stripes_by_fours<V: Vector>(
-    from: StripeAccumulator,
-    v: V,
-    bytes: &[u8],
-    secret: Secret<'_>,
-) -> StripeAccumulator
-    requires all { stripes_of (secret_bytes secret) ≡ 16 }
-    requires place { current_stripe_of from < 16 }
-    requires some { 1024 ≤ length bytes.now }
-    ensures { AfterStripes (secret_bytes secret.entry) from bytes.now result }
-{
-    let mut taken = from;
-    taken.process_by_fours(v, bytes, secret);
-    taken
 }
 
 // The accumulators with the stripes taken by whole blocks, under a secret of 192 bytes: first the stripes to the end of
 // a block, and last those of a block that isn't whole.
-fn take_stripes_by_blocks<V: Vector>(
+#[inline(always)]
+fn process_by_blocks<V: Vector>(
     from: StripeAccumulator,
     v: V,
     bytes: &[u8],

@@ -2,12 +2,13 @@
 
 ghost use Rattle.std.specs.Prelude.{◌≡◌, ◌^◌, Some, None, IfOk, IsErrOf, string_bytes};
 ghost use Rattle.serde_json.specs.View.{view};
-ghost use Rattle.twox_plain.specs.Saved32.{core_of_data, record_of_data, record_of_text, core_data, saved_text};
-ghost use Rattle.twox_plain.specs.SavedText as Text;
+ghost use Rattle.twox_plain.specs.Saved32.{core_of_data, record_of_data, record_of_text, saved_text};
 
-use crate::saved_text::{byte_array, byte_array_value, u32_member, u64_member};
+use crate::saved_text::{
+    byte_array, byte_array_value, core_value, record_value, u32_member, u64_member,
+};
 use crate::xxhash32::{Core, SavedState};
-use serde_json::{Value, json};
+use serde_json::Value;
 use std::alloc::{AllocError, Global};
 use std::error::Error;
 use std::fmt;
@@ -64,30 +65,6 @@ fn record_of_value(value: &Value) -> Option<SavedState>
     })
 }
 
-fn core_value(alloc: Global, core: Core) -> Result<Value, AllocError>
-    ensures value { IfOk result (λ value. view value ≡ core_data core) }
-    ensures reads_back { IfOk result (λ value. core_of_data (view value) ≡ Some core) }
-{
-    let (v1, v2, v3, v4) = (core.v1, core.v2, core.v3, core.v4);
-    let value = json!(in alloc; {"v1": v1, "v2": v2, "v3": v3, "v4": v4})?;
-    Ok(value)
-}
-
-// The object of the members, of which the buffer and the core are values already.
-fn record_value(
-    alloc: Global,
-    buffer: Value,
-    core: Value,
-    usage: usize,
-    seed: u32,
-    total_len: u64,
-) -> Result<Value, AllocError>
-    ensures { IfOk result (λ value.
-        view value ≡ Text.record_data total_len seed (view core) (view buffer) usage) }
-{
-    json!(in alloc; {"buffer": buffer, "buffer_usage": usage, "core": core, "seed": seed, "total_len": total_len})
-}
-
 impl SavedState {
     /// The saved text: the compact JSON of an object with the members `buffer` (an array of numbers),
     /// `buffer_usage`, `core` (an object of `v1` to `v4`), `seed` and `total_len`, in this order.
@@ -101,9 +78,10 @@ impl SavedState {
             record_of_text (string_bytes text) ≡ Some self.now) }
     {
         let buffer = byte_array_value(alloc, &self.buffer)?;
-        let core = core_value(alloc, self.core)?;
+        let Core { v1, v2, v3, v4 } = self.core;
+        let core = core_value(alloc, v1 as u64, v2 as u64, v3 as u64, v4 as u64)?;
         let (usage, seed, total_len) = (self.buffer_usage, self.seed, self.total_len);
-        record_value(alloc, buffer, core, usage, seed, total_len)?.to_string(alloc)
+        record_value(alloc, buffer, core, usage, seed as u64, total_len)?.to_string(alloc)
     }
 
     /// The record of a saved text: of an object with the members that [`SavedState::to_json`] writes, in any

@@ -6,18 +6,7 @@ ghost use Rattle.twox_plain.specs.StateInMemory64.{record_of};
 
 use super::rounds::{BYTES_IN_STRIPE, finish_with};
 use super::{Core, SavedState, StateInMemory};
-use crate::words::{IntoU64, copy_short};
-
-// Lays the bytes over the front of the buffer, with no call where there are none.
-#[inline(always)]
-fn put_front(buffer: &mut [u8; BYTES_IN_STRIPE], bytes: &[u8])
-    requires { length bytes.now ≤ 32 }
-    ensures { buffer.new ≡ bytes.now ++ drop (length bytes.now) buffer.old }
-{
-    if !bytes.is_empty() {
-        copy_short(&mut buffer[..bytes.len()], bytes);
-    }
-}
+use crate::words::{IntoU64, copy_front, copy_short};
 
 impl StateInMemory {
     ghost use Rattle.twox_plain.specs.Record64.{StandsFor, after_write, finish_value};
@@ -40,9 +29,9 @@ impl StateInMemory {
         }
     }
 
-    // The record.
+    /// The record that lies here.
     #[inline(always)]
-    pub(super) fn record(&self) -> SavedState
+    pub fn record(&self) -> SavedState
         ensures { result ≡ record_of self.now }
     {
         let buffer = self.buffer;
@@ -128,7 +117,7 @@ impl StateInMemory {
         let mut core = self.core();
         let rest = core.write_many(&input[taken..]);
         self.set_core(core);
-        put_front(&mut self.buffer, rest);
+        copy_front(&mut self.buffer, rest);
         self.buffer_usage = rest.len();
     }
 

@@ -1,6 +1,6 @@
 //! Copies of short slices of bytes.
 
-ghost use Rattle.std.specs.Prelude.{◌≡◌, ◌+◌, ◌≤◌, length};
+ghost use Rattle.std.specs.Prelude.{◌≡◌, ◌+◌, ◌≤◌, ◌++◌, drop, length};
 
 /// Copies a slice of at most 32 bytes over another of its length.
 ///
@@ -39,6 +39,18 @@ pub fn copy_up_to_128(to: &mut [u8], from: &[u8])
         copy_ends::<32>(to, from);
     } else {
         copy_short(to, from);
+    }
+}
+
+/// Lays a slice of at most 32 bytes over the front of another, with one test where it is empty.
+#[inline(always)]
+pub fn copy_front(to: &mut [u8], from: &[u8])
+    requires room { length from.now ≤ length to.old }
+    requires short { length from.now ≤ 32 }
+    ensures { to.new ≡ from.now ++ drop (length from.now) to.old }
+{
+    if !from.is_empty() {
+        copy_short(&mut to[..from.len()], from);
     }
 }
 

@@ -1,6 +1,6 @@
 //! What a stream holds beside its secret and its seed: the stripes taken, and the bytes after them.
 
-ghost use Rattle.std.specs.Prelude.{◌≡◌, ℕ, List, ◌++◌, ◌+◌, ◌-◌, ◌*◌, ◌/◌, ◌<◌, ◌≤◌, min, take, drop, length};
+ghost use Rattle.std.specs.Prelude.{◌≡◌, ◌↔◌, ℕ, List, ◌++◌, ◌+◌, ◌-◌, ◌*◌, ◌/◌, ◌<◌, ◌≤◌, min, take, drop, length, IsTrue};
 ghost use Rattle.twox_core.specs.Long.{stripes_of};
 ghost use Rattle.twox_core.specs.SecretBytes.{secret_bytes};
 ghost use Rattle.twox_core.specs.Stripes.{current_stripe_of};
@@ -75,6 +75,18 @@ impl CoreState {
         self.total_bytes = 0;
     }
 
+    /// Whether the calls go on from the state over that secret: a state from elsewhere is tested by it.
+    #[inline(always)]
+    pub fn is_in_range(&self, secret: Secret<'_>) -> bool
+        ensures in_range { IsTrue result ↔ IsInRange (secret_bytes secret.entry) self.now }
+        ensures size { length self.now.buffer ≡ BUFFERED_BYTES }
+    {
+        let room = self.buffer[..].len();
+        self.taken.stripes.current_stripe() < secret.n_stripes()
+            && self.buffer_usage <= room
+            && (0 < self.buffer_usage || self.total_bytes == 0)
+    }
+
     /// Takes the bytes of `input` after those taken before.
     #[inline(always)]
     pub fn write<V: Vector>(&mut self, v: V, input: &[u8], secret: Secret<'_>)
@@ -98,9 +110,21 @@ impl CoreState {
         }
     }
 
+    /// Takes a piece of a few bytes that the buffer has room for, with no call, over whatever secret.
+    #[inline(always)]
+    pub fn keep_few(&mut self, input: &[u8])
+        requires room { self.old.buffer_usage + length input.now ≤ 512 }
+        requires few { length input.now ≤ 64 }
+        ensures { (s : List ℕ) → self.new ≡ state_after_write s self.old input.now }
+    {
+        let len = input.len().into_u64();
+        self.total_bytes = self.total_bytes.saturating_add(len);
+        self.add_few(input);
+    }
+
     // Fills the buffered bytes up to whole stripes, takes these, and goes on with the rest where it lies. A call
-    // of its own, so that small pieces pay no frame, and one for many bytes, so that others pay for no loop
-    // that reads ahead.
+    // of its own, so that small pieces pay no frame, and one for many bytes, so that others keep no register for
+    // the call that takes their stripes.
     #[inline(never)]
     fn write_through<V: Vector, const MANY: bool>(&mut self, v: V, input: &[u8], secret: Secret<'_>)
         requires place { self.old.taken.stripes.current_stripe < stripes_of (secret_bytes secret) }
@@ -126,11 +150,21 @@ impl CoreState {
     {
         // Of a piece of whole stripes there are none.
         if !head.is_empty() {
-            let used = self.buffer_usage;
-            let end = used + head.len();
-            copy_up_to_128(&mut self.buffer[used..end], head);
-            self.buffer_usage = end;
+            self.add_few(head);
         }
+    }
+
+    // Puts a few bytes after the buffered ones.
+    #[inline(always)]
+    fn add_few(&mut self, input: &[u8])
+        requires room { self.old.buffer_usage + length input.now ≤ 512 }
+        requires few { length input.now ≤ 64 }
+        ensures { self.new ≡ with_buffered self.old input.now }
+    {
+        let used = self.buffer_usage;
+        let end = used + input.len();
+        copy_up_to_128(&mut self.buffer[used..end], input);
+        self.buffer_usage = end;
     }
 
     // Puts a piece after the buffered bytes. Their number is stored first: a call that moves bytes is the last step then,
@@ -160,7 +194,7 @@ impl CoreState {
             < stripes_of (secret_bytes secret.entry) }
     {
         self.taken
-            .take::<V, false>(v, &self.buffer[..self.buffer_usage], secret);
+            .process::<V, false>(v, &self.buffer[..self.buffer_usage], secret);
         self.buffer_usage = 0;
     }
 
@@ -178,7 +212,7 @@ impl CoreState {
     {
         let count = rest.len().saturating_sub(64) / 64;
         let (whole, last) = rest.split_at(64 * count);
-        self.taken.take::<V, MANY>(v, whole, secret);
+        self.taken.process::<V, MANY>(v, whole, secret);
         self.begin_with(last);
     }
 
@@ -217,7 +251,7 @@ impl CoreState {
         let count = (self.buffer_usage - 1) / 64;
         let (whole, last_block) = self.buffer[..self.buffer_usage].split_at(64 * count);
         let mut stripes = self.taken.stripes;
-        stripes.process_near(v, whole, secret);
+        stripes.process_stripes(v, whole, secret);
         finalize.large(
             v,
             stripes.accumulators(),

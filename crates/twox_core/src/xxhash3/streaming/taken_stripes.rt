@@ -36,7 +36,7 @@ impl TakenStripes {
 
     // Takes the whole stripes of `bytes`. `MANY` says that these are so many that a call of its own pays.
     #[inline(always)]
-    pub(crate) fn take<V: Vector, const MANY: bool>(
+    pub(crate) fn process<V: Vector, const MANY: bool>(
         &mut self,
         v: V,
         bytes: &[u8],
@@ -47,7 +47,7 @@ impl TakenStripes {
             self.new ≡ after_taking s self.old bytes.now (length bytes.now / 64) }
         ensures place { self.new.stripes.current_stripe < stripes_of (secret_bytes secret.entry) }
     {
-        self.stripes.process::<V, MANY>(v, bytes, secret);
+        self.stripes.process_piece::<V, MANY>(v, bytes, secret);
         let count = bytes.len() / 64;
         self.count = self.count.saturating_add(count.into_u64());
         if count > 0 {

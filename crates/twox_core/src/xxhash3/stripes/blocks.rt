@@ -29,13 +29,13 @@ pub(super) fn take_many_blocks<V: Vector>(
     ensures { let s = secret_bytes secret.entry in
         at_start result ≡ after_stripes s (at_start acc) bytes.now (16 * (length bytes.now / 1024)) }
 {
-    take_blocks::<V, true>(acc, v, bytes, secret)
+    process_blocks::<V, true>(acc, v, bytes, secret)
 }
 
-// The accumulators after whole blocks. The caller says whether they are many: those have code of their own, in which
-// bytes can be fetched before they are read.
+// The accumulators after whole blocks. The caller says whether they are many: those have code of their own, to which
+// `assembly/prefetch.py` adds prefetches.
 #[inline(always)]
-pub(super) fn take_blocks<V: Vector, const MANY: bool>(
+pub(super) fn process_blocks<V: Vector, const MANY: bool>(
     acc: [u64; 8],
     v: V,
     bytes: &[u8],
@@ -48,7 +48,7 @@ pub(super) fn take_blocks<V: Vector, const MANY: bool>(
     let (blocks, _) = bp_as_chunks::<u8, 1024>(bytes);
     let mut taken = acc;
     'each: for i in 0..blocks.len() {
-        let mut sums = take_block::<V, MANY>(taken, v, &blocks[i], secret);
+        let mut sums = process_block::<V, MANY>(taken, v, &blocks[i], secret);
         v.round_scramble(&mut sums, secret.last_stripe());
         taken = sums;
     }
@@ -56,9 +56,9 @@ pub(super) fn take_blocks<V: Vector, const MANY: bool>(
 }
 
 // The accumulators with the 16 stripes of a block, four at a time: written out as 16, a block leaves no room between
-// them where bytes are fetched.
+// them for a prefetch.
 #[inline(always)]
-fn take_block<V: Vector, const MANY: bool>(
+fn process_block<V: Vector, const MANY: bool>(
     acc: [u64; 8],
     v: V,
     block: &[u8; 1024],
@@ -69,7 +69,7 @@ fn take_block<V: Vector, const MANY: bool>(
 {
     let mut taken = acc;
     'fours: for i in 0..4 {
-        let sums = take_four_stripes::<V, MANY>(taken, v, block, 4 * i, secret);
+        let sums = process_four_stripes::<V, MANY>(taken, v, block, 4 * i, secret);
         taken = sums;
     }
     taken
@@ -77,7 +77,7 @@ fn take_block<V: Vector, const MANY: bool>(
 
 // The accumulators with stripe `i` of a block and the three after it.
 #[inline(always)]
-fn take_four_stripes<V: Vector, const MANY: bool>(
+fn process_four_stripes<V: Vector, const MANY: bool>(
     acc: [u64; 8],
     v: V,
     block: &[u8; 1024],

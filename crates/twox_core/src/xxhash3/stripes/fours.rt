@@ -23,9 +23,9 @@ impl StripeAccumulator {
         let (front, rest) = bytes.split_at(64 * ((STRIPES_IN_BLOCK - self.current_stripe) % 4));
         let (fours, rest) = rest.split_at(rest.len() / 256 * 256);
         let mut taken = *self;
-        taken.process_near(v, front, secret);
+        taken.process_stripes(v, front, secret);
         taken.process_fours(v, fours, secret);
-        taken.process_near(v, rest, secret);
+        taken.process_stripes(v, rest, secret);
         *self = taken;
     }
 

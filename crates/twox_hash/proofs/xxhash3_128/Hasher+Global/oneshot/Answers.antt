@@ -7,7 +7,7 @@ use Rattle.twox_hash.proofs.xxhash3_128.Hasher+Global.oneshot.Goals as goal
 pub returns-clause-tells_others : goal.returns-clause-tells_others
 returns-clause-tells_others c =
     tells_others_128 0 _ default_secret c.args.input.now default_secret-bytes (λ k. omega (arith, c.type_inv.input k)) (lit< tt)
-    (λ _. c.into_u128.ensures ∙ c.impl_oneshot_default.ensures)
+    (λ _. c.into_u128.ensures ∙ c.oneshot.ensures)
 
 pub returns-clause-low_half : goal.returns-clause-low_half
-returns-clause-low_half c = has_low_half_64 0 _ default_secret c.args.input.now (c.into_u128.ensures ∙ c.impl_oneshot_default.ensures)
+returns-clause-low_half c = has_low_half_64 0 _ default_secret c.args.input.now (c.into_u128.ensures ∙ c.oneshot.ensures)

@@ -9,10 +9,10 @@ returns-clause-tells_others c =
     let same : secret_bytes c.in_ok-secret.secret ≡ c.args.secret.now = grind (arith, rules) in
     tells_others_128 0 _ c.args.secret.now c.args.input.now (λ k. omega (arith, c.type_inv.secret k))
     (λ k. omega (arith, c.type_inv.input k)) (lit< tt)
-    (λ _. c.into_u128.ensures ∙ c.impl_oneshot_keyed.ensures ∙ ap (λ s. xxh3_128 0 s c.args.input.now) same)
+    (λ _. c.into_u128.ensures ∙ c.oneshot_with_secret.ensures ∙ ap (λ s. xxh3_128 0 s c.args.input.now) same)
 
 pub returns-clause-low_half : goal.returns-clause-low_half
 returns-clause-low_half c =
     let same : secret_bytes c.in_ok-secret.secret ≡ c.args.secret.now = grind (arith, rules) in
     has_low_half_64 0 _ c.args.secret.now c.args.input.now
-    (c.into_u128.ensures ∙ c.impl_oneshot_keyed.ensures ∙ ap (λ s. xxh3_128 0 s c.args.input.now) same)
+    (c.into_u128.ensures ∙ c.oneshot_with_secret.ensures ∙ ap (λ s. xxh3_128 0 s c.args.input.now) same)

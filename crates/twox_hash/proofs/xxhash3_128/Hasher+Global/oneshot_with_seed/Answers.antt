@@ -12,11 +12,11 @@ returns-clause-tells_others c =
     tells_others_128 c.args.seed _ default_secret m default_secret-bytes (λ k. omega (arith, c.type_inv.input k)) (omega arith)
     (λ short.
     c.into_u128.ensures
-    ∙ c.impl_oneshot_seeded.ensures
+    ∙ c.oneshot_with_seed.ensures
     ∙ ap (λ s. xxh3_128 c.args.seed s m) (effective_short (derived_secret c.args.seed) m short))
 
 pub returns-clause-low_half : goal.returns-clause-low_half
 returns-clause-low_half c =
     let m = c.args.input.now in
     has_low_half_64 c.args.seed _ (effective_secret (derived_secret c.args.seed) m) m
-    (c.into_u128.ensures ∙ c.impl_oneshot_seeded.ensures)
+    (c.into_u128.ensures ∙ c.oneshot_with_seed.ensures)

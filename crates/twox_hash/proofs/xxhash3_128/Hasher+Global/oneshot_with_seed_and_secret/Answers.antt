@@ -11,7 +11,7 @@ pub returns-then-input-le-CUTOFF-clause-tells_others : goal.returns-then-input-l
 returns-then-input-le-CUTOFF-clause-tells_others c =
     let m = c.args.input.now in
     tells_others_128 c.args.seed _ default_secret m default_secret-bytes (λ k. omega (arith, c.type_inv.input k)) (omega arith)
-    (λ _. c.into_u128.ensures ∙ c.impl_oneshot.ensures ∙ ap (λ s. xxh3_128 c.args.seed s m) c.default_secret.ensures)
+    (λ _. c.into_u128.ensures ∙ c.oneshot_short.ensures ∙ ap (λ s. xxh3_128 c.args.seed s m) c.default_secret.ensures)
 
 pub returns-then-input-le-CUTOFF-clause-low_half : goal.returns-then-input-le-CUTOFF-clause-low_half
 returns-then-input-le-CUTOFF-clause-low_half c =
@@ -19,7 +19,7 @@ returns-then-input-le-CUTOFF-clause-low_half c =
     let given = c.args.secret.now in
     has_low_half_64 c.args.seed _ (effective_secret given m) m
     (c.into_u128.ensures
-    ∙ c.impl_oneshot.ensures
+    ∙ c.oneshot_short.ensures
     ∙ ap (λ s. xxh3_128 c.args.seed s m) (c.default_secret.ensures ∙ sym (effective_short given m (omega arith))))
 
 pub returns-clause-low_half : goal.returns-clause-low_half
@@ -29,5 +29,5 @@ returns-clause-low_half c =
     let same : secret_bytes c.in_ok-own.own ≡ given = grind (arith, rules) in
     has_low_half_64 c.args.seed _ (effective_secret given m) m
     (c.into_u128-2.ensures
-    ∙ c.impl_oneshot_long.ensures c.args.seed
+    ∙ c.oneshot_long.ensures c.args.seed
     ∙ ap (λ s. xxh3_128 c.args.seed s m) (same ∙ sym (effective_long given m (omega arith))))

@@ -7,4 +7,4 @@ use Rattle.twox_hash.proofs.xxhash3_64.Hasher+Global.oneshot.Goals as goal
 pub returns-clause-tells_others : goal.returns-clause-tells_others
 returns-clause-tells_others c =
     tells_others_64 0 _ default_secret c.args.input.now default_secret-bytes (λ k. omega (arith, c.type_inv.input k)) (lit< tt)
-    (λ _. c.impl_oneshot_default.ensures)
+    (λ _. c.oneshot.ensures)

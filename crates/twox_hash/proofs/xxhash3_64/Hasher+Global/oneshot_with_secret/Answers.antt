@@ -9,4 +9,4 @@ returns-clause-tells_others c =
     let same : secret_bytes c.in_ok-secret.secret ≡ c.args.secret.now = grind (arith, rules) in
     tells_others_64 0 _ c.args.secret.now c.args.input.now (λ k. omega (arith, c.type_inv.secret k))
     (λ k. omega (arith, c.type_inv.input k)) (lit< tt)
-    (λ _. c.impl_oneshot_keyed.ensures ∙ ap (λ s. xxh3_64 0 s c.args.input.now) same)
+    (λ _. c.oneshot_with_secret.ensures ∙ ap (λ s. xxh3_64 0 s c.args.input.now) same)

@@ -11,5 +11,5 @@ returns-clause-tells_others c =
     let m = c.args.input.now in
     tells_others_64 c.args.seed _ default_secret m default_secret-bytes (λ k. omega (arith, c.type_inv.input k)) (omega arith)
     (λ short.
-    c.impl_oneshot_seeded.ensures
+    c.oneshot_with_seed.ensures
     ∙ ap (λ s. xxh3_64 c.args.seed s m) (effective_short (derived_secret c.args.seed) m short))

@@ -9,4 +9,4 @@ pub returns-then-input-le-CUTOFF-clause-tells_others : goal.returns-then-input-l
 returns-then-input-le-CUTOFF-clause-tells_others c =
     let m = c.args.input.now in
     tells_others_64 c.args.seed _ default_secret m default_secret-bytes (λ k. omega (arith, c.type_inv.input k)) (omega arith)
-    (λ _. c.impl_oneshot.ensures ∙ ap (λ s. xxh3_64 c.args.seed s m) c.default_secret.ensures)
+    (λ _. c.oneshot_short.ensures ∙ ap (λ s. xxh3_64 c.args.seed s m) c.default_secret.ensures)

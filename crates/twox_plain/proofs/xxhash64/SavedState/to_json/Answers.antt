@@ -4,12 +4,12 @@ use Rattle.std.proofs.lemmas.Result.{IfOk-weaker}
 use Rattle.serde_json.specs.View.{view}
 use Rattle.serde_json.specs.Written.{compact_text}
 use Rattle.twox_plain.specs.Saved64.{record_of_data, record_data}
-use Rattle.twox_plain.proofs.SavedTexts64.{has_no_float, shallow, compact_text-record_data, record_of_data-record_data}
+use Rattle.twox_plain.proofs.SavedTexts64.{has_no_float, shallow, compact_text-record_data, core_of_data-core_data, record_of_data-record_data}
 use Rattle.twox_plain.proofs.xxhash64.SavedState.to_json.Goals as goal
 
 -- the value that is written is the record's
 value_is : (c : goal.Joined-branch-4) → view c.in_ok-record_value.field-0 ≡ record_data c.args.self.now
-value_is c = rw (c.in_ok-record_value.ensures, c.in_ok-buffer.ensures.value, c.in_ok-core.ensures.value) refl
+value_is c = rw (c.in_ok-record_value.ensures, c.in_ok-buffer.ensures.value, c.in_ok-core.ensures) refl
 
 pub returns-clause-text : goal.returns-clause-text
 returns-clause-text c =
@@ -20,5 +20,5 @@ pub returns-clause-reads_back : goal.returns-clause-reads_back
 returns-clause-reads_back c =
     let s = c.args.self.now in
     let size : length s.buffer ≡ 32 = omega arith in
-    let back = record_of_data-record_data s (rw size at c.in_ok-buffer.ensures.reads_back) (rw c.in_ok-core.ensures.value at c.in_ok-core.ensures.reads_back) (omega arith) (omega arith) (omega arith) in
+    let back = record_of_data-record_data s (rw size at c.in_ok-buffer.ensures.reads_back) (core_of_data-core_data s.core (omega arith) (omega arith) (omega arith) (omega arith)) (omega arith) (omega arith) (omega arith) in
     IfOk-weaker c.to_string.result _ _ (λ text read. ap (option_and_then record_of_data) (read (rw (value_is c) (shallow s))) ∙ ap record_of_data (value_is c) ∙ back) c.to_string.ensures.reads_back

@@ -20,9 +20,9 @@ returns-clause-exact c =
     elim c.if-before-gt0.branch [
       | then-before-gt0 w ↦
           let room : length (take (32 - old.buffer_usage) d) ≡ 32 - old.buffer_usage = length-take-le (32 - old.buffer_usage) d (omega arith) in
-          rw (after_piece_full 32 core_after_stripes (parts old).state d w.if-before-gt0.true (omega arith), c.put_front.ensures, c.set_core-2.ensures, rw w.taken-is at taken, rw w.taken-is at cut, w.self-is, w.set_core.ensures, w.write.ensures, w.core-core.ensures, w.copy_short.ensures, room, c.saturating_add-self.ensures, c.into_u64.ensures) refl
+          rw (after_piece_full 32 core_after_stripes (parts old).state d w.if-before-gt0.true (omega arith), c.copy_front.ensures, c.set_core-2.ensures, rw w.taken-is at taken, rw w.taken-is at cut, w.self-is, w.set_core.ensures, w.write.ensures, w.core-core.ensures, w.copy_short.ensures, room, c.saturating_add-self.ensures, c.into_u64.ensures) refl
       | else-before-gt0 w ↦
-          rw (after_piece_empty 32 core_after_stripes (parts old).state d (omega arith), c.put_front.ensures, c.set_core-2.ensures, rw w.taken-is at taken, rw w.taken-is at cut, w.self-is, c.saturating_add-self.ensures, c.into_u64.ensures) refl
+          rw (after_piece_empty 32 core_after_stripes (parts old).state d (omega arith), c.copy_front.ensures, c.set_core-2.ensures, rw w.taken-is at taken, rw w.taken-is at cut, w.self-is, c.saturating_add-self.ensures, c.into_u64.ensures) refl
     ]
 
 pub returns-clause-message : goal.returns-clause-message

@@ -21,6 +21,6 @@ returns-clause-exact g c =
     let test : nat_le now.total_bytes 240 ≡ false = grind (arith, nat_tests) in
     let width = length-take-le now.buffer_usage now.buffer (omega arith) in
     let number : length c.split_at.result.0.now / 64 ≡ n = omega (arith, length-take-le (64 * n) (buffered_bytes now) (omega arith)) in
-    let taken = rw (number, c.split_at.ensures.front) at c.process_near.ensures.exact ∙ after_stripes-take s now.taken.stripes (buffered_bytes now) (64 * n) n (omega arith) in
+    let taken = rw (number, c.split_at.ensures.front) at c.process_stripes.ensures.exact ∙ after_stripes-take s now.taken.stripes (buffered_bytes now) (64 * n) n (omega arith) in
     let accumulators = rw taken at c.accumulators.ensures in
     rw test (rw (accumulators, c.split_at.ensures.back, c.last_stripe-last_stripe.ensures) at c.large.ensures)

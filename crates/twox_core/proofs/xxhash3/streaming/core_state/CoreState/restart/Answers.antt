@@ -15,6 +15,6 @@ returns-clause-exact g c =
     let width : length (take (64 * n) r) / 64 ≡ n = omega (arith, length-take-le (64 * n) r (omega arith)) in
     let part = rw c.saturating_sub-count.ensures at c.split_at.ensures.front in
     let back = rw c.saturating_sub-count.ensures at c.split_at.ensures.back in
-    let taken : c.take.new.self ≡ after_taking s t r n =
-    rw (part, width) at c.take.ensures.exact ∙ after_taking-take s t r (64 * n) n (omega arith) in
+    let taken : c.process.new.self ≡ after_taking s t r n =
+    rw (part, width) at c.process.ensures.exact ∙ after_taking-take s t r (64 * n) n (omega arith) in
     rw (c.begin_with.ensures, taken, back, length-drop (64 * n) r) refl

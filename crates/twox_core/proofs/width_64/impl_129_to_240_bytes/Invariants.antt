@@ -1,0 +1,16 @@
+use Rattle.std.proofs.Common.{◌≡◌, ◌+◌, ◌-◌, ◌*◌, ◌/◌, ◌%◌, ◌^◌, length}
+use Rattle.twox_core.specs.Primes.{prime64_1}
+use Rattle.twox_core.specs.SecretBytes.{secret_bytes}
+use Rattle.twox_core.specs.Steps.{avalanche, sum_below}
+use Rattle.twox_core.specs.Middle.{early, later}
+use Rattle.twox_core.proofs.width_64.impl_129_to_240_bytes.Given as goal
+
+abbrev pub invariant-early : goal.invariant-early
+invariant-early l =
+    l.acc ≡ (length l.input * prime64_1 + sum_below (early l.seed (secret_bytes l.secret) l.input) l.c) % 2 ^ 64
+
+-- the chunks of part 2 that were taken are the first c, or all where there are fewer
+abbrev pub invariant-later : goal.invariant-later
+invariant-later l =
+    l.acc ≡ (avalanche ((length l.input * prime64_1 + sum_below (early l.seed (secret_bytes l.secret) l.input) 8) % 2 ^ 64)
+    + sum_below (later l.seed (secret_bytes l.secret) l.input) (l.c - (l.c - (length l.input / 16 - 8)))) % 2 ^ 64

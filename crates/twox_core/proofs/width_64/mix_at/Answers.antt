@@ -1,0 +1,13 @@
+use Rattle.std.proofs.Common.{◌≡◌, ◌+◌, arith, ap, ◌∙◌}
+use Rattle.std.specs.Int.{w64}
+use Rattle.twox_words.proofs.WordFacts.{word_at-drop}
+use Rattle.twox_core.specs.Steps.{word64}
+use Rattle.twox_core.proofs.width_64.mix_at.Goals as goal
+
+pub returns : goal.returns
+returns c =
+    let m = c.args.input.now in
+    let i = c.args.i in
+    let place : 8 + i ≡ i + 8 = omega arith in
+    let second = c.u64_at-2.ensures ∙ ap (λ b. word64 b i) c.requires.from_8 ∙ word_at-drop w64 8 m i ∙ ap (word64 m) place in
+    c.mix_words.ensures m i c.u64_at.ensures second
