@@ -58,7 +58,7 @@ class Module {
   }
 
   ourStream(kind, pieces) {
-    const family = kind.startsWith("xxh3") ? "xxh3" : kind;
+    const family = kind.startsWith("xxh3_") ? "xxh3" : kind;
     const { [`twox_${family}_update`]: update, [`twox_${kind}_digest`]: digest } = this.calls;
     const [record, secret, value] = [this.record, this.secret, this.value].map(BigInt);
     const own = family === "xxh3" ? [secret, 192n] : [];

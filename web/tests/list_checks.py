@@ -209,7 +209,8 @@ def download(page):
     page.choose(wanted, *[page.file(f"other{i}.iso", b"%d" % i, 3000 << 20) for i in range(3)])
     for i in range(3):
         page.wait_for(f"other{i}.iso", "card.words === 'Not hashed, since the expected digest was found'")
-    want(page.text_of("#verdict") == "Same: XXH3, 128 bits of download.iso. 3 more have no digest.", page.text_of("#verdict"))
+    verdict = "Same: XXH3, 128 bits of download.iso. 3 more have no digest."
+    page.browser.wait("return document.getElementById('verdict').textContent === arguments[0]", verdict, seconds=5)
     page.browser.run("""[...document.querySelectorAll(".card")].at(-1).querySelector(".act").click()""")
     page.wait_for("other2.iso", "card.isRunning && card.words.includes(' of ')")
     page.browser.click("#stop-all")

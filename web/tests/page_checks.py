@@ -209,7 +209,7 @@ def clear(page):
     page.choose(page.file("one.bin", b"1"))
     page.digests("one.bin")
     page.browser.click("#clear")
-    want(page.browser.run("return !document.querySelector('.card') && document.getElementById('results').hidden"), "the list stays")
+    page.browser.wait("return !document.querySelector('.card') && document.getElementById('results').hidden", seconds=5)
     want(focused(page) == "files", "the focus is lost")
 
 
