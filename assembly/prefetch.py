@@ -35,6 +35,7 @@ PLACES = {
     'x86-64-v2': [*EVERYWHERE, IN_MANY_BLOCKS],
     'x86-64-v3': [*EVERYWHERE, IN_BLOCKS],
     'generic': [*EVERYWHERE, IN_MANY_BLOCKS],
+    'lime1': [],  # WebAssembly has no prefetch
 }
 
 LINE = 64
@@ -119,8 +120,11 @@ class Module:
 
 def add(text, places=None):
     module = Module(text)
+    places = PLACES[module.processor()] if places is None else places
+    if not places:
+        return text
     bodies = {}
-    for place in places or PLACES[module.processor()]:
+    for place in places:
         names = module.functions(place)
         if not names:
             refuse(f'the module has no {place.function}')

@@ -45,6 +45,8 @@ SHARED = [
     ("streams in pieces of 1 to 64 bytes", ("stream",), 1, 64),
     ("streams in pieces of 256 bytes to 64 KiB", ("stream",), 256, 65536),
 ]
+WASM = {"c_wasm64": "64-bit addresses", "c_wasm32": "32-bit addresses", "c_plain": "without vectors",
+        "c_fastest": "the fastest of all"}
 # What is to be reached beside the best of the peers: the name, the forms, the hashes, the sizes and the ratio.
 GOALS = [
     ("XXH3, one-shots of 256 bytes to 16 KiB", ("oneshot",), XXH3, 256, 16 * KIB, 0.95),
@@ -140,9 +142,13 @@ def dispatch():
 
 
 def wasm(rows):
-    lines = [[name, *(ranged([it.peers[peer].median for it in rows if it.name == name]) for peer in ("c_wasm64", "c_wasm32"))]
+    """The header built for WebAssembly: as `web/bench` has it, or as it was before there were vectors."""
+    peers = {it: WASM[it] for it in WASM if it in rows[0].peers}
+    said = "over the module that the page has; none has vectors." if "c_wasm64" in peers else \
+        "over the module with vectors, in Node; [web/README.md](../web/README.md#speed) has browsers too."
+    lines = [[name, *(ranged([it.peers[peer].median for it in rows if it.name == name]) for peer in peers)]
              for name in dict.fromkeys(it.name for it in rows)]
-    return markdown(["hash", "64-bit addresses", "32-bit addresses"], lines)
+    return [f"The reference library's header built by clang for WebAssembly, {said}", "", *markdown(["hash", *peers.values()], lines)]
 
 
 def programs(rows):
@@ -232,8 +238,6 @@ The time of Debian's `libxxhash.so.0` over that of ours at x86-64-v3, both in on
 #SHARED
 #DISPATCH
 ## WebAssembly, programs, kernels
-
-The reference library's header built by clang for WebAssembly, over the module that the page has; none has vectors.
 
 #WASM
 `xxh` beside Debian's `xxhsum`, which takes AVX-512 where the processor has it: wall time of the whole program, 1 GiB in the page cache.

@@ -2,7 +2,13 @@
 import { lineOf } from "./lines.js";
 import { NAMES, copy, copyOf, keyInWords, sizeInWords } from "./words.js";
 
+/** The element is made when it is first shown: of thousands of files most are not. */
 export class Card {
+  #item;
+  #words;
+  #verdicts = [];
+  #judged = "";
+
   /**
    * `list` is asked to `start` and to `stop` a card, is told by `changed` what may matter to others, and says by
    * `shownKinds(card)` which digests are shown. `name` is the file's path as far as the page knows it.
@@ -12,14 +18,7 @@ export class Card {
     this.name = name;
     this.hold(blob);
     this.state = "waiting";
-    this.item = copyOf("card");
-    this.part(".name").textContent = name;
-    this.part("progress").setAttribute("aria-label", `Progress of ${name}`);
-    this.part(".remove").setAttribute("aria-label", `Remove ${name}`);
-    this.part(".act").addEventListener("click", () => this.act());
-    this.part(".more").addEventListener("click", () => this.open(!this.isOpen));
-    this.part(".remove").addEventListener("click", () => list.remove(this));
-    this.show("Waiting");
+    this.#words = "Waiting";
   }
 
   /** Keeps the blob and its size, since a browser may say 0 of a file that has vanished meanwhile. */
@@ -28,8 +27,26 @@ export class Card {
     this.size = blob.size;
   }
 
-  part(selector) {
-    return this.item.querySelector(selector);
+  /** The card's element. */
+  view() {
+    return this.#item ??= this.#made();
+  }
+
+  #made() {
+    this.#item = copyOf("card");
+    this.#part(".name").textContent = this.name;
+    this.#part("progress").setAttribute("aria-label", `Progress of ${this.name}`);
+    this.#part(".remove").setAttribute("aria-label", `Remove ${this.name}`);
+    this.#part(".act").addEventListener("click", () => this.act());
+    this.#part(".more").addEventListener("click", () => this.open(!this.isOpen));
+    this.#part(".remove").addEventListener("click", () => this.list.remove(this));
+    this.#draw();
+    this.#drawVerdicts();
+    return this.#item;
+  }
+
+  #part(selector) {
+    return this.#item.querySelector(selector);
   }
 
   /** What the card's button does now: it stops what runs or waits, and starts again what doesn't. */
@@ -45,7 +62,7 @@ export class Card {
   wait() {
     this.state = "waiting";
     this.show("Waiting");
-    this.list.startNext();
+    this.list.enqueue(this);
   }
 
   start(key) {
@@ -62,8 +79,8 @@ export class Card {
   }
 
   progress(done) {
-    this.part("progress").value = done / this.size;
     const seconds = (performance.now() - this.started) / 1000;
+    if (this.#item) this.#part("progress").value = done / this.size;
     this.tell(`${sizeInWords(done)} of ${sizeInWords(this.size)}, ${sizeInWords(done / seconds)}/s`);
   }
 
@@ -82,31 +99,37 @@ export class Card {
 
   show(words) {
     if (this.state !== "done") this.digests = undefined;
-    this.item.classList.toggle("failed", this.state === "failed");
-    this.part("progress").hidden = this.state !== "running";
-    if (this.state !== "running") this.part("progress").value = 0;
-    this.showDigests();
-    this.showButton();
-    this.tell(words);
+    this.#words = words;
+    if (this.#item) this.#draw();
     this.list.changed();
   }
 
+  #draw() {
+    this.#item.classList.toggle("failed", this.state === "failed");
+    this.#part("progress").hidden = this.state !== "running";
+    if (this.state !== "running") this.#part("progress").value = 0;
+    this.showDigests();
+    this.#drawButton();
+    this.tell(this.#words);
+  }
+
   showDigests() {
+    if (!this.#item) return;
     const kinds = this.digests ? this.list.shownKinds(this) : [];
-    this.part("dl").hidden = kinds.length === 0;
-    this.part("dl").replaceChildren(...kinds.map((kind) => this.digest(kind)));
-    this.part(".more").hidden = !this.digests || !this.list.isCompact;
+    this.#part("dl").hidden = kinds.length === 0;
+    this.#part("dl").replaceChildren(...kinds.map((kind) => this.#digest(kind)));
+    this.#part(".more").hidden = !this.digests || !this.list.isCompact;
   }
 
   /** Shows all digests, or the one of the list's choice, where the list is compact. */
   open(isOpen) {
     this.isOpen = isOpen;
-    this.part(".more").setAttribute("aria-expanded", String(isOpen));
-    this.item.classList.toggle("open", isOpen);
+    this.#part(".more").setAttribute("aria-expanded", String(isOpen));
+    this.#item.classList.toggle("open", isOpen);
     this.showDigests();
   }
 
-  digest(kind) {
+  #digest(kind) {
     const row = copyOf("digest");
     const value = this.digests[kind];
     const button = row.querySelector("button");
@@ -125,23 +148,29 @@ export class Card {
     return this.digests?.[kind] ? lineOf(kind, this.digests[kind], this.name) : "";
   }
 
-  showButton() {
+  #drawButton() {
     const word = this.isBusy() ? "Stop" : this.state === "done" ? "" : "Start again";
-    this.part(".act").hidden = !word;
-    this.part(".act").textContent = word;
-    this.part(".act").setAttribute("aria-label", `${word}: ${this.name}`);
+    this.#part(".act").hidden = !word;
+    this.#part(".act").textContent = word;
+    this.#part(".act").setAttribute("aria-label", `${word}: ${this.name}`);
   }
 
   tell(words) {
-    this.part(".state").textContent = words;
+    this.#words = words;
+    if (this.#item) this.#part(".state").textContent = words;
   }
 
   /** Shows how it compares: each verdict says whether it is the same, and in words what. */
   judge(verdicts) {
     const words = verdicts.map((verdict) => verdict.words).join("\n");
-    if (words === this.judged) return;
-    this.judged = words;
-    this.part(".verdicts").replaceChildren(...verdicts.map(({ isSame, words }) => {
+    if (words === this.#judged) return;
+    this.#judged = words;
+    this.#verdicts = verdicts;
+    if (this.#item) this.#drawVerdicts();
+  }
+
+  #drawVerdicts() {
+    this.#part(".verdicts").replaceChildren(...this.#verdicts.map(({ isSame, words }) => {
       const item = document.createElement("li");
       item.className = isSame ? "same" : "different";
       item.textContent = words;

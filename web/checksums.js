@@ -1,11 +1,23 @@
 /** Digests that are expected: the one in the field, and those of checksum files. */
 import { readField } from "./key.js";
 import { readExpected, readList, sameKind } from "./lines.js";
-import { $, NAMES, copyOf, counted } from "./words.js";
+import { Rows } from "./rows.js";
+import { $, NAMES, copyOf, counted, inThousands } from "./words.js";
 
-/** The digest in the field: shows how the cards compare with it, and gives each card's verdict. */
+/** The digest in the field, undefined where there is none. */
+function readExpectedField() {
+  return readField("expected", () => ($("expected").value.trim() ? readExpected($("expected").value) : undefined)).value;
+}
+
+/** Whether one of these digests is the one in the field. */
+export function isExpected(digests) {
+  const wanted = readExpectedField();
+  return wanted !== undefined && sameKind(wanted, digests) !== undefined;
+}
+
+/** Shows how the cards compare with the digest in the field, and gives each card's verdict. */
 export function compareWithField(cards) {
-  const { value: wanted } = readField("expected", () => ($("expected").value.trim() ? readExpected($("expected").value) : undefined));
+  const wanted = readExpectedField();
   const done = wanted ? cards.filter((card) => card.digests) : [];
   const verdicts = new Map(done.map((card) => [card, verdictOf(wanted, card, "")]));
   const same = done.filter((card) => verdicts.get(card).isSame);
@@ -17,8 +29,8 @@ export function compareWithField(cards) {
 function fieldInWords(wanted, done, same, all) {
   if (all === 0) return "There is nothing to compare it with yet.";
   if (done.length === 0) return "There is no digest to compare it with yet.";
-  const left = done.length < all ? ` ${all - done.length} more have no digest.` : "";
-  if (same.length === 0) return `Different: ${done.length === 1 ? `no digest of ${done[0].name}` : `none of the ${done.length}`} is this one.${left}`;
+  const left = done.length < all ? ` ${inThousands(all - done.length)} more have no digest.` : "";
+  if (same.length === 0) return `Different: ${done.length === 1 ? `no digest of ${done[0].name}` : `none of the ${inThousands(done.length)}`} is this one.${left}`;
   const others = done.length > same.length ? ` Different from ${counted(done.length - same.length, "other")}.` : "";
   return `Same: ${NAMES[sameKind(wanted, same[0].digests)]} of ${same.map(({ name }) => name).join(", ")}.${others}${left}`;
 }
@@ -34,6 +46,40 @@ const WITHOUT_DIGEST = { failed: "can't be read", stopped: "stopped", waiting: "
 /** The order in which the kinds of rows are counted. */
 const COUNTED = ["same", "different", "can't be read", "not here", "stopped", "waiting"];
 
+/** From how many lines on those that aren't the same can be shown alone. */
+const FILTERED_FROM = 20;
+
+/** A line of a checksum file, with the word that says how it compares. */
+class Line {
+  #item;
+  word = "";
+
+  constructor({ name }) {
+    this.name = name;
+  }
+
+  view() {
+    if (!this.#item) {
+      this.#item = copyOf("checkrow");
+      this.#item.querySelector(".file").textContent = this.name;
+      this.#draw();
+    }
+    return this.#item;
+  }
+
+  show(word) {
+    if (word === this.word) return;
+    this.word = word;
+    if (this.#item) this.#draw();
+  }
+
+  #draw() {
+    const place = this.#item.querySelector(".word");
+    place.textContent = this.word;
+    place.className = `word ${this.word === "same" ? "same" : this.word === "waiting" ? "quiet" : "different"}`;
+  }
+}
+
 /** A checksum file: a row for each of its lines, and the counts at the end. */
 export class Checklist {
   constructor(list, name, { entries, others }) {
@@ -41,17 +87,24 @@ export class Checklist {
     this.entries = entries;
     this.others = others;
     this.item = copyOf("checklist");
-    this.item.querySelector(".name").textContent = name;
-    this.item.querySelector(".hash").addEventListener("click", () => list.hashInstead(this));
-    this.item.querySelector(".hash").setAttribute("aria-label", `Hash ${name} as a file`);
-    this.item.querySelector(".remove").addEventListener("click", () => list.remove(this));
-    this.item.querySelector(".remove").setAttribute("aria-label", `Remove ${name}`);
-    this.rows = entries.map((entry) => {
-      const row = copyOf("checkrow");
-      row.querySelector(".file").textContent = entry.name;
-      return row;
-    });
-    this.item.querySelector("ol").append(...this.rows);
+    this.part(".name").textContent = name;
+    this.part(".hash").addEventListener("click", () => list.hashInstead(this));
+    this.part(".hash").setAttribute("aria-label", `Hash ${name} as a file`);
+    this.part(".remove").addEventListener("click", () => list.remove(this));
+    this.part(".remove").setAttribute("aria-label", `Remove ${name}`);
+    this.part(".filter").hidden = entries.length < FILTERED_FROM;
+    this.part(".filter input").addEventListener("change", () => this.showRows());
+    this.lines = entries.map((entry) => new Line(entry));
+    this.rows = new Rows(this.part("ol"), this.part(".more"));
+    this.showRows();
+  }
+
+  view() {
+    return this.item;
+  }
+
+  part(selector) {
+    return this.item.querySelector(selector);
   }
 
   /** Shows how each line compares, and gives the verdicts by their cards. */
@@ -63,27 +116,28 @@ export class Checklist {
       const word = verdict ? (verdict.isSame ? "same" : "different") : card ? WITHOUT_DIGEST[card.state] : "not here";
       if (verdict) verdicts.set(card, verdict.isSame ? verdict : { ...verdict, words: `Different from ${this.name}` });
       counts[word] = (counts[word] ?? 0) + 1;
-      this.showRow(this.rows[i].querySelector(".word"), word);
+      this.lines[i].show(word);
     });
+    this.showRows();
     this.showCounts(counts);
     return verdicts;
   }
 
-  showRow(place, word) {
-    if (place.textContent === word) return;
-    place.textContent = word;
-    place.className = `word ${word === "same" ? "same" : word === "waiting" ? "quiet" : "different"}`;
+  /** The rows of all lines, or of those that aren't the same. */
+  showRows() {
+    const areOthersLeftOut = this.part(".filter input").checked;
+    this.rows.set(areOthersLeftOut ? this.lines.filter(({ word }) => word !== "same") : this.lines);
   }
 
   showCounts(counts) {
-    const words = COUNTED.filter((word) => counts[word]).map((word) => `${counts[word]} ${word}`);
+    const words = COUNTED.filter((word) => counts[word]).map((word) => `${inThousands(counts[word])} ${word}`);
     if (this.others) words.push(`${counted(this.others, "line")} not understood`);
-    const place = this.item.querySelector(".counts");
+    const place = this.part(".counts");
     const isGood = counts.same === this.entries.length && !this.others;
     place.className = `counts ${isGood ? "same" : counts.waiting ? "quiet" : "different"}`;
     const text = `${counted(this.entries.length + this.others, "line")}: ${words.join(", ")}.`;
     if (place.textContent !== text) place.textContent = text;
-    this.item.querySelector(".hint").hidden = !counts["not here"];
+    this.part(".hint").hidden = !counts["not here"];
   }
 }
 

@@ -13,7 +13,10 @@ function byPath(found) {
 /** Files of a drop. What can't be read has an `error` in place of a file. */
 export async function filesOfDrop({ items }) {
   // What was dropped is gone after the event, so all entries are asked for before the first wait.
-  const entries = [...items].filter(({ kind }) => kind === "file").map((item) => item.webkitGetAsEntry?.() ?? item.getAsFile());
+  const entries = [...items].filter(({ kind }) => kind === "file").map((item) => {
+    const entry = item.webkitGetAsEntry?.();
+    return entry?.isDirectory ? entry : item.getAsFile() ?? entry;
+  });
   const found = await Promise.all(entries.map((entry) => (entry instanceof File ? [{ path: entry.name, file: entry }] : filesIn(entry))));
   return byPath(found.flat());
 }

@@ -42,7 +42,8 @@ export function readField(field, read) {
     error = thrown.message;
   }
   if ($(`${field}-error`).textContent !== error) $(`${field}-error`).textContent = error;
-  $(field).setAttribute("aria-invalid", String(error !== ""));
+  const isWrong = String(error !== "");
+  if ($(field).getAttribute("aria-invalid") !== isWrong) $(field).setAttribute("aria-invalid", isWrong);
   return { value, error };
 }
 

@@ -1,16 +1,21 @@
-/** twox_hash.js for Node, which reads the WebAssembly module from its file. */
+/** twox_hash.js for Node, which reads the WebAssembly module from its file, and a hash for Node's streams. */
 import { readFile } from "node:fs/promises";
 import { load as loadFrom } from "./twox_hash.js";
 
 export * from "./twox_hash.js";
+export { Hash, createHash } from "./node_hash.js";
 
 /** As `load` of twox_hash.js, and a `file:` address is read. */
-export function load(source = "out/twox_hash.wasm") {
-  return loadFrom(() => read(source));
+export function load(source = besideThisFile) {
+  return loadFrom((hasVectors) => read(source, hasVectors));
 }
 
-async function read(source) {
-  if (typeof source === "function") return read(await source());
+function besideThisFile(hasVectors) {
+  return new URL(hasVectors ? "twox_hash_simd.wasm" : "twox_hash.wasm", import.meta.url);
+}
+
+async function read(source, hasVectors) {
+  if (typeof source === "function") return read(await source(hasVectors), hasVectors);
   if (typeof source !== "string" && !(source instanceof URL)) return source;
   const url = new URL(source, import.meta.url);
   return url.protocol === "file:" ? readFile(url) : url;

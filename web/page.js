@@ -1,10 +1,11 @@
 /** The page: the list of what is hashed, and what the user does. worker.js does the hashing. */
 import { Card } from "./card.js";
-import { Checklist, compareWithField, readChecklist } from "./checksums.js";
+import { Checklist, compareWithField, isExpected, readChecklist } from "./checksums.js";
 import { filesOfDrop, filesOfInput } from "./gather.js";
 import { readKey } from "./key.js";
 import { BEGINNING_BYTES, ENDINGS, mayBeList } from "./lines.js";
-import { $, NAMES, copy, counted, say } from "./words.js";
+import { Rows } from "./rows.js";
+import { $, NAMES, copy, counted, inThousands, say, sizeInWords } from "./words.js";
 
 const MILLISECONDS_AFTER_TYPING = 120;
 const MILLISECONDS_BEFORE_COMPARING = 30;
@@ -18,18 +19,36 @@ const COMPACT_FROM = 4;
 /** Longer files are no checksum files. */
 const CHECKLIST_BYTES = 16 * 1024 * 1024;
 
+/** Of more files than these only those are taken for checksum files that are named so: to look into each takes a while. */
+const FILES_LOOKED_INTO = 200;
+const NAMED_AS_LIST = /sums?\b|digest|check|manifest|\.(xxh\w*|md5|sha\w*|txt)$/i;
+
+/** So many files are added before the page has its turn again. */
+const FILES_IN_A_TURN = 200;
+
+/** So many files are handed to the worker at once, as long as they are small: it waits less for the page then. */
+const FILES_AT_ONCE = 16;
+const BYTES_AT_ONCE = 8 * 1024 * 1024;
+
 const worker = new Worker("worker.js", { type: "module" });
 
 // ---- the list
 
-/** The files, first come first served; the text; and the checksum files. */
+/** The files, the text, and the checksum files. */
 const files = [];
 let text = null;
 const checklists = [];
+const rows = new Rows($("list"), $("more-files"));
 
-/** The cards by the number of the job that runs or waits for them. */
+/** The files to be hashed, first come first served. One that doesn't wait any more is passed over. */
+const queue = [];
+
+/** The cards of what is being hashed, by the number of the job. */
 const cards = new Map();
 let jobs = 0;
+
+/** The expected digest that was found among the files. */
+let foundDigest = "";
 
 /** What a card asks of the page. */
 const list = {
@@ -54,29 +73,38 @@ const list = {
     return this.isCompact && !isOpen ? [$("kind").value] : Object.keys(NAMES);
   },
 
-  /** Starts the next file if none runs. With a wrong seed or secret, nothing starts until it is put right. */
+  enqueue(card) {
+    queue.push(card);
+    this.startNext();
+  },
+
+  /** Starts the next files, as far as there is room. With a wrong seed or secret, none until it is put right. */
   startNext() {
-    const next = files.find((card) => card.state === "waiting");
-    if (!next || files.some((card) => card.state === "running")) return;
+    while (queue.length > 0 && queue[0].state !== "waiting") queue.shift();
+    if (queue.length === 0 || !hasRoomFor(queue[0])) return;
     const key = readKey();
-    if (!key.wrong) {
-      next.start(key);
+    if (key.wrong) {
+      $("key").open = true;
+      queue[0].tell(`Waiting for ${key.wrong} to be right`);
       return;
     }
-    $("key").open = true;
-    next.tell(`Waiting for ${key.wrong} to be right`);
+    queue.shift().start(key);
+    this.startNext();
   },
 
   /** Takes a card or a checksum file out of the list. */
   remove(item) {
-    const next = item.item.nextElementSibling ?? item.item.previousElementSibling;
+    const element = item.view();
+    const next = element.nextElementSibling ?? element.previousElementSibling;
     if (item === text) $("text").value = "";
     if (item.state === "running") this.stop(item);
     if (item.job) this.forget(item);
+    item.state = "removed";
     drop(files, item);
     drop(checklists, item);
     if (item === text) text = null;
-    item.item.remove();
+    rows.remove(item);
+    element.remove();
     say(`${item.name} was removed`);
     (next?.querySelector(".remove") ?? $("files")).focus();
     this.changed();
@@ -84,13 +112,10 @@ const list = {
   },
 
   hashInstead(checklist) {
-    const card = new Card(list, checklist.name, checklist.file);
-    checklist.item.remove();
-    $("list").append(card.item);
-    card.part(".remove").focus();
+    checklist.view().remove();
     drop(checklists, checklist);
-    files.push(card);
-    this.startNext();
+    addFile(checklist.name, checklist.file);
+    $("results-title").focus();
     this.changed();
   },
 
@@ -103,6 +128,12 @@ function drop(items, item) {
   if (items.includes(item)) items.splice(items.indexOf(item), 1);
 }
 
+function hasRoomFor({ size }) {
+  const running = [...cards.values()].filter((card) => card !== text);
+  const bytes = running.reduce((sum, card) => sum + card.size, size);
+  return running.length === 0 || (running.length < FILES_AT_ONCE && bytes <= BYTES_AT_ONCE);
+}
+
 let comparing;
 let lastComparing = 0;
 
@@ -112,11 +143,26 @@ function compare() {
   comparing = undefined;
   const started = performance.now();
   const all = text ? [text, ...files] : files;
-  const verdicts = [compareWithField(all), ...checklists.map((checklist) => checklist.compare(files))];
+  const byField = compareWithField(all);
+  const verdicts = [byField, ...checklists.map((checklist) => checklist.compare(files))];
   for (const card of all) card.judge(verdicts.map((them) => them.get(card)).filter(Boolean));
+  if (files.some((card) => byField.get(card)?.isSame)) stopSearch();
+  else foundDigest = "";
   showActions();
   lastComparing = performance.now() - started;
 }
+
+/** Once a file has the expected digest, those that wait aren't hashed, but for those that the user starts again. */
+function stopSearch() {
+  if (foundDigest === $("expected").value) return;
+  foundDigest = $("expected").value;
+  queue.length = 0;
+  for (const card of files.filter(({ state }) => state === "waiting")) {
+    card.end("stopped", "Not hashed, since the expected digest was found");
+  }
+}
+
+let wasBusy = false;
 
 function showActions() {
   const isBusy = files.some((card) => card.isBusy());
@@ -127,12 +173,23 @@ function showActions() {
   $("lines").hidden = !hasDigests;
   $("lines-note").hidden = !files.some((card) => card.digests && card.used);
   showCompact(files.length >= COMPACT_FROM);
+  $("tally").textContent = list.isCompact ? tallyInWords(isBusy) : "";
+  if (list.isCompact && wasBusy && !isBusy) say($("tally").textContent);
+  wasBusy = isBusy;
+}
+
+function tallyInWords(isBusy) {
+  const done = files.filter((card) => card.digests);
+  const bytes = sizeInWords(done.reduce((sum, card) => sum + card.size, 0));
+  const failed = files.filter(({ state }) => state === "failed").length;
+  const hashed = isBusy || done.length < files.length ? `${inThousands(done.length)} of ${counted(files.length, "file")}` : counted(files.length, "file");
+  return `${hashed} hashed, ${bytes}${failed ? `; ${inThousands(failed)} can't be read` : ""}.`;
 }
 
 function showCompact(isCompact) {
   if (list.isCompact === isCompact) return;
   list.isCompact = isCompact;
-  $("list").classList.toggle("compact", isCompact);
+  for (const place of [$("typed"), $("list")]) place.classList.toggle("compact", isCompact);
   showChosenKind();
 }
 
@@ -144,15 +201,16 @@ function showChosenKind() {
 
 /** Adds what was found, checksum files as such, and shows where the results are. */
 async function add(found) {
-  const checks = await Promise.all(found.map(({ file }) => checklistIn(file)));
-  found.forEach(({ path, file, error }, i) => {
+  const looksInto = ({ path }) => found.length <= FILES_LOOKED_INTO || NAMED_AS_LIST.test(path.split("/").at(-1));
+  const checks = await Promise.all(found.map((it) => (looksInto(it) ? checklistIn(it.file) : null)));
+  for (const [i, { path, file, error }] of found.entries()) {
     if (checks[i]) addChecklist(path, file, checks[i]);
     else addFile(path, file, error);
-  });
+    if (i % FILES_IN_A_TURN === FILES_IN_A_TURN - 1) await new Promise((resolve) => setTimeout(resolve));
+  }
   if (found.length) say(found.length === 1 ? `${found[0].path} was added` : `${counted(found.length, "file")} were added`);
   $("files-note").textContent = found.length ? "" : "There is no file in it.";
   compare();
-  list.startNext();
   if (found.length) showResults();
 }
 
@@ -169,9 +227,8 @@ async function checklistIn(file) {
 function addFile(path, file, error) {
   const card = new Card(list, path, file ?? new Blob([]));
   files.push(card);
-  $("list").append(card.item);
-  if (!error) return;
-  card.wait = () => card.end("failed", failureInWords(error));
+  rows.add(card);
+  if (error) card.wait = () => card.end("failed", failureInWords(error));
   card.wait();
 }
 
@@ -179,7 +236,7 @@ function addChecklist(path, file, lines) {
   const checklist = new Checklist(list, path, lines);
   checklist.file = file;
   checklists.push(checklist);
-  $("checklists").append(checklist.item);
+  $("checklists").append(checklist.view());
 }
 
 /** On a small screen what was added stands below what is seen. */
@@ -213,23 +270,31 @@ function hashText() {
 function addText() {
   const card = new Card(list, "Text", new Blob([]));
   card.wait = hashText;
-  $("list").prepend(card.item);
+  $("typed").append(card.view());
   return card;
 }
 
 function removeText() {
-  text?.item.remove();
+  text?.view().remove();
   text = null;
   list.changed();
 }
 
 function hashAgain() {
+  foundDigest = "";
   for (const card of files) card.state = "waiting";
   for (const card of files) card.show("Waiting");
+  queue.splice(0, queue.length, ...files);
   list.startNext();
 }
 
+function stopAll() {
+  queue.length = 0;
+  for (const card of files.filter((card) => card.isBusy())) card.stop();
+}
+
 function clear() {
+  queue.length = 0;
   for (const card of files.splice(0)) {
     if (card.state === "running") list.stop(card);
     list.forget(card);
@@ -237,7 +302,8 @@ function clear() {
   checklists.length = 0;
   $("text").value = "";
   text = null;
-  $("list").replaceChildren();
+  rows.clear();
+  $("typed").replaceChildren();
   $("checklists").replaceChildren();
   compare();
   say("The list is empty");
@@ -260,13 +326,20 @@ function save() {
 
 // ---- what the worker says
 
+const WITH_VECTORS = "The fast module runs here: this browser has the vectors of WebAssembly (SIMD).";
+const WITHOUT_VECTORS = "The plain module runs here: this browser has no vectors of WebAssembly (SIMD), with which XXH3 is about twice as fast.";
+
 const ANSWERS = {
-  ready: () => document.documentElement.setAttribute("data-ready", ""),
+  ready: ({ hasVectors }) => {
+    $("module").textContent = hasVectors ? WITH_VECTORS : WITHOUT_VECTORS;
+    document.documentElement.setAttribute("data-ready", "");
+  },
   unsupported: ({ message }) => showUnsupported(message),
   progress: ({ done }, card) => card.progress(done),
   done: ({ digests, milliseconds }, card) => {
+    if (card !== text && isExpected(digests)) stopSearch();
     card.finish(digests, milliseconds);
-    say(`${card.name}: done`);
+    if (!list.isCompact) say(`${card.name}: done`);
   },
   stopped: (_, card) => {
     card.end("stopped", "Stopped. There is no digest.");
@@ -312,9 +385,7 @@ $("clear").addEventListener("click", clear);
 $("kind").addEventListener("change", showChosenKind);
 $("copy-all").addEventListener("click", () => copy(lines(), $("copy-all"), "all lines"));
 $("save").addEventListener("click", save);
-$("stop-all").addEventListener("click", () => {
-  for (const card of files.filter((card) => card.isBusy()).reverse()) card.stop();
-});
+$("stop-all").addEventListener("click", stopAll);
 $("expected").addEventListener("input", compare);
 
 let typing;
@@ -337,5 +408,8 @@ addEventListener("drop", async (event) => {
   document.body.classList.remove("dropping");
   if (!$("files").disabled) add(await filesOfDrop(event.dataTransfer));
 });
+
+// What was loaded once is there without a network too, where the browser has workers for that.
+navigator.serviceWorker?.register("offline.js").catch(() => {});
 
 $("asleep").remove();

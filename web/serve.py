@@ -18,7 +18,7 @@ PUBLIC = ("/web/", "/docs/", "/crates/", "/README.md", "/CALLING.md", "/CONTRIBU
 class Handler(http.server.SimpleHTTPRequestHandler):
     """The files of `PUBLIC`, with sources and pages as text."""
 
-    extensions_map = {".html": "text/html; charset=utf-8", ".css": "text/css", ".js": "text/javascript",
+    extensions_map = {".json": "application/json", ".html": "text/html; charset=utf-8", ".css": "text/css", ".js": "text/javascript",
                       ".mjs": "text/javascript", ".wasm": "application/wasm", ".svg": "image/svg+xml",
                       ".png": "image/png", "": "text/plain; charset=utf-8"}
 

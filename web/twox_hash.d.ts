@@ -12,8 +12,14 @@ export const SECRET_MINIMUM_LENGTH: 136;
 /** What a call is handed as bytes. */
 export type Bytes = ArrayBuffer | SharedArrayBuffer | ArrayBufferView;
 
+/** What is hashed: bytes, or text, which is taken as UTF-8. */
+export type Input = string | Bytes;
+
 /** A whole number from 0 to 2^32 - 1 for XXH32, and to 2^64 - 1 for the others. */
 export type Seed = number | bigint;
+
+/** What a hash answers: of 32 bits a number, and of more a bigint. */
+export type ValueOf<K extends Kind> = K extends "xxh32" ? number : bigint;
 
 /**
  * Which seed and secret take effect: with both, the seed up to 240 bytes of input and the secret above; a secret
@@ -21,8 +27,8 @@ export type Seed = number | bigint;
  */
 export interface Key {
   seed?: Seed;
-  /** 136 bytes or more. */
-  secret?: Bytes;
+  /** 136 bytes or more; text is taken as UTF-8. */
+  secret?: Input;
 }
 
 /** Which refusal an error is. */
@@ -47,8 +53,11 @@ export class TwoxHashError extends Error {
   readonly code: ErrorCode;
 }
 
-/** Whether WebAssembly runs here with 64-bit addresses, which the module needs. */
+/** Whether WebAssembly runs here. */
 export function isSupported(): boolean;
+
+/** Whether WebAssembly has vectors of 128 bits here, so that `load()` takes the faster of the two modules. */
+export function hasVectors(): boolean;
 
 /** The WebAssembly module, or where it is. */
 export type Source = URL | string | Response | BufferSource | WebAssembly.Module;
@@ -56,11 +65,11 @@ export type Source = URL | string | Response | BufferSource | WebAssembly.Module
 /**
  * Makes the calls ready. A second call waits for the first one and reads nothing.
  *
- * @param source the module, or a function that gives it; left out, it is read from `out/twox_hash.wasm` beside this
- *     file
+ * @param source the module, or a function that gives it, told whether there are vectors here; left out, it is
+ *     `twox_hash_simd.wasm` or `twox_hash.wasm` beside this file
  * @throws {TwoxHashError} `unsupported`, `load`
  */
-export function load(source?: Source | (() => Source | Promise<Source>)): Promise<void>;
+export function load(source?: Source | ((hasVectors: boolean) => Source | Promise<Source>)): Promise<void>;
 
 /**
  * The value with all digits of its hash, zeros in front among them: 8, 16 or 32.
@@ -68,40 +77,52 @@ export function load(source?: Source | (() => Source | Promise<Source>)): Promis
  * @throws {TwoxHashError} `value`, `kind`
  */
 export function toHex(value: bigint, kind: Kind): string;
+export function toHex(value: number, kind: "xxh32"): string;
 
-/** XXH32 of the bytes, below 2^32. */
-export function xxh32(input: Bytes, seed?: Seed): bigint;
+/**
+ * The value as 4, 8 or 16 bytes, the highest first, as its digits stand.
+ *
+ * @throws {TwoxHashError} `value`, `kind`
+ */
+export function toBytes(value: bigint, kind: Kind): Uint8Array;
+export function toBytes(value: number, kind: "xxh32"): Uint8Array;
 
-/** XXH64 of the bytes, below 2^64. */
-export function xxh64(input: Bytes, seed?: Seed): bigint;
+/** XXH32, below 2^32. */
+export function xxh32(input: Input, seed?: Seed): number;
 
-/** XXH3 of 64 bits of the bytes, below 2^64. */
-export function xxh3_64(input: Bytes, options?: Key): bigint;
+/** XXH64, below 2^64. */
+export function xxh64(input: Input, seed?: Seed): bigint;
 
-/** XXH3 of 128 bits of the bytes, below 2^128. */
-export function xxh3_128(input: Bytes, options?: Key): bigint;
+/** XXH3 of 64 bits, below 2^64. */
+export function xxh3_64(input: Input, options?: Key): bigint;
 
-/** Bytes that come in pieces. */
-export class Stream {
+/** XXH3 of 128 bits, below 2^128. */
+export function xxh3_128(input: Input, options?: Key): bigint;
+
+/** Bytes or text that come in pieces. */
+export class Stream<K extends Kind = Kind> {
   /** A stream of no bytes yet. XXH32 and XXH64 take no secret. */
-  constructor(kind: Kind, options?: Key);
+  constructor(kind: K, options?: Key);
   /** The hash that `digest()` answers. */
-  readonly kind: Kind;
-  /** Takes the bytes of a piece after those taken before. */
-  update(piece: Bytes): this;
-  /** The hash of the bytes taken so far; more may follow. A stream of XXH3 answers both widths. */
-  digest(kind?: Kind): bigint;
+  readonly kind: K;
+  /** Takes a piece after those taken before. Text is taken as UTF-8, each piece by itself. */
+  update(piece: Input): this;
+  /** The hash of what was taken so far; more may follow. A stream of XXH3 answers both widths. */
+  digest(): ValueOf<K>;
+  digest<L extends Kind>(kind: L): ValueOf<L>;
   /** The stream's state as bytes, from which `Stream.load` goes on. A secret that was handed over isn't among them. */
   save(): Uint8Array;
+  /** Another stream that has taken the same bytes. */
+  copy(): Stream<K>;
   /**
    * A stream that goes on from where another was saved, with the secret that it was started with, if there was one.
    *
    * @throws {TwoxHashError} `state` where no stream leads to these bytes, `secret` where it is another one
    */
-  static load(saved: Bytes, options?: { secret?: Bytes }): Stream;
+  static load(saved: Bytes, options?: { secret?: Input }): Stream;
   /** Gives the stream's memory back. Later calls of it are refused. */
   free(): void;
 }
 
 /** Has several streams take the same piece, which is carried to the module once. */
-export function updateAll(streams: Iterable<Stream>, piece: Bytes): void;
+export function updateAll(streams: Iterable<Stream>, piece: Input): void;

@@ -5,7 +5,7 @@
  *
  *     import { load, toHex, xxh64 } from "./twox_hash.js";
  *     await load();
- *     toHex(xxh64(new TextEncoder().encode("some bytes"), 1234n), "xxh64"); // eab55659a496d78b
+ *     toHex(xxh64("some bytes", 1234n), "xxh64"); // eab55659a496d78b
  */
 
 /** What a call of the module answers, as the crate `twox_web` names it. */
@@ -41,13 +41,13 @@ const SEED_BITS = { xxh32: 32, xxh64: 64, xxh3_64: 64, xxh3_128: 64 };
 /**
  * Every refusal of this file. `code` says which:
  *
- * - `"unsupported"`: there is no 64-bit WebAssembly memory here.
+ * - `"unsupported"`: there is no WebAssembly here.
  * - `"load"`: the module couldn't be read, or isn't the one of `twox_web`.
  * - `"not-loaded"`: `load()` hasn't been awaited.
  * - `"kind"`: the name is none of `KINDS`, or the stream is of another hash.
- * - `"input"`: the bytes aren't an `ArrayBuffer` or a view of one.
+ * - `"input"`: the input is neither text nor an `ArrayBuffer` or a view of one.
  * - `"seed"`: the seed isn't a whole number of the hash's range.
- * - `"secret"`: the secret isn't bytes, has fewer than 136 of them, or the hash takes none.
+ * - `"secret"`: the secret is neither text nor bytes, has fewer than 136 of them, or the hash takes none.
  * - `"options"`: the options aren't an object, or have a name that is not known.
  * - `"value"`: the value isn't one of the hash.
  * - `"state"`: the bytes aren't a stream's saved state.
@@ -62,12 +62,20 @@ export class TwoxHashError extends Error {
   }
 }
 
-/** A module with a memory of 64-bit addresses and nothing else. */
-const MEMORY64 = Uint8Array.of(0, 0x61, 0x73, 0x6d, 1, 0, 0, 0, 5, 3, 1, 4, 0);
+/** A module with one function, which makes a vector: i32.const 0, i8x16.splat, i8x16.popcnt. */
+const VECTORS = Uint8Array.of(
+  0, 0x61, 0x73, 0x6d, 1, 0, 0, 0, 1, 5, 1, 0x60, 0, 1, 0x7b, 3, 2, 1, 0, 10, 10, 1, 8, 0, 0x41, 0, 0xfd, 0x0f, 0xfd,
+  0x62, 0x0b,
+);
 
-/** Whether WebAssembly runs here with 64-bit addresses, which the module needs. */
+/** Whether WebAssembly runs here. */
 export function isSupported() {
-  return typeof WebAssembly === "object" && WebAssembly.validate(MEMORY64);
+  return typeof WebAssembly === "object";
+}
+
+/** Whether WebAssembly has vectors of 128 bits here, so that `load()` takes the faster of the two modules. */
+export function hasVectors() {
+  return isSupported() && WebAssembly.validate(VECTORS);
 }
 
 let loaded = null;
@@ -76,14 +84,14 @@ let loading = null;
 /**
  * Makes the calls of this file ready. A second call waits for the first one and reads nothing.
  *
- * @param {Source | (() => Source | Promise<Source>)} [source] the module, where `Source` is
- *     `URL | string | Response | BufferSource | WebAssembly.Module`; left out, it is fetched from
- *     `out/twox_hash.wasm` beside this file
+ * @param {Source | ((hasVectors: boolean) => Source | Promise<Source>)} [source] the module, where `Source` is
+ *     `URL | string | Response | BufferSource | WebAssembly.Module`, or what gives it, told whether there are vectors
+ *     here; left out, `twox_hash_simd.wasm` or `twox_hash.wasm` beside this file is fetched
  * @returns {Promise<void>}
  */
 export async function load(source = besideThisFile) {
   if (loaded) return;
-  if (!isSupported()) throw new TwoxHashError("unsupported", lackInWords());
+  if (!isSupported()) throw new TwoxHashError("unsupported", "There is no WebAssembly here, which the proved module is.");
   loading ??= instantiate(source).then((exports) => { loaded = new Room(exports); });
   try {
     await loading;
@@ -94,23 +102,13 @@ export async function load(source = besideThisFile) {
   }
 }
 
-function lackInWords() {
-  const node = globalThis.process?.versions?.node;
-  if (!node) {
-    return "This browser has no 64-bit WebAssembly memory, which the proved module needs. "
-      + "Chrome and Edge have it from version 133 on, Firefox from 134 on.";
-  }
-  return `Node ${node} runs without 64-bit WebAssembly memory, which the proved module needs. `
-    + "Node has it from version 24 on, and before that with the flag --experimental-wasm-memory64.";
-}
-
-/** Bundlers find the module by this very expression, and put it beside what they write. */
-function besideThisFile() {
-  return new URL("out/twox_hash.wasm", import.meta.url);
+/** Bundlers find the modules by these very expressions, and put them beside what they write. */
+function besideThisFile(withVectors) {
+  return withVectors ? new URL("twox_hash_simd.wasm", import.meta.url) : new URL("twox_hash.wasm", import.meta.url);
 }
 
 async function instantiate(source) {
-  const given = typeof source === "function" ? await source() : source;
+  const given = typeof source === "function" ? await source(hasVectors()) : source;
   const compiled = given instanceof WebAssembly.Module ? given : await WebAssembly.compile(await bytesOf(given));
   const { exports } = await WebAssembly.instantiate(compiled, {});
   if (typeof exports.twox_xxh3_update !== "function") {
@@ -133,7 +131,9 @@ async function fetched(response) {
   return response.arrayBuffer();
 }
 
-/** The module's memory, lent in rooms whose sizes are powers of two. */
+const encoder = new TextEncoder();
+
+/** The module's memory, lent in rooms whose sizes are powers of two. Its calls take addresses as numbers of 64 bits. */
 class Room {
   constructor(exports) {
     this.exports = exports;
@@ -141,6 +141,8 @@ class Room {
     this.free = new Map();
     this.value = this.take(16);
     this.chunk = this.take(CHUNK_BYTES);
+    this.valueAddress = BigInt(this.value);
+    this.chunkAddress = BigInt(this.chunk);
   }
 
   /** The bytes of the memory, of which a larger view is needed where it has grown. */
@@ -173,7 +175,7 @@ class Room {
     const pages = Math.ceil((length - this.exports.memory.buffer.byteLength) / PAGE_BYTES);
     if (pages <= 0) return;
     try {
-      growBy(this.exports.memory, pages);
+      this.exports.memory.grow(pages);
     } catch (error) {
       throw new TwoxHashError("memory", "The WebAssembly module can't have more memory.", { cause: error });
     }
@@ -184,23 +186,36 @@ class Room {
     this.bytes.set(bytes, start);
   }
 
+  /**
+   * Puts text or bytes into the chunk, from `from` on and as far as there is room: up to where that goes, counted as
+   * `from` is, and how many bytes it makes.
+   */
+  putPiece(input, from) {
+    if (typeof input === "string") {
+      const place = this.bytes.subarray(this.chunk, this.chunk + CHUNK_BYTES);
+      const { read, written } = encoder.encodeInto(partOf(input, from), place);
+      return { end: from + read, length: written };
+    }
+    const piece = input.length <= CHUNK_BYTES ? input : input.subarray(from, from + CHUNK_BYTES);
+    this.put(this.chunk, piece);
+    return { end: from + piece.length, length: piece.length };
+  }
+
   /** The value of so many bits that a call wrote. */
   written(bits) {
     const view = new DataView(this.exports.memory.buffer, this.value);
-    if (bits === 32) return BigInt(view.getUint32(0, true));
+    if (bits === 32) return view.getUint32(0, true);
     const low = view.getBigUint64(0, true);
     return bits === 64 ? low : (view.getBigUint64(8, true) << 64n) | low;
   }
 }
 
-/** Older engines want the number of pages as a number where newer ones want a BigInt. */
-function growBy(memory, pages) {
-  try {
-    memory.grow(BigInt(pages));
-  } catch (error) {
-    if (!(error instanceof TypeError)) throw error;
-    memory.grow(pages);
-  }
+/** Text from there on, of no more units than the chunk has bytes, which ends with no half of a pair. */
+function partOf(text, from) {
+  const to = from + CHUNK_BYTES;
+  if (to >= text.length) return from === 0 ? text : text.slice(from);
+  const isFirstOfPair = (text.charCodeAt(to - 1) & 0xfc00) === 0xd800;
+  return text.slice(from, isFirstOfPair ? to - 1 : to);
 }
 
 function roomSize(length) {
@@ -214,14 +229,18 @@ function room() {
   return loaded;
 }
 
-/** The input as bytes. */
-function asBytes(input, code = "input", what = "The input") {
+/** The input as it is, where it is text, and as bytes otherwise. */
+function asInput(input) {
+  return typeof input === "string" ? input : asBytes(input);
+}
+
+function asBytes(input, code = "input", what = "The input", wanted = "text or bytes") {
   if (input instanceof Uint8Array) return input;
   if (ArrayBuffer.isView(input)) return new Uint8Array(input.buffer, input.byteOffset, input.byteLength);
   const isBuffer = input instanceof ArrayBuffer
     || (typeof SharedArrayBuffer === "function" && input instanceof SharedArrayBuffer);
   if (isBuffer) return new Uint8Array(input);
-  throw new TwoxHashError(code, `${what} must be bytes: an ArrayBuffer or a view of one, and not ${nameOf(input)}.`);
+  throw new TwoxHashError(code, `${what} must be ${wanted}, an ArrayBuffer or a view of one, and not ${nameOf(input)}.`);
 }
 
 function nameOf(value) {
@@ -248,7 +267,7 @@ function shown(value) {
 }
 
 function asSecret(secret) {
-  const bytes = asBytes(secret, "secret", "The secret");
+  const bytes = typeof secret === "string" ? encoder.encode(secret) : asBytes(secret, "secret", "The secret");
   if (bytes.length < SECRET_MINIMUM_LENGTH) {
     throw new TwoxHashError("secret", `The secret has ${bytes.length} bytes, and ${SECRET_MINIMUM_LENGTH} are needed.`);
   }
@@ -290,38 +309,50 @@ function refuse(code) {
 /**
  * The value with all digits of its hash, zeros in front among them.
  *
- * @param {bigint} value what a call answered
+ * @param {number | bigint} value what a call answered
  * @param {"xxh32" | "xxh64" | "xxh3_64" | "xxh3_128"} kind the hash that it is of
  * @returns {string} 8, 16 or 32 digits
  */
 export function toHex(value, kind) {
   const bits = VALUE_BITS[asKind(kind)];
-  if (typeof value !== "bigint") {
-    throw new TwoxHashError("value", `The value must be a BigInt, and not ${nameOf(value)}.`);
+  if (typeof value !== "bigint" && !(bits === 32 && Number.isSafeInteger(value))) {
+    const wanted = bits === 32 ? "a whole number" : "a BigInt";
+    throw new TwoxHashError("value", `The value must be ${wanted}, and not ${shown(value)}.`);
   }
-  if (value < 0n || value >> BigInt(bits)) {
+  if (value < 0 || BigInt(value) >> BigInt(bits)) {
     throw new TwoxHashError("value", `The value ${value} isn't from 0 to 2^${bits} - 1, as those of ${kind} are.`);
   }
   return value.toString(16).padStart(bits / 4, "0");
 }
 
+/**
+ * The value as 4, 8 or 16 bytes, the highest first, as its digits stand.
+ *
+ * @param {number | bigint} value what a call answered
+ * @param {"xxh32" | "xxh64" | "xxh3_64" | "xxh3_128"} kind the hash that it is of
+ * @returns {Uint8Array}
+ */
+export function toBytes(value, kind) {
+  return Uint8Array.from(toHex(value, kind).match(/../g), (pair) => parseInt(pair, 16));
+}
+
 // ---- one-shots
 
 /**
- * XXH32 of the bytes.
+ * XXH32 of bytes, or of text as UTF-8.
  *
- * @param {BufferSource} input
+ * @param {string | BufferSource} input
  * @param {number | bigint} [seed] from 0 to 2^32 - 1
- * @returns {bigint} below 2^32
+ * @returns {number} below 2^32
  */
 export function xxh32(input, seed = 0) {
   return hash("xxh32", input, { seed });
 }
 
 /**
- * XXH64 of the bytes.
+ * XXH64 of bytes, or of text as UTF-8.
  *
- * @param {BufferSource} input
+ * @param {string | BufferSource} input
  * @param {number | bigint} [seed] from 0 to 2^64 - 1
  * @returns {bigint} below 2^64
  */
@@ -330,12 +361,12 @@ export function xxh64(input, seed = 0) {
 }
 
 /**
- * XXH3 of 64 bits of the bytes. With a seed and a secret the seed has an effect up to 240 bytes, and the secret
- * above; a secret alone has one at every length.
+ * XXH3 of 64 bits of bytes, or of text as UTF-8. With a seed and a secret the seed has an effect up to 240 bytes, and
+ * the secret above; a secret alone has one at every length.
  *
- * @param {BufferSource} input
- * @param {{ seed?: number | bigint, secret?: BufferSource }} [options] the seed from 0 to 2^64 - 1, the secret of
- *     136 bytes or more
+ * @param {string | BufferSource} input
+ * @param {{ seed?: number | bigint, secret?: string | BufferSource }} [options] the seed from 0 to 2^64 - 1, the
+ *     secret of 136 bytes or more
  * @returns {bigint} below 2^64
  */
 export function xxh3_64(input, options = {}) {
@@ -343,67 +374,67 @@ export function xxh3_64(input, options = {}) {
 }
 
 /**
- * XXH3 of 128 bits of the bytes, under the same options.
+ * XXH3 of 128 bits, under the same options.
  *
- * @param {BufferSource} input
- * @param {{ seed?: number | bigint, secret?: BufferSource }} [options]
+ * @param {string | BufferSource} input
+ * @param {{ seed?: number | bigint, secret?: string | BufferSource }} [options]
  * @returns {bigint} below 2^128
  */
 export function xxh3_128(input, options = {}) {
   return hash("xxh3_128", input, options);
 }
 
-function hash(kind, input, options) {
+function hash(kind, given, options) {
   const memory = room();
-  const bytes = asBytes(input);
+  const input = asInput(given);
   const key = asKey(kind, options);
-  return bytes.length > CHUNK_BYTES ? hashInChunks(kind, bytes, options) : hashAtOnce(memory, kind, bytes, key);
+  if (input.length > CHUNK_BYTES) return hashInPieces(kind, input, options);
+  const { end, length } = memory.putPiece(input, 0);
+  return end < input.length ? hashInPieces(kind, input, options) : hashAtOnce(memory, kind, BigInt(length), key);
 }
 
-function hashInChunks(kind, bytes, options) {
+function hashInPieces(kind, input, options) {
   const stream = new Stream(kind, options);
   try {
-    return stream.update(bytes).digest();
+    return stream.update(input).digest();
   } finally {
     stream.free();
   }
 }
 
-function hashAtOnce(memory, kind, bytes, { seed, secret }) {
-  memory.put(memory.chunk, bytes);
-  const input = [BigInt(memory.chunk), BigInt(bytes.length)];
-  if (secret === undefined) return oneshot(memory, kind, seed ?? 0n, input);
+/** The hash of the bytes in the chunk. */
+function hashAtOnce(memory, kind, length, { seed, secret }) {
+  if (secret === undefined) return oneshot(memory, kind, seed ?? 0n, length);
   const at = memory.take(secret.length);
   try {
     memory.put(at, secret);
-    return oneshotWithSecret(memory, kind, seed, [BigInt(at), BigInt(secret.length)], input);
+    return oneshotWithSecret(memory, kind, seed, [BigInt(at), BigInt(secret.length)], length);
   } finally {
     memory.give(at, secret.length);
   }
 }
 
-function oneshot(memory, kind, seed, input) {
-  const calls = memory.exports;
-  const value = BigInt(memory.value);
+function oneshot(memory, kind, seed, length) {
+  const { exports: calls, chunkAddress: input } = memory;
   switch (kind) {
-    case "xxh32": return BigInt(calls.twox_xxh32(Number(seed), ...input) >>> 0);
-    case "xxh64": return BigInt.asUintN(64, calls.twox_xxh64(seed, ...input));
-    case "xxh3_64": return BigInt.asUintN(64, oneshot64(calls, seed, input));
+    case "xxh32": return calls.twox_xxh32(Number(seed), input, length) >>> 0;
+    case "xxh64": return BigInt.asUintN(64, calls.twox_xxh64(seed, input, length));
+    case "xxh3_64": return BigInt.asUintN(64, oneshot64(calls, seed, input, length));
     default:
-      if (seed === 0n) calls.twox_xxh3_128(...input, value);
-      else calls.twox_xxh3_128_with_seed(seed, ...input, value);
+      if (seed === 0n) calls.twox_xxh3_128(input, length, memory.valueAddress);
+      else calls.twox_xxh3_128_with_seed(seed, input, length, memory.valueAddress);
       return memory.written(128);
   }
 }
 
-function oneshot64(calls, seed, input) {
-  return seed === 0n ? calls.twox_xxh3_64(...input) : calls.twox_xxh3_64_with_seed(seed, ...input);
+function oneshot64(calls, seed, input, length) {
+  return seed === 0n ? calls.twox_xxh3_64(input, length) : calls.twox_xxh3_64_with_seed(seed, input, length);
 }
 
-function oneshotWithSecret(memory, kind, seed, secret, input) {
+function oneshotWithSecret(memory, kind, seed, secret, length) {
   const name = seed === undefined ? `twox_${kind}_with_secret` : `twox_${kind}_with_seed_and_secret`;
   const seeds = seed === undefined ? [] : [seed];
-  refuse(memory.exports[name](...seeds, ...secret, ...input, BigInt(memory.value)));
+  refuse(memory.exports[name](...seeds, ...secret, memory.chunkAddress, length, memory.valueAddress));
   return memory.written(VALUE_BITS[kind]);
 }
 
@@ -424,7 +455,7 @@ function recordLength({ exports }, kind) {
 /** Has a stream take bytes that lie in the module's memory; no method, so that callers don't. */
 let updateFromMemory;
 
-/** Bytes that come in pieces. `update` takes a piece, and `digest` answers the hash of all so far. */
+/** Bytes or text that come in pieces. `update` takes a piece, and `digest` answers the hash of all so far. */
 export class Stream {
   #kind;
   #record;
@@ -440,8 +471,8 @@ export class Stream {
    * A stream of no bytes yet.
    *
    * @param {"xxh32" | "xxh64" | "xxh3_64" | "xxh3_128"} kind
-   * @param {{ seed?: number | bigint, secret?: BufferSource }} [options] as for the one-shots; XXH32 and XXH64 take
-   *     no secret
+   * @param {{ seed?: number | bigint, secret?: string | BufferSource }} [options] as for the one-shots; XXH32 and
+   *     XXH64 take no secret
    */
   constructor(kind, options = {}) {
     const memory = room();
@@ -459,9 +490,9 @@ export class Stream {
   }
 
   /**
-   * Takes the bytes of a piece after those taken before.
+   * Takes a piece after those taken before. Text is taken as UTF-8, each piece by itself.
    *
-   * @param {BufferSource} piece
+   * @param {string | BufferSource} piece
    * @returns {this}
    */
   update(piece) {
@@ -473,7 +504,7 @@ export class Stream {
    * The hash of the bytes taken so far. More may be taken afterwards. A stream of XXH3 answers both widths.
    *
    * @param {"xxh32" | "xxh64" | "xxh3_64" | "xxh3_128"} [kind] the stream's own, if it is left out
-   * @returns {bigint}
+   * @returns {number | bigint} a number of XXH32, and a BigInt of the others
    */
   digest(kind = this.#kind) {
     const memory = this.#room();
@@ -500,12 +531,12 @@ export class Stream {
    * A stream that goes on from where another was saved.
    *
    * @param {BufferSource} saved what `save` gave
-   * @param {{ secret?: BufferSource }} [options] the secret that the stream was started with, where one was
+   * @param {{ secret?: string | BufferSource }} [options] the secret that the stream was started with, where one was
    * @returns {Stream}
    */
   static load(saved, options = {}) {
     const memory = room();
-    const state = readSaved(memory, asBytes(saved, "state", "The saved state"));
+    const state = readSaved(memory, asBytes(saved, "state", "The saved state", "bytes"));
     const { seed } = options ?? {};
     if (seed !== undefined) throw new TwoxHashError("options", "The seed is part of the saved state.");
     const { secret } = asKey(state.kind, options);
@@ -532,7 +563,24 @@ export class Stream {
 
   // What the module says of the record, with the digest at the value's place.
   #digestCode(memory, kind = this.#kind) {
-    return memory.exports[`twox_${kind}_digest`](this.#record, ...this.#secret, BigInt(memory.value));
+    return memory.exports[`twox_${kind}_digest`](this.#record, ...this.#secret, memory.valueAddress);
+  }
+
+  /** Another stream that has taken the same bytes. */
+  copy() {
+    const memory = this.#room();
+    const secret = this.#hasOwnSecret ? this.#secretBytes(memory).slice() : undefined;
+    const other = new Stream(this.#kind, { secret });
+    const start = Number(this.#record);
+    memory.bytes.copyWithin(Number(other.#record), start, start + recordLength(memory, this.#kind));
+    if (isXxh3(this.#kind)) memory.put(Number(other.#secret[0]), this.#secretBytes(memory));
+    return other;
+  }
+
+  // The secret that each call is handed, where it lies.
+  #secretBytes(memory) {
+    const [at, length] = this.#secret.map(Number);
+    return memory.bytes.subarray(at, at + length);
   }
 
   /** Gives the stream's memory back. Later calls of it are refused. */
@@ -588,19 +636,18 @@ export class Stream {
  * Has several streams take the same piece, which is carried to the module once.
  *
  * @param {Iterable<Stream>} streams
- * @param {BufferSource} piece
+ * @param {string | BufferSource} piece
  */
 export function updateAll(streams, piece) {
   const memory = room();
-  const bytes = asBytes(piece);
+  const input = asInput(piece);
   const all = [...streams];
   let at = 0;
   do {
-    const chunk = bytes.subarray(at, at + CHUNK_BYTES);
-    memory.put(memory.chunk, chunk);
-    for (const stream of all) updateFromMemory(stream, BigInt(memory.chunk), BigInt(chunk.length));
-    at += chunk.length;
-  } while (at < bytes.length);
+    const { end, length } = memory.putPiece(input, at);
+    for (const stream of all) updateFromMemory(stream, memory.chunkAddress, BigInt(length));
+    at = end;
+  } while (at < input.length);
 }
 
 // ---- saved states
@@ -608,7 +655,7 @@ export function updateAll(streams, piece) {
 // A state is a head, the stream's record as it lies in the module's memory, and the XXH64 of both. The head is the
 // mark with the format's version, the number of the hash among KINDS, whether an own secret is needed, six zeros, and
 // the XXH64 of that secret. Numbers are little-endian.
-const MARK = new TextEncoder().encode("twoxhsh1");
+const MARK = encoder.encode("twoxhsh1");
 const HEAD_BYTES = 24;
 const KIND_AT = 8;
 const NEEDS_SECRET_AT = 9;

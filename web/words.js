@@ -29,9 +29,14 @@ export function keyInWords(seed, secret) {
   return words.length ? `, with ${words.join(" and ")}` : "";
 }
 
-/** "1 file" or "2 files". */
+/** "10,000". */
+export function inThousands(number) {
+  return number.toLocaleString("en");
+}
+
+/** "1 file" or "2,000 files". */
 export function counted(number, word) {
-  return `${number} ${word}${number === 1 ? "" : "s"}`;
+  return `${inThousands(number)} ${word}${number === 1 ? "" : "s"}`;
 }
 
 /** Has a screen reader say it. */

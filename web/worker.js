@@ -5,40 +5,42 @@
  *     { type: "stop", job }
  *
  * and answers, for a job, any number of `progress` and then one of `done`, `stopped` and `failed`. Jobs run side by
- * side, one piece of each in turn. Once, before all else, it says `ready` or `unsupported`. The size is what the blob
- * had when it was chosen: one that has another size by now fails.
+ * side, one piece of each in turn. Once, before all else, it says `ready`, with the module that runs, or `unsupported`.
+ * The size is what the blob had when it was chosen: one that has another size by now fails.
  */
-import { load, Stream, toHex, updateAll } from "./twox_hash.js";
+import { takeBlob } from "./streams.js";
+import { Stream, hasVectors, load, toHex } from "./twox_hash.js";
 
-const PIECE_BYTES = 8 * 1024 * 1024;
-const READS_AHEAD = 2;
 const MILLISECONDS_BETWEEN_REPORTS = 80;
 
-const stopped = new Set();
+/** What stops a job, by its number. */
+const stops = new Map();
 const ready = load().then(
-  () => postMessage({ type: "ready" }),
+  () => postMessage({ type: "ready", hasVectors: hasVectors() }),
   (error) => postMessage({ type: "unsupported", message: error.message }),
 );
 
 onmessage = async ({ data }) => {
   await ready;
-  if (data.type === "stop") stopped.add(data.job);
+  if (data.type === "stop") stops.get(data.job)?.abort();
   else run(data);
 };
 
 async function run({ job, blob, size, seed, secret }) {
+  const stop = new AbortController();
+  stops.set(job, stop);
   let streams;
   try {
     streams = streamsFor(seed, secret);
     const start = performance.now();
-    const isWhole = await takeAll(job, piecesOf(blob, size), Object.values(streams));
+    await takeBlob(Object.values(streams), blob, { size, signal: stop.signal, progress: reportsOf(job) });
     const milliseconds = performance.now() - start;
-    if (isWhole) postMessage({ type: "done", job, milliseconds, digests: digestsOf(streams) });
-    else postMessage({ type: "stopped", job });
+    postMessage({ type: "done", job, milliseconds, digests: digestsOf(streams) });
   } catch (error) {
-    postMessage({ type: "failed", job, name: error.name, message: error.message });
+    if (stop.signal.aborted) postMessage({ type: "stopped", job });
+    else postMessage({ type: "failed", job, name: error.name, message: error.message });
   } finally {
-    stopped.delete(job);
+    stops.delete(job);
     for (const stream of Object.values(streams ?? {})) stream.free();
   }
 }
@@ -59,47 +61,12 @@ function digestsOf({ xxh32, xxh64, xxh3 }) {
   };
 }
 
-/** Has the streams take all pieces, and answers whether the job wasn't stopped before. */
-async function takeAll(job, pieces, streams) {
-  let done = 0;
+/** Tells the page how far a job is, and not too often. */
+function reportsOf(job) {
   let reported = performance.now();
-  for await (const piece of pieces) {
-    if (stopped.has(job)) return false;
-    updateAll(streams, piece);
-    done += piece.byteLength;
-    if (performance.now() - reported < MILLISECONDS_BETWEEN_REPORTS) continue;
+  return (done) => {
+    if (performance.now() - reported < MILLISECONDS_BETWEEN_REPORTS) return;
     reported = performance.now();
     postMessage({ type: "progress", job, done });
-  }
-  return true;
-}
-
-/** The blob's bytes in pieces, of which the next ones are read while one is hashed. */
-async function* piecesOf(blob, size) {
-  const reads = [];
-  let at = 0;
-  const readOn = () => {
-    if (at >= size) return;
-    const next = read(blob, at, Math.min(at + PIECE_BYTES, size));
-    next.catch(() => {}); // a failure is met where the piece is awaited, if it still is
-    reads.push(next);
-    at += PIECE_BYTES;
   };
-  for (let i = 0; i < READS_AHEAD; i += 1) readOn();
-  while (reads.length > 0) {
-    const piece = await reads.shift();
-    readOn();
-    yield piece;
-  }
-  if (blob.size !== size) throw changed();
-}
-
-async function read(blob, from, to) {
-  const bytes = await blob.slice(from, to).arrayBuffer();
-  if (bytes.byteLength !== to - from) throw changed();
-  return bytes;
-}
-
-function changed() {
-  return new DOMException("The file has another size than when it was chosen.", "NotReadableError");
 }

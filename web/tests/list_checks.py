@@ -172,6 +172,52 @@ def removed(page):
     os.remove(paths[1])
 
 
+MANY = 10_000
+
+
+def many_files(page):
+    """10,000 files with their checksum file, of which one changed: how long it takes, and the longest wait of the page."""
+    folder = folder_of(page, "thousands", {f"{i % 100:02}/{i:05}.bin": b"%d" % i for i in range(MANY)})
+    names = sorted(os.path.join(at, name)[len(folder) + 1:] for at, _, names in os.walk(folder) for name in names)
+    lines = subprocess.run(["xxhsum", "-H3", *names], cwd=folder, capture_output=True, text=True, check=True).stdout
+    folder_of(page, "thousands", {"all.xxh3": lines.encode(), "42/00042.bin": b"other bytes"})
+    page.browser.run("""window.gap = 0; let last = performance.now();
+        window.turns = setInterval(() => { const now = performance.now(); window.gap = Math.max(window.gap, now - last); last = now; }, 10);""")
+    if page.browser.name == "Chromium":
+        page.browser.type("#folder", folder)
+    else:
+        page.choose(*(os.path.join(folder, name) for name in ("all.xxh3", *names)))
+    began = time.monotonic()
+    counts = f"{MANY:,} lines: {MANY - 1:,} same, 1 different."
+    page.browser.wait("return document.querySelector('.checklist .counts')?.textContent === arguments[0]", counts, seconds=120)
+    took, gap = time.monotonic() - began, page.browser.run("clearInterval(window.turns); return window.gap;")
+    want(page.text_of("#tally").startswith(f"{MANY:,} files hashed"), page.text_of("#tally"))
+    page.browser.click(".checklist .filter input")
+    want(page.browser.run(ROWS)["rows"] == [["42/00042.bin", "different"]], "the row that differs isn't shown alone")
+    rows = page.browser.run("return document.querySelectorAll('.card').length")
+    want(rows < 1000, f"{rows} rows stand on the page")
+    page.browser.run("document.getElementById('more-files').scrollIntoView()")
+    page.browser.wait("return document.querySelectorAll('.card').length > arguments[0]", rows, seconds=5)
+    want(took < 60 and gap < 5000, f"{took:.1f} s, the longest wait {gap:.0f} ms")
+    return f"{took:.1f} s, the longest wait {gap:.0f} ms"
+
+
+def download(page):
+    """A digest that was pasted before: the file that has it ends the search, and one that waited can be hashed still."""
+    wanted = page.file("download.iso", b"the right bytes", 30 << 20)
+    page.set_field("expected", reference(wanted)["xxh3_128"])
+    page.choose(wanted, *[page.file(f"other{i}.iso", b"%d" % i, 3000 << 20) for i in range(3)])
+    for i in range(3):
+        page.wait_for(f"other{i}.iso", "card.words === 'Not hashed, since the expected digest was found'")
+    verdict = "Same: XXH3, 128 bits of download.iso. 3 more have no digest."
+    page.browser.wait("return document.getElementById('verdict').textContent === arguments[0]", verdict, seconds=5)
+    page.browser.run("""[...document.querySelectorAll(".card")].at(-1).querySelector(".act").click()""")
+    page.wait_for("other2.iso", "card.isRunning && card.words.includes(' of ')")
+    page.browser.click("#stop-all")
+    for i in range(3):
+        os.remove(os.path.join(page.room, f"other{i}.iso"))
+
+
 def small_screen(page):
     """The results come into view, nothing is wider than the screen, and all that is pressed is high enough."""
     page.browser.devtools("Emulation.setDeviceMetricsOverride", width=390, height=844, deviceScaleFactor=1, mobile=True)
@@ -210,6 +256,13 @@ LIST_CHECKS = {
     "a folder that is dropped": folder_dropped,
     "lines saved and copied, for xxhsum -c": lines_saved,
     "one file is removed": removed,
+    "10,000 files and their checksum file": many_files,
+    "verifying a download": download,
     "a small screen": small_screen,
     "opened as a file": opened_as_file,
 }
+
+# What is tried in each browser.
+IN_EACH_BROWSER = ["an expected digest, in words", "an expected digest among many", "a checksum file with its files",
+                   "improper lines of a checksum file", "one file is removed", "10,000 files and their checksum file",
+                   "verifying a download"]

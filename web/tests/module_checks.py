@@ -1,4 +1,4 @@
-"""The module as programs meet it: in Node, as a package, in bundles and under a compiler of types."""
+"""The module as programs meet it: in Node, as a package, in bundles, under a compiler of types and in other engines."""
 import json
 import os
 import re
@@ -10,19 +10,24 @@ from values import long_digests
 
 HERE = os.path.dirname(os.path.abspath(__file__))
 WEB = os.path.dirname(HERE)
-PACKAGED = ["LICENSE", "README.md", "inline.d.ts", "inline.js", "node.js", "package.json", "twox_hash.d.ts", "twox_hash.js",
-            "twox_hash.wasm", "twox_hash.wasm.js"]
+PACKAGED = ["LICENSE", "README.md", "inline.d.ts", "inline.js", "modules.js", "node.d.ts", "node.js", "node_hash.js", "package.json",
+            "streams.d.ts", "streams.js", "twox_hash.d.ts", "twox_hash.js", "twox_hash.wasm", "twox_hash_simd.wasm",
+            "xxhash_wasm.d.ts", "xxhash_wasm.js"]
+MODULES = ["twox_hash.wasm", "twox_hash_simd.wasm"]
 TSC = ["tsc", "--strict", "--noEmit", "--target", "es2022", "--lib", "es2022,dom", "--module", "node16",
        "--moduleResolution", "node16"]
-# Bundles for Chromium: the file's form, esbuild's words, and how the entry is made there.
+# Bundles for a browser: the file's form, esbuild's words, and how the entry is made there.
 BUNDLES = {
     "with the bytes inside, as one classic script": (["--format=iife"], 'import * as entry from "twox_hash/inline";'),
-    "whose module esbuild puts beside it": (
+    "whose modules esbuild puts beside it": (
         ["--format=esm", "--loader:.wasm=file"],
-        'import * as twox from "twox_hash"; import wasm from "twox_hash/twox_hash.wasm";'
-        "const entry = { ...twox, load: () => twox.load(wasm) };"),
-    "whose module lies in out/ beside it": (["--format=esm"], 'import * as entry from "twox_hash";'),
+        'import * as twox from "twox_hash"; import plain from "twox_hash/twox_hash.wasm";'
+        'import vectors from "twox_hash/twox_hash_simd.wasm";'
+        "const entry = { ...twox, load: () => twox.load((hasVectors) => hasVectors ? vectors : plain) };"),
+    "whose modules lie beside it": (["--format=esm"], 'import * as entry from "twox_hash";'),
 }
+# What engine and flag leave an x86 processor without the vectors of WebAssembly.
+WITHOUT_VECTORS = ["--no-enable-sse4-1"]
 
 
 def run(words, folder):
@@ -35,11 +40,6 @@ def must(words, folder):
     return ran.stdout
 
 
-def node_flags():
-    script = "process.exit(WebAssembly.validate(Uint8Array.of(0,97,115,109,1,0,0,0,5,3,1,4,0)) ? 0 : 1)"
-    return [] if subprocess.run(["node", "-e", script]).returncode == 0 else ["--experimental-wasm-memory64"]
-
-
 def write(folder, name, text):
     path = os.path.join(folder, name)
     with open(path, "w", encoding="utf-8") as file:
@@ -48,33 +48,67 @@ def write(folder, name, text):
 
 
 def all_right(lines):
-    """That no line of the module's tests tells of a fault, and how many there are."""
+    """That no line of the tests tells of a fault, and how many there are."""
     wrong = [f"{line['name']} ({line.get('words', '')})" for line in lines if not line["ok"]]
-    want(len(lines) > 10 and not wrong, "; ".join(wrong) or f"{len(lines)} tests")
+    want(len(lines) > 1 and not wrong, "; ".join(wrong) or f"{len(lines)} tests")
     return f"{len(lines)} tests"
 
 
-def tests_in_node(entry, folder):
-    """The module's tests of an entry, as the folder's scripts import it."""
-    script = write(folder, "run.mjs", f'import * as entry from "{entry}"; import {{ report }} from "file://{HERE}/run_node.mjs";'
-                                      "await report(entry, process.argv[2]);")
-    return all_right(json.loads(must(["node", *node_flags(), script, json.dumps(long_digests())], folder)))
+def tests_in_node(folder, node, entry, others="", flags=(), vectors=None):
+    """The tests of an entry, and of the other ones, under a Node: as the folder's scripts import them."""
+    imports = "".join(f'import * as {name} from "{path}";' for name, path in entry.items())
+    script = write(folder, "run.mjs", f'{imports} {others} import {{ report }} from "file://{HERE}/run_node.mjs";'
+                                      f"await report(process.argv[2], {{ {', '.join(entry)}{', xxhash' if others else ''} }});")
+    said = json.loads(must([node, *flags, script, json.dumps(long_digests())], folder))
+    want(vectors is None or said["hasVectors"] == vectors, f"vectors: {said['hasVectors']}")
+    return f"Node {said['version']}, {'with' if said['hasVectors'] else 'without'} vectors, {all_right(said['lines'])}"
 
 
-def refused_in_node(folder):
-    """Node 24 and later have that memory: there the question for it is answered with no."""
-    script = write(folder, "refused.mjs", ("" if node_flags() else "WebAssembly.validate = () => false;")
-                   + f"""const {{ load }} = await import("file://{WEB}/node.js");
-        await load().catch((error) => console.log(error.name, error.code, error.message));""")
-    said = must(["node", script], folder)
-    version = must(["node", "--version"], folder).strip().lstrip("v")
-    want(said.startswith("TwoxHashError unsupported Node " + version), said)
-    want("version 24" in said and "--experimental-wasm-memory64" in said and "browser" not in said, said)
+def tests_of_tree(folder, node, flags=(), vectors=None):
+    """The tests of the files in this folder."""
+    entry = {"entry": f"file://{WEB}/node.js", "node": f"file://{WEB}/node.js", "streams": f"file://{WEB}/streams.js"}
+    return tests_in_node(folder, node, entry, flags=flags, vectors=vectors)
+
+
+def tests_of_module(folder, node, module):
+    """The module's tests with this module, wherever the other would be taken."""
+    entry = write(folder, "given.mjs", f'import * as twox from "file://{WEB}/node.js"; export * from "file://{WEB}/node.js";'
+                                       f'export const load = () => twox.load("file://{WEB}/{module}");')
+    return tests_in_node(folder, node, {"entry": f"file://{entry}"})
+
+
+def wrong_module_is_noticed(folder, node):
+    """A module in which one bit is another, of the default secret of XXH3, fails the tests."""
+    with open(os.path.join(WEB, MODULES[1]), "rb") as file:
+        module = bytearray(file.read())
+    at = module.find(bytes.fromhex("b8fe6c3923a44bbe"))
+    want(at > 0, "the secret is not there")
+    module[at] ^= 1
+    path = os.path.join(folder, "wrong.wasm")
+    with open(path, "wb") as file:
+        file.write(module)
+    entry = write(folder, "wrong.mjs", f'import * as twox from "file://{WEB}/node.js"; export * from "file://{WEB}/node.js";'
+                                       f'export const load = () => twox.load("file://{path}");')
+    try:
+        said = tests_in_node(folder, node, {"entry": f"file://{entry}"})
+    except AssertionError as found:
+        want("rows of the reference library" in str(found), str(found))
+        return
+    want(False, f"a wrong module passes: {said}")
+
+
+def refused_in_node(folder, node):
+    """Where there is no WebAssembly, that is what is said."""
+    script = write(folder, "refused.mjs", f"""delete globalThis.WebAssembly;
+        const {{ isSupported, load }} = await import("file://{WEB}/node.js");
+        await load().catch((error) => console.log(isSupported(), error.name, error.code, error.message));""")
+    said = must([node, script], folder)
+    want(said.startswith("false TwoxHashError unsupported There is no WebAssembly"), said)
 
 
 def packed(folder):
     """Installs the package there, as npm packs it, and nothing else."""
-    must(["npm", "pack", "--ignore-scripts", "--pack-destination", folder], WEB)
+    must(["npm", "pack", "--pack-destination", folder], WEB)
     archive = next(name for name in os.listdir(folder) if name.endswith(".tgz"))
     write(folder, "package.json", '{ "private": true, "type": "module" }')
     must(["npm", "install", "--offline", "--no-audit", "--no-fund", "./" + archive], folder)
@@ -83,15 +117,19 @@ def packed(folder):
     return archive
 
 
-def page_example(folder):
-    """The example of web/README.md gives what it says, in the package's own folder."""
+def page_example(folder, node):
+    """The examples of web/README.md give what they say, in the package's own folder."""
     with open(os.path.join(WEB, "README.md"), encoding="utf-8") as file:
-        code = re.search(r"```js\n(.*?)```", file.read(), re.S).group(1)
-    lines, count = re.subn(r'^(?:const \w+ = )?(.*); // "([0-9a-f]+)"$', r'same(\1, "\2");', code, flags=re.M)
-    want(count >= 4 and 'from "twox_hash"' in code, f"{count} values")
+        examples = re.findall(r"```js\n(.*?)```", file.read(), re.S)
     same = "function same(value, expected) { if (value !== expected) throw new Error(`${value} instead of ${expected}`); }"
-    must(["node", *node_flags(), write(folder, "example.mjs", lines + same)], folder)
-    return f"{count} values"
+    all_of_them = 0
+    for number, code in enumerate(examples):
+        lines, count = re.subn(r'^(?:const \w+ = )?(.*); // "([0-9a-f]+)"$', r'same(\1, "\2");', code, flags=re.M)
+        want(count >= 1 and 'from "twox_hash' in code, f"example {number + 1} has {count} values")
+        must([node, write(folder, f"example{number}.mjs", lines + same)], folder)
+        all_of_them += count
+    want(all_of_them >= 6, f"{all_of_them} values")
+    return f"{all_of_them} values of {len(examples)} examples"
 
 
 def types(folder):
@@ -99,31 +137,62 @@ def types(folder):
     must([*TSC, "types.ts"], folder)
 
 
-def bundle(folder, number, words, entry):
-    """Writes the bundle's page, and gives its name."""
-    out = os.path.join(folder, f"bundle{number}")
-    os.makedirs(os.path.join(out, "out"))
-    app = write(folder, f"app{number}.js", f'{entry} import {{ runTests }} from "{HERE}/module_tests.js";'
-                                           "globalThis.tests = (...given) => runTests(entry, ...given);")
+def bundle(folder, name, words, entry):
+    """Writes the bundle's page, and gives its address."""
+    out = os.path.join(folder, name)
+    os.makedirs(out)
+    app = write(folder, f"{name}.js", f'{entry} import {{ runTests }} from "{HERE}/module_tests.js";'
+                                      "globalThis.tests = (...given) => runTests(entry, ...given);")
     must(["esbuild", app, "--bundle", "--log-level=error", *words, f"--outdir={out}"], folder)
-    if "--loader:.wasm=file" not in words:
-        shutil.copy(os.path.join(WEB, "out", "twox_hash.wasm"), os.path.join(out, "out"))
+    if "--format=esm" in words and "--loader:.wasm=file" not in words:
+        for module in MODULES:
+            shutil.copy(os.path.join(WEB, module), out)
     kind = "" if "--format=iife" in words else ' type="module"'
-    write(out, "index.html", f"<!doctype html><title>bundle</title><script{kind} src=app{number}.js></script>")
-    return f"bundle{number}/index.html"
+    write(out, "index.html", f"<!doctype html><title>bundle</title><script{kind} src={name}.js></script>")
+    return f"{name}/index.html"
 
 
-def tests_in_bundle(browser, address, folder, number, words, entry):
-    browser.go(address + bundle(folder, number, words, entry))
+def tests_in_bundle(browser, address, folder, name, words, entry):
+    browser.go(address + bundle(folder, name, words, entry))
     browser.wait("return typeof tests === 'function'")
     return all_right(browser.run("""return tests(await (await fetch("/oracle/vectors.txt")).text(), arguments[0]);""", long_digests()))
 
 
-def tests_in_page(browser, address):
-    browser.go(address)
-    return all_right(browser.run("""const { runTests } = await import("/web/tests/module_tests.js");
-        return runTests(await import("/web/twox_hash.js"), await (await fetch("/oracle/vectors.txt")).text(), arguments[0]);""",
-        long_digests()))
+# A page with no bundle, whose script asks for the files of this folder.
+TESTS_PAGE = """<!doctype html><title>tests</title><script type=module>
+import * as twox from "/web/twox_hash.js";
+import * as streams from "/web/streams.js";
+import { runTests } from "/web/tests/module_tests.js";
+import { runStreamTests } from "/web/tests/stream_tests.js";
+globalThis.tests = async (table, digests) => ({ vectors: twox.hasVectors(),
+  lines: [...await runTests(twox, table, digests), ...await runStreamTests(twox, streams, digests)] });
+</script>"""
+
+
+def tests_in_page(browser, address, folder):
+    write(folder, "tests.html", TESTS_PAGE)
+    browser.go(address + "tests.html")
+    browser.wait("return typeof tests === 'function'")
+    said = browser.run("""return tests(await (await fetch("/oracle/vectors.txt")).text(), arguments[0]);""", long_digests())
+    return f"{all_right(said['lines'])}, {'with' if said['vectors'] else 'without'} vectors"
+
+
+def tests_in_jsc(module, vectors):
+    """The module's tests in the shell of WebKit's engine."""
+    environment = {**os.environ, "JSC_useWasmSIMD": str(int(vectors))}
+    ran = subprocess.run([jsc(), "-m", os.path.join(HERE, "run_jsc.mjs"), "--", WEB, os.path.join(WEB, module),
+                          json.dumps(long_digests())], capture_output=True, text=True, env=environment)
+    want(ran.stdout.startswith("{"), (ran.stdout + ran.stderr)[-600:])
+    said = json.loads(ran.stdout)
+    want(said["hasVectors"] == vectors, f"vectors: {said['hasVectors']}")
+    return all_right(said["lines"])
+
+
+def jsc():
+    """Debian puts it beside WebKit's library."""
+    folders = [f"/usr/lib/x86_64-linux-gnu/javascriptcoregtk-{it}" for it in ("4.0", "4.1")]
+    found = [f"{it}/jsc" for it in folders if os.path.exists(f"{it}/jsc")]
+    return found[0] if found else shutil.which("jsc")
 
 
 def lines_read(folder):
@@ -137,22 +206,41 @@ def lines_read(folder):
     return f"{said['count']} lines"
 
 
-def check_in_node(checks, folder):
+def sums_are_right():
+    """The modules that stand here have the sums that stand beside them."""
+    return must(["sha256sum", "--check", "SHA256SUMS"], WEB).strip().replace("\n", ", ")
+
+
+def check_in_node(checks, folder, nodes):
+    checks.run("the modules have their sums", sums_are_right)
     checks.run("Node: the page reads lines as the command does", lines_read, folder)
-    checks.run("Node: the module's tests", tests_in_node, f"file://{WEB}/node.js", folder)
-    checks.run("Node without 64-bit memory is told which versions and which flag have it", refused_in_node, folder)
+    for node in nodes:
+        checks.run(f"{node}: the tests of the module and its streams", tests_of_tree, folder, node)
+        for module in MODULES:
+            checks.run(f"{node}: the tests of {module}", tests_of_module, folder, node, module)
+    checks.run("Node where WebAssembly has no vectors", tests_of_tree, folder, nodes[0], WITHOUT_VECTORS, False)
+    checks.run("Node: a module with a wrong bit is noticed", wrong_module_is_noticed, folder, nodes[0])
+    checks.run("Node without WebAssembly is told so", refused_in_node, folder, nodes[0])
 
 
-def check_package(checks, folder):
+def check_package(checks, folder, nodes):
     checks.run("the package, as npm packs it, has its files and no other", packed, folder)
-    checks.run("the package in Node: the module's tests", tests_in_node, "twox_hash", folder)
-    checks.run("the package's entry with the bytes inside: the module's tests", tests_in_node, "twox_hash/inline", folder)
-    checks.run("the example of web/README.md", page_example, folder)
+    xxhash = 'import xxhash from "twox_hash/xxhash-wasm";'
+    for node in nodes:
+        checks.run(f"the package in {node}: all tests", tests_in_node, folder, node,
+                   {"entry": "twox_hash", "node": "twox_hash", "streams": "twox_hash/streams"}, xxhash)
+        checks.run(f"the package in {node}: the entry with the bytes inside", tests_in_node, folder, node, {"entry": "twox_hash/inline"})
+    checks.run("the examples of web/README.md", page_example, folder, nodes[0])
     checks.run("the package's types, by tsc --strict", types, folder)
 
 
-def check_in_chromium(checks, folder, browser, address):
-    checks.run("Chromium: the module's tests", tests_in_page, browser, f"{address}/web/")
-    for number, (name, (words, entry)) in enumerate(BUNDLES.items()):
-        checks.run(f"Chromium: the module's tests in a bundle {name}", tests_in_bundle, browser, f"{address}/bundles/", folder,
-                   number, words, entry)
+def check_in_jsc(checks):
+    checks.run("WebKit's engine (jsc): the tests of twox_hash_simd.wasm", tests_in_jsc, MODULES[1], True)
+    checks.run("WebKit's engine (jsc), without vectors: the tests of twox_hash.wasm", tests_in_jsc, MODULES[0], False)
+
+
+def check_in_browser(checks, name, folder, browser, address):
+    checks.run(f"{name}: the tests of the module and its streams", tests_in_page, browser, f"{address}/bundles/", folder)
+    for number, (what, (words, entry)) in enumerate(BUNDLES.items()):
+        checks.run(f"{name}: the module's tests in a bundle {what}", tests_in_bundle, browser, f"{address}/bundles/", folder,
+                   f"{name.lower()}{number}", words, entry)

@@ -48,7 +48,7 @@ class Row {
   }
 }
 
-function rowsOf(table) {
+export function rowsOf(table) {
   return table.split("\n").filter((line) => line && !line.startsWith("#")).map((line) => new Row(line));
 }
 
@@ -60,12 +60,12 @@ function chosen(table) {
 /** An input of several chunks: the bytes 0 to 250 over and over. */
 const MANY = 1_000_003;
 
-function many() {
+export function many() {
   return Uint8Array.from({ length: MANY }, (_, i) => i % 251);
 }
 
 function oneshot({ kind, seed, input, options }) {
-  return kind.startsWith("xxh3_") ? twox[kind](input, options) : twox[kind](input, seed);
+  return BigInt(kind.startsWith("xxh3_") ? twox[kind](input, options) : twox[kind](input, seed));
 }
 
 /** The digest of the row's input in pieces that end there. */
@@ -78,7 +78,7 @@ function inPieces({ kind, options }, input, ends) {
   }
   const value = stream.digest();
   stream.free();
-  return value;
+  return BigInt(value);
 }
 
 /** The digest where the stream is saved and loaded after each piece. */
@@ -94,7 +94,7 @@ function savedBetween({ kind, options }, input, ends) {
   }
   const value = stream.digest();
   stream.free();
-  return value;
+  return BigInt(value);
 }
 
 /** The state of a stream that took so many bytes. */
@@ -141,10 +141,11 @@ const SECRET = new Uint8Array(136);
 
 /** Calls that are refused, and the code. */
 const REFUSED = [
-  ["input", () => twox.xxh64("text")],
+  ["input", () => twox.xxh64(7)],
   ["input", () => twox.xxh64(undefined)],
   ["input", () => twox.xxh64([1, 2, 3])],
-  ["input", () => new twox.Stream("xxh64").update("text")],
+  ["input", () => twox.xxh64(new String("text"))],
+  ["input", () => new twox.Stream("xxh64").update(null)],
   ["seed", () => twox.xxh64(BYTES, -1)],
   ["seed", () => twox.xxh64(BYTES, 1.5)],
   ["seed", () => twox.xxh64(BYTES, "7")],
@@ -166,6 +167,11 @@ const REFUSED = [
   ["value", () => twox.toHex(7, "xxh64")],
   ["value", () => twox.toHex(-1n, "xxh64")],
   ["value", () => twox.toHex(2n ** 32n, "xxh32")],
+  ["value", () => twox.toHex(2 ** 32, "xxh32")],
+  ["value", () => twox.toHex(-1, "xxh32")],
+  ["value", () => twox.toHex(1.5, "xxh32")],
+  ["value", () => twox.toHex("7", "xxh32")],
+  ["value", () => twox.toBytes(7, "xxh3_64")],
   ["value", () => twox.toHex(2n ** 128n, "xxh3_128")],
   ["kind", () => twox.toHex(7n)],
   ["state", () => twox.Stream.load("text")],
@@ -179,6 +185,23 @@ const REFUSED = [
   ["secret", () => twox.Stream.load(stateOf("xxh3_64", 3, { secret: SECRET }), { secret: new Uint8Array(137) })],
   ["secret", () => twox.Stream.load(stateOf("xxh3_64", 3, { seed: 7, secret: SECRET }))],
 ];
+
+/** Texts of every width of UTF-8, with halves of pairs, and some whose characters lie across the ends of chunks. */
+const TEXTS = [
+  "", "some bytes", "\u00e9", "\u20ac", "\u{1d11e}", "\ud834", "\udd1e", "a\udd1eb\ud834", "\0\x7f\x80\u07ff\u0800\uffff",
+  "x".repeat(131072), "x".repeat(131073), `${"x".repeat(131071)}\u{1d11e}y`, `${"x".repeat(131070)}\u{1d11e}\u20ac`,
+  "\u00e9".repeat(90_000), `a${"\u{1d11e}".repeat(70_000)}`, `ab${"\u20ac\u{1d11e}".repeat(60_000)}\ud834`,
+];
+
+function textIsRight(text) {
+  const bytes = new TextEncoder().encode(text);
+  return twox.KINDS.every((kind) => {
+    const stream = new twox.Stream(kind).update(text);
+    const values = [twox[kind](text), twox[kind](bytes), stream.digest()];
+    stream.free();
+    return values.every((value) => value === values[0]);
+  });
+}
 
 /** Where a state's head ends and its record begins. */
 const HEAD = 24;
@@ -221,7 +244,7 @@ const TESTS = {
   "1,000,003 bytes, which are carried in chunks, at once and in pieces": (table, digests) => {
     const input = many();
     const wrong = twox.KINDS.filter((kind) => {
-      const values = [twox[kind](input), inPieces({ kind, options: {} }, input, [400_000]), inPieces({ kind, options: {} }, input, [7])];
+      const values = [BigInt(twox[kind](input)), inPieces({ kind, options: {} }, input, [400_000]), inPieces({ kind, options: {} }, input, [7])];
       return values.some((value) => value !== BigInt(`0x${digests[kind]}`));
     });
     return { ok: wrong.length === 0, words: wrong.join(" ") };
@@ -231,6 +254,39 @@ const TESTS = {
     const wrong = rows.filter((row) => twox.toHex(oneshot(row), row.kind) !== row.digits);
     const kinds = new Set(rows.map(({ kind }) => kind));
     return { ok: kinds.size === 4 && wrong.length === 0, words: wrong[0]?.line ?? `${rows.length} rows` };
+  },
+  "text is taken as UTF-8, at once and by a stream": () => {
+    const wrong = TEXTS.filter((text) => !textIsRight(text));
+    const known = twox.toHex(twox.xxh64("some bytes", 1234), "xxh64") === "eab55659a496d78b";
+    return { ok: known && wrong.length === 0, words: wrong.length ? JSON.stringify(wrong[0].slice(0, 20)) : `${TEXTS.length} texts` };
+  },
+  "a secret may be text": () => {
+    const secret = "\u00e9".repeat(68);
+    const values = [secret, new TextEncoder().encode(secret)].map((it) => twox.xxh3_128(many(), { secret: it }));
+    return { ok: values[0] === values[1] };
+  },
+  "XXH32 answers a number, and the others a bigint": () => {
+    const types = twox.KINDS.flatMap((kind) => [typeof twox[kind](BYTES), typeof new twox.Stream(kind).digest()]);
+    return { ok: types.join(" ") === "number number bigint bigint bigint bigint bigint bigint", words: types.join(" ") };
+  },
+  "toBytes gives the bytes of the digits": (table) => {
+    const rows = chosen(table).filter(({ length }) => length < 2000);
+    const digits = (row) => [...twox.toBytes(oneshot(row), row.kind)].map((byte) => byte.toString(16).padStart(2, "0")).join("");
+    const wrong = rows.filter((row) => digits(row) !== row.digits);
+    return { ok: rows.length > 400 && wrong.length === 0, words: wrong[0]?.line ?? `${rows.length} rows` };
+  },
+  "a copy of a stream goes on by itself": (table) => {
+    const rows = chosen(table).filter(({ length }) => length > 1);
+    const wrong = rows.filter((row) => {
+      const [input, half] = [row.input, row.length >> 1];
+      const stream = new twox.Stream(row.kind, row.options).update(input.subarray(0, half));
+      const other = stream.copy();
+      const values = [stream.update(input.subarray(half)).digest(), other.update(input.subarray(half)).digest()];
+      stream.free();
+      other.free();
+      return values.some((value) => BigInt(value) !== row.answer);
+    });
+    return { ok: rows.length > 400 && wrong.length === 0, words: wrong[0]?.line ?? `${rows.length} rows` };
   },
   "a stream goes on from where it was saved": (table) => {
     const rows = chosen(table).filter(({ length }) => length > 0);
@@ -304,7 +360,7 @@ const TESTS = {
     const row = rowsOf(table).find(({ kind, length }) => kind === "xxh64" && length > 1000);
     const streams = [new twox.Stream("xxh64", row.options), new twox.Stream("xxh64", row.options)];
     twox.updateAll(streams, row.input);
-    return { ok: streams.every((stream) => stream.digest() === row.answer) };
+    return { ok: streams.every((stream) => BigInt(stream.digest()) === row.answer) };
   },
 };
 

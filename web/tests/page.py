@@ -20,17 +20,17 @@ return { words: item.querySelector(".state").textContent, failed: item.classList
 
 
 class Requests(serve.Handler):
-    """Notes what is asked for, hands out bundles, and can hand out a worker that finds no 64-bit memory."""
+    """Notes what is asked for, hands out bundles, and can hand out a worker in which something is missing."""
 
     asked = []
-    lacks_memory64 = False
+    before_worker = b""
     bundles = None
 
     def do_GET(self):
         Requests.asked.append(self.path)
         name = self.path.removeprefix("/bundles/")
-        if self.path == "/web/worker.js" and Requests.lacks_memory64:
-            self.send_file(os.path.join(WEB, "worker.js"), b"WebAssembly.validate = () => false;\n")
+        if self.path == "/web/worker.js" and Requests.before_worker:
+            self.send_file(os.path.join(WEB, "worker.js"), Requests.before_worker)
         elif name != self.path:
             self.send_file(os.path.join(Requests.bundles, name))
         else:
@@ -59,6 +59,7 @@ class Served:
 
     def __exit__(self, *_):
         self.serving.shutdown()
+        self.serving.server_close()
 
 
 class Page:

@@ -1,9 +1,14 @@
 """The page as a user uses it."""
+import functools
+import http.server
 import os
+import subprocess
+import tempfile
+import threading
 
 import table
 from module_checks import WEB
-from page import Requests
+from page import Page, Requests, Served
 from report import want
 from values import SOME_BYTES, reference
 
@@ -185,7 +190,7 @@ def keyboard(page):
     want(seen == ["files", "folder", "text", "expected", "Seed and secret"], seen)
     page.browser.press("Enter", "Tab")
     want(focused(page) == "seed", focused(page))
-    page.browser.command("POST", f"/element/{page.browser.find('#seed')}/value", {"text": "1234"})
+    page.browser.type("#seed", "1234")
     page.browser.run("document.getElementById('text').focus()")
     page.browser.type("#text", "some bytes")
     page.digests("Text")
@@ -204,7 +209,7 @@ def clear(page):
     page.choose(page.file("one.bin", b"1"))
     page.digests("one.bin")
     page.browser.click("#clear")
-    want(page.browser.run("return !document.querySelector('.card') && document.getElementById('results').hidden"), "the list stays")
+    page.browser.wait("return !document.querySelector('.card') && document.getElementById('results').hidden", seconds=5)
     want(focused(page) == "files", "the focus is lost")
 
 
@@ -218,11 +223,60 @@ def again(page):
     want(page.digests("again.bin") == SOME_BYTES, page.card("again.bin"))
 
 
+# What keeps the page's files asks for them by itself.
+KEEPING = ("/web/offline.js", "/web/page_files.json")
+
+
 def no_network(page):
+    kept(page)
     before = len(Requests.asked)
     page.choose(page.file("quiet.bin", b"1" * 100000))
     page.digests("quiet.bin")
-    want(len(Requests.asked) == before, Requests.asked[before:])
+    asked = [path for path in Requests.asked[before:] if path not in KEEPING]
+    want(not asked, asked)
+
+
+def kept(page):
+    """Waits until the page's files are kept."""
+    page.browser.wait("return (await navigator.serviceWorker.ready).active?.state === 'activated'", seconds=30)
+
+
+def offline(page):
+    """Where the page was loaded once, it works when its server has gone."""
+    with Served(Requests.bundles) as address:
+        there = Page(page.browser, f"{address}/web/", page.room)
+        there.open()
+        kept(there)
+    there.open()
+    there.set_key("1234")
+    there.browser.type("#text", "some bytes")
+    want(there.digests("Text") == SOME_BYTES, there.card("Text"))
+
+
+def one_folder(page):
+    """The page as one folder, on a server that knows nothing of it, under another path."""
+    with tempfile.TemporaryDirectory(prefix="twox-folder-") as room:
+        folder = os.path.join(room, "some", "where")
+        ran = subprocess.run([os.path.join(WEB, "folder"), folder], capture_output=True, text=True)
+        want(ran.returncode == 0, ran.stderr)
+        again = subprocess.run([os.path.join(WEB, "folder"), folder], capture_output=True, text=True)
+        want(again.returncode == 1 and "isn't an empty folder" in again.stderr, again.stderr)
+        handler = functools.partial(Quiet, directory=room)
+        with http.server.ThreadingHTTPServer(("127.0.0.1", 0), handler) as serving:
+            threading.Thread(target=serving.serve_forever, daemon=True).start()
+            there = Page(page.browser, f"http://127.0.0.1:{serving.server_address[1]}/some/where/", page.room)
+            there.open()
+            there.browser.type("#text", "some bytes")
+            there.digests("Text")
+            kept(there)
+            links(there)
+            serving.shutdown()
+    return ran.stdout.split(": ")[-1].strip()
+
+
+class Quiet(http.server.SimpleHTTPRequestHandler):
+    def log_message(self, *_):
+        pass
 
 
 def links(page):
@@ -240,14 +294,36 @@ def schemes(page):
     want(len(grounds) == 2, grounds)
 
 
-def no_memory64(page):
-    Requests.lacks_memory64 = True
-    try:
-        page.open()
+class Lacking:
+    """The page's worker with a line before it while the `with` lasts, which takes something away."""
+
+    def __init__(self, page, line):
+        self.page, self.line = page, line
+
+    def __enter__(self):
+        Requests.before_worker = self.line
+        self.page.open()
+
+    def __exit__(self, *_):
+        Requests.before_worker = b""
+
+
+def which_module(page):
+    """What is said of the module that runs, with vectors and without: and both hash."""
+    said = page.text_of("#module")
+    want(said.startswith("The fast module runs here"), said)
+    with Lacking(page, b"WebAssembly.validate = () => false;\n"):
+        plain = page.text_of("#module")
+        page.set_key("1234")
+        page.browser.type("#text", "some bytes")
+        want(page.digests("Text") == SOME_BYTES, page.card("Text"))
+    want(plain.startswith("The plain module runs here"), plain)
+
+
+def no_webassembly(page):
+    with Lacking(page, b"delete globalThis.WebAssembly;\n"):
         shown = page.browser.run("const it = document.getElementById('unsupported'); return [it.hidden, it.textContent, document.getElementById('files').disabled]")
-    finally:
-        Requests.lacks_memory64 = False
-    want(shown[0] is False and "64-bit WebAssembly memory" in shown[1] and shown[2] is True, shown)
+    want(shown[0] is False and "There is no WebAssembly here" in shown[1] and shown[2] is True, shown)
 
 
 PAGE_CHECKS = {
@@ -271,8 +347,18 @@ PAGE_CHECKS = {
     "no request while hashing": no_network,
     "each link leads to a page": links,
     "light and dark": schemes,
-    "a browser without 64-bit memory is told so": no_memory64,
+    "which module runs is said, and either hashes": which_module,
+    "a browser without WebAssembly is told so": no_webassembly,
+    "without a network, once it was loaded": offline,
+    "one folder on another host": one_folder,
 }
+
+# What is tried in each browser.
+IN_EACH_BROWSER = ["every control has a name", "typed text is hashed, with the seed", "files of all ranges of lengths, as xxhsum",
+                   "seeds and secrets", "stopped there is no digest, and started again the right ones", "a dropped file",
+                   "the page stays alive", "hash again, with another seed", "clear",
+                   "which module runs is said, and either hashes", "a browser without WebAssembly is told so",
+                   "without a network, once it was loaded", "one folder on another host"]
 
 
 def take_picture(page):

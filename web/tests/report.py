@@ -12,9 +12,16 @@ class Checks:
         self.failed += not is_right
         print(f"{'ok' if is_right else 'FAILED'}  {name}{f' ({words})' if words else ''}", flush=True)
 
-    def run(self, name, check, *arguments):
+    def repeat(self, line):
+        """Prints and counts a line of another program of this kind."""
+        self.passed += line.startswith("ok  ")
+        self.failed += line.startswith("FAILED  ")
+        if line.startswith(("ok  ", "FAILED  ")):
+            print(line, end="", flush=True)
+
+    def run(self, name, check, *arguments, **more):
         try:
-            self.line(True, name, check(*arguments) or "")
+            self.line(True, name, check(*arguments, **more) or "")
         except (AssertionError, RuntimeError, OSError, KeyError, TypeError) as error:
             self.line(False, name, f"{type(error).__name__}: {error}")
 

@@ -24,6 +24,15 @@ join_one n a b x A B =
     let on : (a + 2 ^ 32 * (b + 2 ^ 32 * x)) / 2 ^ 64 ≡ x = omega arith in
     λ i. low i ∷ digits_l (2 ^ 64) n (on i)
 
+-- two words as four halves
+pub split_two : (a b : ℕ) → a < 2 ^ 64 → b < 2 ^ 64
+    → digits_l (2 ^ 32) 4 (number_l 256 (digits_l 256 16 (number_l (2 ^ 64) (a ∷ b ∷ []))))
+    ≡ a % 2 ^ 32 ∷ a / 2 ^ 32 ∷ b % 2 ^ 32 ∷ b / 2 ^ 32 ∷ []
+split_two a b A B =
+    ap (digits_l (2 ^ 32) 4) (number_of_digits 16 (number_l (2 ^ 64) (a ∷ b ∷ [])) (omega arith))
+    ∙ split_one 2 a _ A
+    ∙ ap (λ l. a % 2 ^ 32 ∷ a / 2 ^ 32 ∷ l) (split_one 0 b 0 B)
+
 -- four words as eight halves
 pub split_four : (a b c d : ℕ) → a < 2 ^ 64 → b < 2 ^ 64 → c < 2 ^ 64 → d < 2 ^ 64
     → digits_l (2 ^ 32) 8 (number_l 256 (digits_l 256 32 (number_l (2 ^ 64) (a ∷ b ∷ c ∷ d ∷ []))))

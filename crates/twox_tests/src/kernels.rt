@@ -3,7 +3,7 @@
 use crate::rows::{SEED, first, gen_10240};
 use std::alloc::{AllocError, Global};
 use std::test::Fail;
-use twox_hash::xxhash3::large::{lanes2, lanes4, scalar, split2};
+use twox_hash::xxhash3::large::{halves4, lanes2, lanes4, scalar, split2};
 use twox_hash::xxhash3::{AllocRawHasher, Vector};
 use twox_hash::xxhash3_64::Finalize64;
 
@@ -17,11 +17,12 @@ fn finish_with<V: Vector>(core: &Core, v: V) -> u64 {
     core.finish_with(v, Finalize64)
 }
 
-fn write_four(core: &mut Core, four: &[u8; 4]) {
-    write_with(core, scalar::Impl {}, &four[..1]);
-    write_with(core, lanes2::Impl {}, &four[1..2]);
-    write_with(core, lanes4::Impl {}, &four[2..3]);
-    write_with(core, split2::Impl {}, &four[3..]);
+fn write_eight(core: &mut Core, eight: &[u8; 8]) {
+    write_with(core, scalar::Impl {}, &eight[..1]);
+    write_with(core, lanes2::Impl {}, &eight[1..2]);
+    write_with(core, lanes4::Impl {}, &eight[2..3]);
+    write_with(core, split2::Impl {}, &eight[3..4]);
+    write_with(core, halves4::Impl {}, &eight[4..]);
 }
 
 fn finishes(core: &Core, value: u64) -> bool {
@@ -29,13 +30,14 @@ fn finishes(core: &Core, value: u64) -> bool {
         && finish_with(core, lanes2::Impl {}) == value
         && finish_with(core, lanes4::Impl {}) == value
         && finish_with(core, split2::Impl {}) == value
+        && finish_with(core, halves4::Impl {}) == value
 }
 
 fn taken_in_turn(alloc: Global, input: &[u8]) -> Result<Core, AllocError> {
     let mut core = AllocRawHasher::allocate_with_seed(alloc, SEED)?;
-    let (fours, _) = input.as_chunks::<4>();
-    for four in fours {
-        write_four(&mut core, four);
+    let (eights, _) = input.as_chunks::<8>();
+    for eight in eights {
+        write_eight(&mut core, eight);
     }
     Ok(core)
 }

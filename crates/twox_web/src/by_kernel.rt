@@ -6,7 +6,7 @@ ghost use Rattle.twox_hash.specs.Secret.{default_secret, derived_secret};
 ghost use Rattle.twox_hash.specs.SecretBytes.{secret_bytes};
 ghost use Rattle.twox_hash.specs.Value.{effective_secret, xxh3_64, xxh3_128};
 
-use twox_hash::xxhash3::large::split2;
+use twox_hash::xxhash3::large::halves4;
 use twox_hash::xxhash3::{
     Algorithm, CUTOFF, DEFAULT_SEED, Finalize, Secret, default_secret, derived_secret,
 };
@@ -14,8 +14,8 @@ use twox_hash::xxhash3_64::Finalize64;
 use twox_hash::xxhash3_128::Finalize128;
 use twox_hash::{XxHash3_64, XxHash3_128};
 
-/// The module's kernel: the fastest of the library's where the compiler makes no vectors, as for WebAssembly.
-pub type PageKernel = split2::Impl;
+/// The module's kernel: of the library's the fastest in WebAssembly, with vectors and without.
+pub type PageKernel = halves4::Impl;
 
 /// The hash of 64 bits, with the default secret and the seed 0.
 pub fn default_64(input: &[u8]) -> u64

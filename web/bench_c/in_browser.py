@@ -1,0 +1,46 @@
+#!/usr/bin/env python3
+"""Measures modules in a headless browser, as run.mjs does in Node:
+
+    web/bench_c/in_browser.py chromium | firefox ROUNDS NAME=FILE.."""
+import json
+import os
+import shutil
+import sys
+import tempfile
+
+WEB = os.path.dirname(os.path.dirname(os.path.abspath(__file__)))
+sys.dont_write_bytecode = True
+sys.path[:0] = [os.path.join(WEB, "tests"), os.path.join(os.path.dirname(WEB), "oracle")]
+
+from browser import Chromium, Firefox
+from page import Served
+
+PAGE = """<!doctype html><title>bench</title><script type=module>
+import { measure } from "/web/bench_c/measure.js";
+globalThis.measured = async (names, rounds) => {
+  const bytes = async (name) => new Uint8Array(await (await fetch(`${name}.wasm`)).arrayBuffer());
+  return [...measure(await Promise.all(names.map(async (name) => ({ name, bytes: await bytes(name) }))), rounds)];
+};
+</script>"""
+
+
+def main(kind, rounds, *words):
+    modules = dict(word.split("=") for word in words)
+    with tempfile.TemporaryDirectory(prefix="twox-bench-") as folder:
+        for name, file in modules.items():
+            shutil.copyfile(file, os.path.join(folder, f"{name}.wasm"))
+        with open(os.path.join(folder, "bench.html"), "w", encoding="utf-8") as file:
+            file.write(PAGE)
+        browser = {"chromium": Chromium, "firefox": Firefox}[kind]()
+        try:
+            with Served(folder) as address:
+                browser.go(f"{address}/bundles/bench.html")
+                browser.wait("return typeof measured === 'function'")
+                for row in browser.run("return measured(...arguments)", list(modules), int(rounds)):
+                    print(json.dumps(row))
+        finally:
+            browser.close()
+
+
+if __name__ == "__main__":
+    main(*sys.argv[1:])

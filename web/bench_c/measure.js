@@ -1,0 +1,130 @@
+/**
+ * Measures modules beside each other, in Node and in a page: calls from JavaScript over bytes that lie in a module's memory,
+ * one-shots and streams in pieces. All modules take turns in each round, so that what slows the machine slows all of them.
+ */
+const LENGTHS = [16, 240, 1024, 65536, 1 << 20];
+const PIECES = [1000, 65536];
+const KINDS = ["xxh32", "xxh64", "xxh3_64", "xxh3_128"];
+const TOTAL = 1 << 20;
+const PAGE_BYTES = 65536;
+const WARM_MILLISECONDS = 60;
+const TURN_MILLISECONDS = 1.5;
+
+/** Drawn once, so that every module has the same bytes. */
+function drawn(length) {
+  const bytes = new Uint8Array(length);
+  let x = 1;
+  for (let i = 0; i < length; i += 1) {
+    x = (Math.imul(x, 1664525) + 1013904223) | 0;
+    bytes[i] = x >>> 24;
+  }
+  return bytes;
+}
+
+/** A module with the input in its memory. Ours takes numbers of 64 bits, and a header's addresses of 32. */
+class Module {
+  constructor({ name, bytes }) {
+    const { exports } = new WebAssembly.Instance(new WebAssembly.Module(bytes), {});
+    this.name = name;
+    this.calls = exports;
+    this.isOurs = exports.twox_xxh64 !== undefined;
+    this.number = this.isOurs ? BigInt : Number;
+    const start = Math.ceil(Number(exports.__heap_base.value) / 4096) * 4096;
+    [this.value, this.record, this.secret, this.input] = [start, start + 256, start + 1024, start + 4096];
+    const pages = Math.ceil((this.input + TOTAL - exports.memory.buffer.byteLength) / PAGE_BYTES);
+    if (pages > 0) exports.memory.grow(pages);
+    new Uint8Array(exports.memory.buffer).set(drawn(TOTAL), this.input);
+    this.view = new DataView(exports.memory.buffer, this.value, 16);
+  }
+
+  /** A call without arguments that gives the hash of the first bytes. */
+  oneshot(kind, length) {
+    const [calls, input, n] = [this.calls, this.number(this.input), this.number(length)];
+    const call = calls[`${this.isOurs ? "twox" : "peer"}_${kind}`];
+    const value = this.number(this.value);
+    if (kind === "xxh32") return () => call(0, input, n);
+    if (kind === "xxh64") return () => call(0n, input, n);
+    return kind === "xxh3_64" ? () => call(input, n) : () => call(input, n, value);
+  }
+
+  /** A call that gives the hash of pieces of that length. */
+  stream(kind, size) {
+    const total = size < 5000 ? TOTAL / 4 : TOTAL;
+    const pieces = [];
+    for (let at = 0; at < total; at += size) {
+      pieces.push([this.number(this.input + at), this.number(Math.min(size, total - at))]);
+    }
+    return this.isOurs ? this.ourStream(kind, pieces) : this.peerStream(kind, pieces);
+  }
+
+  ourStream(kind, pieces) {
+    const family = kind.startsWith("xxh3_") ? "xxh3" : kind;
+    const { [`twox_${family}_update`]: update, [`twox_${kind}_digest`]: digest } = this.calls;
+    const [record, secret, value] = [this.record, this.secret, this.value].map(BigInt);
+    const own = family === "xxh3" ? [secret, 192n] : [];
+    const start = family === "xxh3" ? () => this.calls.twox_xxh3_start_with_seed(record, secret, 0n)
+      : () => this.calls[`twox_${kind}_start`](record, kind === "xxh32" ? 0 : 0n);
+    return () => {
+      start();
+      for (const [at, length] of pieces) update(record, ...own, at, length);
+      digest(record, ...own, value);
+      return kind === "xxh32" ? this.view.getInt32(0, true) : this.view.getBigInt64(0, true);
+    };
+  }
+
+  peerStream(kind, pieces) {
+    const [start, update, digest] = ["start", "update", "digest"].map((name) => this.calls[`peer_${kind}_${name}`]);
+    return () => {
+      start();
+      for (const [at, length] of pieces) update(at, length);
+      return digest();
+    };
+  }
+
+  /** What a call answers, in one form for all. */
+  answer(kind, call) {
+    const value = call();
+    if (kind === "xxh3_128") return `${this.view.getBigUint64(8, true)} ${this.view.getBigUint64(0, true)}`;
+    return String(kind === "xxh32" ? value >>> 0 : BigInt.asUintN(64, value));
+  }
+}
+
+/** Nanoseconds of one call. */
+function timed(call, times) {
+  const start = performance.now();
+  for (let i = 0; i < times; i += 1) call();
+  return (performance.now() - start) / times * 1e6;
+}
+
+function timesFor(call) {
+  const end = performance.now() + WARM_MILLISECONDS;
+  while (performance.now() < end) timed(call, 50);
+  let times = 1;
+  while (times < 1e6 && timed(call, times) * times < TURN_MILLISECONDS * 1e6) times *= 2;
+  return times;
+}
+
+function row(modules, kind, form, size, rounds) {
+  const calls = modules.map((it) => it[form](kind, size));
+  const answers = modules.map((it, i) => it.answer(kind, calls[i]));
+  if (new Set(answers).size !== 1) throw new Error(`${kind} ${form} ${size}: ${answers.join(", ")}`);
+  const times = Math.min(...calls.map(timesFor));
+  const taken = modules.map(() => []);
+  for (let round = 0; round < rounds; round += 1) {
+    for (let i = 0; i < modules.length; i += 1) {
+      const which = (i + round) % modules.length;
+      taken[which].push(timed(calls[which], times));
+    }
+  }
+  const of = (list) => [list[0], list[list.length >> 1]];
+  return { kind, form, size, times: Object.fromEntries(modules.map(({ name }, i) => [name, of(taken[i].sort((a, b) => a - b))])) };
+}
+
+/** Rows of the best and the median nanoseconds of each module, which is given as `{ name, bytes }`. */
+export function* measure(given, rounds) {
+  const modules = given.map((it) => new Module(it));
+  for (const kind of KINDS) {
+    for (const length of LENGTHS) yield row(modules, kind, "oneshot", length, rounds);
+    if (kind !== "xxh3_128") for (const size of PIECES) yield row(modules, kind, "stream", size, rounds);
+  }
+}

@@ -1,0 +1,65 @@
+#!/usr/bin/env python3
+"""Draws what was measured, as a table of web/README.md or as rows that bench/measured.py describes:
+
+    web/bench_c/table.py [--rows] NAME=FILE..
+
+FILE has the rows of JSON that run.mjs prints, and NAME is the engine's. A cell has the time of a header over ours: of the
+module with vectors beside the fastest header of all, and of the one without beside the fastest header without."""
+import json
+import sys
+
+KINDS = {"xxh32": "XXH32", "xxh64": "XXH64", "xxh3_64": "XXH3-64", "xxh3_128": "XXH3-128"}
+FORMS = {"oneshot": "", "stream": "pieces of "}
+BEST, MEDIAN = 0, 1
+
+
+def has_vectors(name):
+    return name.endswith(("_simd", "_neon"))
+
+
+def fastest(row, among, how):
+    return min(times[how] for name, times in row["times"].items() if among(name))
+
+
+def ratios(row, how):
+    """Of the module with vectors, and of the one without."""
+    def is_header(name):
+        return not name.startswith("ours")
+    return (fastest(row, is_header, how) / row["times"]["ours_simd"][how],
+            fastest(row, lambda name: is_header(name) and not has_vectors(name), how) / row["times"]["ours"][how])
+
+
+def what(row):
+    size = f"{row['size'] >> 10} KiB" if row["size"] >= 1024 else f"{row['size']:,} bytes"
+    return f"{KINDS[row['kind']]}, {FORMS[row['form']]}{size}"
+
+
+def table(runs):
+    print("|", " | ".join(["time of the header over ours", *(f"{name}, {kind}" for name in runs for kind in ("vectors", "none"))]), "|")
+    print("|---" * (1 + 2 * len(runs)) + "|")
+    for rows in zip(*runs.values()):
+        cells = [f"{ratio:.2f}" for row in rows for ratio in ratios(row, MEDIAN)]
+        print("|", " | ".join([what(rows[0]), *cells]), "|")
+
+
+def as_rows(runs):
+    for row in next(iter(runs.values())):
+        if row["form"] == "oneshot":
+            ours = row["times"]["ours_simd"]
+            cells = [f"{name}={median:.2f}/0/{best:.2f}" for name, median, best in
+                     zip(("c_fastest", "c_plain"), ratios(row, MEDIAN), ratios(row, BEST))]
+            print("wasm", "oneshot", KINDS[row["kind"]], row["size"], f"{row['size'] / ours[MEDIAN]:.2f}", 0, *cells, sep="\t")
+
+
+def main(words):
+    runs = {}
+    for word in words:
+        if word != "--rows":
+            name, file = word.split("=")
+            with open(file) as lines:
+                runs[name] = [json.loads(line) for line in lines]
+    (as_rows if "--rows" in words else table)(runs)
+
+
+if __name__ == "__main__":
+    main(sys.argv[1:])

@@ -1,0 +1,98 @@
+/** Streams and files by their hash: what of the web's own kinds of input twox_hash.js can take. */
+import { Stream, updateAll } from "./twox_hash.js";
+
+const PIECE_BYTES = 8 * 1024 * 1024;
+const READS_AHEAD = 2;
+
+/**
+ * Passes bytes or text on as they are, and answers the hash of what has passed:
+ *
+ *     const hashing = new HashingStream("xxh3_64");
+ *     await response.body.pipeThrough(hashing).pipeTo(file);
+ *     hashing.digest();
+ */
+export class HashingStream extends TransformStream {
+  #stream;
+
+  /** As a `Stream` is made. */
+  constructor(kind, options) {
+    const stream = new Stream(kind, options);
+    super({
+      transform(piece, controller) {
+        stream.update(piece);
+        controller.enqueue(piece);
+      },
+    });
+    this.#stream = stream;
+  }
+
+  /** The hash of what has passed so far, as `digest` of a `Stream`. */
+  digest(kind) {
+    return this.#stream.digest(kind);
+  }
+}
+
+/**
+ * The hash of a file or another blob, which is read in pieces.
+ *
+ * @param {"xxh32" | "xxh64" | "xxh3_64" | "xxh3_128"} kind
+ * @param {Blob} blob
+ * @param {{ seed?: number | bigint, secret?: string | BufferSource, progress?: (done: number, size: number) => void,
+ *     signal?: AbortSignal }} [options] `progress` is called after each piece, and a signal that is aborted ends it
+ *     with the signal's reason
+ * @returns {Promise<number | bigint>}
+ */
+export async function hashBlob(kind, blob, { progress, signal, ...key } = {}) {
+  const stream = new Stream(kind, key);
+  try {
+    await takeBlob([stream], blob, { progress, signal });
+    return stream.digest();
+  } finally {
+    stream.free();
+  }
+}
+
+/**
+ * Has streams take a blob, which is read once, under the same options but for seed and secret. `size` is what the blob
+ * had when it was chosen: one that has another by now fails with a `NotReadableError`.
+ */
+export async function takeBlob(streams, blob, { progress, signal, size = blob.size } = {}) {
+  let done = 0;
+  signal?.throwIfAborted();
+  for await (const piece of piecesOf(blob, size)) {
+    signal?.throwIfAborted();
+    updateAll(streams, piece);
+    done += piece.byteLength;
+    progress?.(done, size);
+  }
+}
+
+/** The blob's bytes in pieces, of which the next ones are read while one is hashed. */
+async function* piecesOf(blob, size) {
+  const reads = [];
+  let at = 0;
+  const readOn = () => {
+    if (at >= size) return;
+    const next = read(blob, at, Math.min(at + PIECE_BYTES, size));
+    next.catch(() => {}); // a failure is met where the piece is awaited, if it still is
+    reads.push(next);
+    at += PIECE_BYTES;
+  };
+  for (let i = 0; i < READS_AHEAD; i += 1) readOn();
+  while (reads.length > 0) {
+    const piece = await reads.shift();
+    readOn();
+    yield piece;
+  }
+  if (blob.size !== size) throw changed();
+}
+
+async function read(blob, from, to) {
+  const bytes = await blob.slice(from, to).arrayBuffer();
+  if (bytes.byteLength !== to - from) throw changed();
+  return bytes;
+}
+
+function changed() {
+  return new DOMException("The file has another size than when it was chosen.", "NotReadableError");
+}

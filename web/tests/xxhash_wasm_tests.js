@@ -1,0 +1,34 @@
+/** The tests of the entry with the names of xxhash-wasm, on rows of the reference library. */
+import { rowsOf } from "./module_tests.js";
+
+const STRIDE = 20;
+
+/** Whether every call answers the row's value, of bytes and, where the bytes are text, of text. */
+function isRight(calls, row) {
+  const bits = row.kind === "xxh32" ? 32 : 64;
+  const seed = bits === 32 ? Number(row.seed) : row.seed;
+  const [raw, digits, create, load] = [`h${bits}Raw`, `h${bits}ToString`, `create${bits}`, `load${bits}`].map((name) => calls[name]);
+  const { input } = row;
+  const stream = create(seed).update(input.subarray(0, row.length >> 1));
+  const values = [raw(input, seed), stream.update(input.subarray(row.length >> 1)).digest(), load(stream.save()).digest()];
+  const types = values.every((value) => typeof value === (bits === 32 ? "number" : "bigint"));
+  return types && values.every((value) => BigInt(value) === row.answer) && digits(input, seed) === row.digits;
+}
+
+/** The calls, given the table's text: a line of what is looked at. */
+export async function runXxhashWasmTests(xxhash, table) {
+  const calls = await xxhash();
+  const rows = rowsOf(table).filter(({ kind, seed, length }, i) => i % STRIDE === 0 && length < 5000 && seed !== undefined && (kind === "xxh32" || kind === "xxh64"));
+  const wrong = rows.filter((row) => !isRight(calls, row));
+  const text = "a\u00e9\u20ac";
+  const bytes = new TextEncoder().encode(text);
+  const known = [
+    calls.h32(text) === calls.h32Raw(bytes), calls.h64(text, 7n) === calls.h64Raw(bytes, 7n),
+    calls.h64ToString("some bytes", 1234n) === "eab55659a496d78b", calls.h32ToString("some bytes", 1234) === "92f68bd9",
+    calls.h32(text, -1) === calls.h32(text, 2 ** 32 - 1), calls.create64().update(text).digest() === calls.h64(text),
+  ];
+  return [
+    { name: "xxhash-wasm's names: rows of the reference library", ok: rows.length > 100 && wrong.length === 0, words: wrong[0]?.line ?? `${rows.length} rows` },
+    { name: "xxhash-wasm's names: text, seeds and digits", ok: known.every(Boolean), words: known.join(" ") },
+  ];
+}
