@@ -4,7 +4,7 @@
 //! `bench_exports` it is. The input crosses as it does there.
 #![tactic(auto)]
 
-use twox_hash::words::Halves;
+use twox_core::width_128::{Wide, halves};
 use twox_hash::xxhash3::{DefaultSecret, SecretBuffer};
 use twox_hash::{XxHash32, XxHash64, xxhash3_64, xxhash3_128};
 
@@ -13,13 +13,6 @@ pub const ROOM: usize = 67_108_864;
 
 /// The room that holds the input.
 pub type Input = [u8; ROOM];
-
-/// A value of 128 bits, as C has it.
-#[repr(C)]
-pub struct WideValue {
-    pub low: u64,
-    pub high: u64,
-}
 
 #[inline(never)]
 fn write_32(hasher: &mut XxHash32, piece: &[u8]) {
@@ -73,18 +66,10 @@ pub extern "C" fn twox_xxh3_64_stream_called(input: &Input, len: usize, piece: u
 
 /// The hash under the seed 0 of the input in pieces of that many bytes.
 #[unsafe(no_mangle)]
-pub extern "C" fn twox_xxh3_128_stream_called(
-    input: &Input,
-    len: usize,
-    piece: usize,
-) -> WideValue {
+pub extern "C" fn twox_xxh3_128_stream_called(input: &Input, len: usize, piece: usize) -> Wide {
     let mut hasher = xxhash3_128::RawHasher::new(SecretBuffer::default());
     for part in input[..len.min(ROOM)].chunks(piece.max(1)) {
         write_3_128(&mut hasher, part);
     }
-    let value = hasher.finish_128();
-    WideValue {
-        low: value.lower_half(),
-        high: value.upper_half(),
-    }
+    halves(hasher.finish_128())
 }

@@ -6,23 +6,9 @@ ghost use Rattle.twox_hash.specs.Value.{effective_secret, xxh3_64, xxh3_128};
 ghost use Rattle.twox_hash.specs.Word.{low64, high64};
 
 use crate::{Input, ROOM};
-use twox_hash::words::Halves;
+use twox_core::width_128::{Wide, halves};
 use twox_hash::xxhash3::{DEFAULT_SECRET_LENGTH, DefaultSecret, SecretBuffer};
 use twox_hash::{XxHash3_64, XxHash3_128, xxhash3_64, xxhash3_128};
-
-/// A value of 128 bits, as C has it.
-#[repr(C)]
-pub struct WideValue {
-    pub low: u64,
-    pub high: u64,
-}
-
-fn split(value: u128) -> WideValue {
-    WideValue {
-        low: value.lower_half(),
-        high: value.upper_half(),
-    }
-}
 
 #[unsafe(no_mangle)]
 pub extern "C" fn twox_xxh3_64(input: &Input, len: usize) -> u64
@@ -60,13 +46,13 @@ pub extern "C" fn twox_xxh3_64_with_secret(
 }
 
 #[unsafe(no_mangle)]
-pub extern "C" fn twox_xxh3_128(input: &Input, len: usize) -> WideValue {
-    split(XxHash3_128::oneshot(&input[..len.min(ROOM)]))
+pub extern "C" fn twox_xxh3_128(input: &Input, len: usize) -> Wide {
+    halves(XxHash3_128::oneshot(&input[..len.min(ROOM)]))
 }
 
 #[unsafe(no_mangle)]
-pub extern "C" fn twox_xxh3_128_with_seed(seed: u64, input: &Input, len: usize) -> WideValue {
-    split(XxHash3_128::oneshot_with_seed(seed, &input[..len.min(ROOM)]))
+pub extern "C" fn twox_xxh3_128_with_seed(seed: u64, input: &Input, len: usize) -> Wide {
+    halves(XxHash3_128::oneshot_with_seed(seed, &input[..len.min(ROOM)]))
 }
 
 /// The hash under the seed 0 of the input in pieces of that many bytes.
@@ -81,10 +67,10 @@ pub extern "C" fn twox_xxh3_64_stream(input: &Input, len: usize, piece: usize) -
 
 /// The hash under the seed 0 of the input in pieces of that many bytes.
 #[unsafe(no_mangle)]
-pub extern "C" fn twox_xxh3_128_stream(input: &Input, len: usize, piece: usize) -> WideValue {
+pub extern "C" fn twox_xxh3_128_stream(input: &Input, len: usize, piece: usize) -> Wide {
     let mut hasher = xxhash3_128::RawHasher::new(SecretBuffer::default());
     for part in input[..len.min(ROOM)].chunks(piece.max(1)) {
         hasher.write(part);
     }
-    split(hasher.finish_128())
+    halves(hasher.finish_128())
 }

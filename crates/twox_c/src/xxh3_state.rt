@@ -13,8 +13,7 @@ ghost use Rattle.twox_c.specs.State3.{IsSecretLength, IsUsable, WasGiven, secret
 
 use crate::{XXH_ERROR, XXH_OK};
 use twox_core::xxhash3::{
-    BUFFERED_BYTES, CoreState, DEFAULT_SECRET_RAW, DEFAULT_SEED, Finalize, Kernel,
-    SECRET_MINIMUM_LENGTH, Secret,
+    CoreState, DEFAULT_SECRET_RAW, DEFAULT_SEED, Finalize, Kernel, SECRET_MINIMUM_LENGTH, Secret,
 };
 
 /// The greatest length of a secret that a state keeps.
@@ -78,9 +77,7 @@ impl Xxh3State {
         ensures { IsTrue result ↔ IsInRange (secret_of self.now) self.now.core }
     {
         let secret = lent(&self.secret, self.secret_length);
-        self.core.taken.stripes.current_stripe() < secret.n_stripes()
-            && self.core.buffer_usage <= BUFFERED_BYTES
-            && (self.core.total_bytes == 0 || self.core.buffer_usage > 0)
+        self.core.is_in_range(secret)
     }
 
     // The seed, if there is one.

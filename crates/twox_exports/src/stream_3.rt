@@ -7,7 +7,7 @@ ghost use Rattle.std.specs.Prelude.{◌≡◌, ◌↔◌, ◌+◌, ◌<◌, ◌�
 ghost use Rattle.twox_hash.specs.Secret.{default_secret};
 ghost use Rattle.twox_hash.specs.SecretBytes.{secret_bytes};
 ghost use Rattle.twox_hash.specs.Value.{stream_64, stream_128};
-ghost use Rattle.twox_core.specs.AfterWrite.{state_after_write, with_buffered};
+ghost use Rattle.twox_core.specs.AfterWrite.{state_after_write};
 ghost use Rattle.twox_core.specs.Finish.{state_finish};
 ghost use Rattle.twox_core.specs.StandsFor.{Follows};
 ghost use Rattle.twox_exports.specs.Number.{number_of};
@@ -15,7 +15,7 @@ ghost use Rattle.twox_exports.specs.StateValue.{state_value_64, state_value_128}
 ghost use Rattle.twox_core.specs.InRange.{IsInRange};
 
 use crate::{DONE, NOT_A_STREAM, SECRET_TOO_SHORT, Wide, halves};
-use twox_hash::words::{IntoU64, copy_up_to_128};
+use twox_hash::words::IntoU64;
 use twox_hash::xxhash3::{
     BUFFERED_BYTES, CUTOFF, CoreState, Finalize, Secret, Vector, default_secret,
 };
@@ -32,18 +32,6 @@ pub fn start() -> CoreState
 
 // A piece of up to so many bytes is kept with no call.
 const FEW_BYTES: usize = 64;
-
-// Whether calls go on from the state.
-#[inline(always)]
-fn is_in_range(core: &CoreState, secret: Secret<'_>) -> bool
-    ensures in_range { IsTrue result ↔ IsInRange (secret_bytes secret.entry) core.now }
-    ensures size { length core.now.buffer ≡ BUFFERED_BYTES }
-{
-    let room = core.buffer[..].len();
-    core.taken.stripes.current_stripe() < secret.n_stripes()
-        && core.buffer_usage <= room
-        && (0 < core.buffer_usage || core.total_bytes == 0)
-}
 
 /// Takes the bytes of a piece after those taken before, over the stream's secret.
 ///
@@ -66,7 +54,7 @@ pub fn write<V: Vector>(core: &mut CoreState, v: V, secret: &[u8], input: &[u8])
         return SECRET_TOO_SHORT;
     };
     if has_room(core, secret, input) {
-        keep(core, secret, input);
+        core.keep_few(input);
         return DONE;
     }
     write_far(core, v, secret, input)
@@ -84,31 +72,7 @@ fn has_room(core: &CoreState, secret: Secret<'_>, input: &[u8]) -> bool
     input.len() <= FEW_BYTES
         && used <= BUFFERED_BYTES
         && input.len() <= BUFFERED_BYTES - used
-        && is_in_range(core, secret)
-}
-
-// Takes such a piece.
-#[inline(always)]
-fn keep(core: &mut CoreState, _secret: Secret<'_>, input: &[u8])
-    requires room { core.old.buffer_usage + length input.now ≤ 512 }
-    requires few { length input.now ≤ 64 }
-    ensures { core.new ≡ state_after_write (secret_bytes _secret.entry) core.old input.now }
-{
-    core.total_bytes = core.total_bytes.saturating_add(input.len().into_u64());
-    add_few(core, input);
-}
-
-// Puts a few bytes after those that wait.
-#[inline(always)]
-fn add_few(core: &mut CoreState, input: &[u8])
-    requires room { core.old.buffer_usage + length input.now ≤ 512 }
-    requires few { length input.now ≤ 64 }
-    ensures { core.new ≡ with_buffered core.old input.now }
-{
-    let used = core.buffer_usage;
-    let end = used + input.len();
-    copy_up_to_128(&mut core.buffer[used..end], input);
-    core.buffer_usage = end;
+        && core.is_in_range(secret)
 }
 
 // Takes any other piece: a call of its own, so that those pay for no register that it keeps.
@@ -122,7 +86,7 @@ fn write_far<V: Vector>(core: &mut CoreState, v: V, secret: Secret<'_>, input: &
         → core.new ≡ state_after_write (secret_bytes secret.entry) core.old input.now }
     ensures kept { (¬ (result ≡ DONE)) → core.new ≡ core.old }
 {
-    if !is_in_range(core, secret) {
+    if !core.is_in_range(secret) {
         return NOT_A_STREAM;
     }
     core.write(v, input, secret);
@@ -207,7 +171,7 @@ pub fn finish_64<V: Vector>(
     let Ok(secret) = Secret::new(secret) else {
         return SECRET_TOO_SHORT;
     };
-    if !is_in_range(core, secret) {
+    if !core.is_in_range(secret) {
         return NOT_A_STREAM;
     }
     *value = finish(core, v, &Finalize64, seed, secret);
@@ -236,7 +200,7 @@ pub fn finish_128<V: Vector>(
     let Ok(secret) = Secret::new(secret) else {
         return SECRET_TOO_SHORT;
     };
-    if !is_in_range(core, secret) {
+    if !core.is_in_range(secret) {
         return NOT_A_STREAM;
     }
     *value = halves(finish(core, v, &Finalize128, seed, secret));

@@ -4,7 +4,7 @@ use Rattle.twox_exports.proofs.stream_3.write.Goals as goal
 
 pub returns-then-has_room-clause-message : goal.returns-then-has_room-clause-message
 returns-then-has_room-clause-message g c = λ m held enough.
-    let exact = rw c.in-Ok.ensures.1 at c.keep.ensures in
+    let exact = c.keep_few.ensures c.args.secret.now in
     (refl, rw exact (follows_written c.args.secret.now m c.args.input.now c.args.core.now enough c.has_room.ensures.size held))
 
 pub returns-clause-message : goal.returns-clause-message
