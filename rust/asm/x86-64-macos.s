@@ -846,7 +846,7 @@ L5_412.i3:
 	ret
 	.section __TEXT,__text,regular,pure_instructions
 	.p2align 6
-_twox_hash.xxhash3_128.impl_oneshot_default_from_65.i3:
+_twox_core.width_128.oneshot_from_65.i3:
 	mov %rsi,%rcx
 	mov %rdi,%r8
 	cmp $0x80,%rsi
@@ -888,7 +888,7 @@ L6_9a.i3:
 	ja L6_264.i3
 	xor %esi,%esi
 	mov %r8,%rdx
-	jmp _twox_hash.xxhash3_128.impl_129_to_240_bytes.i3
+	jmp _twox_core.width_128.impl_129_to_240_bytes.i3
 L6_b8.i3:
 	xor %esi,%esi
 L6_ba.i3:
@@ -994,10 +994,10 @@ L6_ba.i3:
 L6_264.i3:
 	mov $0xc0,%esi
 	mov %r8,%rdx
-	jmp _twox_hash.xxhash3_128.impl_oneshot_long.i3
+	jmp _twox_core.width_128.oneshot_long.i3
 	.section __TEXT,__text,regular,pure_instructions
 	.p2align 6
-_twox_hash.xxhash3_128.impl_129_to_240_bytes.i3:
+_twox_core.width_128.impl_129_to_240_bytes.i3:
 	push %rbp
 	push %r15
 	push %r14
@@ -1234,9 +1234,9 @@ L7_24f.i3:
 	ret
 	.section __TEXT,__text,regular,pure_instructions
 	.p2align 6
-_twox_hash.xxhash3_128.impl_oneshot_long.i3:
+_twox_core.width_128.oneshot_long.i3:
 	cmp $0xc0,%rsi
-	jne _twox_hash.xxhash3_128.impl_oneshot_long_of_any_length.i3
+	jne _twox_core.width_128.oneshot_long_of_any_length.i3
 	cmp $0x7bff,%rcx
 	ja L8_6b.i3
 	push %r15
@@ -1259,7 +1259,7 @@ _twox_hash.xxhash3_128.impl_oneshot_long.i3:
 	jmp L8_5cd.i3
 L8_6b.i3:
 	mov $0xc0,%esi
-	jmp _twox_hash.xxhash3_128.impl_oneshot_many.i3
+	jmp _twox_core.width_128.oneshot_many.i3
 L8_75.i3:
 	lea -0x1(%rcx),%rax
 	mov %rax,%rsi
@@ -1734,14 +1734,14 @@ L9_aa.i3:
 	mov %ecx,%esi
 	and $0x7f00,%esi
 	test %r10d,%r10d
-	je L9_47d.i3
+	je L9_474.i3
 	shr $0x6,%r10d
 	jmp L9_11d.i3
 	.byte 102,102,46,15,31,132,0,0,0,0,0
 L9_110.i3:
 	add $0x40,%rdx
 	dec %r10
-	je L9_47d.i3
+	je L9_474.i3
 L9_11d.i3:
 	prefetcht0 0x140(%rdx)
 	movdqu (%rdx),%xmm8
@@ -1824,29 +1824,30 @@ L9_11d.i3:
 	xor %edi,%edi
 	jmp L9_110.i3
 L9_2b6.i3:
-	mov 0x90(%rsp),%rax
-	movdqa %xmm0,0xf0(%rsp)
-	movdqa %xmm0,0x100(%rsp)
-	movdqa %xmm0,0x110(%rsp)
-	movdqa %xmm0,0x120(%rsp)
-	movq $0x0,0x130(%rsp)
-	movdqa %xmm0,0x140(%rsp)
-	movdqa %xmm0,0x150(%rsp)
-	movdqa %xmm0,0x160(%rsp)
-	movdqa %xmm0,0x170(%rsp)
-	movdqa %xmm0,0x190(%rsp)
-	movdqa %xmm0,0x1a0(%rsp)
-	movdqa %xmm0,0x1b0(%rsp)
-	movdqa %xmm0,0x1c0(%rsp)
-	movq $0x0,0x1d0(%rsp)
 	movups (%rsi),%xmm0
 	movups 0x10(%rsi),%xmm1
 	movups 0x20(%rsi),%xmm2
 	movups 0x30(%rsi),%xmm3
-	movaps %xmm0,0xa0(%rsp)
-	movaps %xmm1,0xb0(%rsp)
-	movaps %xmm2,0xc0(%rsp)
 	movaps %xmm3,0xd0(%rsp)
+	movaps %xmm2,0xc0(%rsp)
+	movaps %xmm1,0xb0(%rsp)
+	movaps %xmm0,0xa0(%rsp)
+	mov 0x90(%rsp),%rax
+	xorps %xmm0,%xmm0
+	movaps %xmm0,0xf0(%rsp)
+	movaps %xmm0,0x100(%rsp)
+	movaps %xmm0,0x110(%rsp)
+	movaps %xmm0,0x120(%rsp)
+	movq $0x0,0x130(%rsp)
+	movaps %xmm0,0x140(%rsp)
+	movaps %xmm0,0x150(%rsp)
+	movaps %xmm0,0x160(%rsp)
+	movaps %xmm0,0x170(%rsp)
+	movaps %xmm0,0x1c0(%rsp)
+	movaps %xmm0,0x1b0(%rsp)
+	movaps %xmm0,0x1a0(%rsp)
+	movaps %xmm0,0x190(%rsp)
+	movq $0x0,0x1d0(%rsp)
 	mov %rax,0xe0(%rsp)
 	neg %eax
 	and $0xf,%eax
@@ -1892,12 +1893,13 @@ L9_2b6.i3:
 	movdqa 0x120(%rsp),%xmm2
 	mov 0x130(%rsp),%rdi
 	jmp L9_a85.i3
-L9_47d.i3:
+L9_474.i3:
 	add %r9,%rsi
 	mov %rcx,%rdx
 	shr $0x8,%rdx
+	.byte 102,144
 	jmp L9_4a9.i3
-	.byte 15,31,128,0,0,0,0
+	.byte 102,102,102,102,102,46,15,31,132,0,0,0,0,0
 L9_490.i3:
 	add $0x100,%r9
 	.byte 102,15,31,132,0,0,0,0,0
@@ -2581,7 +2583,7 @@ L11_4e6.i3:
 	ret
 	.section __TEXT,__text,regular,pure_instructions
 	.p2align 6
-_twox_hash.xxhash3_128.impl_oneshot_many.i3:
+_twox_core.width_128.oneshot_many.i3:
 	push %rbp
 	push %r15
 	push %r14
@@ -2862,7 +2864,7 @@ L12_4af.i3:
 	ud2
 	.section __TEXT,__text,regular,pure_instructions
 	.p2align 6
-_twox_hash.xxhash3_128.impl_oneshot_long_of_any_length.i3:
+_twox_core.width_128.oneshot_long_of_any_length.i3:
 	push %r14
 	push %rbx
 	cmp $0x7bff,%rcx
@@ -2884,7 +2886,7 @@ _twox_hash.xxhash3_128.impl_oneshot_long_of_any_length.i3:
 L13_4f.i3:
 	pop %rbx
 	pop %r14
-	jmp _twox_hash.xxhash3_128.impl_oneshot_many.i3
+	jmp _twox_core.width_128.oneshot_many.i3
 L13_57.i3:
 	cmp $0x10,%r11
 	je L13_82.i3
@@ -3998,7 +4000,7 @@ L14_998.i3:
 L14_a36.i3:
 	lea L59_0.i3(%rip),%rdi
 	mov %rbx,%rcx
-	call _twox_hash.xxhash3_128.impl_129_to_240_bytes.i3
+	call _twox_core.width_128.impl_129_to_240_bytes.i3
 	mov %rax,%rdi
 	jmp L14_c2b.i3
 L14_a4d.i3:
@@ -4147,7 +4149,7 @@ L14_c87.i3:
 	jmp L14_6f0.i3
 	.section __TEXT,__text,regular,pure_instructions
 	.p2align 6
-_twox_hash.xxhash3_128.impl_oneshot_keyed_from_65.i3:
+_twox_core.width_128.oneshot_with_secret_from_65.i3:
 	mov %rdx,%r8
 	mov %rsi,%r11
 	mov %rdi,%r9
@@ -4192,7 +4194,7 @@ L15_7c.i3:
 	xor %esi,%esi
 	mov %r9,%rdx
 	mov %r11,%rcx
-	jmp _twox_hash.xxhash3_128.impl_129_to_240_bytes.i3
+	jmp _twox_core.width_128.impl_129_to_240_bytes.i3
 L15_9a.i3:
 	xor %esi,%esi
 L15_9c.i3:
@@ -4297,10 +4299,10 @@ L15_1f3.i3:
 	mov %r9,%rdx
 	mov %r11,%rcx
 	.byte 15,31,64,0
-	jmp _twox_hash.xxhash3_128.impl_oneshot_long.i3
+	jmp _twox_core.width_128.oneshot_long.i3
 	.section __TEXT,__text,regular,pure_instructions
 	.p2align 6
-_twox_hash.xxhash3_128.impl_oneshot_seeded_from_65.i3:
+_twox_core.width_128.oneshot_with_seed_from_65.i3:
 	mov %rdx,%r8
 	mov %rsi,%rcx
 	mov %rdi,%r9
@@ -4348,7 +4350,7 @@ L16_ab.i3:
 	lea L59_0.i3(%rip),%rdi
 	mov %r8,%rsi
 	mov %r9,%rdx
-	jmp _twox_hash.xxhash3_128.impl_129_to_240_bytes.i3
+	jmp _twox_core.width_128.impl_129_to_240_bytes.i3
 L16_ca.i3:
 	xor %esi,%esi
 L16_cc.i3:
@@ -4472,15 +4474,15 @@ L16_29f.i3:
 	mov %r8,%rdi
 	mov %r9,%rsi
 	mov %rcx,%rdx
-	jmp _twox_hash.xxhash3_128.impl_oneshot_long_derived.i3
+	jmp _twox_core.width_128.oneshot_long_derived.i3
 L16_2b3.i3:
 	lea L59_0.i3(%rip),%rdi
 	mov $0xc0,%esi
 	mov %r9,%rdx
-	jmp _twox_hash.xxhash3_128.impl_oneshot_long.i3
+	jmp _twox_core.width_128.oneshot_long.i3
 	.section __TEXT,__text,regular,pure_instructions
 	.p2align 6
-_twox_hash.xxhash3_128.impl_oneshot_long_derived.i3:
+_twox_core.width_128.oneshot_long_derived.i3:
 	push %r15
 	push %r14
 	push %r12
@@ -4549,7 +4551,7 @@ _twox_hash.xxhash3_128.impl_oneshot_long_derived.i3:
 L17_195.i3:
 	mov %rsp,%rdi
 	mov $0xc0,%esi
-	call _twox_hash.xxhash3_128.impl_oneshot_many.i3
+	call _twox_core.width_128.oneshot_many.i3
 	jmp L17_98e.i3
 L17_1a7.i3:
 	lea -0x1(%rcx),%rax
@@ -4968,7 +4970,7 @@ L17_98e.i3:
 	ret
 	.section __TEXT,__text,regular,pure_instructions
 	.p2align 6
-_twox_hash.xxhash3_64.impl_129_to_240_bytes.i3:
+_twox_core.width_64.impl_129_to_240_bytes.i3:
 	push %r14
 	push %rbx
 	mov %rdx,%r9
@@ -5166,9 +5168,9 @@ L18_2b2.i3:
 	ret
 	.section __TEXT,__text,regular,pure_instructions
 	.p2align 6
-_twox_hash.xxhash3_64.impl_oneshot_long.i3:
+_twox_core.width_64.oneshot_long.i3:
 	cmp $0xc0,%rsi
-	jne _twox_hash.xxhash3_64.impl_oneshot_long_of_any_length.i3
+	jne _twox_core.width_64.oneshot_long_of_any_length.i3
 	cmp $0x7bff,%rcx
 	ja L19_6b.i3
 	push %rbx
@@ -5188,7 +5190,7 @@ _twox_hash.xxhash3_64.impl_oneshot_long.i3:
 	jmp L19_5cd.i3
 L19_6b.i3:
 	mov $0xc0,%esi
-	jmp _twox_hash.xxhash3_64.impl_oneshot_many.i3
+	jmp _twox_core.width_64.oneshot_many.i3
 L19_75.i3:
 	lea -0x1(%rcx),%rax
 	mov %rax,%rsi
@@ -5546,7 +5548,7 @@ L19_5cd.i3:
 	ret
 	.section __TEXT,__text,regular,pure_instructions
 	.p2align 6
-_twox_hash.xxhash3_64.impl_oneshot_many.i3:
+_twox_core.width_64.oneshot_many.i3:
 	push %rbp
 	push %r15
 	push %r14
@@ -5775,7 +5777,7 @@ L20_3c8.i3:
 	ud2
 	.section __TEXT,__text,regular,pure_instructions
 	.p2align 6
-_twox_hash.xxhash3_64.impl_oneshot_long_of_any_length.i3:
+_twox_core.width_64.oneshot_long_of_any_length.i3:
 	push %r14
 	push %rbx
 	cmp $0x7bff,%rcx
@@ -5797,7 +5799,7 @@ _twox_hash.xxhash3_64.impl_oneshot_long_of_any_length.i3:
 L21_4f.i3:
 	pop %rbx
 	pop %r14
-	jmp _twox_hash.xxhash3_64.impl_oneshot_many.i3
+	jmp _twox_core.width_64.oneshot_many.i3
 L21_57.i3:
 	cmp $0x10,%r11
 	je L21_82.i3
@@ -6745,7 +6747,7 @@ L22_811.i3:
 	pop %r14
 	pop %r15
 	pop %rbp
-	jmp _twox_hash.xxhash3_64.impl_129_to_240_bytes.i3
+	jmp _twox_core.width_64.impl_129_to_240_bytes.i3
 L22_83b.i3:
 	movabs $0xc2b2ae3d27d4eb4f,%rcx
 	movabs $0x165667b19e3779f9,%rax
@@ -6787,7 +6789,7 @@ L22_8a5.i3:
 	jmp L22_77b.i3
 	.section __TEXT,__text,regular,pure_instructions
 	.p2align 6
-_twox_hash.xxhash3_64.impl_oneshot_long_derived.i3:
+_twox_core.width_64.oneshot_long_derived.i3:
 	push %r14
 	push %rbx
 	sub $0x118,%rsp
@@ -6854,7 +6856,7 @@ _twox_hash.xxhash3_64.impl_oneshot_long_derived.i3:
 L23_195.i3:
 	lea 0x10(%rsp),%rdi
 	mov $0xc0,%esi
-	call _twox_hash.xxhash3_64.impl_oneshot_many.i3
+	call _twox_core.width_64.oneshot_many.i3
 	add $0x118,%rsp
 	pop %rbx
 	pop %r14
@@ -9297,7 +9299,7 @@ _twox_rust_3_xxh3_128:
 L38_dc.i3:
 	.byte 15,31,64,0
 	cmp $0x40,%rsi
-	ja _twox_hash.xxhash3_128.impl_oneshot_default_from_65.i3
+	ja _twox_core.width_128.oneshot_from_65.i3
 	push %r14
 	push %rbx
 	movabs $0x9e3779b185ebca87,%rcx
@@ -9773,7 +9775,7 @@ L39_512.i3:
 	lea L59_0.i3(%rip),%rdi
 	mov %rcx,%rbx
 	mov %r8,%rcx
-	call _twox_hash.xxhash3_128.impl_129_to_240_bytes.i3
+	call _twox_core.width_128.impl_129_to_240_bytes.i3
 	jmp L39_94.i3
 L39_529.i3:
 	xor %r11d,%r11d
@@ -10038,7 +10040,7 @@ L40_1fd.i3:
 	jmp L40_3bf.i3
 L40_20c.i3:
 	mov %r8,%rbx
-	call _twox_hash.xxhash3_128.impl_oneshot_keyed_from_65.i3
+	call _twox_core.width_128.oneshot_with_secret_from_65.i3
 	mov %rbx,%r8
 	jmp L40_3bf.i3
 L40_21c.i3:
@@ -10233,7 +10235,7 @@ _twox_rust_3_xxh3_128_with_seed:
 L41_df.i3:
 	.byte 144
 	cmp $0x40,%rsi
-	ja _twox_hash.xxhash3_128.impl_oneshot_seeded_from_65.i3
+	ja _twox_core.width_128.oneshot_with_seed_from_65.i3
 	push %r15
 	push %r14
 	push %rbx
@@ -10518,7 +10520,7 @@ L42_f9.i3:
 	mov %r10,%rdx
 	mov %rax,%rcx
 	mov %r9,%rbx
-	call _twox_hash.xxhash3_128.impl_oneshot_long.i3
+	call _twox_core.width_128.oneshot_long.i3
 L42_12d.i3:
 	mov %rbx,%r9
 	jmp L42_69e.i3
@@ -10720,7 +10722,7 @@ L42_454.i3:
 	mov %r8,%rsi
 	mov %r10,%rdx
 	mov %r9,%rbx
-	call _twox_hash.xxhash3_128.impl_129_to_240_bytes.i3
+	call _twox_core.width_128.impl_129_to_240_bytes.i3
 	jmp L42_12d.i3
 L42_471.i3:
 	xor %r11d,%r11d
@@ -11020,7 +11022,7 @@ L43_260.i3:
 	lea L59_0.i3(%rip),%rdi
 	xor %esi,%esi
 	mov %r9,%rdx
-	jmp _twox_hash.xxhash3_64.impl_129_to_240_bytes.i3
+	jmp _twox_core.width_64.impl_129_to_240_bytes.i3
 L43_27e.i3:
 	.byte 102,144
 	test %rcx,%rcx
@@ -11049,7 +11051,7 @@ L43_2dc.i3:
 	lea L59_0.i3(%rip),%rdi
 	mov $0xc0,%esi
 	mov %r9,%rdx
-	jmp _twox_hash.xxhash3_64.impl_oneshot_long.i3
+	jmp _twox_core.width_64.oneshot_long.i3
 L43_2f0.i3:
 	movabs $0x2d06800538d394c2,%rax
 	ret
@@ -11281,7 +11283,7 @@ L44_318.i3:
 L44_393.i3:
 	add $0xa0,%r8
 	lea L59_0.i3(%rip),%rdi
-	call _twox_hash.xxhash3_64.impl_129_to_240_bytes.i3
+	call _twox_core.width_64.impl_129_to_240_bytes.i3
 	mov %rax,%rdx
 	xor %eax,%eax
 	pop %rcx
@@ -11514,7 +11516,7 @@ L46_230.i3:
 	mov %r9,%rdx
 	mov %rcx,%rbx
 	mov %rax,%rcx
-	call _twox_hash.xxhash3_64.impl_129_to_240_bytes.i3
+	call _twox_core.width_64.impl_129_to_240_bytes.i3
 	jmp L46_2f8.i3
 L46_26c.i3:
 	movabs $0xc2b2ae3d27d4eb4f,%r8
@@ -11555,7 +11557,7 @@ L46_2e1.i3:
 	mov %r8,%rdx
 	mov %rcx,%rbx
 	mov %rax,%rcx
-	call _twox_hash.xxhash3_64.impl_oneshot_long.i3
+	call _twox_core.width_64.oneshot_long.i3
 L46_2f8.i3:
 	mov %rbx,%rcx
 	mov %rax,%rdx
@@ -11751,7 +11753,7 @@ L47_2b3.i3:
 	mov %r10,%rsi
 	mov %r9,%rdx
 	.byte 102,144
-	jmp _twox_hash.xxhash3_64.impl_129_to_240_bytes.i3
+	jmp _twox_core.width_64.impl_129_to_240_bytes.i3
 L47_2e5.i3:
 	movabs $0xc2b2ae3d27d4eb4f,%rdx
 	movabs $0x165667b19e3779f9,%rax
@@ -11786,7 +11788,7 @@ L47_34e.i3:
 	mov %r9,%rsi
 	mov %rcx,%rdx
 	.byte 15,31,64,0
-	jmp _twox_hash.xxhash3_64.impl_oneshot_long_derived.i3
+	jmp _twox_core.width_64.oneshot_long_derived.i3
 L47_365.i3:
 	movabs $0x8726f9105dc21ddc,%rcx
 	xor %rcx,%r10
@@ -11806,7 +11808,7 @@ L47_399.i3:
 	lea L59_0.i3(%rip),%rdi
 	mov $0xc0,%esi
 	mov %r9,%rdx
-	jmp _twox_hash.xxhash3_64.impl_oneshot_long.i3
+	jmp _twox_core.width_64.oneshot_long.i3
 	.section __TEXT,__text,regular,pure_instructions
 	.p2align 6
 	.globl _twox_rust_3_xxh3_64_with_seed_and_secret
@@ -11858,7 +11860,7 @@ L48_7f.i3:
 	mov %rcx,%rsi
 	mov %r9,%rdx
 	mov %r10,%rcx
-	call _twox_hash.xxhash3_64.impl_oneshot_long.i3
+	call _twox_core.width_64.oneshot_long.i3
 	mov %rax,%rdx
 	xor %eax,%eax
 	pop %rcx
@@ -12010,7 +12012,7 @@ L48_2f6.i3:
 	mov %r9,%rdx
 	mov %r10,%rcx
 	mov %rax,%r8
-	call _twox_hash.xxhash3_64.impl_129_to_240_bytes.i3
+	call _twox_core.width_64.impl_129_to_240_bytes.i3
 	mov %rax,%rdx
 	xor %eax,%eax
 	pop %rcx

@@ -871,7 +871,7 @@ L5_563.i3_v3:
 	ret
 	.section __TEXT,__text,regular,pure_instructions
 	.p2align 6
-_twox_hash.xxhash3_128.impl_oneshot_default_from_65.i3_v3:
+_twox_core.width_128.oneshot_from_65.i3_v3:
 	mov %rsi,%rcx
 	mov %rdi,%rax
 	cmp $0x80,%rsi
@@ -912,7 +912,7 @@ L6_9c.i3_v3:
 	ja L6_260.i3_v3
 	xor %esi,%esi
 	mov %rax,%rdx
-	jmp _twox_hash.xxhash3_128.impl_129_to_240_bytes.i3_v3
+	jmp _twox_core.width_128.impl_129_to_240_bytes.i3_v3
 L6_ba.i3_v3:
 	xor %edi,%edi
 L6_bc.i3_v3:
@@ -1012,10 +1012,10 @@ L6_bc.i3_v3:
 L6_260.i3_v3:
 	mov $0xc0,%esi
 	mov %rax,%rdx
-	jmp _twox_hash.xxhash3_128.impl_oneshot_long.i3_v3
+	jmp _twox_core.width_128.oneshot_long.i3_v3
 	.section __TEXT,__text,regular,pure_instructions
 	.p2align 6
-_twox_hash.xxhash3_128.impl_129_to_240_bytes.i3_v3:
+_twox_core.width_128.impl_129_to_240_bytes.i3_v3:
 	push %rbp
 	push %r15
 	push %r14
@@ -1247,9 +1247,9 @@ L7_260.i3_v3:
 	ret
 	.section __TEXT,__text,regular,pure_instructions
 	.p2align 6
-_twox_hash.xxhash3_128.impl_oneshot_long.i3_v3:
+_twox_core.width_128.oneshot_long.i3_v3:
 	cmp $0xc0,%rsi
-	jne _twox_hash.xxhash3_128.impl_oneshot_long_of_any_length.i3_v3
+	jne _twox_core.width_128.oneshot_long_of_any_length.i3_v3
 	cmp $0x7bff,%rcx
 	ja L8_55.i3_v3
 	push %r14
@@ -1267,7 +1267,7 @@ _twox_hash.xxhash3_128.impl_oneshot_long.i3_v3:
 	jmp L8_2df.i3_v3
 L8_55.i3_v3:
 	mov $0xc0,%esi
-	jmp _twox_hash.xxhash3_128.impl_oneshot_many.i3_v3
+	jmp _twox_core.width_128.oneshot_many.i3_v3
 L8_5f.i3_v3:
 	lea -0x1(%rcx),%rax
 	mov %rax,%rsi
@@ -1535,14 +1535,14 @@ L9_88.i3_v3:
 	mov %ecx,%esi
 	and $0x7f00,%esi
 	test %r10d,%r10d
-	je L9_2e5.i3_v3
+	je L9_2e7.i3_v3
 	shr $0x6,%r10d
 	jmp L9_ed.i3_v3
 	.byte 102,102,102,102,46,15,31,132,0,0,0,0,0
 L9_e0.i3_v3:
 	add $0x40,%rdx
 	dec %r10
-	je L9_2e5.i3_v3
+	je L9_2e7.i3_v3
 L9_ed.i3_v3:
 	prefetcht0 0x140(%rdx)
 	vmovdqu (%rdx),%ymm2
@@ -1579,19 +1579,20 @@ L9_ed.i3_v3:
 	xor %edi,%edi
 	jmp L9_e0.i3_v3
 L9_191.i3_v3:
-	mov 0x90(%rsp),%rax
-	vmovdqu %ymm0,0xf0(%rsp)
-	vmovdqu %ymm0,0x110(%rsp)
-	vmovdqu %ymm0,0x140(%rsp)
-	vmovdqu %ymm0,0x160(%rsp)
-	vmovdqu %ymm0,0x180(%rsp)
-	movq $0x0,0x130(%rsp)
-	vmovdqu %ymm0,0x1a0(%rsp)
-	movq $0x0,0x1c0(%rsp)
 	vmovups (%rsi),%ymm0
 	vmovups 0x20(%rsi),%ymm1
-	vmovups %ymm0,0xa0(%rsp)
 	vmovups %ymm1,0xc0(%rsp)
+	vmovups %ymm0,0xa0(%rsp)
+	mov 0x90(%rsp),%rax
+	vxorps %xmm0,%xmm0,%xmm0
+	vmovups %ymm0,0xf0(%rsp)
+	vmovups %ymm0,0x110(%rsp)
+	vmovups %ymm0,0x140(%rsp)
+	vmovups %ymm0,0x160(%rsp)
+	vmovups %ymm0,0x180(%rsp)
+	vmovups %ymm0,0x1a0(%rsp)
+	movq $0x0,0x130(%rsp)
+	movq $0x0,0x1c0(%rsp)
 	mov %rax,0xe0(%rsp)
 	neg %eax
 	and $0xf,%eax
@@ -1632,14 +1633,13 @@ L9_191.i3_v3:
 	vmovdqu 0xf0(%rsp),%ymm1
 	vmovdqu 0x110(%rsp),%ymm0
 	mov 0x130(%rsp),%rdi
-	.byte 102,144
 	jmp L9_6c2.i3_v3
-L9_2e5.i3_v3:
+L9_2e7.i3_v3:
 	add %r9,%rsi
 	mov %rcx,%rdx
 	shr $0x8,%rdx
 	jmp L9_310.i3_v3
-	.byte 102,102,102,102,102,102,46,15,31,132,0,0,0,0,0
+	.byte 102,102,102,102,46,15,31,132,0,0,0,0,0
 L9_300.i3_v3:
 	add $0x100,%r9
 	dec %rdx
@@ -2053,7 +2053,7 @@ L11_265.i3_v3:
 	ret
 	.section __TEXT,__text,regular,pure_instructions
 	.p2align 6
-_twox_hash.xxhash3_128.impl_oneshot_many.i3_v3:
+_twox_core.width_128.oneshot_many.i3_v3:
 	push %r15
 	push %r14
 	push %r13
@@ -2248,7 +2248,7 @@ L12_308.i3_v3:
 	ud2
 	.section __TEXT,__text,regular,pure_instructions
 	.p2align 6
-_twox_hash.xxhash3_128.impl_oneshot_long_of_any_length.i3_v3:
+_twox_core.width_128.oneshot_long_of_any_length.i3_v3:
 	push %r15
 	push %r14
 	push %r12
@@ -2273,7 +2273,7 @@ L13_45.i3_v3:
 	pop %r12
 	pop %r14
 	pop %r15
-	jmp _twox_hash.xxhash3_128.impl_oneshot_many.i3_v3
+	jmp _twox_core.width_128.oneshot_many.i3_v3
 L13_51.i3_v3:
 	cmp $0x10,%r11
 	je L13_82.i3_v3
@@ -3050,7 +3050,7 @@ L14_788.i3_v3:
 L14_82c.i3_v3:
 	lea L62_0.i3_v3(%rip),%rdi
 	mov %rbx,%rcx
-	call _twox_hash.xxhash3_128.impl_129_to_240_bytes.i3_v3
+	call _twox_core.width_128.impl_129_to_240_bytes.i3_v3
 	.byte 15,31,68,0,0
 	jmp L14_a90.i3_v3
 L14_845.i3_v3:
@@ -3202,7 +3202,7 @@ L14_a90.i3_v3:
 	ret
 	.section __TEXT,__text,regular,pure_instructions
 	.p2align 6
-_twox_hash.xxhash3_128.impl_oneshot_keyed_from_65.i3_v3:
+_twox_core.width_128.oneshot_with_secret_from_65.i3_v3:
 	mov %rdx,%rax
 	mov %rsi,%r9
 	mov %rdi,%r8
@@ -3245,7 +3245,7 @@ L15_7d.i3_v3:
 	xor %esi,%esi
 	mov %r8,%rdx
 	mov %r9,%rcx
-	jmp _twox_hash.xxhash3_128.impl_129_to_240_bytes.i3_v3
+	jmp _twox_core.width_128.impl_129_to_240_bytes.i3_v3
 L15_9a.i3_v3:
 	xor %esi,%esi
 L15_9c.i3_v3:
@@ -3342,10 +3342,10 @@ L15_1ea.i3_v3:
 	mov %rcx,%rsi
 	mov %r8,%rdx
 	mov %r9,%rcx
-	jmp _twox_hash.xxhash3_128.impl_oneshot_long.i3_v3
+	jmp _twox_core.width_128.oneshot_long.i3_v3
 	.section __TEXT,__text,regular,pure_instructions
 	.p2align 6
-_twox_hash.xxhash3_128.impl_oneshot_seeded_from_65.i3_v3:
+_twox_core.width_128.oneshot_with_seed_from_65.i3_v3:
 	mov %rdx,%rax
 	mov %rsi,%rcx
 	mov %rdi,%r8
@@ -3393,7 +3393,7 @@ L16_af.i3_v3:
 	lea L62_0.i3_v3(%rip),%rdi
 	mov %rax,%rsi
 	mov %r8,%rdx
-	jmp _twox_hash.xxhash3_128.impl_129_to_240_bytes.i3_v3
+	jmp _twox_core.width_128.impl_129_to_240_bytes.i3_v3
 L16_ce.i3_v3:
 	xor %edi,%edi
 L16_d0.i3_v3:
@@ -3511,15 +3511,15 @@ L16_2a0.i3_v3:
 	mov %rax,%rdi
 	mov %r8,%rsi
 	mov %rcx,%rdx
-	jmp _twox_hash.xxhash3_128.impl_oneshot_long_derived.i3_v3
+	jmp _twox_core.width_128.oneshot_long_derived.i3_v3
 L16_2b3.i3_v3:
 	lea L62_0.i3_v3(%rip),%rdi
 	mov $0xc0,%esi
 	mov %r8,%rdx
-	jmp _twox_hash.xxhash3_128.impl_oneshot_long.i3_v3
+	jmp _twox_core.width_128.oneshot_long.i3_v3
 	.section __TEXT,__text,regular,pure_instructions
 	.p2align 6
-_twox_hash.xxhash3_128.impl_oneshot_long_derived.i3_v3:
+_twox_core.width_128.oneshot_long_derived.i3_v3:
 	push %rbx
 	sub $0xc0,%rsp
 	vmovq %rdi,%xmm0
@@ -3561,7 +3561,7 @@ L17_d5.i3_v3:
 	mov %rsp,%rdi
 	mov $0xc0,%esi
 	vzeroupper
-	call _twox_hash.xxhash3_128.impl_oneshot_many.i3_v3
+	call _twox_core.width_128.oneshot_many.i3_v3
 	add $0xc0,%rsp
 	pop %rbx
 	ret
@@ -3782,7 +3782,7 @@ L17_35b.i3_v3:
 	ret
 	.section __TEXT,__text,regular,pure_instructions
 	.p2align 6
-_twox_hash.xxhash3_64.impl_129_to_240_bytes.i3_v3:
+_twox_core.width_64.impl_129_to_240_bytes.i3_v3:
 	push %r15
 	push %r14
 	push %rbx
@@ -3976,9 +3976,9 @@ L18_2d4.i3_v3:
 	ret
 	.section __TEXT,__text,regular,pure_instructions
 	.p2align 6
-_twox_hash.xxhash3_64.impl_oneshot_long.i3_v3:
+_twox_core.width_64.oneshot_long.i3_v3:
 	cmp $0xc0,%rsi
-	jne _twox_hash.xxhash3_64.impl_oneshot_long_of_any_length.i3_v3
+	jne _twox_core.width_64.oneshot_long_of_any_length.i3_v3
 	cmp $0x7bff,%rcx
 	ja L19_55.i3_v3
 	push %r14
@@ -3996,7 +3996,7 @@ _twox_hash.xxhash3_64.impl_oneshot_long.i3_v3:
 	jmp L19_2df.i3_v3
 L19_55.i3_v3:
 	mov $0xc0,%esi
-	jmp _twox_hash.xxhash3_64.impl_oneshot_many.i3_v3
+	jmp _twox_core.width_64.oneshot_many.i3_v3
 L19_5f.i3_v3:
 	lea -0x1(%rcx),%rax
 	mov %rax,%rsi
@@ -4184,7 +4184,7 @@ L19_2df.i3_v3:
 	ret
 	.section __TEXT,__text,regular,pure_instructions
 	.p2align 6
-_twox_hash.xxhash3_64.impl_oneshot_many.i3_v3:
+_twox_core.width_64.oneshot_many.i3_v3:
 	push %r15
 	push %r14
 	push %r13
@@ -4339,7 +4339,7 @@ L20_24e.i3_v3:
 	ud2
 	.section __TEXT,__text,regular,pure_instructions
 	.p2align 6
-_twox_hash.xxhash3_64.impl_oneshot_long_of_any_length.i3_v3:
+_twox_core.width_64.oneshot_long_of_any_length.i3_v3:
 	push %r15
 	push %r14
 	push %r12
@@ -4364,7 +4364,7 @@ L21_45.i3_v3:
 	pop %r12
 	pop %r14
 	pop %r15
-	jmp _twox_hash.xxhash3_64.impl_oneshot_many.i3_v3
+	jmp _twox_core.width_64.oneshot_many.i3_v3
 L21_51.i3_v3:
 	cmp $0x10,%r11
 	je L21_82.i3_v3
@@ -5003,7 +5003,7 @@ L22_64f.i3_v3:
 	pop %r14
 	pop %r15
 	pop %rbp
-	jmp _twox_hash.xxhash3_64.impl_129_to_240_bytes.i3_v3
+	jmp _twox_core.width_64.impl_129_to_240_bytes.i3_v3
 L22_679.i3_v3:
 	movabs $0xc2b2ae3d27d4eb4f,%rcx
 	movabs $0x165667b19e3779f9,%rax
@@ -5044,7 +5044,7 @@ L22_6df.i3_v3:
 	jmp L22_5bf.i3_v3
 	.section __TEXT,__text,regular,pure_instructions
 	.p2align 6
-_twox_hash.xxhash3_64.impl_oneshot_long_derived.i3_v3:
+_twox_core.width_64.oneshot_long_derived.i3_v3:
 	push %rbx
 	sub $0xc0,%rsp
 	vmovq %rdi,%xmm0
@@ -5086,7 +5086,7 @@ L23_d5.i3_v3:
 	mov %rsp,%rdi
 	mov $0xc0,%esi
 	vzeroupper
-	call _twox_hash.xxhash3_64.impl_oneshot_many.i3_v3
+	call _twox_core.width_64.oneshot_many.i3_v3
 	add $0xc0,%rsp
 	pop %rbx
 	ret
@@ -7181,7 +7181,7 @@ _twox_rust_3_xxh3_128_v3:
 L38_dd.i3_v3:
 	.byte 15,31,0
 	cmp $0x40,%rsi
-	ja _twox_hash.xxhash3_128.impl_oneshot_default_from_65.i3_v3
+	ja _twox_core.width_128.oneshot_from_65.i3_v3
 	push %r14
 	push %rbx
 	movabs $0x9e3779b185ebca87,%rax
@@ -7664,7 +7664,7 @@ L39_545.i3_v3:
 	lea L62_0.i3_v3(%rip),%rdi
 	mov %rcx,%rbx
 	mov %r8,%rcx
-	call _twox_hash.xxhash3_128.impl_129_to_240_bytes.i3_v3
+	call _twox_core.width_128.impl_129_to_240_bytes.i3_v3
 	jmp L39_94.i3_v3
 L39_55c.i3_v3:
 	xor %r9d,%r9d
@@ -7926,7 +7926,7 @@ L40_186.i3_v3:
 	jmp L40_408.i3_v3
 L40_212.i3_v3:
 	mov %r8,%rbx
-	call _twox_hash.xxhash3_128.impl_oneshot_keyed_from_65.i3_v3
+	call _twox_core.width_128.oneshot_with_secret_from_65.i3_v3
 	mov %rbx,%r8
 	.byte 15,31,0
 	jmp L40_408.i3_v3
@@ -8124,7 +8124,7 @@ _twox_rust_3_xxh3_128_with_seed_v3:
 	ret
 L41_e3.i3_v3:
 	cmp $0x40,%rsi
-	ja _twox_hash.xxhash3_128.impl_oneshot_seeded_from_65.i3_v3
+	ja _twox_core.width_128.oneshot_with_seed_from_65.i3_v3
 	push %r15
 	push %r14
 	push %rbx
@@ -8412,7 +8412,7 @@ L42_105.i3_v3:
 	mov %r10,%rdx
 	mov %rax,%rcx
 	mov %r9,%rbx
-	call _twox_hash.xxhash3_128.impl_oneshot_long.i3_v3
+	call _twox_core.width_128.oneshot_long.i3_v3
 L42_137.i3_v3:
 	mov %rbx,%r9
 	jmp L42_6c8.i3_v3
@@ -8617,7 +8617,7 @@ L42_478.i3_v3:
 	mov %r8,%rsi
 	mov %r10,%rdx
 	mov %r9,%rbx
-	call _twox_hash.xxhash3_128.impl_129_to_240_bytes.i3_v3
+	call _twox_core.width_128.impl_129_to_240_bytes.i3_v3
 	jmp L42_137.i3_v3
 L42_495.i3_v3:
 	xor %ecx,%ecx
@@ -8908,7 +8908,7 @@ L43_25c.i3_v3:
 	lea L62_0.i3_v3(%rip),%rdi
 	xor %esi,%esi
 	mov %rax,%rdx
-	jmp _twox_hash.xxhash3_64.impl_129_to_240_bytes.i3_v3
+	jmp _twox_core.width_64.impl_129_to_240_bytes.i3_v3
 L43_27e.i3_v3:
 	.byte 102,144
 	test %rcx,%rcx
@@ -8941,7 +8941,7 @@ L43_2e3.i3_v3:
 	lea L62_0.i3_v3(%rip),%rdi
 	mov $0xc0,%esi
 	mov %rax,%rdx
-	jmp _twox_hash.xxhash3_64.impl_oneshot_long.i3_v3
+	jmp _twox_core.width_64.oneshot_long.i3_v3
 L43_2f7.i3_v3:
 	movabs $0x2d06800538d394c2,%rax
 	ret
@@ -9167,7 +9167,7 @@ L44_31d.i3_v3:
 L44_391.i3_v3:
 	add $0xa0,%r8
 	lea L62_0.i3_v3(%rip),%rdi
-	call _twox_hash.xxhash3_64.impl_129_to_240_bytes.i3_v3
+	call _twox_core.width_64.impl_129_to_240_bytes.i3_v3
 	mov %rax,%rdx
 	xor %eax,%eax
 	pop %rcx
@@ -9398,7 +9398,7 @@ L46_285.i3_v3:
 	mov %r9,%rdx
 	mov %rcx,%rbx
 	mov %rax,%rcx
-	call _twox_hash.xxhash3_64.impl_129_to_240_bytes.i3_v3
+	call _twox_core.width_64.impl_129_to_240_bytes.i3_v3
 	jmp L46_341.i3_v3
 L46_2b5.i3_v3:
 	movabs $0xc2b2ae3d27d4eb4f,%r8
@@ -9439,7 +9439,7 @@ L46_32a.i3_v3:
 	mov %r8,%rdx
 	mov %rcx,%rbx
 	mov %rax,%rcx
-	call _twox_hash.xxhash3_64.impl_oneshot_long.i3_v3
+	call _twox_core.width_64.oneshot_long.i3_v3
 L46_341.i3_v3:
 	mov %rbx,%rcx
 	mov %rax,%rdx
@@ -9621,7 +9621,7 @@ L47_2a4.i3_v3:
 	lea L62_0.i3_v3(%rip),%rdi
 	mov %rax,%rsi
 	mov %r9,%rdx
-	jmp _twox_hash.xxhash3_64.impl_129_to_240_bytes.i3_v3
+	jmp _twox_core.width_64.impl_129_to_240_bytes.i3_v3
 L47_2c7.i3_v3:
 	movabs $0xc2b2ae3d27d4eb4f,%rsi
 	movabs $0x165667b19e3779f9,%rdx
@@ -9661,7 +9661,7 @@ L47_33f.i3_v3:
 	mov %rax,%rdi
 	mov %r9,%rsi
 	mov %rcx,%rdx
-	jmp _twox_hash.xxhash3_64.impl_oneshot_long_derived.i3_v3
+	jmp _twox_core.width_64.oneshot_long_derived.i3_v3
 L47_353.i3_v3:
 	movabs $0x8726f9105dc21ddc,%rcx
 	xor %rcx,%rax
@@ -9681,7 +9681,7 @@ L47_387.i3_v3:
 	lea L62_0.i3_v3(%rip),%rdi
 	mov $0xc0,%esi
 	mov %r9,%rdx
-	jmp _twox_hash.xxhash3_64.impl_oneshot_long.i3_v3
+	jmp _twox_core.width_64.oneshot_long.i3_v3
 	.section __TEXT,__text,regular,pure_instructions
 	.p2align 6
 	.globl _twox_rust_3_xxh3_64_with_seed_and_secret_v3
@@ -9729,7 +9729,7 @@ L48_74.i3_v3:
 	mov %rcx,%rsi
 	mov %rax,%rdx
 	mov %r9,%rcx
-	call _twox_hash.xxhash3_64.impl_oneshot_long.i3_v3
+	call _twox_core.width_64.oneshot_long.i3_v3
 	mov %rax,%rdx
 	xor %eax,%eax
 	pop %rcx
@@ -9873,7 +9873,7 @@ L48_2f7.i3_v3:
 	mov %rax,%rdx
 	mov %r9,%rcx
 	mov %r10,%r8
-	call _twox_hash.xxhash3_64.impl_129_to_240_bytes.i3_v3
+	call _twox_core.width_64.impl_129_to_240_bytes.i3_v3
 	mov %rax,%rdx
 	xor %eax,%eax
 	pop %rcx

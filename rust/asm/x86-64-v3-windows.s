@@ -886,13 +886,13 @@ twox_plain.xxhash32.StateInMemory.add_blocks.i3_v3:
 	popq	%r14
 	popq	%r15
 	retq
-	.def	twox_hash.xxhash3_128.impl_oneshot_default_from_65.i3_v3;
+	.def	twox_core.width_128.oneshot_from_65.i3_v3;
 	.scl	3;
 	.type	32;
 	.endef
-	.section	.text$twox_hash.xxhash3_128.impl_oneshot_default_from_65.i3_v3,"xr",one_only,twox_hash.xxhash3_128.impl_oneshot_default_from_65.i3_v3,unique,5
+	.section	.text$twox_core.width_128.oneshot_from_65.i3_v3,"xr",one_only,twox_core.width_128.oneshot_from_65.i3_v3,unique,5
 	.p2align	4
-twox_hash.xxhash3_128.impl_oneshot_default_from_65.i3_v3:
+twox_core.width_128.oneshot_from_65.i3_v3:
 	pushq	%r14
 	pushq	%rsi
 	pushq	%rdi
@@ -938,7 +938,7 @@ twox_hash.xxhash3_128.impl_oneshot_default_from_65.i3_v3:
 	popq	%rdi
 	popq	%rsi
 	popq	%r14
-	jmp	twox_hash.xxhash3_128.impl_129_to_240_bytes.i3_v3
+	jmp	twox_core.width_128.impl_129_to_240_bytes.i3_v3
 .LBB5_2.i3_v3:
 	xorl	%ecx, %ecx
 .LBB5_4.i3_v3:
@@ -1043,14 +1043,14 @@ twox_hash.xxhash3_128.impl_oneshot_default_from_65.i3_v3:
 	popq	%rdi
 	popq	%rsi
 	popq	%r14
-	jmp	twox_hash.xxhash3_128.impl_oneshot_long.i3_v3
-	.def	twox_hash.xxhash3_128.impl_129_to_240_bytes.i3_v3;
+	jmp	twox_core.width_128.oneshot_long.i3_v3
+	.def	twox_core.width_128.impl_129_to_240_bytes.i3_v3;
 	.scl	3;
 	.type	32;
 	.endef
-	.section	.text$twox_hash.xxhash3_128.impl_129_to_240_bytes.i3_v3,"xr",one_only,twox_hash.xxhash3_128.impl_129_to_240_bytes.i3_v3,unique,6
+	.section	.text$twox_core.width_128.impl_129_to_240_bytes.i3_v3,"xr",one_only,twox_core.width_128.impl_129_to_240_bytes.i3_v3,unique,6
 	.p2align	4
-twox_hash.xxhash3_128.impl_129_to_240_bytes.i3_v3:
+twox_core.width_128.impl_129_to_240_bytes.i3_v3:
 	pushq	%r15
 	pushq	%r14
 	pushq	%r13
@@ -1284,7 +1284,7 @@ twox_hash.xxhash3_128.impl_129_to_240_bytes.i3_v3:
 	popq	%r14
 	popq	%r15
 	retq
-	.def	twox_hash.xxhash3_128.impl_oneshot_long.i3_v3;
+	.def	twox_core.width_128.oneshot_long.i3_v3;
 	.scl	3;
 	.type	32;
 	.endef
@@ -1305,9 +1305,9 @@ twox_hash.xxhash3_128.impl_129_to_240_bytes.i3_v3:
 	.long	2654435761
 .LCPI7_3.i3_v3:
 	.quad	2654435761
-	.section	.text$twox_hash.xxhash3_128.impl_oneshot_long.i3_v3,"xr",one_only,twox_hash.xxhash3_128.impl_oneshot_long.i3_v3,unique,7
+	.section	.text$twox_core.width_128.oneshot_long.i3_v3,"xr",one_only,twox_core.width_128.oneshot_long.i3_v3,unique,7
 	.p2align	4
-twox_hash.xxhash3_128.impl_oneshot_long.i3_v3:
+twox_core.width_128.oneshot_long.i3_v3:
 	pushq	%r14
 	pushq	%rsi
 	pushq	%rdi
@@ -1339,7 +1339,7 @@ twox_hash.xxhash3_128.impl_oneshot_long.i3_v3:
 	popq	%rdi
 	popq	%rsi
 	popq	%r14
-	jmp	twox_hash.xxhash3_128.impl_oneshot_long_of_any_length.i3_v3
+	jmp	twox_core.width_128.oneshot_long_of_any_length.i3_v3
 .LBB7_13.i3_v3:
 	movl	$192, %edx
 	vmovaps	(%rsp), %xmm6
@@ -1350,7 +1350,7 @@ twox_hash.xxhash3_128.impl_oneshot_long.i3_v3:
 	popq	%rdi
 	popq	%rsi
 	popq	%r14
-	jmp	twox_hash.xxhash3_128.impl_oneshot_many.i3_v3
+	jmp	twox_core.width_128.oneshot_many.i3_v3
 .LBB7_4.i3_v3:
 	leaq	-1(%r9), %rax
 	movq	%rax, %rdx
@@ -1685,19 +1685,20 @@ twox_core.xxhash3.stripes.take_many_stripes.i3_v3:
 	xorl	%edx, %edx
 	jmp	.LBB8_7.i3_v3
 .LBB8_21.i3_v3:
-	movq	192(%rsp), %rax
-	vmovdqu	%ymm0, 288(%rsp)
-	vmovdqu	%ymm0, 320(%rsp)
-	vmovdqu	%ymm0, 368(%rsp)
-	vmovdqu	%ymm0, 400(%rsp)
-	vmovdqu	%ymm0, 432(%rsp)
-	movq	$0, 352(%rsp)
-	vmovdqu	%ymm0, 464(%rsp)
-	movq	$0, 496(%rsp)
 	vmovups	(%rdx), %ymm0
 	vmovups	32(%rdx), %ymm1
-	vmovups	%ymm0, 208(%rsp)
 	vmovups	%ymm1, 240(%rsp)
+	vmovups	%ymm0, 208(%rsp)
+	movq	192(%rsp), %rax
+	vxorps	%xmm0, %xmm0, %xmm0
+	vmovups	%ymm0, 288(%rsp)
+	vmovups	%ymm0, 320(%rsp)
+	vmovups	%ymm0, 368(%rsp)
+	vmovups	%ymm0, 400(%rsp)
+	vmovups	%ymm0, 432(%rsp)
+	vmovups	%ymm0, 464(%rsp)
+	movq	$0, 352(%rsp)
+	movq	$0, 496(%rsp)
 	movq	%rax, 272(%rsp)
 	negl	%eax
 	andl	$15, %eax
@@ -2194,7 +2195,7 @@ twox_core.xxhash3.stripes.blocks.take_many_blocks.i3_v3:
 	popq	%rsi
 	vzeroupper
 	retq
-	.def	twox_hash.xxhash3_128.impl_oneshot_many.i3_v3;
+	.def	twox_core.width_128.oneshot_many.i3_v3;
 	.scl	3;
 	.type	32;
 	.endef
@@ -2210,9 +2211,9 @@ twox_core.xxhash3.stripes.blocks.take_many_blocks.i3_v3:
 	.quad	2246822519
 	.quad	2870177450012600261
 	.quad	2654435761
-	.section	.text$twox_hash.xxhash3_128.impl_oneshot_many.i3_v3,"xr",one_only,twox_hash.xxhash3_128.impl_oneshot_many.i3_v3,unique,11
+	.section	.text$twox_core.width_128.oneshot_many.i3_v3,"xr",one_only,twox_core.width_128.oneshot_many.i3_v3,unique,11
 	.p2align	4
-twox_hash.xxhash3_128.impl_oneshot_many.i3_v3:
+twox_core.width_128.oneshot_many.i3_v3:
 	pushq	%r15
 	pushq	%r14
 	pushq	%rsi
@@ -2404,7 +2405,7 @@ twox_hash.xxhash3_128.impl_oneshot_many.i3_v3:
 	retq
 .LBB11_17.i3_v3:
 	ud2
-	.def	twox_hash.xxhash3_128.impl_oneshot_long_of_any_length.i3_v3;
+	.def	twox_core.width_128.oneshot_long_of_any_length.i3_v3;
 	.scl	3;
 	.type	32;
 	.endef
@@ -2425,9 +2426,9 @@ twox_hash.xxhash3_128.impl_oneshot_many.i3_v3:
 	.long	2654435761
 .LCPI12_3.i3_v3:
 	.quad	2654435761
-	.section	.text$twox_hash.xxhash3_128.impl_oneshot_long_of_any_length.i3_v3,"xr",one_only,twox_hash.xxhash3_128.impl_oneshot_long_of_any_length.i3_v3,unique,12
+	.section	.text$twox_core.width_128.oneshot_long_of_any_length.i3_v3,"xr",one_only,twox_core.width_128.oneshot_long_of_any_length.i3_v3,unique,12
 	.p2align	4
-twox_hash.xxhash3_128.impl_oneshot_long_of_any_length.i3_v3:
+twox_core.width_128.oneshot_long_of_any_length.i3_v3:
 	pushq	%r15
 	pushq	%r14
 	pushq	%r12
@@ -2465,7 +2466,7 @@ twox_hash.xxhash3_128.impl_oneshot_long_of_any_length.i3_v3:
 	popq	%r12
 	popq	%r14
 	popq	%r15
-	jmp	twox_hash.xxhash3_128.impl_oneshot_many.i3_v3
+	jmp	twox_core.width_128.oneshot_many.i3_v3
 .LBB12_4.i3_v3:
 	cmpq	$16, %rdi
 	je	.LBB12_7.i3_v3
@@ -3283,7 +3284,7 @@ twox_exports.stream_3.finish_far.i3_v3:
 .LBB13_34.i3_v3:
 	leaq	static.0.i3_v3(%rip), %rcx
 	movq	%rsi, %r9
-	callq	twox_hash.xxhash3_128.impl_129_to_240_bytes.i3_v3
+	callq	twox_core.width_128.impl_129_to_240_bytes.i3_v3
 	jmp	.LBB13_38.i3_v3
 .LBB13_35.i3_v3:
 	xorl	%r10d, %r10d
@@ -3432,13 +3433,13 @@ twox_exports.stream_3.finish_far.i3_v3:
 	shrq	$29, %r8
 	xorq	%rdx, %r8
 	jmp	.LBB13_21.i3_v3
-	.def	twox_hash.xxhash3_128.impl_oneshot_keyed_from_65.i3_v3;
+	.def	twox_core.width_128.oneshot_with_secret_from_65.i3_v3;
 	.scl	3;
 	.type	32;
 	.endef
-	.section	.text$twox_hash.xxhash3_128.impl_oneshot_keyed_from_65.i3_v3,"xr",one_only,twox_hash.xxhash3_128.impl_oneshot_keyed_from_65.i3_v3,unique,14
+	.section	.text$twox_core.width_128.oneshot_with_secret_from_65.i3_v3,"xr",one_only,twox_core.width_128.oneshot_with_secret_from_65.i3_v3,unique,14
 	.p2align	4
-twox_hash.xxhash3_128.impl_oneshot_keyed_from_65.i3_v3:
+twox_core.width_128.oneshot_with_secret_from_65.i3_v3:
 	pushq	%r15
 	pushq	%r14
 	pushq	%r12
@@ -3488,7 +3489,7 @@ twox_hash.xxhash3_128.impl_oneshot_keyed_from_65.i3_v3:
 	popq	%r12
 	popq	%r14
 	popq	%r15
-	jmp	twox_hash.xxhash3_128.impl_129_to_240_bytes.i3_v3
+	jmp	twox_core.width_128.impl_129_to_240_bytes.i3_v3
 .LBB14_2.i3_v3:
 	xorl	%r9d, %r9d
 .LBB14_4.i3_v3:
@@ -3593,14 +3594,14 @@ twox_hash.xxhash3_128.impl_oneshot_keyed_from_65.i3_v3:
 	popq	%r12
 	popq	%r14
 	popq	%r15
-	jmp	twox_hash.xxhash3_128.impl_oneshot_long.i3_v3
-	.def	twox_hash.xxhash3_128.impl_oneshot_seeded_from_65.i3_v3;
+	jmp	twox_core.width_128.oneshot_long.i3_v3
+	.def	twox_core.width_128.oneshot_with_seed_from_65.i3_v3;
 	.scl	3;
 	.type	32;
 	.endef
-	.section	.text$twox_hash.xxhash3_128.impl_oneshot_seeded_from_65.i3_v3,"xr",one_only,twox_hash.xxhash3_128.impl_oneshot_seeded_from_65.i3_v3,unique,15
+	.section	.text$twox_core.width_128.oneshot_with_seed_from_65.i3_v3,"xr",one_only,twox_core.width_128.oneshot_with_seed_from_65.i3_v3,unique,15
 	.p2align	4
-twox_hash.xxhash3_128.impl_oneshot_seeded_from_65.i3_v3:
+twox_core.width_128.oneshot_with_seed_from_65.i3_v3:
 	pushq	%r15
 	pushq	%r14
 	pushq	%r12
@@ -3655,7 +3656,7 @@ twox_hash.xxhash3_128.impl_oneshot_seeded_from_65.i3_v3:
 	popq	%r12
 	popq	%r14
 	popq	%r15
-	jmp	twox_hash.xxhash3_128.impl_129_to_240_bytes.i3_v3
+	jmp	twox_core.width_128.impl_129_to_240_bytes.i3_v3
 .LBB15_2.i3_v3:
 	xorl	%r10d, %r10d
 .LBB15_4.i3_v3:
@@ -3781,7 +3782,7 @@ twox_hash.xxhash3_128.impl_oneshot_seeded_from_65.i3_v3:
 	popq	%r12
 	popq	%r14
 	popq	%r15
-	jmp	twox_hash.xxhash3_128.impl_oneshot_long_derived.i3_v3
+	jmp	twox_core.width_128.oneshot_long_derived.i3_v3
 .LBB15_9.i3_v3:
 	leaq	static.0.i3_v3(%rip), %rcx
 	movl	$192, %edx
@@ -3792,8 +3793,8 @@ twox_hash.xxhash3_128.impl_oneshot_seeded_from_65.i3_v3:
 	popq	%r12
 	popq	%r14
 	popq	%r15
-	jmp	twox_hash.xxhash3_128.impl_oneshot_long.i3_v3
-	.def	twox_hash.xxhash3_128.impl_oneshot_long_derived.i3_v3;
+	jmp	twox_core.width_128.oneshot_long.i3_v3
+	.def	twox_core.width_128.oneshot_long_derived.i3_v3;
 	.scl	3;
 	.type	32;
 	.endef
@@ -3844,9 +3845,9 @@ twox_hash.xxhash3_128.impl_oneshot_seeded_from_65.i3_v3:
 	.long	2654435761
 .LCPI16_9.i3_v3:
 	.quad	2654435761
-	.section	.text$twox_hash.xxhash3_128.impl_oneshot_long_derived.i3_v3,"xr",one_only,twox_hash.xxhash3_128.impl_oneshot_long_derived.i3_v3,unique,16
+	.section	.text$twox_core.width_128.oneshot_long_derived.i3_v3,"xr",one_only,twox_core.width_128.oneshot_long_derived.i3_v3,unique,16
 	.p2align	4
-twox_hash.xxhash3_128.impl_oneshot_long_derived.i3_v3:
+twox_core.width_128.oneshot_long_derived.i3_v3:
 	pushq	%rsi
 	pushq	%rdi
 	pushq	%rbx
@@ -3892,7 +3893,7 @@ twox_hash.xxhash3_128.impl_oneshot_long_derived.i3_v3:
 	leaq	32(%rsp), %rcx
 	movl	$192, %edx
 	vzeroupper
-	callq	twox_hash.xxhash3_128.impl_oneshot_many.i3_v3
+	callq	twox_core.width_128.oneshot_many.i3_v3
 	jmp	.LBB16_13.i3_v3
 .LBB16_3.i3_v3:
 	leaq	-1(%r9), %rax
@@ -4114,13 +4115,13 @@ twox_hash.xxhash3_128.impl_oneshot_long_derived.i3_v3:
 	popq	%rsi
 	vzeroupper
 	retq
-	.def	twox_hash.xxhash3_64.impl_129_to_240_bytes.i3_v3;
+	.def	twox_core.width_64.impl_129_to_240_bytes.i3_v3;
 	.scl	3;
 	.type	32;
 	.endef
-	.section	.text$twox_hash.xxhash3_64.impl_129_to_240_bytes.i3_v3,"xr",one_only,twox_hash.xxhash3_64.impl_129_to_240_bytes.i3_v3,unique,17
+	.section	.text$twox_core.width_64.impl_129_to_240_bytes.i3_v3,"xr",one_only,twox_core.width_64.impl_129_to_240_bytes.i3_v3,unique,17
 	.p2align	4
-twox_hash.xxhash3_64.impl_129_to_240_bytes.i3_v3:
+twox_core.width_64.impl_129_to_240_bytes.i3_v3:
 	pushq	%r15
 	pushq	%r14
 	pushq	%rsi
@@ -4313,7 +4314,7 @@ twox_hash.xxhash3_64.impl_129_to_240_bytes.i3_v3:
 	popq	%r14
 	popq	%r15
 	retq
-	.def	twox_hash.xxhash3_64.impl_oneshot_long.i3_v3;
+	.def	twox_core.width_64.oneshot_long.i3_v3;
 	.scl	3;
 	.type	32;
 	.endef
@@ -4334,9 +4335,9 @@ twox_hash.xxhash3_64.impl_129_to_240_bytes.i3_v3:
 	.long	2654435761
 .LCPI18_3.i3_v3:
 	.quad	2654435761
-	.section	.text$twox_hash.xxhash3_64.impl_oneshot_long.i3_v3,"xr",one_only,twox_hash.xxhash3_64.impl_oneshot_long.i3_v3,unique,18
+	.section	.text$twox_core.width_64.oneshot_long.i3_v3,"xr",one_only,twox_core.width_64.oneshot_long.i3_v3,unique,18
 	.p2align	4
-twox_hash.xxhash3_64.impl_oneshot_long.i3_v3:
+twox_core.width_64.oneshot_long.i3_v3:
 	pushq	%r14
 	pushq	%rsi
 	pushq	%rdi
@@ -4368,7 +4369,7 @@ twox_hash.xxhash3_64.impl_oneshot_long.i3_v3:
 	popq	%rdi
 	popq	%rsi
 	popq	%r14
-	jmp	twox_hash.xxhash3_64.impl_oneshot_long_of_any_length.i3_v3
+	jmp	twox_core.width_64.oneshot_long_of_any_length.i3_v3
 .LBB18_13.i3_v3:
 	movl	$192, %edx
 	vmovaps	(%rsp), %xmm6
@@ -4379,7 +4380,7 @@ twox_hash.xxhash3_64.impl_oneshot_long.i3_v3:
 	popq	%rdi
 	popq	%rsi
 	popq	%r14
-	jmp	twox_hash.xxhash3_64.impl_oneshot_many.i3_v3
+	jmp	twox_core.width_64.oneshot_many.i3_v3
 .LBB18_4.i3_v3:
 	leaq	-1(%r9), %rax
 	movq	%rax, %rdx
@@ -4568,7 +4569,7 @@ twox_hash.xxhash3_64.impl_oneshot_long.i3_v3:
 	popq	%r14
 	vzeroupper
 	retq
-	.def	twox_hash.xxhash3_64.impl_oneshot_many.i3_v3;
+	.def	twox_core.width_64.oneshot_many.i3_v3;
 	.scl	3;
 	.type	32;
 	.endef
@@ -4584,9 +4585,9 @@ twox_hash.xxhash3_64.impl_oneshot_long.i3_v3:
 	.quad	2246822519
 	.quad	2870177450012600261
 	.quad	2654435761
-	.section	.text$twox_hash.xxhash3_64.impl_oneshot_many.i3_v3,"xr",one_only,twox_hash.xxhash3_64.impl_oneshot_many.i3_v3,unique,19
+	.section	.text$twox_core.width_64.oneshot_many.i3_v3,"xr",one_only,twox_core.width_64.oneshot_many.i3_v3,unique,19
 	.p2align	4
-twox_hash.xxhash3_64.impl_oneshot_many.i3_v3:
+twox_core.width_64.oneshot_many.i3_v3:
 	pushq	%r15
 	pushq	%r14
 	pushq	%rsi
@@ -4739,7 +4740,7 @@ twox_hash.xxhash3_64.impl_oneshot_many.i3_v3:
 	retq
 .LBB19_15.i3_v3:
 	ud2
-	.def	twox_hash.xxhash3_64.impl_oneshot_long_of_any_length.i3_v3;
+	.def	twox_core.width_64.oneshot_long_of_any_length.i3_v3;
 	.scl	3;
 	.type	32;
 	.endef
@@ -4760,9 +4761,9 @@ twox_hash.xxhash3_64.impl_oneshot_many.i3_v3:
 	.long	2654435761
 .LCPI20_3.i3_v3:
 	.quad	2654435761
-	.section	.text$twox_hash.xxhash3_64.impl_oneshot_long_of_any_length.i3_v3,"xr",one_only,twox_hash.xxhash3_64.impl_oneshot_long_of_any_length.i3_v3,unique,20
+	.section	.text$twox_core.width_64.oneshot_long_of_any_length.i3_v3,"xr",one_only,twox_core.width_64.oneshot_long_of_any_length.i3_v3,unique,20
 	.p2align	4
-twox_hash.xxhash3_64.impl_oneshot_long_of_any_length.i3_v3:
+twox_core.width_64.oneshot_long_of_any_length.i3_v3:
 	pushq	%r15
 	pushq	%r14
 	pushq	%r12
@@ -4800,7 +4801,7 @@ twox_hash.xxhash3_64.impl_oneshot_long_of_any_length.i3_v3:
 	popq	%r12
 	popq	%r14
 	popq	%r15
-	jmp	twox_hash.xxhash3_64.impl_oneshot_many.i3_v3
+	jmp	twox_core.width_64.oneshot_many.i3_v3
 .LBB20_4.i3_v3:
 	cmpq	$16, %rdi
 	je	.LBB20_7.i3_v3
@@ -5411,7 +5412,7 @@ twox_exports.stream_3.finish_far.2.i3_v3:
 	movq	%rcx, 32(%rsp)
 	leaq	static.0.i3_v3(%rip), %rcx
 	movq	%rsi, %r9
-	callq	twox_hash.xxhash3_64.impl_129_to_240_bytes.i3_v3
+	callq	twox_core.width_64.impl_129_to_240_bytes.i3_v3
 .LBB21_33.i3_v3:
 	vmovaps	112(%rsp), %xmm6
 	vmovaps	128(%rsp), %xmm7
@@ -5484,7 +5485,7 @@ twox_exports.stream_3.finish_far.2.i3_v3:
 	xorq	%rax, %rcx
 	addq	%r10, %rcx
 	jmp	.LBB21_14.i3_v3
-	.def	twox_hash.xxhash3_64.impl_oneshot_long_derived.i3_v3;
+	.def	twox_core.width_64.oneshot_long_derived.i3_v3;
 	.scl	3;
 	.type	32;
 	.endef
@@ -5535,9 +5536,9 @@ twox_exports.stream_3.finish_far.2.i3_v3:
 	.long	2654435761
 .LCPI22_9.i3_v3:
 	.quad	2654435761
-	.section	.text$twox_hash.xxhash3_64.impl_oneshot_long_derived.i3_v3,"xr",one_only,twox_hash.xxhash3_64.impl_oneshot_long_derived.i3_v3,unique,22
+	.section	.text$twox_core.width_64.oneshot_long_derived.i3_v3,"xr",one_only,twox_core.width_64.oneshot_long_derived.i3_v3,unique,22
 	.p2align	4
-twox_hash.xxhash3_64.impl_oneshot_long_derived.i3_v3:
+twox_core.width_64.oneshot_long_derived.i3_v3:
 	pushq	%rsi
 	pushq	%rdi
 	pushq	%rbx
@@ -5583,7 +5584,7 @@ twox_hash.xxhash3_64.impl_oneshot_long_derived.i3_v3:
 	leaq	32(%rsp), %rcx
 	movl	$192, %edx
 	vzeroupper
-	callq	twox_hash.xxhash3_64.impl_oneshot_many.i3_v3
+	callq	twox_core.width_64.oneshot_many.i3_v3
 	jmp	.LBB22_13.i3_v3
 .LBB22_3.i3_v3:
 	leaq	-1(%r9), %rax
@@ -7855,7 +7856,7 @@ twox_rust_3_xxh3_128_v3:
 	retq
 .LBB37_13.i3_v3:
 	movq	%rsi, %rdx
-	callq	twox_hash.xxhash3_128.impl_oneshot_default_from_65.i3_v3
+	callq	twox_core.width_128.oneshot_from_65.i3_v3
 	addq	$40, %rsp
 	popq	%rbx
 	popq	%r14
@@ -8278,7 +8279,7 @@ twox_rust_3_xxh3_128_finish_v3:
 	movq	%rcx, %rdi
 	movq	%rax, %rcx
 	movq	%rsi, %rdx
-	callq	twox_hash.xxhash3_128.impl_129_to_240_bytes.i3_v3
+	callq	twox_core.width_128.impl_129_to_240_bytes.i3_v3
 	movq	%rdi, %rcx
 	jmp	.LBB38_29.i3_v3
 .LBB38_25.i3_v3:
@@ -8566,7 +8567,7 @@ twox_rust_3_xxh3_128_with_secret_v3:
 	movq	%rsi, %rdx
 	movq	%r8, %rsi
 	movq	%rax, %r8
-	callq	twox_hash.xxhash3_128.impl_oneshot_keyed_from_65.i3_v3
+	callq	twox_core.width_128.oneshot_with_secret_from_65.i3_v3
 	movq	%rsi, %r8
 	jmp	.LBB39_15.i3_v3
 .LBB39_11.i3_v3:
@@ -8835,7 +8836,7 @@ twox_rust_3_xxh3_128_with_seed_v3:
 	jmp	.LBB40_8.i3_v3
 .LBB40_14.i3_v3:
 	movq	%rsi, %rdx
-	callq	twox_hash.xxhash3_128.impl_oneshot_seeded_from_65.i3_v3
+	callq	twox_core.width_128.oneshot_with_seed_from_65.i3_v3
 	jmp	.LBB40_15.i3_v3
 .LBB40_11.i3_v3:
 	xorl	%edi, %edi
@@ -9054,7 +9055,7 @@ twox_rust_3_xxh3_128_with_seed_and_secret_v3:
 	movq	%r10, %r8
 	movq	%r9, %rdi
 	movq	%rsi, %r9
-	callq	twox_hash.xxhash3_128.impl_oneshot_long.i3_v3
+	callq	twox_core.width_128.oneshot_long.i3_v3
 .LBB41_24.i3_v3:
 	movq	%rdi, %r9
 	jmp	.LBB41_25.i3_v3
@@ -9255,7 +9256,7 @@ twox_rust_3_xxh3_128_with_seed_and_secret_v3:
 	movq	%r10, %r8
 	movq	%r9, %rdi
 	movq	%rsi, %r9
-	callq	twox_hash.xxhash3_128.impl_129_to_240_bytes.i3_v3
+	callq	twox_core.width_128.impl_129_to_240_bytes.i3_v3
 	jmp	.LBB41_24.i3_v3
 .LBB41_18.i3_v3:
 	xorl	%ecx, %ecx
@@ -9551,7 +9552,7 @@ twox_rust_3_xxh3_64_v3:
 	leaq	static.0.i3_v3(%rip), %rcx
 	xorl	%edx, %edx
 	movq	%rsi, %r9
-	callq	twox_hash.xxhash3_64.impl_129_to_240_bytes.i3_v3
+	callq	twox_core.width_64.impl_129_to_240_bytes.i3_v3
 	addq	$40, %rsp
 	retq
 .LBB42_5.i3_v3:
@@ -9581,7 +9582,7 @@ twox_rust_3_xxh3_64_v3:
 	leaq	static.0.i3_v3(%rip), %rcx
 	movl	$192, %edx
 	movq	%rsi, %r9
-	callq	twox_hash.xxhash3_64.impl_oneshot_long.i3_v3
+	callq	twox_core.width_64.oneshot_long.i3_v3
 	addq	$40, %rsp
 	retq
 .LBB42_6.i3_v3:
@@ -9808,7 +9809,7 @@ twox_rust_3_xxh3_64_finish_v3:
 	movq	%rdi, 32(%rsp)
 	leaq	static.0.i3_v3(%rip), %rcx
 	movq	%rsi, %rdx
-	callq	twox_hash.xxhash3_64.impl_129_to_240_bytes.i3_v3
+	callq	twox_core.width_64.impl_129_to_240_bytes.i3_v3
 	movq	%rax, %rdx
 	xorl	%eax, %eax
 	addq	$40, %rsp
@@ -10032,7 +10033,7 @@ twox_rust_3_xxh3_64_with_secret_v3:
 	xorl	%edx, %edx
 	movq	%rdi, %r8
 	movq	%rsi, %r9
-	callq	twox_hash.xxhash3_64.impl_129_to_240_bytes.i3_v3
+	callq	twox_core.width_64.impl_129_to_240_bytes.i3_v3
 	movq	%rax, %rdx
 	movq	%rbx, %rcx
 	jmp	.LBB45_20.i3_v3
@@ -10069,7 +10070,7 @@ twox_rust_3_xxh3_64_with_secret_v3:
 	movq	%rbx, %rdx
 	movq	%rdi, %r8
 	movq	%rsi, %r9
-	callq	twox_hash.xxhash3_64.impl_oneshot_long.i3_v3
+	callq	twox_core.width_64.oneshot_long.i3_v3
 	movq	%rbx, %rcx
 	movq	%rax, %rdx
 .LBB45_20.i3_v3:
@@ -10255,7 +10256,7 @@ twox_rust_3_xxh3_64_with_seed_v3:
 	leaq	static.0.i3_v3(%rip), %rcx
 	movq	%rax, %rdx
 	movq	%rsi, %r9
-	callq	twox_hash.xxhash3_64.impl_129_to_240_bytes.i3_v3
+	callq	twox_core.width_64.impl_129_to_240_bytes.i3_v3
 	addq	$40, %rsp
 	retq
 .LBB46_5.i3_v3:
@@ -10291,7 +10292,7 @@ twox_rust_3_xxh3_64_with_seed_v3:
 	movq	%rax, %rcx
 	movq	%r8, %rdx
 	movq	%rsi, %r8
-	callq	twox_hash.xxhash3_64.impl_oneshot_long_derived.i3_v3
+	callq	twox_core.width_64.oneshot_long_derived.i3_v3
 	addq	$40, %rsp
 	retq
 .LBB46_7.i3_v3:
@@ -10315,7 +10316,7 @@ twox_rust_3_xxh3_64_with_seed_v3:
 	leaq	static.0.i3_v3(%rip), %rcx
 	movl	$192, %edx
 	movq	%rsi, %r9
-	callq	twox_hash.xxhash3_64.impl_oneshot_long.i3_v3
+	callq	twox_core.width_64.oneshot_long.i3_v3
 	addq	$40, %rsp
 	retq
 	.def	twox_rust_3_xxh3_64_with_seed_and_secret_v3;
@@ -10365,7 +10366,7 @@ twox_rust_3_xxh3_64_with_seed_and_secret_v3:
 	movq	%rdx, %rcx
 	movq	%rax, %rdx
 	movq	%rsi, %r9
-	callq	twox_hash.xxhash3_64.impl_oneshot_long.i3_v3
+	callq	twox_core.width_64.oneshot_long.i3_v3
 	movq	%rax, %rdx
 	xorl	%eax, %eax
 	addq	$40, %rsp
@@ -10508,7 +10509,7 @@ twox_rust_3_xxh3_64_with_seed_and_secret_v3:
 	leaq	static.0.i3_v3(%rip), %rcx
 	movq	%rax, %rdx
 	movq	%rsi, %r9
-	callq	twox_hash.xxhash3_64.impl_129_to_240_bytes.i3_v3
+	callq	twox_core.width_64.impl_129_to_240_bytes.i3_v3
 	movq	%rax, %rdx
 	xorl	%eax, %eax
 	addq	$40, %rsp

@@ -862,13 +862,13 @@ twox_plain.xxhash32.StateInMemory.add_blocks.i3:
 	popq	%r14
 	popq	%r15
 	retq
-	.def	twox_hash.xxhash3_128.impl_oneshot_default_from_65.i3;
+	.def	twox_core.width_128.oneshot_from_65.i3;
 	.scl	3;
 	.type	32;
 	.endef
-	.section	.text$twox_hash.xxhash3_128.impl_oneshot_default_from_65.i3,"xr",one_only,twox_hash.xxhash3_128.impl_oneshot_default_from_65.i3,unique,5
+	.section	.text$twox_core.width_128.oneshot_from_65.i3,"xr",one_only,twox_core.width_128.oneshot_from_65.i3,unique,5
 	.p2align	4
-twox_hash.xxhash3_128.impl_oneshot_default_from_65.i3:
+twox_core.width_128.oneshot_from_65.i3:
 	pushq	%r15
 	pushq	%r14
 	pushq	%rsi
@@ -916,7 +916,7 @@ twox_hash.xxhash3_128.impl_oneshot_default_from_65.i3:
 	popq	%rsi
 	popq	%r14
 	popq	%r15
-	jmp	twox_hash.xxhash3_128.impl_129_to_240_bytes.i3
+	jmp	twox_core.width_128.impl_129_to_240_bytes.i3
 .LBB5_2.i3:
 	xorl	%ecx, %ecx
 .LBB5_4.i3:
@@ -1028,14 +1028,14 @@ twox_hash.xxhash3_128.impl_oneshot_default_from_65.i3:
 	popq	%rsi
 	popq	%r14
 	popq	%r15
-	jmp	twox_hash.xxhash3_128.impl_oneshot_long.i3
-	.def	twox_hash.xxhash3_128.impl_129_to_240_bytes.i3;
+	jmp	twox_core.width_128.oneshot_long.i3
+	.def	twox_core.width_128.impl_129_to_240_bytes.i3;
 	.scl	3;
 	.type	32;
 	.endef
-	.section	.text$twox_hash.xxhash3_128.impl_129_to_240_bytes.i3,"xr",one_only,twox_hash.xxhash3_128.impl_129_to_240_bytes.i3,unique,6
+	.section	.text$twox_core.width_128.impl_129_to_240_bytes.i3,"xr",one_only,twox_core.width_128.impl_129_to_240_bytes.i3,unique,6
 	.p2align	4
-twox_hash.xxhash3_128.impl_129_to_240_bytes.i3:
+twox_core.width_128.impl_129_to_240_bytes.i3:
 	pushq	%r15
 	pushq	%r14
 	pushq	%r13
@@ -1273,7 +1273,7 @@ twox_hash.xxhash3_128.impl_129_to_240_bytes.i3:
 	popq	%r14
 	popq	%r15
 	retq
-	.def	twox_hash.xxhash3_128.impl_oneshot_long.i3;
+	.def	twox_core.width_128.oneshot_long.i3;
 	.scl	3;
 	.type	32;
 	.endef
@@ -1299,9 +1299,9 @@ twox_hash.xxhash3_128.impl_129_to_240_bytes.i3:
 .LCPI7_5.i3:
 	.quad	2654435761
 	.quad	2654435761
-	.section	.text$twox_hash.xxhash3_128.impl_oneshot_long.i3,"xr",one_only,twox_hash.xxhash3_128.impl_oneshot_long.i3,unique,7
+	.section	.text$twox_core.width_128.oneshot_long.i3,"xr",one_only,twox_core.width_128.oneshot_long.i3,unique,7
 	.p2align	4
-twox_hash.xxhash3_128.impl_oneshot_long.i3:
+twox_core.width_128.oneshot_long.i3:
 	pushq	%r15
 	pushq	%r14
 	pushq	%r12
@@ -1353,7 +1353,7 @@ twox_hash.xxhash3_128.impl_oneshot_long.i3:
 	popq	%r12
 	popq	%r14
 	popq	%r15
-	jmp	twox_hash.xxhash3_128.impl_oneshot_long_of_any_length.i3
+	jmp	twox_core.width_128.oneshot_long_of_any_length.i3
 .LBB7_13.i3:
 	movl	$192, %edx
 	movaps	80(%rsp), %xmm6
@@ -1373,7 +1373,7 @@ twox_hash.xxhash3_128.impl_oneshot_long.i3:
 	popq	%r12
 	popq	%r14
 	popq	%r15
-	jmp	twox_hash.xxhash3_128.impl_oneshot_many.i3
+	jmp	twox_core.width_128.oneshot_many.i3
 .LBB7_4.i3:
 	leaq	-1(%r9), %rax
 	movq	%rax, %rdx
@@ -1981,29 +1981,30 @@ twox_core.xxhash3.stripes.take_many_stripes.i3:
 	xorl	%edx, %edx
 	jmp	.LBB8_7.i3
 .LBB8_17.i3:
-	movq	192(%rsp), %rax
-	movdqa	%xmm0, 288(%rsp)
-	movdqa	%xmm0, 304(%rsp)
-	movdqa	%xmm0, 320(%rsp)
-	movdqa	%xmm0, 336(%rsp)
-	movq	$0, 352(%rsp)
-	movdqa	%xmm0, 368(%rsp)
-	movdqa	%xmm0, 384(%rsp)
-	movdqa	%xmm0, 400(%rsp)
-	movdqa	%xmm0, 416(%rsp)
-	movdqa	%xmm0, 448(%rsp)
-	movdqa	%xmm0, 464(%rsp)
-	movdqa	%xmm0, 480(%rsp)
-	movdqa	%xmm0, 496(%rsp)
-	movq	$0, 512(%rsp)
 	movups	(%rdx), %xmm0
 	movups	16(%rdx), %xmm1
 	movups	32(%rdx), %xmm2
 	movups	48(%rdx), %xmm3
-	movaps	%xmm0, 208(%rsp)
-	movaps	%xmm1, 224(%rsp)
-	movaps	%xmm2, 240(%rsp)
 	movaps	%xmm3, 256(%rsp)
+	movaps	%xmm2, 240(%rsp)
+	movaps	%xmm1, 224(%rsp)
+	movaps	%xmm0, 208(%rsp)
+	movq	192(%rsp), %rax
+	xorps	%xmm0, %xmm0
+	movaps	%xmm0, 288(%rsp)
+	movaps	%xmm0, 304(%rsp)
+	movaps	%xmm0, 320(%rsp)
+	movaps	%xmm0, 336(%rsp)
+	movq	$0, 352(%rsp)
+	movaps	%xmm0, 368(%rsp)
+	movaps	%xmm0, 384(%rsp)
+	movaps	%xmm0, 400(%rsp)
+	movaps	%xmm0, 416(%rsp)
+	movaps	%xmm0, 496(%rsp)
+	movaps	%xmm0, 480(%rsp)
+	movaps	%xmm0, 464(%rsp)
+	movaps	%xmm0, 448(%rsp)
+	movq	$0, 512(%rsp)
 	movq	%rax, 272(%rsp)
 	negl	%eax
 	andl	$15, %eax
@@ -2819,13 +2820,13 @@ twox_core.xxhash3.stripes.blocks.take_many_blocks.i3:
 	popq	%rdi
 	popq	%rsi
 	retq
-	.def	twox_hash.xxhash3_128.impl_oneshot_many.i3;
+	.def	twox_core.width_128.oneshot_many.i3;
 	.scl	3;
 	.type	32;
 	.endef
-	.section	.text$twox_hash.xxhash3_128.impl_oneshot_many.i3,"xr",one_only,twox_hash.xxhash3_128.impl_oneshot_many.i3,unique,11
+	.section	.text$twox_core.width_128.oneshot_many.i3,"xr",one_only,twox_core.width_128.oneshot_many.i3,unique,11
 	.p2align	4
-twox_hash.xxhash3_128.impl_oneshot_many.i3:
+twox_core.width_128.oneshot_many.i3:
 	pushq	%r15
 	pushq	%r14
 	pushq	%r13
@@ -3119,7 +3120,7 @@ twox_hash.xxhash3_128.impl_oneshot_many.i3:
 	retq
 .LBB11_17.i3:
 	ud2
-	.def	twox_hash.xxhash3_128.impl_oneshot_long_of_any_length.i3;
+	.def	twox_core.width_128.oneshot_long_of_any_length.i3;
 	.scl	3;
 	.type	32;
 	.endef
@@ -3145,9 +3146,9 @@ twox_hash.xxhash3_128.impl_oneshot_many.i3:
 .LCPI12_5.i3:
 	.quad	2654435761
 	.quad	2654435761
-	.section	.text$twox_hash.xxhash3_128.impl_oneshot_long_of_any_length.i3,"xr",one_only,twox_hash.xxhash3_128.impl_oneshot_long_of_any_length.i3,unique,12
+	.section	.text$twox_core.width_128.oneshot_long_of_any_length.i3,"xr",one_only,twox_core.width_128.oneshot_long_of_any_length.i3,unique,12
 	.p2align	4
-twox_hash.xxhash3_128.impl_oneshot_long_of_any_length.i3:
+twox_core.width_128.oneshot_long_of_any_length.i3:
 	pushq	%r14
 	pushq	%rsi
 	pushq	%rdi
@@ -3197,7 +3198,7 @@ twox_hash.xxhash3_128.impl_oneshot_long_of_any_length.i3:
 	popq	%rdi
 	popq	%rsi
 	popq	%r14
-	jmp	twox_hash.xxhash3_128.impl_oneshot_many.i3
+	jmp	twox_core.width_128.oneshot_many.i3
 .LBB12_4.i3:
 	cmpq	$16, %rdi
 	je	.LBB12_7.i3
@@ -4338,7 +4339,7 @@ twox_exports.stream_3.finish_far.i3:
 .LBB13_22.i3:
 	leaq	static.0.i3(%rip), %rcx
 	movq	%rsi, %r9
-	callq	twox_hash.xxhash3_128.impl_129_to_240_bytes.i3
+	callq	twox_core.width_128.impl_129_to_240_bytes.i3
 	movq	%rax, %rcx
 	jmp	.LBB13_39.i3
 .LBB13_19.i3:
@@ -4497,13 +4498,13 @@ twox_exports.stream_3.finish_far.i3:
 	shrq	$29, %r8
 	xorq	%rdx, %r8
 	jmp	.LBB13_38.i3
-	.def	twox_hash.xxhash3_128.impl_oneshot_keyed_from_65.i3;
+	.def	twox_core.width_128.oneshot_with_secret_from_65.i3;
 	.scl	3;
 	.type	32;
 	.endef
-	.section	.text$twox_hash.xxhash3_128.impl_oneshot_keyed_from_65.i3,"xr",one_only,twox_hash.xxhash3_128.impl_oneshot_keyed_from_65.i3,unique,14
+	.section	.text$twox_core.width_128.oneshot_with_secret_from_65.i3,"xr",one_only,twox_core.width_128.oneshot_with_secret_from_65.i3,unique,14
 	.p2align	4
-twox_hash.xxhash3_128.impl_oneshot_keyed_from_65.i3:
+twox_core.width_128.oneshot_with_secret_from_65.i3:
 	pushq	%r15
 	pushq	%r14
 	pushq	%r12
@@ -4554,7 +4555,7 @@ twox_hash.xxhash3_128.impl_oneshot_keyed_from_65.i3:
 	popq	%r12
 	popq	%r14
 	popq	%r15
-	jmp	twox_hash.xxhash3_128.impl_129_to_240_bytes.i3
+	jmp	twox_core.width_128.impl_129_to_240_bytes.i3
 .LBB14_2.i3:
 	xorl	%esi, %esi
 .LBB14_4.i3:
@@ -4666,14 +4667,14 @@ twox_hash.xxhash3_128.impl_oneshot_keyed_from_65.i3:
 	popq	%r12
 	popq	%r14
 	popq	%r15
-	jmp	twox_hash.xxhash3_128.impl_oneshot_long.i3
-	.def	twox_hash.xxhash3_128.impl_oneshot_seeded_from_65.i3;
+	jmp	twox_core.width_128.oneshot_long.i3
+	.def	twox_core.width_128.oneshot_with_seed_from_65.i3;
 	.scl	3;
 	.type	32;
 	.endef
-	.section	.text$twox_hash.xxhash3_128.impl_oneshot_seeded_from_65.i3,"xr",one_only,twox_hash.xxhash3_128.impl_oneshot_seeded_from_65.i3,unique,15
+	.section	.text$twox_core.width_128.oneshot_with_seed_from_65.i3,"xr",one_only,twox_core.width_128.oneshot_with_seed_from_65.i3,unique,15
 	.p2align	4
-twox_hash.xxhash3_128.impl_oneshot_seeded_from_65.i3:
+twox_core.width_128.oneshot_with_seed_from_65.i3:
 	pushq	%r15
 	pushq	%r14
 	pushq	%r12
@@ -4728,7 +4729,7 @@ twox_hash.xxhash3_128.impl_oneshot_seeded_from_65.i3:
 	popq	%r12
 	popq	%r14
 	popq	%r15
-	jmp	twox_hash.xxhash3_128.impl_129_to_240_bytes.i3
+	jmp	twox_core.width_128.impl_129_to_240_bytes.i3
 .LBB15_2.i3:
 	xorl	%ecx, %ecx
 .LBB15_4.i3:
@@ -4859,7 +4860,7 @@ twox_hash.xxhash3_128.impl_oneshot_seeded_from_65.i3:
 	popq	%r12
 	popq	%r14
 	popq	%r15
-	jmp	twox_hash.xxhash3_128.impl_oneshot_long_derived.i3
+	jmp	twox_core.width_128.oneshot_long_derived.i3
 .LBB15_9.i3:
 	leaq	static.0.i3(%rip), %rcx
 	movl	$192, %edx
@@ -4870,8 +4871,8 @@ twox_hash.xxhash3_128.impl_oneshot_seeded_from_65.i3:
 	popq	%r12
 	popq	%r14
 	popq	%r15
-	jmp	twox_hash.xxhash3_128.impl_oneshot_long.i3
-	.def	twox_hash.xxhash3_128.impl_oneshot_long_derived.i3;
+	jmp	twox_core.width_128.oneshot_long.i3
+	.def	twox_core.width_128.oneshot_long_derived.i3;
 	.scl	3;
 	.type	32;
 	.endef
@@ -4933,9 +4934,9 @@ twox_hash.xxhash3_128.impl_oneshot_seeded_from_65.i3:
 .LCPI16_17.i3:
 	.quad	2654435761
 	.quad	2654435761
-	.section	.text$twox_hash.xxhash3_128.impl_oneshot_long_derived.i3,"xr",one_only,twox_hash.xxhash3_128.impl_oneshot_long_derived.i3,unique,16
+	.section	.text$twox_core.width_128.oneshot_long_derived.i3,"xr",one_only,twox_core.width_128.oneshot_long_derived.i3,unique,16
 	.p2align	4
-twox_hash.xxhash3_128.impl_oneshot_long_derived.i3:
+twox_core.width_128.oneshot_long_derived.i3:
 	pushq	%r15
 	pushq	%r14
 	pushq	%r12
@@ -5016,7 +5017,7 @@ twox_hash.xxhash3_128.impl_oneshot_long_derived.i3:
 .LBB16_12.i3:
 	leaq	32(%rsp), %rcx
 	movl	$192, %edx
-	callq	twox_hash.xxhash3_128.impl_oneshot_many.i3
+	callq	twox_core.width_128.oneshot_many.i3
 	jmp	.LBB16_13.i3
 .LBB16_3.i3:
 	leaq	-1(%r9), %rax
@@ -5442,13 +5443,13 @@ twox_hash.xxhash3_128.impl_oneshot_long_derived.i3:
 	popq	%r14
 	popq	%r15
 	retq
-	.def	twox_hash.xxhash3_64.impl_129_to_240_bytes.i3;
+	.def	twox_core.width_64.impl_129_to_240_bytes.i3;
 	.scl	3;
 	.type	32;
 	.endef
-	.section	.text$twox_hash.xxhash3_64.impl_129_to_240_bytes.i3,"xr",one_only,twox_hash.xxhash3_64.impl_129_to_240_bytes.i3,unique,17
+	.section	.text$twox_core.width_64.impl_129_to_240_bytes.i3,"xr",one_only,twox_core.width_64.impl_129_to_240_bytes.i3,unique,17
 	.p2align	4
-twox_hash.xxhash3_64.impl_129_to_240_bytes.i3:
+twox_core.width_64.impl_129_to_240_bytes.i3:
 	pushq	%r14
 	pushq	%rsi
 	pushq	%rdi
@@ -5648,7 +5649,7 @@ twox_hash.xxhash3_64.impl_129_to_240_bytes.i3:
 	popq	%rsi
 	popq	%r14
 	retq
-	.def	twox_hash.xxhash3_64.impl_oneshot_long.i3;
+	.def	twox_core.width_64.oneshot_long.i3;
 	.scl	3;
 	.type	32;
 	.endef
@@ -5674,9 +5675,9 @@ twox_hash.xxhash3_64.impl_129_to_240_bytes.i3:
 .LCPI18_5.i3:
 	.quad	2654435761
 	.quad	2654435761
-	.section	.text$twox_hash.xxhash3_64.impl_oneshot_long.i3,"xr",one_only,twox_hash.xxhash3_64.impl_oneshot_long.i3,unique,18
+	.section	.text$twox_core.width_64.oneshot_long.i3,"xr",one_only,twox_core.width_64.oneshot_long.i3,unique,18
 	.p2align	4
-twox_hash.xxhash3_64.impl_oneshot_long.i3:
+twox_core.width_64.oneshot_long.i3:
 	pushq	%rsi
 	pushq	%rdi
 	pushq	%rbx
@@ -5722,7 +5723,7 @@ twox_hash.xxhash3_64.impl_oneshot_long.i3:
 	popq	%rbx
 	popq	%rdi
 	popq	%rsi
-	jmp	twox_hash.xxhash3_64.impl_oneshot_long_of_any_length.i3
+	jmp	twox_core.width_64.oneshot_long_of_any_length.i3
 .LBB18_13.i3:
 	movl	$192, %edx
 	movaps	80(%rsp), %xmm6
@@ -5739,7 +5740,7 @@ twox_hash.xxhash3_64.impl_oneshot_long.i3:
 	popq	%rbx
 	popq	%rdi
 	popq	%rsi
-	jmp	twox_hash.xxhash3_64.impl_oneshot_many.i3
+	jmp	twox_core.width_64.oneshot_many.i3
 .LBB18_4.i3:
 	leaq	-1(%r9), %rax
 	movq	%rax, %rdx
@@ -6108,13 +6109,13 @@ twox_hash.xxhash3_64.impl_oneshot_long.i3:
 	popq	%rdi
 	popq	%rsi
 	retq
-	.def	twox_hash.xxhash3_64.impl_oneshot_many.i3;
+	.def	twox_core.width_64.oneshot_many.i3;
 	.scl	3;
 	.type	32;
 	.endef
-	.section	.text$twox_hash.xxhash3_64.impl_oneshot_many.i3,"xr",one_only,twox_hash.xxhash3_64.impl_oneshot_many.i3,unique,19
+	.section	.text$twox_core.width_64.oneshot_many.i3,"xr",one_only,twox_core.width_64.oneshot_many.i3,unique,19
 	.p2align	4
-twox_hash.xxhash3_64.impl_oneshot_many.i3:
+twox_core.width_64.oneshot_many.i3:
 	pushq	%r15
 	pushq	%r14
 	pushq	%r12
@@ -6356,7 +6357,7 @@ twox_hash.xxhash3_64.impl_oneshot_many.i3:
 	retq
 .LBB19_15.i3:
 	ud2
-	.def	twox_hash.xxhash3_64.impl_oneshot_long_of_any_length.i3;
+	.def	twox_core.width_64.oneshot_long_of_any_length.i3;
 	.scl	3;
 	.type	32;
 	.endef
@@ -6382,9 +6383,9 @@ twox_hash.xxhash3_64.impl_oneshot_many.i3:
 .LCPI20_5.i3:
 	.quad	2654435761
 	.quad	2654435761
-	.section	.text$twox_hash.xxhash3_64.impl_oneshot_long_of_any_length.i3,"xr",one_only,twox_hash.xxhash3_64.impl_oneshot_long_of_any_length.i3,unique,20
+	.section	.text$twox_core.width_64.oneshot_long_of_any_length.i3,"xr",one_only,twox_core.width_64.oneshot_long_of_any_length.i3,unique,20
 	.p2align	4
-twox_hash.xxhash3_64.impl_oneshot_long_of_any_length.i3:
+twox_core.width_64.oneshot_long_of_any_length.i3:
 	pushq	%r14
 	pushq	%rsi
 	pushq	%rdi
@@ -6434,7 +6435,7 @@ twox_hash.xxhash3_64.impl_oneshot_long_of_any_length.i3:
 	popq	%rdi
 	popq	%rsi
 	popq	%r14
-	jmp	twox_hash.xxhash3_64.impl_oneshot_many.i3
+	jmp	twox_core.width_64.oneshot_many.i3
 .LBB20_4.i3:
 	cmpq	$16, %rdi
 	je	.LBB20_7.i3
@@ -7412,7 +7413,7 @@ twox_exports.stream_3.finish_far.2.i3:
 	movq	%rcx, 32(%rsp)
 	leaq	static.0.i3(%rip), %rcx
 	movq	%rsi, %r9
-	callq	twox_hash.xxhash3_64.impl_129_to_240_bytes.i3
+	callq	twox_core.width_64.impl_129_to_240_bytes.i3
 	jmp	.LBB21_32.i3
 .LBB21_6.i3:
 	movabsq	$-4417276706812531889, %rcx
@@ -7456,7 +7457,7 @@ twox_exports.stream_3.finish_far.2.i3:
 	shrq	$29, %rdx
 	xorq	%r8, %rdx
 	jmp	.LBB21_30.i3
-	.def	twox_hash.xxhash3_64.impl_oneshot_long_derived.i3;
+	.def	twox_core.width_64.oneshot_long_derived.i3;
 	.scl	3;
 	.type	32;
 	.endef
@@ -7518,9 +7519,9 @@ twox_exports.stream_3.finish_far.2.i3:
 .LCPI22_17.i3:
 	.quad	2654435761
 	.quad	2654435761
-	.section	.text$twox_hash.xxhash3_64.impl_oneshot_long_derived.i3,"xr",one_only,twox_hash.xxhash3_64.impl_oneshot_long_derived.i3,unique,22
+	.section	.text$twox_core.width_64.oneshot_long_derived.i3,"xr",one_only,twox_core.width_64.oneshot_long_derived.i3,unique,22
 	.p2align	4
-twox_hash.xxhash3_64.impl_oneshot_long_derived.i3:
+twox_core.width_64.oneshot_long_derived.i3:
 	pushq	%r14
 	pushq	%rsi
 	pushq	%rdi
@@ -7599,7 +7600,7 @@ twox_hash.xxhash3_64.impl_oneshot_long_derived.i3:
 .LBB22_12.i3:
 	leaq	48(%rsp), %rcx
 	movl	$192, %edx
-	callq	twox_hash.xxhash3_64.impl_oneshot_many.i3
+	callq	twox_core.width_64.oneshot_many.i3
 	jmp	.LBB22_13.i3
 .LBB22_3.i3:
 	leaq	-1(%r9), %rax
@@ -10224,7 +10225,7 @@ twox_rust_3_xxh3_128:
 	retq
 .LBB37_14.i3:
 	movq	%rsi, %rdx
-	callq	twox_hash.xxhash3_128.impl_oneshot_default_from_65.i3
+	callq	twox_core.width_128.oneshot_from_65.i3
 	addq	$40, %rsp
 	popq	%rbx
 	popq	%r14
@@ -10646,7 +10647,7 @@ twox_rust_3_xxh3_128_finish:
 	movq	%rcx, %rdi
 	movq	%rax, %rcx
 	movq	%rsi, %rdx
-	callq	twox_hash.xxhash3_128.impl_129_to_240_bytes.i3
+	callq	twox_core.width_128.impl_129_to_240_bytes.i3
 	movq	%rdi, %rcx
 	jmp	.LBB38_29.i3
 .LBB38_25.i3:
@@ -10916,7 +10917,7 @@ twox_rust_3_xxh3_128_with_secret:
 	movq	%rsi, %rdx
 	movq	%r8, %rsi
 	movq	%rax, %r8
-	callq	twox_hash.xxhash3_128.impl_oneshot_keyed_from_65.i3
+	callq	twox_core.width_128.oneshot_with_secret_from_65.i3
 	movq	%rsi, %r8
 	jmp	.LBB39_16.i3
 .LBB39_12.i3:
@@ -11180,7 +11181,7 @@ twox_rust_3_xxh3_128_with_seed:
 	jmp	.LBB40_8.i3
 .LBB40_15.i3:
 	movq	%rsi, %rdx
-	callq	twox_hash.xxhash3_128.impl_oneshot_seeded_from_65.i3
+	callq	twox_core.width_128.oneshot_with_seed_from_65.i3
 	jmp	.LBB40_16.i3
 .LBB40_12.i3:
 	xorl	%r9d, %r9d
@@ -11398,7 +11399,7 @@ twox_rust_3_xxh3_128_with_seed_and_secret:
 	movq	%r10, %r8
 	movq	%r9, %rdi
 	movq	%rsi, %r9
-	callq	twox_hash.xxhash3_128.impl_oneshot_long.i3
+	callq	twox_core.width_128.oneshot_long.i3
 .LBB41_25.i3:
 	movq	%rdi, %r9
 	jmp	.LBB41_26.i3
@@ -11600,7 +11601,7 @@ twox_rust_3_xxh3_128_with_seed_and_secret:
 	movq	%r10, %r8
 	movq	%r9, %rdi
 	movq	%rsi, %r9
-	callq	twox_hash.xxhash3_128.impl_129_to_240_bytes.i3
+	callq	twox_core.width_128.impl_129_to_240_bytes.i3
 	jmp	.LBB41_25.i3
 .LBB41_19.i3:
 	xorl	%r11d, %r11d
@@ -11904,7 +11905,7 @@ twox_rust_3_xxh3_64:
 	leaq	static.0.i3(%rip), %rcx
 	xorl	%edx, %edx
 	movq	%rsi, %r9
-	callq	twox_hash.xxhash3_64.impl_129_to_240_bytes.i3
+	callq	twox_core.width_64.impl_129_to_240_bytes.i3
 	addq	$40, %rsp
 	retq
 .LBB42_5.i3:
@@ -11934,7 +11935,7 @@ twox_rust_3_xxh3_64:
 	leaq	static.0.i3(%rip), %rcx
 	movl	$192, %edx
 	movq	%rsi, %r9
-	callq	twox_hash.xxhash3_64.impl_oneshot_long.i3
+	callq	twox_core.width_64.oneshot_long.i3
 	addq	$40, %rsp
 	retq
 .LBB42_6.i3:
@@ -12168,7 +12169,7 @@ twox_rust_3_xxh3_64_finish:
 	movq	%rdi, 32(%rsp)
 	leaq	static.0.i3(%rip), %rcx
 	movq	%rsi, %rdx
-	callq	twox_hash.xxhash3_64.impl_129_to_240_bytes.i3
+	callq	twox_core.width_64.impl_129_to_240_bytes.i3
 	movq	%rax, %rdx
 	xorl	%eax, %eax
 	addq	$40, %rsp
@@ -12404,7 +12405,7 @@ twox_rust_3_xxh3_64_with_secret:
 	xorl	%edx, %edx
 	movq	%rdi, %r8
 	movq	%rsi, %r9
-	callq	twox_hash.xxhash3_64.impl_129_to_240_bytes.i3
+	callq	twox_core.width_64.impl_129_to_240_bytes.i3
 	movq	%rax, %rdx
 	movq	%rbx, %rcx
 	jmp	.LBB45_21.i3
@@ -12441,7 +12442,7 @@ twox_rust_3_xxh3_64_with_secret:
 	movq	%rbx, %rdx
 	movq	%rdi, %r8
 	movq	%rsi, %r9
-	callq	twox_hash.xxhash3_64.impl_oneshot_long.i3
+	callq	twox_core.width_64.oneshot_long.i3
 	movq	%rbx, %rcx
 	movq	%rax, %rdx
 	jmp	.LBB45_21.i3
@@ -12633,7 +12634,7 @@ twox_rust_3_xxh3_64_with_seed:
 	leaq	static.0.i3(%rip), %rcx
 	movq	%r9, %rdx
 	movq	%rsi, %r9
-	callq	twox_hash.xxhash3_64.impl_129_to_240_bytes.i3
+	callq	twox_core.width_64.impl_129_to_240_bytes.i3
 	addq	$40, %rsp
 	retq
 .LBB46_5.i3:
@@ -12665,7 +12666,7 @@ twox_rust_3_xxh3_64_with_seed:
 	movq	%r9, %rcx
 	movq	%r8, %rdx
 	movq	%rsi, %r8
-	callq	twox_hash.xxhash3_64.impl_oneshot_long_derived.i3
+	callq	twox_core.width_64.oneshot_long_derived.i3
 	addq	$40, %rsp
 	retq
 .LBB46_7.i3:
@@ -12684,7 +12685,7 @@ twox_rust_3_xxh3_64_with_seed:
 	leaq	static.0.i3(%rip), %rcx
 	movl	$192, %edx
 	movq	%rsi, %r9
-	callq	twox_hash.xxhash3_64.impl_oneshot_long.i3
+	callq	twox_core.width_64.oneshot_long.i3
 	addq	$40, %rsp
 	retq
 	.def	twox_rust_3_xxh3_64_with_seed_and_secret;
@@ -12738,7 +12739,7 @@ twox_rust_3_xxh3_64_with_seed_and_secret:
 	movq	%rdx, %rcx
 	movq	%rax, %rdx
 	movq	%rsi, %r9
-	callq	twox_hash.xxhash3_64.impl_oneshot_long.i3
+	callq	twox_core.width_64.oneshot_long.i3
 	movq	%rax, %rdx
 	xorl	%eax, %eax
 	addq	$40, %rsp
@@ -12889,7 +12890,7 @@ twox_rust_3_xxh3_64_with_seed_and_secret:
 	leaq	static.0.i3(%rip), %rcx
 	movq	%r9, %rdx
 	movq	%rsi, %r9
-	callq	twox_hash.xxhash3_64.impl_129_to_240_bytes.i3
+	callq	twox_core.width_64.impl_129_to_240_bytes.i3
 	movq	%rax, %rdx
 	xorl	%eax, %eax
 	addq	$40, %rsp
