@@ -13,8 +13,7 @@ ghost use Rattle.twox_c.specs.State3.{IsSecretLength, IsUsable, WasGiven, secret
 
 use crate::{XXH_ERROR, XXH_OK};
 use twox_core::xxhash3::{
-    CoreState, DEFAULT_SECRET_RAW, DEFAULT_SEED, Finalize, Kernel,
-    SECRET_MINIMUM_LENGTH, Secret,
+    CoreState, DEFAULT_SECRET_RAW, DEFAULT_SEED, Finalize, Kernel, SECRET_MINIMUM_LENGTH, Secret,
 };
 
 /// The greatest length of a secret that a state keeps.
