@@ -1,7 +1,7 @@
 #!/usr/bin/env python3
 """Measures modules in a headless browser, as run.mjs does in Node:
 
-    web/bench_c/in_browser.py chromium | firefox ROUNDS NAME=FILE.."""
+    web/bench_c/in_browser.py chromium | firefox | webkit ROUNDS NAME=FILE.."""
 import json
 import os
 import shutil
@@ -12,14 +12,14 @@ WEB = os.path.dirname(os.path.dirname(os.path.abspath(__file__)))
 sys.dont_write_bytecode = True
 sys.path[:0] = [os.path.join(WEB, "tests"), os.path.join(os.path.dirname(WEB), "oracle")]
 
-from browser import Chromium, Firefox
+from browser import Chromium, Firefox, WebKit
 from page import Served
 
 PAGE = """<!doctype html><title>bench</title><script type=module>
 import { measure } from "/web/bench_c/measure.js";
 globalThis.measured = async (names, rounds) => {
   const bytes = async (name) => new Uint8Array(await (await fetch(`${name}.wasm`)).arrayBuffer());
-  return [...measure(await Promise.all(names.map(async (name) => ({ name, bytes: await bytes(name) }))), rounds)];
+  return [...measure(await Promise.all(names.map(async (name) => ({ name, bytes: await bytes(name) }))), rounds, 8)];
 };
 </script>"""
 
@@ -31,7 +31,7 @@ def main(kind, rounds, *words):
             shutil.copyfile(file, os.path.join(folder, f"{name}.wasm"))
         with open(os.path.join(folder, "bench.html"), "w", encoding="utf-8") as file:
             file.write(PAGE)
-        browser = {"chromium": Chromium, "firefox": Firefox}[kind]()
+        browser = {"chromium": Chromium, "firefox": Firefox, "webkit": WebKit}[kind]()
         try:
             with Served(folder) as address:
                 browser.go(f"{address}/bundles/bench.html")

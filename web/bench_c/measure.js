@@ -8,7 +8,6 @@ const KINDS = ["xxh32", "xxh64", "xxh3_64", "xxh3_128"];
 const TOTAL = 1 << 20;
 const PAGE_BYTES = 65536;
 const WARM_MILLISECONDS = 60;
-const TURN_MILLISECONDS = 1.5;
 
 /** Drawn once, so that every module has the same bytes. */
 function drawn(length) {
@@ -96,19 +95,19 @@ function timed(call, times) {
   return (performance.now() - start) / times * 1e6;
 }
 
-function timesFor(call) {
+function timesFor(call, milliseconds) {
   const end = performance.now() + WARM_MILLISECONDS;
   while (performance.now() < end) timed(call, 50);
   let times = 1;
-  while (times < 1e6 && timed(call, times) * times < TURN_MILLISECONDS * 1e6) times *= 2;
+  while (times < 1e6 && timed(call, times) * times < milliseconds * 1e6) times *= 2;
   return times;
 }
 
-function row(modules, kind, form, size, rounds) {
+function row(modules, kind, form, size, rounds, milliseconds) {
   const calls = modules.map((it) => it[form](kind, size));
   const answers = modules.map((it, i) => it.answer(kind, calls[i]));
   if (new Set(answers).size !== 1) throw new Error(`${kind} ${form} ${size}: ${answers.join(", ")}`);
-  const times = Math.min(...calls.map(timesFor));
+  const times = Math.min(...calls.map((call) => timesFor(call, milliseconds)));
   const taken = modules.map(() => []);
   for (let round = 0; round < rounds; round += 1) {
     for (let i = 0; i < modules.length; i += 1) {
@@ -120,11 +119,15 @@ function row(modules, kind, form, size, rounds) {
   return { kind, form, size, times: Object.fromEntries(modules.map(({ name }, i) => [name, of(taken[i].sort((a, b) => a - b))])) };
 }
 
-/** Rows of the best and the median nanoseconds of each module, which is given as `{ name, bytes }`. */
-export function* measure(given, rounds) {
+/**
+ * Rows of the best and the median nanoseconds of each module, which is given as `{ name, bytes }`. A turn of a module takes
+ * about so many milliseconds: many, where the clock is coarse.
+ */
+export function* measure(given, rounds, milliseconds) {
   const modules = given.map((it) => new Module(it));
   for (const kind of KINDS) {
-    for (const length of LENGTHS) yield row(modules, kind, "oneshot", length, rounds);
-    if (kind !== "xxh3_128") for (const size of PIECES) yield row(modules, kind, "stream", size, rounds);
+    for (const length of LENGTHS) yield row(modules, kind, "oneshot", length, rounds, milliseconds);
+    if (kind === "xxh3_128") continue;
+    for (const size of PIECES) yield row(modules, kind, "stream", size, rounds, milliseconds);
   }
 }

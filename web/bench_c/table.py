@@ -3,8 +3,8 @@
 
     web/bench_c/table.py [--rows] NAME=FILE..
 
-FILE has the rows of JSON that run.mjs prints, and NAME is the engine's. A cell has the time of a header over ours: of the
-module with vectors beside the fastest header of all, and of the one without beside the fastest header without."""
+FILE has the rows of JSON that run.mjs prints, and NAME is the engine's. A cell has the best time of a header over ours: of
+the module with vectors beside the fastest header of all, and of the one without beside the fastest header without."""
 import json
 import sys
 
@@ -30,7 +30,7 @@ def ratios(row, how):
 
 
 def what(row):
-    size = f"{row['size'] >> 10} KiB" if row["size"] >= 1024 else f"{row['size']:,} bytes"
+    size = "1 MiB" if row["size"] == 1 << 20 else f"{row['size'] >> 10} KiB" if row["size"] >= 1024 else f"{row['size']:,} bytes"
     return f"{KINDS[row['kind']]}, {FORMS[row['form']]}{size}"
 
 
@@ -38,7 +38,7 @@ def table(runs):
     print("|", " | ".join(["time of the header over ours", *(f"{name}, {kind}" for name in runs for kind in ("vectors", "none"))]), "|")
     print("|---" * (1 + 2 * len(runs)) + "|")
     for rows in zip(*runs.values()):
-        cells = [f"{ratio:.2f}" for row in rows for ratio in ratios(row, MEDIAN)]
+        cells = [f"{ratio:.2f}" for row in rows for ratio in ratios(row, BEST)]
         print("|", " | ".join([what(rows[0]), *cells]), "|")
 
 

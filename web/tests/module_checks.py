@@ -243,4 +243,4 @@ def check_in_browser(checks, name, folder, browser, address):
     checks.run(f"{name}: the tests of the module and its streams", tests_in_page, browser, f"{address}/bundles/", folder)
     for number, (what, (words, entry)) in enumerate(BUNDLES.items()):
         checks.run(f"{name}: the module's tests in a bundle {what}", tests_in_bundle, browser, f"{address}/bundles/", folder,
-                   f"{name.lower()}{number}", words, entry)
+                   f"{browser.name.lower()}{number}", words, entry)
