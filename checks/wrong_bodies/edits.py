@@ -64,7 +64,7 @@ def files_of(crate, room):
     os.makedirs(folder)
     for name, text in blocks_of(f"{crate.folder}/wrong-bodies.edits"):
         kit.write(f"{folder}/{name}.edit", text)
-    found = [file for it in (f"{crate.folder}/must-fail", f"{crate.folder}/wrong-bodies", f"{crate.folder}/in-batches", folder) for file in glob.glob(f"{it}/*.edit")]
+    found = [file for it in (f"{crate.folder}/must-fail", f"{crate.folder}/in-batches", folder) for file in glob.glob(f"{it}/*.edit")]
     return sorted(found, key=os.path.basename)
 
 
