@@ -34,7 +34,7 @@ def main(words):
         sys.exit(__doc__)
     with open(words[0], encoding='ascii') as file:
         lines = body(file.read(), words[1])
-    print(f'/* {words[1]}. Generated of what is proved: not to be changed by hand. Licence: MIT. */')
+    print(f'/* {words[1]}. Generated of what is proved: not to be changed by hand. SPDX-License-Identifier: MIT */')
     print('\n'.join(lines))
 
 

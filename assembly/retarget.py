@@ -124,7 +124,7 @@ def main():
     module = with_signs(module) if given.sign_extended else module
     generic = [] if given.target.startswith('x86_64') or is_riscv else ['-mcpu=generic']
     made = clang(f'--target={given.target}', *generic, *words_of(given.module), '-x', 'ir', '-', text=module)
-    print(f'/* {given.title} Generated of what is proved: not to be changed by hand. Licence: MIT. */')
+    print(f'/* {given.title} Generated of what is proved: not to be changed by hand. SPDX-License-Identifier: MIT */')
     # A second text with weak names, which an optimizer has put into the same module, has nothing to add.
     print(f'\t.ifndef {"_" if is_apple else ""}{guard}')
     print('\t.option push\n\t.option arch, rv64gc' if is_riscv else '', end='\n' if is_riscv else '')

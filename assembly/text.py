@@ -170,7 +170,7 @@ class Text:
                 if body[slot * at:slot * (at + 1)] != row.raw.ljust(slot, b'\0')}
 
     def lines(self, title):
-        yield f'/* {title} Generated of what is proved: not to be changed by hand. Licence: MIT. */'
+        yield f'/* {title} Generated of what is proved: not to be changed by hand. SPDX-License-Identifier: MIT */'
         # A second text with weak names, which an optimizer has put into the same module, has nothing to add.
         guard = next((symbol.name for symbol in self.functions.values() if symbol.info >> 4 == WEAK), None)
         yield from [f'\t.ifndef {guard}'] if guard else []

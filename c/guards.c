@@ -1,3 +1,4 @@
+/* SPDX-License-Identifier: MIT */
 /* Null pointers to which the C library answers XXH_ERROR. An export of twox_c speaks of memory that is there, so
  * c/build gives the proved calls names that begin with proved_, and these stand before them. An update has none: the
  * test would cost it a cycle. */

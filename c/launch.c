@@ -1,15 +1,43 @@
-/* Runs the build of PROGRAM below FOLDER that this processor has, with the name and the words that this one was given. */
+/* SPDX-License-Identifier: MIT */
+/* Runs the build of PROGRAM that this processor has, with the name and the words that this one was given. The builds lie
+ * below BUILDS beside the folder of this program, wherever both were moved. */
 #include <errno.h>
+#include <limits.h>
 #include <stdio.h>
 #include <string.h>
 #include <unistd.h>
 
+#define BUILDS "/libexec/twox-hash/"
+#define ITSELF "/proc/self/exe"
+
+/* Cuts a name off a path: 0 where there is none. */
+static int cut(char *path)
+{
+    char *slash = strrchr(path, '/');
+    if (slash) *slash = 0;
+    return slash != NULL;
+}
+
+/* The folder above that of this program: 0 where the system doesn't tell it. */
+static int find_folder(char *path, size_t room)
+{
+    ssize_t length = readlink(ITSELF, path, room);
+    if (length < 0 || (size_t)length == room) return 0;
+    path[length] = 0;
+    return cut(path) && cut(path);
+}
+
 int main(int count, char **words)
 {
-    const char *path = __builtin_cpu_supports("x86-64-v3") ? FOLDER "/x86-64-v3/" PROGRAM : FOLDER "/x86-64-v2/" PROGRAM;
+    char path[PATH_MAX + sizeof BUILDS "x86-64-v3/" PROGRAM];
 
     (void)count;
-    execv(path, words);
+    if (find_folder(path, PATH_MAX)) {
+        strcat(path, __builtin_cpu_supports("x86-64-v3") ? BUILDS "x86-64-v3/" PROGRAM : BUILDS "x86-64-v2/" PROGRAM);
+        execv(path, words);
+    } else {
+        strcpy(path, ITSELF);
+    }
     fprintf(stderr, PROGRAM ": %s: %s\n", path, strerror(errno));
     return 127;
 }

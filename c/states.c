@@ -1,3 +1,4 @@
+/* SPDX-License-Identifier: MIT */
 /* Memory for states, which the crate twox_c cannot hand to C: an export of it has no raw pointer. All else is
  * there, and proved. A state is aligned to 8 bytes, as malloc aligns it. */
 #include <stdlib.h>

@@ -1,4 +1,4 @@
-/* The functions of the library for C, for aarch64. Generated of what is proved: not to be changed by hand. Licence: MIT. */
+/* The functions of the library for C, for aarch64. Generated of what is proved: not to be changed by hand. SPDX-License-Identifier: MIT */
 	.section .text.twox_plain.xxhash32.rounds.products_of_block,"ax",@progbits
 	.p2align 6
 	.type twox_plain.xxhash32.rounds.products_of_block,@function

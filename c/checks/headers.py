@@ -76,6 +76,14 @@ def by_cmake(built):
     return [os.path.join(folder, 'hash-file')], [path]
 
 
+def cpp_by_cmake(built):
+    """examples/cpp, which wraps the states in classes."""
+    folder = os.path.join(built.room, 'example-cpp')
+    must(['cmake', '-S', os.path.join(TOP, 'examples', 'cpp'), '-B', folder, f'-DCMAKE_PREFIX_PATH={built.prefix}'])
+    must(['cmake', '--build', folder])
+    return [os.path.join(folder, 'hash-file')]
+
+
 def check_all(report, built):
     report.attempt('xxh_x86dispatch.h', dispatch_header_serves, built)
     report.attempt('xxh_x86dispatch.h with XXH_INLINE_ALL is refused',

@@ -15,23 +15,26 @@ int main(int count, char **words)
 }
 '''
 SETS = ('x86-64-v2', 'x86-64-v3')
+BUILDS = 'libexec/twox-hash'
 # A processor without AVX2.
 OLD = ['qemu-x86_64', '-cpu', 'Nehalem']
 
 
 def lay_out(room):
-    """Two builds that print which one they are and their words, a launcher, and a link of another name to it."""
-    folder = os.path.join(room, 'launched')
-    source = os.path.join(folder, 'shows.c')
-    os.makedirs(folder)
+    """Two builds that print which one they are and their words, a launcher, and a link of another name to it, in a
+    folder that was moved since. Its name has what a shell or C would take for something else."""
+    first, folder = os.path.join(room, 'first'), os.path.join(room, 'launched "$(here)\\')
+    source = os.path.join(room, 'shows.c')
     with open(source, 'w') as file:
         file.write(SHOWS)
     for name in SETS:
-        os.mkdir(os.path.join(folder, name))
-        must(['gcc', f'-DSET="{name}"', source, '-o', os.path.join(folder, name, 'shows')])
-    must(['gcc', '-O2', '-Wall', '-Wextra', '-Werror', '-static-pie', f'-DFOLDER="{folder}"', '-DPROGRAM="shows"',
-          os.path.join(C, 'launch.c'), '-o', os.path.join(folder, 'launcher')])
-    os.symlink('launcher', os.path.join(folder, 'other-name'))
+        os.makedirs(os.path.join(first, BUILDS, name))
+        must(['gcc', f'-DSET="{name}"', source, '-o', os.path.join(first, BUILDS, name, 'shows')])
+    os.mkdir(os.path.join(first, 'bin'))
+    must(['gcc', '-O2', '-Wall', '-Wextra', '-Werror', '-static-pie', '-DPROGRAM="shows"', os.path.join(C, 'launch.c'),
+          '-o', os.path.join(first, 'bin', 'launcher')])
+    os.symlink('launcher', os.path.join(first, 'bin', 'other-name'))
+    os.rename(first, folder)
     return folder
 
 
@@ -44,16 +47,16 @@ def runs(words, told=b'', **more):
 def launches(room, v3):
     """Name, words, answer and standard streams are those of the build; where that is missing, one line says so."""
     folder = lay_out(room)
-    launcher = os.path.join(folder, 'launcher')
+    launcher = os.path.join(folder, 'bin', 'launcher')
     best, plain = SETS[v3].encode(), SETS[0].encode()
     for words in ([], ['-q', '', 'a b'], [b'\xff', '\n', 'x' * 100000]):
         shown = b''.join(b'[%s]' % (word if isinstance(word, bytes) else word.encode()) for word in words)
-        for name in (launcher, os.path.join(folder, 'other-name'), 'any name'):
+        for name in (launcher, os.path.join(folder, 'bin', 'other-name'), 'any name'):
             found = runs([name, *words], executable=launcher)
             want(found == (1 + len(words), best + b'[%s]' % name.encode() + shown), f'as {name}: {found}'[:300])
         found = runs([*OLD, launcher, *words])
         want(found == (1 + len(words), plain + b'[%s]' % launcher.encode() + shown), f'{OLD}: {found}'[:300])
-    missing = os.path.join(folder, SETS[v3], 'shows')
+    missing = os.path.join(folder, BUILDS, SETS[v3], 'shows')
     os.remove(missing)
     found = runs([launcher], told=f'shows: {missing}: No such file or directory\n'.encode())
     want(found == (127, b''), f'without its build: {found}')

@@ -14,8 +14,15 @@ def must(words, **more):
     """Runs a tool of the check itself, which has to work."""
     done = subprocess.run(words, stdout=subprocess.PIPE, stderr=subprocess.STDOUT, text=True, **more)
     if done.returncode:
-        sys.exit(f'c/check: {" ".join(words)}:\n{done.stdout[-2000:]}')
+        sys.exit(f'{os.path.relpath(sys.argv[0], TOP)}: {" ".join(words)}:\n{done.stdout[-2000:]}')
     return done.stdout
+
+
+def four_hashes(file):
+    """The lines that each example prints, of Debian's xxhsum."""
+    flags = {'32': '-H0', '64': '-H1', '3-64': '-H3', '3-128': '-H2'}
+    hashes = {kind: must(['xxhsum', flag, '-'], stdin=open(file, 'rb')).split() for kind, flag in flags.items()}
+    return ''.join(f'{kind} {words[0] if kind != "3-64" else words[-1]}\n' for kind, words in hashes.items())
 
 
 def install_packages(packages):

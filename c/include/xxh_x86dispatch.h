@@ -1,3 +1,4 @@
+/* SPDX-License-Identifier: MIT */
 /* Other names of the calls of XXH3, which the C library has for a choice of the processor's instructions at run time.
  * Here the dynamic loader chooses, and each of these is the call without _dispatch. They are there on x86-64 alone. */
 #ifndef XXH_X86DISPATCH_H_TWOX_HASH

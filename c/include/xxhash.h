@@ -1,3 +1,4 @@
+/* SPDX-License-Identifier: MIT */
 /* XXH32, XXH64, XXH3 of 64 bits and XXH3 of 128 bits: the calls of libxxhash 0.8.1, proved equal to the xxHash
  * definition. Programs written for <xxhash.h> compile with this header as they stand, if they make their states
  * by createState. docs/C.md says how to link, and what differs from the C library.

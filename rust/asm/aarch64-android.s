@@ -1,4 +1,4 @@
-/* The functions below the cargo crate, for aarch64-linux-android. Generated of what is proved: not to be changed by hand. Licence: MIT. */
+/* The functions below the cargo crate, for aarch64-linux-android. Generated of what is proved: not to be changed by hand. SPDX-License-Identifier: MIT */
 	.ifndef twox_rust_3_interface
 	.section	.text.twox_plain.xxhash32.Hasher.oneshot.i3,"ax",@progbits
 	.p2align	2

@@ -1,4 +1,4 @@
-/* The functions below the cargo crate, for aarch64. Generated of what is proved: not to be changed by hand. Licence: MIT. */
+/* The functions below the cargo crate, for aarch64. Generated of what is proved: not to be changed by hand. SPDX-License-Identifier: MIT */
 	.ifndef twox_rust_3_xxh64_start
 	.section .text.twox_plain.xxhash32.Hasher.oneshot.i3,"ax",@progbits
 	.p2align 6

@@ -1,4 +1,4 @@
-/* The functions below the cargo crate, for riscv64-unknown-linux-gnu. Generated of what is proved: not to be changed by hand. Licence: MIT. */
+/* The functions below the cargo crate, for riscv64-unknown-linux-gnu. Generated of what is proved: not to be changed by hand. SPDX-License-Identifier: MIT */
 	.ifndef twox_rust_3_interface
 	.option push
 	.option arch, rv64gc

@@ -1,4 +1,4 @@
-/* The functions below the cargo crate, for x86-64-v3. Generated of what is proved: not to be changed by hand. Licence: MIT. */
+/* The functions below the cargo crate, for x86-64-v3. Generated of what is proved: not to be changed by hand. SPDX-License-Identifier: MIT */
 	.ifndef _twox_rust_3_xxh64_start_v3
 	.section __TEXT,__text,regular,pure_instructions
 	.p2align 6

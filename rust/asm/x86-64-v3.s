@@ -1,4 +1,4 @@
-/* The functions below the cargo crate, for x86-64-v3. Generated of what is proved: not to be changed by hand. Licence: MIT. */
+/* The functions below the cargo crate, for x86-64-v3. Generated of what is proved: not to be changed by hand. SPDX-License-Identifier: MIT */
 	.ifndef twox_rust_3_xxh64_start_v3
 	.section .text.twox_plain.xxhash32.Hasher.oneshot.i3_v3,"ax",@progbits
 	.p2align 6

@@ -1,4 +1,4 @@
-/* The functions below the cargo crate, for x86_64-pc-windows-gnu. Generated of what is proved: not to be changed by hand. Licence: MIT. */
+/* The functions below the cargo crate, for x86_64-pc-windows-gnu. Generated of what is proved: not to be changed by hand. SPDX-License-Identifier: MIT */
 	.ifndef twox_rust_3_interface
 	.def	twox_plain.xxhash32.Hasher.oneshot.i3;
 	.scl	3;

@@ -1,3 +1,4 @@
+// SPDX-License-Identifier: MIT
 #![doc = include_str!("../README.md")]
 #![cfg_attr(not(feature = "std"), no_std)]
 #![deny(missing_docs, rust_2018_idioms, unsafe_op_in_unsafe_fn)]

@@ -1,3 +1,4 @@
+// SPDX-License-Identifier: MIT
 //! The proved functions: their records, their calls, and which set of instructions a call takes.
 //!
 //! This file is what has to be believed of memory: each declaration says what the export of that name in

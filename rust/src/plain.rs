@@ -1,3 +1,4 @@
+// SPDX-License-Identifier: MIT
 //! What XXH32 and XXH64 share: their hashers differ in the width of a word and the length of a stripe.
 
 /// Defines the module of a plain hash.

@@ -1,3 +1,4 @@
+// SPDX-License-Identifier: MIT
 //! Which of the library's sets of instructions for x86-64 a call takes.
 
 /// Up to this many bytes the sets differ by less than it takes to ask for the processor.

@@ -1,3 +1,4 @@
+// SPDX-License-Identifier: MIT
 //! The proved functions, as assembly text that the compiler takes in: it needs no build script and no C compiler.
 //!
 //! Each text ends in the section that the compiler was in before it, as `global_asm!` asks. The compiler may put several

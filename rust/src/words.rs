@@ -1,3 +1,4 @@
+// SPDX-License-Identifier: MIT
 //! The hashes of eight bytes as code that stands in its caller, which for a map's key takes a third of a call's time.
 //!
 //! On x86-64 and 64-bit ARM it is the export's own code, without its last `ret`: the bytes that were proved, which rust/check

@@ -1,3 +1,4 @@
+// SPDX-License-Identifier: MIT
 //! What both widths of XXH3 share: secrets and why one is refused, and streams beside their secrets.
 
 #[cfg(feature = "alloc")]

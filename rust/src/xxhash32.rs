@@ -1,3 +1,4 @@
+// SPDX-License-Identifier: MIT
 //! XXH32, of 32 bits.
 
 plain_hash! {

@@ -1,3 +1,4 @@
+// SPDX-License-Identifier: MIT
 //! XXH3 of 128 bits.
 
 use crate::library::{self, Wide};

@@ -1,3 +1,4 @@
+// SPDX-License-Identifier: MIT
 //! XXH3 of 64 bits.
 
 use core::hash;

@@ -1,3 +1,4 @@
+// SPDX-License-Identifier: MIT
 //! XXH64, of 64 bits.
 
 plain_hash! {

@@ -1,3 +1,4 @@
+// SPDX-License-Identifier: MIT
 //! What is refused, by which words, and what comes back.
 #![cfg(feature = "alloc")]
 

@@ -1,3 +1,4 @@
+// SPDX-License-Identifier: MIT
 //! Saved hashers of XXH32 and XXH64: which texts are taken, and which are refused.
 #![cfg(feature = "serialize")]
 

@@ -1,3 +1,4 @@
+// SPDX-License-Identifier: MIT
 //! What holds of the types: bounds, sizes, constants, and hashers in maps.
 #![cfg(all(feature = "std", feature = "random"))]
 

@@ -1,3 +1,4 @@
+// SPDX-License-Identifier: MIT
 //! Whole words, as a map's keys are: what is hashed of them is their bytes, first, later and saved.
 #![cfg(all(feature = "std", feature = "random"))]
 

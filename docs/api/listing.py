@@ -1,0 +1,70 @@
+"""docs/api.txt: a line for each public name."""
+import os
+import re
+
+from rattle import TOP, trait_of
+
+
+def lines_of_type(crate, path):
+    """A type's public fields or variants, its calls, and the traits that it has."""
+    item, _ = crate.items[path]
+    for text, _ in item.variants:
+        yield f'  {path}::{text.removeprefix("pub ")}'
+    for block in crate.impls_of(path):
+        if trait_of(block):
+            yield f'  {path}: {trait_of(block)}'
+        for call in block.inner:
+            if call.is_public:
+                yield f'  {path}::{bare(call)}'
+
+
+def bare(item):
+    """An item's signature without what each has before its name."""
+    text = re.sub(r'^(pub )?(const |unsafe |extern "C" )*((fn|type|static|struct|enum|trait) )?', '', item.signature)
+    return re.sub(r' = \[.*', '', text)
+
+
+def lines_of_crate(crate):
+    for path, (item, _) in sorted(crate.items.items()):
+        yield f'{item.kind} {path.rpartition("::")[0]}::{bare(item)}'
+        if item.kind == 'trait':
+            yield from (f'  {path}::{bare(inner)}' for inner in item.inner)
+        yield from lines_of_type(crate, path)
+    yield from (f'use {path} = {target}' for path, target in sorted(crate.others.items()))
+
+
+def text_of(*names):
+    with open(os.path.join(TOP, *names), encoding='utf-8') as file:
+        return file.read()
+
+
+def lines_of_c():
+    """What the headers declare, define and name."""
+    for header in ('xxhash.h', 'xxh_x86dispatch.h'):
+        text = re.sub(r'/\*.*?\*/', '', text_of('c', 'include', header), flags=re.S)
+        calls = re.findall(r'^([A-Za-z][\w *]*?\bXXH\w*\([^;{]*\));', text, re.M)
+        names = re.findall(r'^#define (XXH\w+)(?: |$)', text, re.M) + re.findall(r'(XXH\w+);(?=\n)', text)
+        names += re.findall(r'^ +(XXH_\w+) = ', text, re.M)
+        names = {name for name in names if 'TWOX_HASH' not in name}
+        yield from sorted(names | {re.sub(r'\s+', ' ', call) for call in calls})
+
+
+def lines_of_javascript():
+    """What each file of types exports."""
+    for name in sorted(os.listdir(os.path.join(TOP, 'web'))):
+        if name.endswith('.d.ts'):
+            kinds = 'function|class|const|interface|type'
+            found = re.findall(rf'^export ((?:{kinds}) (?:[^{{;=\n]|=>)*)', text_of('web', name), re.M)
+            yield from (f'{name}: {line.strip()}' for line in found)
+
+
+def lines_of_python():
+    listed = re.search(r'__all__ = \[(.*?)\]', text_of('python', 'src', 'twox_hash', '__init__.py'), re.S)[1]
+    yield from re.findall(r"'(\w+)'", listed)
+
+
+def text(crates):
+    parts = {f'The crate {crate.name}': lines_of_crate(crate) for crate in crates}
+    parts |= {'C': lines_of_c(), 'JavaScript': lines_of_javascript(), 'Python': lines_of_python()}
+    head = 'Every public name, a line each. Made by docs/api/make: not to be changed by hand.'
+    return '\n\n'.join([head, *('\n'.join([f'# {title}', *lines]) for title, lines in parts.items())]) + '\n'

@@ -1,0 +1,3 @@
+module example.invalid/hash-file
+
+go 1.19
