@@ -1,4 +1,4 @@
-//! XXH32, by stripes alone, since this target has no vectors.
+//! XXH32, by stripes alone, which is the fastest way where WebAssembly has no vectors.
 
 ghost use Rattle.std.specs.Prelude.{◌≡◌, ◌↔◌, ℕ, List, [], ◌++◌};
 ghost use Rattle.twox_hash.specs.Xxh32.{xxh32};
