@@ -96,7 +96,7 @@ def functions(path, lines):
             # What the block brings into scope stands first in it.
             inside = itertools.takewhile(lambda it: it.startswith(head[1] + "    ghost use "), lines[opening + 1:])
             header = [*lines[at:opening + 1], *inside]
-            is_of_trait = re.search(r" for \w", " ".join(header).partition(" where ")[0])
+            is_of_trait = re.search(r" for \S", " ".join(header).partition(" where ")[0])
             name = owner_of_impl(" ".join([head[3], *lines[at + 1:at + 9]]))
             owners = [*owners, Owner(name, last, () if is_of_trait else header)]
         else:
