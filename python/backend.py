@@ -5,6 +5,7 @@ The proved code is assembly text. In the repository that is c/asm; a source pack
 CC, CFLAGS and LDFLAGS of the environment are heeded. What CC compiles for is what the wheel is for."""
 import base64
 import csv
+import gzip
 import hashlib
 import io
 import os
@@ -124,9 +125,12 @@ def sources(folder, name):
     return {f'{name}/{file}': read(HERE, folder, file) for file in found if file.endswith(kinds)}
 
 
-def licence():
-    return read(next(path for path in (os.path.join(HERE, 'LICENSE'), os.path.join(HERE, '..', 'LICENSE'))
-                     if os.path.exists(path)))
+def documents():
+    """The licence, which in the repository lies above; and what the package was made of, where release/make says it."""
+    licence = next(path for path in (os.path.join(HERE, 'LICENSE'), os.path.join(HERE, '..', 'LICENSE'))
+                   if os.path.exists(path))
+    provenance = os.path.join(HERE, 'PROVENANCE')
+    return {'LICENSE': read(licence), **({'PROVENANCE': read(provenance)} if os.path.exists(provenance) else {})}
 
 
 def write_wheel(folder, name, files):
@@ -134,7 +138,8 @@ def write_wheel(folder, name, files):
     about = f'{STEM}.dist-info'
     tag = f'{ABI.rstrip("dt")}-{ABI}-linux_{name}'
     wheel = f'Wheel-Version: 1.0\nGenerator: twox-hash\nRoot-Is-Purelib: false\nTag: {tag}\n'
-    files |= {f'{about}/METADATA': metadata(), f'{about}/LICENSE': licence(), f'{about}/WHEEL': wheel.encode()}
+    files |= {f'{about}/METADATA': metadata(), f'{about}/WHEEL': wheel.encode()}
+    files |= {f'{about}/{file}': text for file, text in documents().items()}
     record = io.StringIO()
     rows = csv.writer(record, lineterminator='\n')
     for path, text in files.items():
@@ -164,11 +169,13 @@ def build_editable(wheel_directory, config_settings=None, metadata_directory=Non
 
 
 def build_sdist(sdist_directory, config_settings=None):
-    files = {'PKG-INFO': metadata(), 'LICENSE': licence(), **sources('src/twox_hash', 'src/twox_hash'),
+    files = {'PKG-INFO': metadata(), **documents(), **sources('src/twox_hash', 'src/twox_hash'),
              **sources('native', 'native')}
     files |= {name: read(HERE, name) for name in ('README.md', 'backend.py', 'pyproject.toml')}
     files |= {f'proved/{os.path.basename(path)}': read(proved(path)) for path in PROVED}
-    with tarfile.open(os.path.join(sdist_directory, f'{STEM}.tar.gz'), 'w:gz', format=tarfile.PAX_FORMAT) as archive:
+    # No time and no name of the build's own is in the file.
+    with open(os.path.join(sdist_directory, f'{STEM}.tar.gz'), 'wb') as out, gzip.GzipFile('', 'wb', 9, out, 0) as packed, \
+            tarfile.open(fileobj=packed, mode='w', format=tarfile.PAX_FORMAT) as archive:
         for path, text in files.items():
             entry = tarfile.TarInfo(f'{STEM}/{path}')
             entry.size, entry.mode = len(text), 0o644

@@ -2,4 +2,4 @@
 
 VERSION = '3.2.0'
 VERSION_TUPLE = (3, 2, 0)
-__version__ = '2.1.5'
+__version__ = '0.1.0'

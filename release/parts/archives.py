@@ -1,0 +1,174 @@
+"""The archives of a release. Each function makes a part of a commit in a folder, and answers its files' names."""
+import glob
+import json
+import os
+import re
+import shutil
+import sys
+
+import provenance
+from aarch64 import debian_root
+from packing import read_tar, tree_of, write_tar
+from words import part_of
+from tools import must
+
+PREFIX = 'usr/lib/twox-hash'
+EXAMPLES = tuple(f'examples/{name}' for name in ('c', 'cmake', 'cpp', 'go', 'java', 'python'))
+# The machines that the library for C and the Debian packages are for: as Linux, as Debian and as c/build name them.
+MACHINES = {'x86_64': ('amd64', 'x86-64'), 'aarch64': ('arm64', 'aarch64')}
+
+
+def new_files(folder, step):
+    """The names that a step puts into a folder."""
+    before = set(os.listdir(folder))
+    step()
+    return sorted(set(os.listdir(folder)) - before)
+
+
+def documents(commit, made):
+    """What each archive has beside its files."""
+    return {'LICENSE': commit.path('LICENSE'), 'PROVENANCE': os.path.join(made, 'PROVENANCE')}
+
+
+def words_of(commit, heading):
+    """What docs/RELEASES.md says of an archive, as its README: its links lead to other pages, which aren't there."""
+    words = re.sub(r'\[([^]]*)\]\([^)]*\)', r'\1', part_of(commit.read('docs', 'RELEASES.md'), heading))
+    return f'# {heading}\n\n{words}\n'.encode()
+
+
+def write_archive(commit, made, name, files):
+    stem = f'{commit.stem}-{name}'
+    inside = {f'{stem}/{path}': file for path, file in files.items()}
+    write_tar(os.path.join(made, f'{stem}.tar.gz'), inside, commit.seconds)
+    return [f'{stem}.tar.gz']
+
+
+def unpacked(commit, architecture):
+    """The folder of a Debian package's files."""
+    return os.path.join(commit.room, architecture, PREFIX)
+
+
+def debian(commit, made):
+    """The Debian packages, which the archives of the library and of the programs are taken from."""
+    names = []
+    for architecture, target in MACHINES.values():
+        words = [commit.path('c', 'package'), '--target', target, '--provenance', f'{made}/PROVENANCE', made]
+        name, = new_files(made, lambda words=words: must(words))
+        must(['dpkg-deb', '-x', os.path.join(made, name), os.path.join(commit.room, architecture)])
+        names.append(name)
+    return names
+
+
+def library(commit, made):
+    names = []
+    for machine, (architecture, _) in MACHINES.items():
+        files = {**documents(commit, made), 'README.md': words_of(commit, 'The library for C')}
+        for part in ('lib', 'include'):
+            files |= tree_of(os.path.join(unpacked(commit, architecture), part), part)
+        for part in EXAMPLES:
+            files |= tree_of(commit.path(part), part)
+        names += write_archive(commit, made, f'c-{machine}', files)
+    return names
+
+
+def static_programs(commit):
+    """The object of each program that c/install built last, for every processor, linked with Debian's libc.a."""
+    kit, found = provenance.kit_folder(), {}
+    for name in ('xxh', 'xxhsum'):
+        path = os.path.join(commit.room, f'{name}-static')
+        must(['gcc', '-static', '-s', commit.path('crates', name, 'out', f'{name}.o'), f'{kit}/c/liblibc_c.a',
+              f'{kit}/c/libos_c.a', '-o', path])
+        found[f'static/{name}'] = path
+    return found
+
+
+def programs(commit, made):
+    folder = unpacked(commit, 'amd64')
+    files = {**documents(commit, made), 'README.md': words_of(commit, 'The programs')}
+    for part in ('bin', 'libexec', 'share'):
+        files |= tree_of(os.path.join(folder, part), part)
+    files |= {'share/man/man1/xxh.1': commit.path('docs', 'xxh.1'), **static_programs(commit)}
+    return write_archive(commit, made, 'programs-x86_64', files)
+
+
+def crate(commit, made):
+    """The crate as cargo packs it. It asks no registry, since the lock file stays out."""
+    folder = os.path.join(commit.room, 'crate')
+    shutil.copytree(commit.path('rust'), folder)
+    shutil.copy(os.path.join(made, 'PROVENANCE'), folder)
+    must(['cargo', 'package', '-q', '--no-verify', '--exclude-lockfile', '--offline', '--allow-dirty'], cwd=folder,
+         env={**os.environ, 'CARGO_TARGET_DIR': os.path.join(commit.room, 'target')})
+    path, = glob.glob(os.path.join(commit.room, 'target', 'package', '*.crate'))
+    shutil.copy(path, made)
+    return [os.path.basename(path)]
+
+
+def python(commit, made):
+    """The source package, and a wheel for each machine."""
+    shutil.copy(os.path.join(made, 'PROVENANCE'), commit.path('python'))
+    root = debian_root(os.path.join(commit.room, 'python-arm'), 'libpython3.11-dev')
+    arm = {'CC': 'aarch64-linux-gnu-gcc', 'CFLAGS': f'-idirafter {root}/usr/include'}
+    names = set()
+    for variables in ({}, arm):
+        must([commit.path('python', 'build'), '/usr/bin/python3'], env={**os.environ, **variables})
+        for path in glob.glob(commit.path('python', 'out', '*')):
+            shutil.copy(path, made)
+            names.add(os.path.basename(path))
+    return sorted(names)
+
+
+def node(commit, made):
+    """The package as npm packs it by the words of web/, with the project's version and PROVENANCE."""
+    folder = os.path.join(commit.room, 'npm')
+    os.mkdir(folder)
+    must(['npm', 'pack', '--silent', '--pack-destination', folder], cwd=commit.path('web'))
+    path, = glob.glob(os.path.join(folder, '*.tgz'))
+    files = read_tar(path)
+    manifest = {**json.loads(files['package/package.json']), 'version': commit.version}
+    files['package/package.json'] = json.dumps(manifest, indent=2).encode() + b'\n'
+    with open(os.path.join(made, 'PROVENANCE'), 'rb') as file:
+        files['package/PROVENANCE'] = file.read()
+    write_tar(os.path.join(made, f'{commit.stem}.tgz'), files, commit.seconds)
+    return [f'{commit.stem}.tgz']
+
+
+def reached(tree, start):
+    """The files of a tree that a page reaches: each quoted word that names one from its file's folder or the page's."""
+    found, left = set(), [start]
+    while left:
+        path = left.pop()
+        if path in found:
+            continue
+        found.add(path)
+        if not path.endswith(('.html', '.js', '.css', '.webmanifest')):
+            continue
+        with open(os.path.join(tree, path), encoding='utf-8') as file:
+            words = re.findall(r'''["'(]([\w./-]+\.\w+)["')]''', file.read())
+        for folder in {os.path.dirname(path), os.path.dirname(start)}:
+            names = {os.path.normpath(os.path.join(folder, word)) for word in words}
+            left += [name for name in names if not name.startswith('..') and os.path.isfile(os.path.join(tree, name))]
+    return sorted(found)
+
+
+def page(commit, made):
+    """The page, with what it loads and the pages that it links: by web/folder, where web/ has that, or else in the
+    places that they have in the repository."""
+    if os.path.exists(commit.path('web', 'folder')):
+        folder = os.path.join(commit.room, 'page')
+        must([commit.path('web', 'folder'), folder])
+        files = tree_of(folder, 'web')
+    else:
+        files = {name: commit.path(name) for name in reached(commit.tree, 'web/index.html')}
+    if not any(name.endswith('.wasm') for name in files):
+        sys.exit('release/make: the page has no module')
+    return write_archive(commit, made, 'page', {**documents(commit, made), **files})
+
+
+def api(commit, made):
+    """The pages of every public name, which any browser shows as files."""
+    folder = os.path.join(commit.room, 'api')
+    must([commit.path('docs', 'api', 'make'), '--pages', folder])
+    return write_archive(commit, made, 'api', {**documents(commit, made), **tree_of(folder)})
+
+
+PARTS = (debian, library, programs, crate, python, node, page, api)

@@ -1,0 +1,36 @@
+"""The commit that is packed: a clone of it, its version and its time."""
+import os
+import sys
+
+from tools import must
+
+
+class Commit:
+    """`tree` is a clone below a room. All that is packed is made there, and bears the commit's time."""
+
+    def __init__(self, top, room):
+        self.room, self.tree = room, os.path.join(room, 'twox_hash')
+        must(['git', 'clone', '-q', top, self.tree])
+        if must(['git', '-C', top, 'status', '--porcelain', '--untracked-files=no']):
+            print('release/make: what is not committed is left out', file=sys.stderr)
+        self.name, seconds, self.date = self.git('log', '-1', '--format=%H %ct %cI').split()
+        self.seconds = int(seconds)
+        self.version = self.read('VERSION').strip()
+        self.stem = f'twox_hash-{self.version}'
+        os.environ['SOURCE_DATE_EPOCH'] = seconds
+
+    def git(self, *words):
+        return must(['git', '-C', self.tree, *words])
+
+    def path(self, *names):
+        return os.path.join(self.tree, *names)
+
+    def read(self, *names):
+        with open(self.path(*names), encoding='utf-8') as file:
+            return file.read()
+
+    @staticmethod
+    def write(path, text):
+        with open(path, 'w', encoding='utf-8') as file:
+            file.write(text)
+        os.chmod(path, 0o644)

@@ -1,0 +1,103 @@
+"""What release/make wrote: the same bytes twice, sums, and provenance in each archive."""
+import glob
+import os
+import re
+import shutil
+import subprocess
+import zipfile
+
+from packing import read_tar
+from report import tail, want
+from tools import TOP, must
+
+MAKE = os.path.join(TOP, 'release', 'make')
+
+
+def make(room, folder, log):
+    """release/make, with a room of its own for what it builds."""
+    os.mkdir(room)
+    done = subprocess.run([MAKE, *(['--gate', log] if log else []), folder], env={**os.environ, 'TMPDIR': room},
+                          stdout=subprocess.PIPE, stderr=subprocess.STDOUT, text=True)
+    want(done.returncode == 0, done.stdout[-1500:])
+    return tail(done.stdout)
+
+
+def twice(room, folder, log):
+    """The files in the folder are those of a second run, byte for byte."""
+    said = make(os.path.join(room, 'first'), folder, log)
+    other = os.path.join(room, 'a second folder')
+    make(os.path.join(room, 'the second'), other, log)
+    one, two = (sums_of(path) for path in (folder, other))
+    shutil.rmtree(other)
+    differ = sorted(name for name in set(one) | set(two) if one.get(name) != two.get(name))
+    want(not differ, f'other bytes: {", ".join(differ)}')
+    return said.split(': ', 1)[1]
+
+
+def sums_of(folder):
+    return {name: must(['sha256sum', os.path.join(folder, name)]).split()[0] for name in os.listdir(folder)}
+
+
+def stem(folder):
+    """The name and the version that files begin with."""
+    found = glob.glob(os.path.join(folder, 'twox_hash-*.spdx'))
+    want(len(found) == 1, f'{folder} has no release')
+    return os.path.basename(found[0]).removesuffix('.spdx')
+
+
+def sums_agree(folder):
+    said = must(['sha256sum', '-c', '--strict', 'SHA256SUMS'], cwd=folder)
+    names = {line.rsplit(': ', 1)[0] for line in said.splitlines()}
+    want(names == set(os.listdir(folder)) - {'SHA256SUMS'}, f'{names ^ set(os.listdir(folder))} has no sum')
+    return f'{len(names)} files'
+
+
+def change_is_noticed(room, folder):
+    """A byte of an archive that is another."""
+    copy = os.path.join(room, 'changed')
+    shutil.copytree(folder, copy)
+    path = sorted(glob.glob(os.path.join(copy, '*.tar.gz')))[0]
+    with open(path, 'r+b') as file:
+        file.seek(1000)
+        byte = file.read(1)
+        file.seek(1000)
+        file.write(bytes([byte[0] ^ 1]))
+    done = subprocess.run(['sha256sum', '-c', '--quiet', 'SHA256SUMS'], cwd=copy, stdout=subprocess.PIPE,
+                          stderr=subprocess.PIPE, text=True)
+    shutil.rmtree(copy)
+    want(done.returncode and os.path.basename(path) in done.stdout, 'it is not noticed')
+    return os.path.basename(path)
+
+
+def provenances(room, path):
+    """The files of that name in an archive."""
+    if path.endswith('.whl'):
+        with zipfile.ZipFile(path) as archive:
+            return [archive.read(name) for name in archive.namelist() if name.endswith('/PROVENANCE')]
+    if path.endswith('.deb'):
+        folder = os.path.join(room, 'unpacked')
+        must(['dpkg-deb', '-x', path, folder])
+        found = glob.glob(os.path.join(folder, 'usr', 'share', 'doc', '*', 'PROVENANCE'))
+        held = [open(name, 'rb').read() for name in found]
+        shutil.rmtree(folder)
+        return held
+    return [data for name, data in read_tar(path).items() if name.endswith('/PROVENANCE')]
+
+
+def has_provenance(room, folder):
+    with open(os.path.join(folder, 'PROVENANCE'), 'rb') as file:
+        right = file.read()
+    names = [name for name in sorted(os.listdir(folder)) if name.endswith(('.gz', '.tgz', '.crate', '.whl', '.deb'))]
+    for name in names:
+        want(provenances(room, os.path.join(folder, name)) == [right], f'{name} has another one, or none')
+    words = right.decode()
+    for part in ('commit [0-9a-f]{40}', 'rattle-kit', '[0-9a-f]{64}  bin/rattle', '[0-9a-f]{64}  c/asm/x86-64-v2.s'):
+        want(re.search(part, words), f'without {part}')
+    gate = re.search(r'^Gate\n  (.*)', words, re.M)[1]
+    return f'{len(names)} archives; gate: {gate}'
+
+
+def check_all(report, room, folder):
+    report.attempt('SHA256SUMS', sums_agree, folder)
+    report.attempt('a changed byte is noticed', change_is_noticed, room, folder)
+    report.attempt('PROVENANCE in each archive', has_provenance, room, folder)

@@ -1,0 +1,46 @@
+"""Archives whose bytes depend on the files alone: in order, owned by root, with the commit's time."""
+import gzip
+import io
+import os
+import tarfile
+
+
+def tree_of(folder, below=''):
+    """The files and links below a folder, by their names in an archive."""
+    found = {}
+    for place, folders, names in os.walk(folder):
+        for name in [*names, *(it for it in folders if os.path.islink(os.path.join(place, it)))]:
+            path = os.path.join(place, name)
+            found[os.path.normpath(os.path.join(below, os.path.relpath(path, folder)))] = path
+    return found
+
+
+def entry(name, source, seconds):
+    """A file, a link, or bytes, as it stands in an archive, and what it holds."""
+    told = tarfile.TarInfo(name)
+    told.mtime, told.uname, told.gname, told.mode = seconds, 'root', 'root', 0o644
+    if isinstance(source, bytes):
+        told.size = len(source)
+        return told, source
+    if os.path.islink(source):
+        told.type, told.linkname, told.mode = tarfile.SYMTYPE, os.readlink(source), 0o777
+        return told, None
+    with open(source, 'rb') as file:
+        data = file.read()
+    told.size, told.mode = len(data), 0o755 if os.access(source, os.X_OK) and os.stat(source).st_mode & 0o100 else 0o644
+    return told, data
+
+
+def write_tar(path, files, seconds):
+    """A tar.gz of files by name: each is a path or bytes."""
+    with open(path, 'wb') as out, gzip.GzipFile('', 'wb', 9, out, seconds) as packed, \
+            tarfile.open(fileobj=packed, mode='w', format=tarfile.GNU_FORMAT) as archive:
+        for name in sorted(files):
+            told, data = entry(name, files[name], seconds)
+            archive.addfile(told, None if data is None else io.BytesIO(data))
+
+
+def read_tar(path):
+    """The bytes of each file of a tar.gz, by name."""
+    with tarfile.open(path, 'r:gz') as archive:
+        return {told.name: archive.extractfile(told).read() for told in archive if told.isfile()}

@@ -1,0 +1,105 @@
+"""What a release says of itself: what it was made of, and by what."""
+import hashlib
+import os
+import platform
+import re
+import shutil
+import time
+
+from tools import must
+
+VERDICT = re.compile(r'^logic=')
+CRATE = re.compile(r'^== (\w+)$')
+COUNTS = re.compile(r'^\d+ passed, \d+ failed$')
+# What of the kit makes the programs and the assembly text, below its folder.
+KIT_FILES = ('bin/rattle', 'bin/rattle-link', 'bin/rt', 'bin/rtlib.py', 'toolchain/bin/clang', 'toolchain/bin/ld.lld',
+             'rattle/logic/antt-project.json', 'c/liblibc_c.a', 'c/libos_c.a')
+
+
+def sum_of(path):
+    with open(path, 'rb') as file:
+        return hashlib.file_digest(file, 'sha256').hexdigest()
+
+
+def sums(folder, names):
+    return [f'{sum_of(f"{folder}/{name}")}  {name}' for name in names if os.path.isfile(f'{folder}/{name}')]
+
+
+def kit_folder():
+    return os.path.dirname(os.path.dirname(os.path.realpath(shutil.which('rt'))))
+
+
+def kit():
+    return [must(['rt', 'version']).strip(), *sums(kit_folder(), KIT_FILES)]
+
+
+def tools():
+    """The first line that each compiler says of itself."""
+    names = ('gcc', 'aarch64-linux-gnu-gcc', 'ld', '/usr/bin/python3', 'cargo', 'npm')
+    return [f'{os.path.basename(name)}: {must([name, "--version"]).splitlines()[0]}' for name in names]
+
+
+def verdicts(lines):
+    """The last verdict on each crate of a log."""
+    found, crate = {}, None
+    for line in lines:
+        named = CRATE.match(line)
+        crate = named[1] if named else None if line.startswith('== ') else crate
+        if crate and VERDICT.match(line):
+            found[crate] = line
+    return [f'{name}: {line}' for name, line in sorted(found.items())]
+
+
+def machine():
+    with open('/proc/cpuinfo') as file:
+        model = re.search(r'^model name\s*: (.*)$', file.read(), re.M)
+    return f'{model[1] if model else platform.machine()}, {os.cpu_count()} processors'
+
+
+def gate(log):
+    """The verdicts of a log of the gate, and its last line, or that there is none."""
+    if not log:
+        return {'Verdicts': ['absent: release/make was given no log of the gate'],
+                'Gate': ['absent: release/make was given no log of the gate']}
+    with open(log, encoding='utf-8', errors='replace') as file:
+        lines = [line.strip() for line in file if line.strip()]
+    ended = time.strftime('%Y-%m-%d %H:%M UTC', time.gmtime(os.path.getmtime(log)))
+    last = lines[-1] if lines and COUNTS.match(lines[-1]) else 'absent: the log has no last line of counts'
+    return {'Verdicts': verdicts(lines) or ['absent: the log has none'],
+            'Gate': [last, f'ended {ended}, packed on {machine()}', f'{sum_of(log)}  the log']}
+
+
+def texts(commit):
+    names = [f'{folder}/{name}' for folder in ('c/asm', 'rust/asm') for name in sorted(os.listdir(commit.path(folder)))]
+    return sums(commit.tree, [name for name in names if name.endswith('.s')])
+
+
+def text(commit, log):
+    """PROVENANCE: what was packed, what proved and compiled it, and the SHA-256 of what it was made of."""
+    parts = {f'twox_hash {commit.version}': [f'commit {commit.name}', f'of {commit.date}'], 'Kit': kit(),
+             'Tools': tools(), **gate(log), 'Assembly text': texts(commit)}
+    return '\n'.join('\n'.join([title, *(f'  {line}' for line in lines), '']) for title, lines in parts.items())
+
+
+def spdx(commit):
+    holder = re.search(r'^Copyright.*$', commit.read('LICENSE'), re.M)[0]
+    created = time.strftime('%Y-%m-%dT%H:%M:%SZ', time.gmtime(commit.seconds))
+    return f'''SPDXVersion: SPDX-2.3
+DataLicense: CC0-1.0
+SPDXID: SPDXRef-DOCUMENT
+DocumentName: {commit.stem}
+DocumentNamespace: https://spdx.org/spdxdocs/{commit.stem}-{commit.name}
+Creator: Tool: twox_hash-release-make
+Created: {created}
+Relationship: SPDXRef-DOCUMENT DESCRIBES SPDXRef-Package
+
+PackageName: twox_hash
+SPDXID: SPDXRef-Package
+PackageVersion: {commit.version}
+PackageDownloadLocation: NOASSERTION
+FilesAnalyzed: false
+PackageLicenseConcluded: MIT
+PackageLicenseDeclared: MIT
+PackageCopyrightText: <text>{holder}</text>
+PackageComment: <text>The programs and the module for browsers hold parts of the toolchain's library too.</text>
+'''

@@ -1,0 +1,92 @@
+"""Fresh Debian machines: a root for each release by debootstrap, and a copy of it for each user."""
+import contextlib
+import os
+import shutil
+import subprocess
+
+from report import tail, want
+from tools import QUIET, must
+
+MIRROR, SECURITY = 'http://deb.debian.org/debian', 'http://deb.debian.org/debian-security'
+# Where the archives lie in a root, as a user who has downloaded them has them.
+TAKEN = '/root/taken'
+# What an installation may leave behind: logs, caches, and what apt and dpkg know.
+LEFT = ('proc', 'root', 'tmp', 'var/log', 'var/cache', 'var/lib/apt', 'var/lib/dpkg', 'etc/ld.so.cache')
+
+
+def new_base(suite, folder):
+    """A root of a release that has what every Debian machine has, and its updates."""
+    must(['debootstrap', '--variant=minbase', suite, folder, MIRROR], env=QUIET)
+    with open(os.path.join(folder, 'etc', 'apt', 'sources.list'), 'w') as file:
+        for place, name in ((MIRROR, suite), (MIRROR, f'{suite}-updates'), (SECURITY, f'{suite}-security')):
+            file.write(f'deb {place} {name} main\n')
+    with open(os.path.join(folder, 'etc', 'apt', 'apt.conf.d', '90quiet'), 'w') as file:
+        file.write('APT::Install-Recommends "false";\nAPT::Sandbox::User "root";\n')
+    with open(os.path.join(folder, 'etc', 'hosts'), 'w') as file:
+        file.write('127.0.0.1 localhost\n')
+    shutil.copy('/etc/resolv.conf', os.path.join(folder, 'etc', 'resolv.conf'))
+    must(['chroot', folder, 'apt-get', 'update', '-qq'], env=QUIET)
+    return folder
+
+
+class Root:
+    """A user's machine: what runs there sees no other file, and no toolchain."""
+
+    def __init__(self, path):
+        self.path = path
+
+    def at(self, name):
+        return os.path.join(self.path, name.lstrip('/'))
+
+    def run(self, script, **variables):
+        """The status and the output of a script of bash, in the folder of the archives."""
+        environment = {'PATH': '/usr/sbin:/usr/bin:/sbin:/bin', 'HOME': '/root', 'DEBIAN_FRONTEND': 'noninteractive',
+                       'LC_ALL': 'C.UTF-8', 'PYTHONDONTWRITEBYTECODE': '1', **variables}
+        words = ['chroot', self.path, '/bin/bash', '-euo', 'pipefail', '-c', f'cd {TAKEN}\n{script}']
+        done = subprocess.run(words, env=environment, stdin=subprocess.DEVNULL, stdout=subprocess.PIPE,
+                              stderr=subprocess.STDOUT, text=True, errors='replace', timeout=1800)
+        return done.returncode, done.stdout
+
+    def must(self, script, **variables):
+        status, out = self.run(script, **variables)
+        want(status == 0, f'{script.strip().splitlines()[-1][:80]}: status {status}: {tail(out)}')
+        return out
+
+    def install(self, *packages):
+        if packages:
+            self.must(f'apt-get install -y -qq {" ".join(packages)}')
+
+    def write(self, name, data):
+        path = self.at(f'{TAKEN}/{name}')
+        os.makedirs(os.path.dirname(path), exist_ok=True)
+        with open(path, 'wb') as file:
+            file.write(data)
+
+    def copy(self, source, name):
+        """A file or a folder of this machine among the archives."""
+        copying = shutil.copytree if os.path.isdir(source) else shutil.copy
+        copying(source, self.at(f'{TAKEN}/{name}'))
+
+    def files(self):
+        """All files but those that an installation may leave behind."""
+        found = set()
+        for folder, folders, names in os.walk(self.path):
+            place = os.path.relpath(folder, self.path)
+            folders[:] = [name for name in folders if os.path.normpath(os.path.join(place, name)) not in LEFT]
+            found |= {os.path.normpath(os.path.join(place, name)) for name in [*names, *folders]}
+        return found - set(LEFT)
+
+
+@contextlib.contextmanager
+def new_root(base, path, made):
+    """A copy of a base with the archives in it, while it is needed."""
+    must(['cp', '-a', base, path])
+    root = Root(path)
+    shutil.copytree(made, root.at(TAKEN))
+    must(['mount', '-t', 'proc', 'proc', root.at('proc')])
+    try:
+        want(root.run('command -v rt || command -v rattle')[0] != 0, 'the root has the toolchain')
+        yield root
+    finally:
+        must(['umount', '-l', root.at('proc')])
+        shutil.rmtree(path, ignore_errors=True)
