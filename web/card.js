@@ -1,3 +1,4 @@
+// SPDX-License-Identifier: MIT
 /** A file or a text in the list. */
 import { lineOf } from "./lines.js";
 import { NAMES, copy, copyOf, keyInWords, sizeInWords } from "./words.js";

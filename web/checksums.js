@@ -1,3 +1,4 @@
+// SPDX-License-Identifier: MIT
 /** Digests that are expected: the one in the field, and those of checksum files. */
 import { readField } from "./key.js";
 import { readExpected, readList, sameKind } from "./lines.js";

@@ -1,3 +1,4 @@
+// SPDX-License-Identifier: MIT
 /** The files that a user chose or dropped, those in folders among them, as `{ path, file }` in the order of their paths. */
 
 /** Files of an input, whose folder they have in front of their name where a folder was chosen. */

@@ -1,3 +1,4 @@
+// SPDX-License-Identifier: MIT
 /** Types of inline.js: those of twox_hash.js, and a `load` that has nothing to fetch. */
 export * from "./twox_hash.js";
 

@@ -1,3 +1,4 @@
+// SPDX-License-Identifier: MIT
 /** twox_hash.js with the bytes of both WebAssembly modules inside, for bundles of one file. */
 import { load as loadFrom } from "./twox_hash.js";
 import { plain, vectors } from "./out/modules.js";

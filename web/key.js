@@ -1,3 +1,4 @@
+// SPDX-License-Identifier: MIT
 /** The fields of the seed and the secret. */
 import { SECRET_MINIMUM_LENGTH } from "./twox_hash.js";
 import { $ } from "./words.js";

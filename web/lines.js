@@ -1,3 +1,4 @@
+// SPDX-License-Identifier: MIT
 /** Lines as xxhsum writes and reads them, and digests as people paste them. Nothing here touches the page. */
 
 /** The hashes that so many digits may be of. */

@@ -1,3 +1,4 @@
+// SPDX-License-Identifier: MIT
 /** Types of node.js: those of twox_hash.js, and a hash with the calls of Node's `crypto.Hash`. */
 // @ts-ignore: a program without the types of Node sees a hash as any value
 import type { Transform } from "node:stream";

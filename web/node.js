@@ -1,3 +1,4 @@
+// SPDX-License-Identifier: MIT
 /** twox_hash.js for Node, which reads the WebAssembly module from its file, and a hash for Node's streams. */
 import { readFile } from "node:fs/promises";
 import { load as loadFrom } from "./twox_hash.js";

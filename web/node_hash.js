@@ -1,3 +1,4 @@
+// SPDX-License-Identifier: MIT
 /** A hash with the calls of Node's `crypto.Hash`. */
 import { Transform } from "node:stream";
 import { Stream, TwoxHashError, toBytes } from "./twox_hash.js";

@@ -1,3 +1,4 @@
+// SPDX-License-Identifier: MIT
 /**
  * Keeps the page's files, so that it works without a network once it was loaded. With one, each file is asked for anew and
  * the kept one replaced. page_files.json has their names.

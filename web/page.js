@@ -1,3 +1,4 @@
+// SPDX-License-Identifier: MIT
 /** The page: the list of what is hashed, and what the user does. worker.js does the hashing. */
 import { Card } from "./card.js";
 import { Checklist, compareWithField, isExpected, readChecklist } from "./checksums.js";

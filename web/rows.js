@@ -1,3 +1,4 @@
+// SPDX-License-Identifier: MIT
 import { inThousands } from "./words.js";
 
 /** A long list, of which the first rows stand on the page, and more as the user comes to their end. */

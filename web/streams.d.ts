@@ -1,3 +1,4 @@
+// SPDX-License-Identifier: MIT
 /** Types of streams.js: a stream that hashes what it passes on, and blobs. */
 import type { Input, Key, Kind, Stream, ValueOf } from "./twox_hash.js";
 

@@ -1,3 +1,4 @@
+// SPDX-License-Identifier: MIT
 /** Streams and files by their hash: what of the web's own kinds of input twox_hash.js can take. */
 import { Stream, updateAll } from "./twox_hash.js";
 

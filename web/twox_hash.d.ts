@@ -1,3 +1,4 @@
+// SPDX-License-Identifier: MIT
 /** Types of twox_hash.js: XXH32, XXH64 and XXH3 by the WebAssembly module of the proved crate `twox_web`. */
 
 /** The hashes. */

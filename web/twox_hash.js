@@ -1,3 +1,4 @@
+// SPDX-License-Identifier: MIT
 /**
  * XXH32, XXH64 and XXH3 of 64 and 128 bits by the WebAssembly module that is built of the proved crate `twox_web`.
  * This file only carries bytes to the module and values back: it is tested, not proved. It asks for nothing but what

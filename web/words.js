@@ -1,3 +1,4 @@
+// SPDX-License-Identifier: MIT
 /** What the page says, in words. */
 
 /** The names of the digests, in the order in which they are shown. */

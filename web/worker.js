@@ -1,3 +1,4 @@
+// SPDX-License-Identifier: MIT
 /**
  * Hashes what the page hands it, away from the page's own thread. It is sent
  *

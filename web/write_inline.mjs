@@ -1,3 +1,4 @@
+// SPDX-License-Identifier: MIT
 /** Writes what the package has of the modules for inline.js, and the licence: npm runs it before it packs. */
 import { copyFile, mkdir, readFile, writeFile } from "node:fs/promises";
 

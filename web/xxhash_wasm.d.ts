@@ -1,3 +1,4 @@
+// SPDX-License-Identifier: MIT
 /** Types of xxhash_wasm.js, which has the names of the package xxhash-wasm 1.1. */
 import type { Input } from "./twox_hash.js";
 

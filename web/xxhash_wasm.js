@@ -1,3 +1,4 @@
+// SPDX-License-Identifier: MIT
 /** The names of the package xxhash-wasm 1.1, so that a program that uses it changes one import. */
 import { Stream, TwoxHashError, load, toHex, xxh32, xxh64 } from "./inline.js";
 

@@ -4,7 +4,6 @@ import json
 import os
 import re
 import shutil
-import sys
 
 import provenance
 from aarch64 import debian_root
@@ -132,36 +131,11 @@ def node(commit, made):
     return [f'{commit.stem}.tgz']
 
 
-def reached(tree, start):
-    """The files of a tree that a page reaches: each quoted word that names one from its file's folder or the page's."""
-    found, left = set(), [start]
-    while left:
-        path = left.pop()
-        if path in found:
-            continue
-        found.add(path)
-        if not path.endswith(('.html', '.js', '.css', '.webmanifest')):
-            continue
-        with open(os.path.join(tree, path), encoding='utf-8') as file:
-            words = re.findall(r'''["'(]([\w./-]+\.\w+)["')]''', file.read())
-        for folder in {os.path.dirname(path), os.path.dirname(start)}:
-            names = {os.path.normpath(os.path.join(folder, word)) for word in words}
-            left += [name for name in names if not name.startswith('..') and os.path.isfile(os.path.join(tree, name))]
-    return sorted(found)
-
-
 def page(commit, made):
-    """The page, with what it loads and the pages that it links: by web/folder, where web/ has that, or else in the
-    places that they have in the repository."""
-    if os.path.exists(commit.path('web', 'folder')):
-        folder = os.path.join(commit.room, 'page')
-        must([commit.path('web', 'folder'), folder])
-        files = tree_of(folder, 'web')
-    else:
-        files = {name: commit.path(name) for name in reached(commit.tree, 'web/index.html')}
-    if not any(name.endswith('.wasm') for name in files):
-        sys.exit('release/make: the page has no module')
-    return write_archive(commit, made, 'page', {**documents(commit, made), **files})
+    """The page as web/folder makes it: one folder of static files."""
+    folder = os.path.join(commit.room, 'page')
+    must([commit.path('web', 'folder'), folder])
+    return write_archive(commit, made, 'page', {**documents(commit, made), **tree_of(folder, 'web')})
 
 
 def api(commit, made):
