@@ -10,9 +10,9 @@ from . import edits, kit
 
 
 def with_copies(crate, tried, folder):
-    """The crate, written to the folder with its copies, and the name of one copy of each function that has any. The edits of
-    these functions now change the copies: all but the first, and the first too where another changed function may call
-    it, since what calls a refused function has no line of its own."""
+    """The crate, written to the folder with its copies, and the name of one copy of each function that has any. The further
+    edits of these functions now change the copies, and the first too where another changed function may call it, since
+    what calls a refused function may have no line of its own."""
     for part in kit.rt.rtlib.PARTS:
         if os.path.isdir(f"{crate.folder}/{part}"):
             shutil.copytree(f"{crate.folder}/{part}", f"{folder}/{part}")
@@ -24,9 +24,10 @@ def with_copies(crate, tried, folder):
     bodies = {function: text_of_body(crate, its[0]) for function, its in of_functions.items()}
     found = []
     for function, its in of_functions.items():
-        word = re.compile(rf"\b{its[0].body.name}\b")
-        is_called = any(word.search(text) for other, text in bodies.items() if other != function)
-        found += add_copies(folder, its if is_called else its[1:])[:1]
+        if len(its) > 1:
+            word = re.compile(rf"\b{its[0].body.name}\b")
+            is_called = any(word.search(text) for other, text in bodies.items() if other != function)
+            found += add_copies(folder, its if is_called else its[1:])[:1]
     return twin, found
 
 
