@@ -162,8 +162,7 @@ def removed(page):
     page.set_key("1234")
     page.choose(*paths)
     page.wait_for("long.bin", "card.isRunning && card.words.includes(' of ')")
-    # By the page's own click: WebKit's driver may press where the button was before the list moved.
-    page.browser.run("document.querySelector(\"[aria-label='Remove short.bin']\").click()")
+    page.browser.click("[aria-label='Remove short.bin']")
     want(page.card("short.bin") is None and page.card("long.bin")["isRunning"], "another row was removed")
     page.browser.click("[aria-label='Remove long.bin']")
     want(page.digests("next.bin", 20) == SOME_BYTES, page.card("next.bin"))

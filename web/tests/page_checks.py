@@ -218,8 +218,7 @@ def again(page):
     page.choose(page.file("again.bin", b"some bytes"))
     page.digests("again.bin")
     page.set_key("1234")
-    # By the page's own click: WebKit's driver may press where the button was before the list moved.
-    page.browser.run("document.getElementById('again').click()")
+    page.browser.click("#again")
     page.wait_for("again.bin", "card.words.includes('seed 1234') && 'xxh64' in card.digests")
     want(page.digests("again.bin") == SOME_BYTES, page.card("again.bin"))
 
