@@ -132,13 +132,6 @@ def xxhsum():
     return markdown(["`xxhsum`", "the original, s", *SETS], rows)
 
 
-def kernels(parts):
-    header = ["c_gcc", "c_clang"]
-    lines = [[name, *(ranged([it.best_peer(header)[1].median for it in parts[s] if it.name == name]) for s in SETS)]
-             for name in dict.fromkeys(it.name for it in parts[SETS[0]] if it.form == "kernel")]
-    return markdown(["kernel", *SETS], lines)
-
-
 def arm():
     """Counts of instructions: those of the header over ours."""
     counts = {}
@@ -201,7 +194,7 @@ The time of Debian's `libxxhash.so.0` over that of ours at x86-64-v3, both in on
 
 #SHARED
 #DISPATCH
-## WebAssembly, programs, kernels
+## WebAssembly and programs
 
 #WASM
 `xxh` beside Debian's `xxhsum`, which takes AVX-512 where the processor has it: wall time of the whole program, 1 GiB in the page cache.
@@ -210,9 +203,6 @@ The time of Debian's `libxxhash.so.0` over that of ours at x86-64-v3, both in on
 `xxhsum` beside the same program, both on files in the page cache: the original's best time over ours, measured by `bench/xxhsum`.
 
 #XXHSUM
-XXH3-64 by each kernel, beside the header's best. `Kernel` is `lanes4`.
-
-#KERNELS
 ## 64-bit ARM, in instructions
 
 Instructions of the reference's header, by gcc 12 -O3, over ours for one call, counted under qemu by `c/count`. They are counts and not times.
@@ -227,7 +217,7 @@ Instructions of the reference's header, by gcc 12 -O3, over ours for one call, c
 """
     drawn = {"SUMMARY": summary(parts, best), "TWOX_HASH": twox_hash(parts), "LOWEST": lowest(parts), "SHARED": shared(parts["c"]),
              "DISPATCH": dispatch(), "WASM": wasm(parts["wasm"]), "PROGRAMS": programs(parts["program"]), "XXHSUM": xxhsum(),
-             "KERNELS": kernels(parts), "ARM": arm(), "SAID": [f"- {it}" for it in said]}
+             "ARM": arm(), "SAID": [f"- {it}" for it in said]}
     return "\n".join(line for it in text.rstrip("\n").split("\n") for line in drawn.get(it[1:], [it])) + "\n"
 
 
