@@ -20,7 +20,7 @@ add_up-push report (f ∷ fs) finding = add_up-push (count_one report f) fs find
 -- ---- the lines so far
 
 -- what was read of a list so far is these lines, and what waits
-abbrev pub Stands : {R : Type 0} → (R → List ℕ → R → Type 0) → R → Lines R → List (List ℕ) → Type 0
+abbrev pub Stands : {R : Type 0} → SourceRules R → R → Lines R → List (List ℕ) → Type 0
 Stands reading source state lines =
     (done : List ℕ) × HasRead reading source done state
     × ((AllByRecursion IsLine lines × (done ≡ with_line_feeds lines)) ⊎ (IsAtEnd state × EndsInLine done lines))

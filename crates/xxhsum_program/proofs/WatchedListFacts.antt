@@ -19,16 +19,16 @@ use Rattle.xxhsum_program.specs.declared.watched.WatchedFiles.{WatchedFiles}
 
 -- ---- a finding
 
-inner-found : {S F T E : Type 0} (opening : StoreRules S F) (reading : SourceRules F) (files : WatchedFiles S T) (kind : Kind) (value : ℕ) (name : List ℕ) (found : Found) → IsFound (watched_opening {E = E} opening) (watched_reading reading) files kind value name found → IsFound opening reading (files_of files) kind value name found
-inner-found opening reading files kind value name Same is = inner-value opening reading files kind name value is
-inner-found opening reading files kind value name Different (other, is, differs) = (other, inner-value opening reading files kind name other is, differs)
-inner-found opening reading files kind value name (Unread reason) is = inner-none opening reading files name reason is
+inner-found : {S F T : Type 0} (E : Type 0) (opening : StoreRules S F) (reading : SourceRules F) (files : WatchedFiles S T) (kind : Kind) (value : ℕ) (name : List ℕ) (found : Found) → IsFound (watched_opening {E = E} opening) (watched_reading reading) files kind value name found → IsFound opening reading (files_of files) kind value name found
+inner-found E opening reading files kind value name Same is = inner-value E opening reading files kind name value is
+inner-found E opening reading files kind value name Different (other, is, differs) = (other, inner-value E opening reading files kind name other is, differs)
+inner-found E opening reading files kind value name (Unread reason) is = inner-none E opening reading files name reason is
 
-inner-finding : {S F T E : Type 0} (opening : StoreRules S F) (reading : SourceRules F) (files : WatchedFiles S T) (is_little : Bool) (line : List ℕ) (finding : Finding) → IsFinding (watched_opening {E = E} opening) (watched_reading reading) files is_little line finding → IsFinding opening reading (files_of files) is_little line finding
-inner-finding opening reading files is_little line Ignored is = is
-inner-finding opening reading files is_little line Improper is = is
-inner-finding opening reading files is_little line (Proper name found) (kind, value, says, is) =
-    (kind, value, says, inner-found opening reading files kind value name found is)
+inner-finding : {S F T : Type 0} (E : Type 0) (opening : StoreRules S F) (reading : SourceRules F) (files : WatchedFiles S T) (is_little : Bool) (line : List ℕ) (finding : Finding) → IsFinding (watched_opening {E = E} opening) (watched_reading reading) files is_little line finding → IsFinding opening reading (files_of files) is_little line finding
+inner-finding E opening reading files is_little line Ignored is = is
+inner-finding E opening reading files is_little line Improper is = is
+inner-finding E opening reading files is_little line (Proper name found) (kind, value, says, is) =
+    (kind, value, says, inner-found E opening reading files kind value name found is)
 
 -- ---- the reads of a list
 
@@ -63,18 +63,18 @@ finds-other finding other reading list findings end other-too (lines, each, meet
     (lines, each-other finding other lines findings other-too each, inner-meets reading list lines end meets)
 
 -- the list may be of another kind than the files
-pub inner-finds : {S F T E R M : Type 0} (opening : StoreRules S F) (reading : SourceRules F) (list_reading : SourceRules R) (files : WatchedFiles S T) (list : Watched R M) (is_little : Bool) (findings : List Finding) (end : Option ListEnd)
+pub inner-finds : {S F T R M : Type 0} (E : Type 0) (opening : StoreRules S F) (reading : SourceRules F) (list_reading : SourceRules R) (files : WatchedFiles S T) (list : Watched R M) (is_little : Bool) (findings : List Finding) (end : Option ListEnd)
     → FindsLines (IsFinding (watched_opening {E = E} opening) (watched_reading reading) files is_little) (watched_reading list_reading) list findings end → FindsLines (IsFinding opening reading (files_of files) is_little) list_reading (source_of list) findings end
-inner-finds opening reading list_reading files list is_little findings end =
-    finds-other _ _ list_reading list findings end (λ line x is. inner-finding opening reading files is_little line x is)
+inner-finds E opening reading list_reading files list is_little findings end =
+    finds-other _ _ list_reading list findings end (λ line x is. inner-finding E opening reading files is_little line x is)
 
-inner-outcome : {S F T E : Type 0} (opening : StoreRules S F) (reading : SourceRules F) (files : WatchedFiles S T) (is_little : Bool) (name : List ℕ) (outcome : ListOutcome)
+inner-outcome : {S F T : Type 0} (E : Type 0) (opening : StoreRules S F) (reading : SourceRules F) (files : WatchedFiles S T) (is_little : Bool) (name : List ℕ) (outcome : ListOutcome)
     → IsListOutcome (watched_opening {E = E} opening) (watched_reading reading) files is_little name outcome → IsListOutcome opening reading (files_of files) is_little name outcome
-inner-outcome opening reading files is_little name (Checked findings end) (file, opened, finds) =
-    (source_of file, opened.0, inner-finds opening reading reading files file is_little findings end finds)
-inner-outcome opening reading files is_little name (Unopened refusal) refused = refused
+inner-outcome E opening reading files is_little name (Checked findings end) (file, opened, finds) =
+    (source_of file, opened.0, inner-finds E opening reading reading files file is_little findings end finds)
+inner-outcome E opening reading files is_little name (Unopened refusal) refused = refused
 
-pub inner-checks : {S F T E : Type 0} (opening : StoreRules S F) (reading : SourceRules F) (files : WatchedFiles S T) (is_little is_strict : Bool) (names done rest : List (List ℕ)) (outcomes : List ListOutcome) (result : Result Bool Stop)
+pub inner-checks : {S F T : Type 0} (E : Type 0) (opening : StoreRules S F) (reading : SourceRules F) (files : WatchedFiles S T) (is_little is_strict : Bool) (names done rest : List (List ℕ)) (outcomes : List ListOutcome) (result : Result Bool Stop)
     → ChecksLists (watched_opening {E = E} opening) (watched_reading reading) files is_little is_strict names done rest outcomes result → ChecksLists opening reading (files_of files) is_little is_strict names done rest outcomes result
-inner-checks opening reading files is_little is_strict names done rest outcomes result (parts, each, answers) =
-    (parts, each-other _ _ done outcomes (λ name outcome is. inner-outcome opening reading files is_little name outcome is) each, answers)
+inner-checks E opening reading files is_little is_strict names done rest outcomes result (parts, each, answers) =
+    (parts, each-other _ _ done outcomes (λ name outcome is. inner-outcome E opening reading files is_little name outcome is) each, answers)
