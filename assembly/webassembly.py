@@ -4,9 +4,10 @@
     assembly/webassembly.py MODULE OUT [--vectors]
 
 MODULE is a folder that `annotated` has kept. The toolchain's clang compiles its text, by the words that it was called by, and
-two things are other than there:
+three things are other than there, none of which is a step of a computation:
 
-- One line, which computes nothing, stands between the loop of XXH64 and the product that follows it. Without it clang
+- The body of an export, a function of its own, is put in place of its call.
+- A line that hands a number on as it is stands between the loop of XXH64 and the product that follows it. Without it clang
   joins that product with the loop's last one, and engines keep four more words in the loop.
 - With --vectors each function has the feature simd128. The kit itself compiles for WebAssembly without."""
 import os
@@ -39,6 +40,17 @@ def with_loop_apart(module):
     return MERGE.sub(lambda head: head[0].replace('%a1', '%from_loop') + HANDED_ON, module)
 
 
+def with_exports_in_place(module):
+    """The module in which the exports' bodies are inlined always, where they never were."""
+    never, always = (re.findall(rf'^attributes (#\d+) = {{ {word} nounwind ', module, re.M) for word in ('noinline', 'alwaysinline'))
+    if len(never) != 1 or len(always) != 1:
+        stop('this module says otherwise which functions are inlined')
+    module, count = re.subn(rf'^(define internal .*@"rattle::export .*) {never[0]} {{$', rf'\1 {always[0]} {{', module, flags=re.M)
+    if count != module.count('"wasm-export-name"='):
+        stop(f'this module has {count} bodies of exports')
+    return module
+
+
 def with_vectors(module):
     """The module whose functions are for a processor with vectors."""
     module, count = re.subn(r'^(attributes #\d+ = .*"target-cpu"="lime1")', r'\1 "target-features"="+simd128"', module, flags=re.M)
@@ -48,7 +60,7 @@ def with_vectors(module):
 
 
 def main(folder, out, *flags):
-    module, vectors = with_loop_apart(text_of(os.path.join(folder, 'module.ll'))), []
+    module, vectors = with_exports_in_place(with_loop_apart(text_of(os.path.join(folder, 'module.ll')))), []
     if flags:
         module, vectors = with_vectors(module), ['-msimd128']
     words = [f'--target={TARGET}', '-mcpu=lime1', *vectors, *words_of(folder)]
