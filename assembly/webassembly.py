@@ -6,7 +6,8 @@
 MODULE is a folder that `annotated` has kept. The toolchain's clang compiles its text, by the words that it was called by, and
 three things are other than there, none of which is a step of a computation:
 
-- The body of an export, a function of its own, is put in place of its call.
+- The bodies of exports, which are functions of their own, and what INLINED and CALLS_INLINED name are inlined. Elsewhere
+  they are calls for the registers that a function has to keep, and WebAssembly has none.
 - A line that hands a number on as it is stands between the loop of XXH64 and the product that follows it. Without it clang
   joins that product with the loop's last one, and engines keep four more words in the loop.
 - With --vectors each function has the feature simd128. The kit itself compiles for WebAssembly without."""
@@ -21,6 +22,10 @@ sys.path.insert(0, os.path.dirname(os.path.abspath(__file__)))
 from retarget import clang_of_kit, text_of, words_of
 
 TARGET = 'wasm64-unknown-unknown'
+# Functions that are always inlined, and calls that are, by caller and callee: of inputs of up to 240 bytes with no secret.
+INLINED = re.compile(r'^(define internal .*@"(?:rattle::export [^"]*|twox_core::width_128::oneshot_from_65)"\(.*) (#\d+) \{$', re.M)
+CALLS_INLINED = [('twox_core::width_128::oneshot_from_65', 'twox_core::width_128::impl_129_to_240_bytes'),
+                 ('twox_core::width_64::oneshot_with_secret', 'twox_core::width_64::impl_129_to_240_bytes')]
 # The function that takes an accumulator from the loop, up to its first line.
 MERGE = re.compile(r'^define internal noundef i64 @"twox_plain::xxhash64::rounds::merge_accumulator"'
                    r'\(i64 noundef %a0, i64 noundef %a1\) .*\{\nstart:\n', re.M)
@@ -40,14 +45,27 @@ def with_loop_apart(module):
     return MERGE.sub(lambda head: head[0].replace('%a1', '%from_loop') + HANDED_ON, module)
 
 
-def with_exports_in_place(module):
-    """The module in which the exports' bodies are inlined always, where they never were."""
-    never, always = (re.findall(rf'^attributes (#\d+) = {{ {word} nounwind ', module, re.M) for word in ('noinline', 'alwaysinline'))
-    if len(never) != 1 or len(always) != 1:
+def with_functions_inlined(module):
+    """The module that says of those functions that they are inlined, where it said that they never are."""
+    groups = dict(re.findall(r'^attributes (#\d+) = { (noinline|alwaysinline) nounwind ', module, re.M))
+    always = {word: group for group, word in groups.items()}.get('alwaysinline')
+    if not always or {groups.get(group) for _, group in INLINED.findall(module)} != {'noinline'}:
         stop('this module says otherwise which functions are inlined')
-    module, count = re.subn(rf'^(define internal .*@"rattle::export .*) {never[0]} {{$', rf'\1 {always[0]} {{', module, flags=re.M)
-    if count != module.count('"wasm-export-name"='):
-        stop(f'this module has {count} bodies of exports')
+    module, count = INLINED.subn(rf'\1 {always} {{', module)
+    if count != module.count('"wasm-export-name"=') + 1:
+        stop(f'this module has {count} functions that are to be inlined')
+    return module
+
+
+def with_calls_inlined(module):
+    """The module that says so of those calls."""
+    for caller, callee in CALLS_INLINED:
+        start = re.search(rf'^define internal .*@"{caller}"\(.*\{{$', module, re.M).end()
+        end = module.index('\n}\n', start)
+        body, count = re.subn(rf'^(  %\S+ = call .*@"{callee}"\(.*\))$', rf'\1 alwaysinline', module[start:end], flags=re.M)
+        if count != 1:
+            stop(f'{caller} has {count} calls that are to be inlined')
+        module = module[:start] + body + module[end:]
     return module
 
 
@@ -60,7 +78,9 @@ def with_vectors(module):
 
 
 def main(folder, out, *flags):
-    module, vectors = with_exports_in_place(with_loop_apart(text_of(os.path.join(folder, 'module.ll')))), []
+    module, vectors = text_of(os.path.join(folder, 'module.ll')), []
+    for change in with_functions_inlined, with_calls_inlined, with_loop_apart:
+        module = change(module)
     if flags:
         module, vectors = with_vectors(module), ['-msimd128']
     words = [f'--target={TARGET}', '-mcpu=lime1', *vectors, *words_of(folder)]
