@@ -60,9 +60,10 @@ def with_functions_inlined(module):
 def with_calls_inlined(module):
     """The module that says so of those calls."""
     for caller, callee in CALLS_INLINED:
-        start = re.search(rf'^define internal .*@"{caller}"\(.*\{{$', module, re.M).end()
-        end = module.index('\n}\n', start)
-        body, count = re.subn(rf'^(  %\S+ = call .*@"{callee}"\(.*\))$', rf'\1 alwaysinline', module[start:end], flags=re.M)
+        head = re.search(rf'^define internal .*@"{caller}"\(.*\{{$', module, re.M) or stop(f'this module has no {caller}')
+        start, end = head.end(), module.index('\n}\n', head.end())
+        call = rf'^(  %\S+ = call .*@"{callee}"\(.*\))$'
+        body, count = re.subn(call, r'\1 alwaysinline', module[start:end], flags=re.M)
         if count != 1:
             stop(f'{caller} has {count} calls that are to be inlined')
         module = module[:start] + body + module[end:]
