@@ -10,20 +10,29 @@ import { runXxhashWasmTests } from "./xxhash_wasm_tests.js";
 // are never used, and all but the upper 64 KiB of the stack are looked at here.
 const UNUSED_BYTES = (1024 - 64) * 1024;
 const MARK = 0xa5;
-const memories = [];
+const instances = [];
 const { instantiate } = WebAssembly;
 WebAssembly.instantiate = async (...words) => {
   const made = await instantiate(...words);
-  const { memory } = (made.instance ?? made).exports;
-  new Uint8Array(memory.buffer, 0, UNUSED_BYTES).fill(MARK);
-  memories.push(memory);
+  instances.push(made.instance ?? made);
+  new Uint8Array(instances.at(-1).exports.memory.buffer, 0, UNUSED_BYTES).fill(MARK);
   return made;
 };
 
 function stackIsShort() {
-  const isUnused = ({ buffer }) => new Uint8Array(buffer, 0, UNUSED_BYTES).every((byte) => byte === MARK);
-  const name = "calls use 64 KiB of the stack at most, and leave the memory before it as it was";
-  return { name, ok: memories.length > 0 && memories.every(isUnused) };
+  const isUnused = ({ exports }) => new Uint8Array(exports.memory.buffer, 0, UNUSED_BYTES).every((byte) => byte === MARK);
+  return { name: "calls use 64 KiB of the stack at most", ok: instances.length > 0 && instances.every(isUnused) };
+}
+
+/** Addresses and lengths cross as numbers of 32 bits, of which JavaScript has the upper half as negative ones too. */
+function largeNumbersCross({ Stream }) {
+  const { memory, twox_xxh3_64: hash } = instances[0].exports;
+  const [start, length] = [memory.buffer.byteLength, 2 ** 31 + 5];
+  memory.grow(2 ** 15 + 1);
+  const far = new Uint8Array(memory.buffer, start, length);
+  far.set([1, 2, 3], length - 3);
+  const isRight = (from) => BigInt.asUintN(64, hash(start + from, length - from)) === new Stream("xxh3_64").update(far.subarray(from)).digest();
+  return { name: "an input of 2 GiB, and one that lies above", ok: isRight(0) && isRight(2 ** 31 - 1) };
 }
 
 const readTable = () => readFile(new URL("../../oracle/vectors.txt", import.meta.url), "utf8");
@@ -35,6 +44,6 @@ export async function report(digests, { entry, streams, node, xxhash }) {
   if (streams) lines.push(...await runStreamTests(entry, streams, values));
   if (node) lines.push(...await runNodeHashTests(node, values));
   if (xxhash) lines.push(...await runXxhashWasmTests(xxhash, table));
-  lines.push(stackIsShort());
+  lines.push(stackIsShort(), largeNumbersCross(entry));
   console.log(JSON.stringify({ lines, hasVectors: entry.hasVectors(), version: process.versions.node }));
 }
