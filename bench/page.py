@@ -19,8 +19,6 @@ TOP = os.path.dirname(os.path.dirname(os.path.abspath(__file__)))
 SETS = ["x86-64-v2", "x86-64-v3"]
 PEERS = ["c_gcc", "c_clang", "c_shared", "xxhash_rust"]
 COLOURS = {"ours": "#c0392b", "c_gcc": "#2c3e50", "c_clang": "#2980b9", "c_shared": "#7f8c8d", "xxhash_rust": "#e67e22"}
-HASHES = ["XXH32", "XXH64", "XXH3-64", "XXH3-64-seeded", "XXH3-64-secret", "XXH3-128", "XXH3-128-seeded"]
-XXH3 = [name for name in HASHES if name.startswith("XXH3-")]
 STREAMS = ("inlined", "called")
 FORMS = {"oneshot": "one-shot", "inlined": "pieces, inlined", "called": "pieces, called", "stream": "pieces"}
 KIB, MIB = 1 << 10, 1 << 20
@@ -47,18 +45,6 @@ SHARED = [
 ]
 WASM = {"c_wasm64": "64-bit addresses", "c_wasm32": "32-bit addresses", "c_plain": "without vectors",
         "c_fastest": "the fastest of all"}
-# What is to be reached beside the best of the peers: the name, the forms, the hashes, the sizes and the ratio.
-GOALS = [
-    ("XXH3, one-shots of 256 bytes to 16 KiB", ("oneshot",), XXH3, 256, 16 * KIB, 0.95),
-    ("XXH3, one-shots of 2 to 64 MiB", ("oneshot",), XXH3, 2 * MIB, 64 * MIB, 0.95),
-    ("XXH3 under a secret, one-shots of 4 to 64 bytes", ("oneshot",), ["XXH3-64-secret"], 4, 64, 0.95),
-    ("XXH3 in pieces of 16 bytes to 64 KiB", STREAMS, XXH3, 16, 65536, 0.95),
-    ("XXH32 and XXH64 in pieces of 1 and 8 bytes", STREAMS, ["XXH32", "XXH64"], 1, 8, 0.95),
-    ("XXH32 and XXH64 in pieces of 16 bytes to 64 KiB", STREAMS, ["XXH32", "XXH64"], 16, 65536, 0.95),
-    ("XXH3 of 128 bits, one-shots of 16 and 32 bytes", ("oneshot",), ["XXH3-128", "XXH3-128-seeded"], 16, 32, 0.95),
-    ("XXH32, one-shots of 16 bytes", ("oneshot",), ["XXH32"], 16, 16, 0.95),
-    ("XXH3 of 64 bits, one-shots of 32 bytes", ("oneshot",), ["XXH3-64", "XXH3-64-seeded"], 32, 32, 0.95),
-]
 
 
 def markdown(head, rows):
@@ -71,12 +57,6 @@ def ranged(values):
 
 def best(row):
     return row.best_peer(PEERS)[1].median
-
-
-def by_best_times(row):
-    """The lowest ratio of best times, or that of the medians on an older page."""
-    ratios = [row.peers[peer] for peer in PEERS if peer in row.peers]
-    return min(it.median if it.best is None else it.best for it in ratios)
 
 
 def chosen(rows, forms, low, high, names=None):
@@ -107,21 +87,6 @@ def lowest(parts):
         told = ["", ""] if ratio.best is None else [f"{ratio.best:.2f}", f"{ratio.spread:.0f} %"]
         lines.append([part, FORMS[row.form], row.name, figures.size(row.size), f"{value:.2f}", peer, *told])
     return markdown(["set", "form", "hash", "size", "ratio", "peer", "by best times", "spread"], lines)
-
-
-def goals(parts):
-    lines = []
-    for name, forms, names, low, high, least in GOALS:
-        line = [name, f"{least:.2f}"]
-        for part in SETS:
-            rows = chosen(parts[part], forms, low, high, names)
-            for ratio in (best, by_best_times):
-                values = [ratio(it) for it in rows]
-                fewer = sum(round(it, 2) < least for it in values)
-                line.append(f"{fewer} of {len(values)}, lowest {min(values):.2f}")
-        lines.append(line)
-    heads = [f"below it at {it}{how}" for it in SETS for how in ("", ", by best times")]
-    return markdown(["what", "to reach", *heads], lines)
 
 
 def shared(rows):
@@ -165,13 +130,6 @@ def xxhsum():
     with open(f"{TOP}/bench/data/xxhsum.tsv") as lines:
         rows = [it.rstrip("\n").split("\t") for it in lines if not it.startswith("#")]
     return markdown(["`xxhsum`", "the original, s", *SETS], rows)
-
-
-def kernels(parts):
-    header = ["c_gcc", "c_clang"]
-    lines = [[name, *(ranged([it.best_peer(header)[1].median for it in parts[s] if it.name == name]) for s in SETS)]
-             for name in dict.fromkeys(it.name for it in parts[SETS[0]] if it.form == "kernel")]
-    return markdown(["kernel", *SETS], lines)
 
 
 def arm():
@@ -224,12 +182,11 @@ A peer's time over ours: 1 is level, more is faster. A cell is the median over h
 #SUMMARY
 ![throughput over the length](speed.svg)
 
-## The lowest rows, and what we want to reach
+## The lowest rows
 
 #LOWEST
 What is known of them, and what the code has gained since, stands in [history/TUNING.md](history/TUNING.md#rows-that-stay-below-what-we-want).
 
-#GOALS
 #TWOX_HASH
 ## The library for C, by C's names
 
@@ -237,7 +194,7 @@ The time of Debian's `libxxhash.so.0` over that of ours at x86-64-v3, both in on
 
 #SHARED
 #DISPATCH
-## WebAssembly, programs, kernels
+## WebAssembly and programs
 
 #WASM
 `xxh` beside Debian's `xxhsum`, which takes AVX-512 where the processor has it: wall time of the whole program, 1 GiB in the page cache.
@@ -246,9 +203,6 @@ The time of Debian's `libxxhash.so.0` over that of ours at x86-64-v3, both in on
 `xxhsum` beside the same program, both on files in the page cache: the original's best time over ours, measured by `bench/xxhsum`.
 
 #XXHSUM
-XXH3-64 by each kernel, beside the header's best. `Kernel` is `lanes4`.
-
-#KERNELS
 ## 64-bit ARM, in instructions
 
 Instructions of the reference's header, by gcc 12 -O3, over ours for one call, counted under qemu by `c/count`. They are counts and not times.
@@ -259,12 +213,11 @@ Instructions of the reference's header, by gcc 12 -O3, over ours for one call, c
 #SAID
 - One process measures all peers in turns. A figure is the median of eight rounds apart in time, and a round the best of many turns of 0.025 ms or of one call, in three passes over all rows.
 - *By best times* is a peer's best of all rounds over our best, each at the place that suits it: a virtual machine slows for minutes, and a median mixes both. *Spread* is how far the rounds of a ratio lie apart.
-- Each peer is called through a pointer to one function of the same signature. The header's code is compiled into it, with the seed 0 and the default secret; Debian's library is one call further away, and built for plain x86-64.
-- Ours takes an address in a room of 64 MiB and a length, and compares it with the room. The peers' one-shots make that comparison too: of 16 to 32 bytes it is a tenth of a call.
+- Each peer is called through a pointer to one function of the same signature, and compares the length with the room of 64 MiB, as ours does. Debian's library is one call further away, and built for plain x86-64.
 """
-    drawn = {"SUMMARY": summary(parts, best), "TWOX_HASH": twox_hash(parts), "LOWEST": lowest(parts), "GOALS": goals(parts), "SHARED": shared(parts["c"]),
+    drawn = {"SUMMARY": summary(parts, best), "TWOX_HASH": twox_hash(parts), "LOWEST": lowest(parts), "SHARED": shared(parts["c"]),
              "DISPATCH": dispatch(), "WASM": wasm(parts["wasm"]), "PROGRAMS": programs(parts["program"]), "XXHSUM": xxhsum(),
-             "KERNELS": kernels(parts), "ARM": arm(), "SAID": [f"- {it}" for it in said]}
+             "ARM": arm(), "SAID": [f"- {it}" for it in said]}
     return "\n".join(line for it in text.rstrip("\n").split("\n") for line in drawn.get(it[1:], [it])) + "\n"
 
 

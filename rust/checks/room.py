@@ -110,7 +110,8 @@ class Room:
 
     def bitcode_flags(self):
         """The flags by which the crate's calls come from its bitcode."""
-        return f'--cfg twox_hash_lto -L {os.path.join(self.rust, "lto")} -C linker-plugin-lto'
+        return (f'--cfg twox_hash_lto -L {os.path.join(self.rust, "lto")} -C linker-plugin-lto '
+                '-C link-arg=-Wl,-mllvm,-x86-branches-within-32B-boundaries')
 
     def cargo(self, folder, command, *words, environment=None):
         return subprocess.run([self.cargo_program, command, *words], cwd=folder, env=environment or self.environment(),

@@ -8,17 +8,17 @@ use Rattle.xxh_io.specs.declared.script_source.SliceSource.{SliceSource}
 use Rattle.xxh_io.specs.declared.script_sink.ScriptSink.{ScriptSink}
 use Rattle.xxh_io.specs.Pieces.{Pieces, NoneEmpty}
 use Rattle.xxh_io.specs.Digest.{ReadsOn, Refused, Writes}
-use Rattle.xxh_io.specs.Script.{counted, slice_rest, sink_bytes, sink_fail_at, sink_writes, SliceGives, ScriptTakes, ScriptRefuses}
+use Rattle.xxh_io.specs.Script.{counted, slice_rest, sink_bytes, sink_fail_at, sink_writes, SliceGives, ScriptTakes, script_writing, slice_reading}
 
 -- ---- what was read
 
 -- the pieces, joined, and then what is left are what was left before
-slice-pieces : (old new : SliceSource) (pieces : List (List ℕ)) → Pieces SliceGives old pieces new → slice_rest old ≡ concat pieces ++ slice_rest new
+pub slice-pieces : (old new : SliceSource) (pieces : List (List ℕ)) → Pieces SliceGives old pieces new → slice_rest old ≡ concat pieces ++ slice_rest new
 slice-pieces old new [] led = ap slice_rest (sym led)
 slice-pieces old new (p ∷ ps) led = led.1.0 ∙ ap (λ rest. p ++ rest) (slice-pieces led.0 new ps led.2) ∙ sym (append_assoc p (concat ps) (slice_rest new))
 
 -- an empty piece comes after all the bytes
-slice-end : (old new : SliceSource) (pieces : List (List ℕ)) → Pieces SliceGives old (pieces ++ [] ∷ []) new → concat pieces ≡ slice_rest old
+pub slice-end : (old new : SliceSource) (pieces : List (List ℕ)) → Pieces SliceGives old (pieces ++ [] ∷ []) new → concat pieces ≡ slice_rest old
 slice-end old new [] led = sym (led.1.0 ∙ led.1.1 refl)
 slice-end old new (p ∷ ps) led = ap (λ rest. p ++ rest) (slice-end led.0 new ps led.2) ∙ sym led.1.0
 
@@ -40,7 +40,7 @@ sink-pieces old new (p ∷ ps) led =
     (rest.0 ∙ ap (λ bytes. bytes ++ concat ps) led.1.0 ∙ append_assoc (sink_bytes old) p (concat ps), rest.1 ∙ led.1.3.2)
 
 -- where there is room and the script fails no write, none is refused
-never-refused : {N : ℕ} (line : List ℕ) (old new : ScriptSink N) → sink_fail_at old ≡ 0 → length (sink_bytes old) + length line ≤ N → Refused ScriptTakes ScriptRefuses line old new → ⊥
+never-refused : {N : ℕ} (line : List ℕ) (old new : ScriptSink N) → sink_fail_at old ≡ 0 → length (sink_bytes old) + length line ≤ N → Refused script_writing line old new → ⊥
 never-refused {N} line old new never room refused =
     let taken = refused.0 in
     let met = refused.1 in
@@ -54,16 +54,16 @@ never-refused {N} line old new never room refused =
 
 -- ---- the answer
 
-pub always-ok : {N : ℕ} (max_reads : ℕ) (pieces : List (List ℕ)) (line : List ℕ) (r_old r_new : SliceSource) (w_old w_new : ScriptSink N) (result : Result (Unit {0}) DigestError) → NoneEmpty pieces → length (slice_rest r_old) < max_reads → sink_fail_at w_old ≡ 0 → length (sink_bytes w_old) + length line ≤ N → ReadsOn SliceGives (λ _ _. ⊥) max_reads pieces r_old r_new result → Writes ScriptTakes ScriptRefuses line w_old w_new result → result ≡ Ok tt
+pub always-ok : {N : ℕ} (max_reads : ℕ) (pieces : List (List ℕ)) (line : List ℕ) (r_old r_new : SliceSource) (w_old w_new : ScriptSink N) (result : Result (Unit {0}) DigestError) → NoneEmpty pieces → length (slice_rest r_old) < max_reads → sink_fail_at w_old ≡ 0 → length (sink_bytes w_old) + length line ≤ N → ReadsOn slice_reading max_reads pieces r_old r_new result → Writes script_writing line w_old w_new result → result ≡ Ok tt
 always-ok max_reads pieces line r_old r_new w_old w_new (Ok x) some enough never room read wrote = refl
 always-ok max_reads pieces line r_old r_new w_old w_new (Err ReadFailed) some enough never room read wrote = absurd read.1.2
 always-ok max_reads pieces line r_old r_new w_old w_new (Err WriteFailed) some enough never room read wrote = absurd (never-refused line w_old w_new never room wrote)
 always-ok max_reads pieces line r_old r_new w_old w_new (Err TooLong) some enough never room read wrote = absurd (omega (arith, read.0, enough, never-too-long r_old r_new pieces some read.1))
 
-pub read-all : (max_reads : ℕ) (pieces : List (List ℕ)) (old new : SliceSource) (result : Result (Unit {0}) DigestError) → result ≡ Ok tt → ReadsOn SliceGives (λ _ _. ⊥) max_reads pieces old new result → concat pieces ≡ slice_rest old
+pub read-all : (max_reads : ℕ) (pieces : List (List ℕ)) (old new : SliceSource) (result : Result (Unit {0}) DigestError) → result ≡ Ok tt → ReadsOn slice_reading max_reads pieces old new result → concat pieces ≡ slice_rest old
 read-all max_reads pieces old new (Ok x) is read = slice-end old new pieces read.1
 read-all max_reads pieces old new (Err e) is read = cc
 
-pub wrote-all : {N : ℕ} (line : List ℕ) (old new : ScriptSink N) (result : Result (Unit {0}) DigestError) → result ≡ Ok tt → Writes ScriptTakes ScriptRefuses line old new result → sink_bytes new ≡ sink_bytes old ++ line
+pub wrote-all : {N : ℕ} (line : List ℕ) (old new : ScriptSink N) (result : Result (Unit {0}) DigestError) → result ≡ Ok tt → Writes script_writing line old new result → sink_bytes new ≡ sink_bytes old ++ line
 wrote-all line old new (Ok x) is wrote = (sink-pieces old new wrote.0 wrote.1).0 ∙ ap (λ bytes. sink_bytes old ++ bytes) wrote.2
 wrote-all line old new (Err e) is wrote = cc

@@ -1,9 +1,10 @@
 -- A run that answers the status 0 had no fault, and told none.
-use Rattle.std.proofs.Common.{◌≡◌, ℕ, List, Bool, Ok, Err, refl}
+use Rattle.std.proofs.Common.{◌≡◌, Ok, Err, refl}
 use Rattle.std.specs.declared.result.Result.{Result}
 use Rattle.xxh_io.specs.declared.fault.Fault.{Fault}
 use Rattle.xxh_io.specs.declared.fault.Fault.TheVariants.{Usage, BadSeed, BadSize, BadState, OutOfMemory, Digest}
 use Rattle.xxh_io.specs.Process.{EndsAs}
+use Rattle.xxh_io.specs.Rules.{SinkRules}
 use Rattle.xxh_io.specs.Tells.{Tells, status_after}
 
 pub no-fault : (answer : Result (Unit {0}) Fault) → status_after answer ≡ 0 → answer ≡ Ok tt
@@ -15,9 +16,9 @@ no-fault (Err BadState) is = cc
 no-fault (Err OutOfMemory) is = cc
 no-fault (Err (Digest e)) is = cc
 
-pub told-nothing : {E : Type 0} (takes : E → List ℕ → E → Type 0) (refuses : E → E → Type 0) (has_failed : E → Bool) (answer : Result (Unit {0}) Fault) (old new : E) → answer ≡ Ok tt → Tells takes refuses has_failed answer old new → new ≡ old
-told-nothing takes refuses has_failed (Ok x) old new is told = told
-told-nothing takes refuses has_failed (Err fault) old new is told = cc
+pub told-nothing : {E : Type 0} (telling : SinkRules E) (answer : Result (Unit {0}) Fault) (old new : E) → answer ≡ Ok tt → Tells telling answer old new → new ≡ old
+told-nothing telling (Ok x) old new is told = told
+told-nothing telling (Err fault) old new is told = cc
 
 pub ends-itself : (answer : Result (Unit {0}) Fault) → EndsAs answer answer
 ends-itself (Ok x) = tt

@@ -1,41 +1,49 @@
 -- What a digest has read and written by the time that it answers.
-use Rattle.std.specs.Prelude.{◌≡◌, ℕ, ◌<◌, List, [], ◌∷◌, ◌++◌, length}
+use Rattle.std.specs.Prelude.{◌≡◌, ◌↔◌, ℕ, ◌<◌, List, [], ◌∷◌, ◌++◌, length}
 use Rattle.std.specs.List.{concat}
 use Rattle.std.specs.declared.result.Result.{Result}
 use Rattle.std.specs.declared.result.Result.TheVariants.{Ok, Err}
 use Rattle.xxh_io.specs.declared.error.DigestError.{DigestError}
 use Rattle.xxh_io.specs.declared.error.DigestError.TheVariants.{ReadFailed, WriteFailed, TooLong}
-use Rattle.xxh_io.specs.Pieces.{Pieces, IsProperBeginning, Step, Failing}
+use Rattle.xxh_io.specs.Pieces.{Pieces, NoneEmpty, IsProperBeginning}
+use Rattle.xxh_io.specs.Rules.{SourceRules, SinkRules}
 
 -- What was read, `pieces` being the pieces that are not empty: where the reading came to its end, fewer than
 -- max_reads of them and then an empty one; where a read failed, fewer than max_reads, up to the source that
 -- the failing read met; where it was too long, max_reads and nothing more.
-abbrev pub ReadsOn : {S T : Type 0} → Step S → Failing S → ℕ → List (List ℕ) → S → S
+abbrev pub ReadsOn : {S T : Type 0} → SourceRules S → ℕ → List (List ℕ) → S → S
     → Result T DigestError → Type 0
-ReadsOn gives fails max_reads pieces old new (Ok _) =
-    (length pieces < max_reads) × Pieces gives old (pieces ++ [] ∷ []) new
-ReadsOn gives fails max_reads pieces old new (Err WriteFailed) =
-    (length pieces < max_reads) × Pieces gives old (pieces ++ [] ∷ []) new
-ReadsOn {S} gives fails max_reads pieces old new (Err ReadFailed) =
-    (length pieces < max_reads) × ((met : S) × Pieces gives old pieces met × fails met new)
-ReadsOn gives fails max_reads pieces old new (Err TooLong) =
-    (length pieces ≡ max_reads) × Pieces gives old pieces new
+ReadsOn reading max_reads pieces old new (Ok _) =
+    (length pieces < max_reads) × Pieces reading.gives old (pieces ++ [] ∷ []) new
+ReadsOn reading max_reads pieces old new (Err WriteFailed) =
+    (length pieces < max_reads) × Pieces reading.gives old (pieces ++ [] ∷ []) new
+ReadsOn {S} reading max_reads pieces old new (Err ReadFailed) =
+    (length pieces < max_reads) × ((met : S) × Pieces reading.gives old pieces met × reading.fails met new)
+ReadsOn reading max_reads pieces old new (Err TooLong) =
+    (length pieces ≡ max_reads) × Pieces reading.gives old pieces new
+
+-- The source was read to its end, or to where the reading broke off: no piece is empty, and there are max_reads of
+-- them exactly where it was too long.
+abbrev pub ReadsTo : {S T : Type 0} → SourceRules S → ℕ → List (List ℕ) → S → S
+    → Result T DigestError → Type 0
+ReadsTo reading max_reads pieces old new result =
+    NoneEmpty pieces × ReadsOn reading max_reads pieces old new result
+    × ((result ≡ Err TooLong) ↔ (length pieces ≡ max_reads))
 
 -- these bytes were taken, in some pieces
-abbrev pub Took : {S : Type 0} → Step S → List ℕ → S → S → Type 0
-Took takes bytes old new =
-    (taken : List (List ℕ)) × Pieces takes old taken new × (concat taken ≡ bytes)
+abbrev pub Took : {S : Type 0} → SinkRules S → List ℕ → S → S → Type 0
+Took writing bytes old new =
+    (taken : List (List ℕ)) × Pieces writing.takes old taken new × (concat taken ≡ bytes)
 
 -- a beginning of the bytes was taken, and not all of them, up to the sink that the failing write met
-abbrev pub Refused : {S : Type 0} → Step S → Failing S → List ℕ → S → S → Type 0
-Refused {S} takes refuses bytes old new =
-    (taken : List (List ℕ)) × (met : S) × Pieces takes old taken met × refuses met new
+abbrev pub Refused : {S : Type 0} → SinkRules S → List ℕ → S → S → Type 0
+Refused {S} writing bytes old new =
+    (taken : List (List ℕ)) × (met : S) × Pieces writing.takes old taken met × writing.refuses met new
     × IsProperBeginning (concat taken) bytes
 
 -- what was written: the whole line; where a write failed, a beginning of it; otherwise nothing
-abbrev pub Writes : {S T : Type 0} → Step S → Failing S → List ℕ → S → S → Result T DigestError
-    → Type 0
-Writes takes refuses line old new (Ok _) = Took takes line old new
-Writes takes refuses line old new (Err WriteFailed) = Refused takes refuses line old new
-Writes takes refuses line old new (Err ReadFailed) = new ≡ old
-Writes takes refuses line old new (Err TooLong) = new ≡ old
+abbrev pub Writes : {S T : Type 0} → SinkRules S → List ℕ → S → S → Result T DigestError → Type 0
+Writes writing line old new (Ok _) = Took writing line old new
+Writes writing line old new (Err WriteFailed) = Refused writing line old new
+Writes writing line old new (Err ReadFailed) = new ≡ old
+Writes writing line old new (Err TooLong) = new ≡ old

@@ -9,5 +9,6 @@ pub mod Kind
 pub mod LineBuffer
 pub mod Pieces
 pub mod Process
+pub mod Rules
 pub mod Script
 pub mod Tells

@@ -2,7 +2,7 @@
 use Rattle.std.specs.Prelude.{◌≡◌, ℕ, List, ◌++◌, take}
 use Rattle.xxh_io.specs.declared.line_buffer.LineBuffer.{LineBuffer}
 use Rattle.xxh_io.specs.Digest.{Took}
-use Rattle.xxh_io.specs.Pieces.{Step}
+use Rattle.xxh_io.specs.Rules.{SinkRules}
 
 -- the bytes that wait
 abbrev pub waiting_bytes : {N : ℕ} → LineBuffer N → List ℕ
@@ -13,6 +13,6 @@ abbrev pub waiting_count : {N : ℕ} → LineBuffer N → ℕ
 waiting_count b = b.len
 
 -- a front of these bytes was written, and the others wait
-abbrev pub Gathers : {S : Type 0} → Step S → List ℕ → S → S → List ℕ → Type 0
-Gathers takes bytes old new waiting =
-    (front : List ℕ) × Took takes front old new × (front ++ waiting ≡ bytes)
+abbrev pub Gathers : {S : Type 0} → SinkRules S → List ℕ → S → S → List ℕ → Type 0
+Gathers writing bytes old new waiting =
+    (front : List ℕ) × Took writing front old new × (front ++ waiting ≡ bytes)

@@ -1,5 +1,6 @@
 -- What clauses read of the ends in memory.
-use Rattle.std.specs.Prelude.{◌≡◌, ◌≢◌, ℕ, ◌⊎◌, ◌+◌, ◌-◌, ◌^◌, ◌<◌, min, List, [], ◌++◌, drop, take, length, slice_index}
+use Rattle.std.specs.Prelude.{◌≡◌, ◌≢◌, ℕ, false, ◌⊎◌, ◌+◌, ◌-◌, ◌^◌, ◌<◌, min, List, [], ◌++◌, drop, take, length, slice_index}
+use Rattle.xxh_io.specs.Rules.{SourceRules, SinkRules}
 use Rattle.xxh_io.specs.declared.script_source.ScriptSource.{ScriptSource}
 use Rattle.xxh_io.specs.declared.script_source.SliceSource.{SliceSource}
 use Rattle.xxh_io.specs.declared.script_sink.ScriptSink.{ScriptSink}
@@ -62,6 +63,10 @@ abbrev pub SliceGives : SliceSource → List ℕ → SliceSource → Type 0
 SliceGives old piece new =
     (slice_rest old ≡ piece ++ slice_rest new) × (length piece ≡ 0 → slice_rest new ≡ [])
 
+-- its rules: no read fails
+abbrev pub slice_reading : SourceRules SliceSource
+slice_reading = record { has_failed = λ _. false; gives = SliceGives; fails = λ _ _. ⊥ }
+
 -- ---- a sink that follows a script
 
 -- the bytes that were taken
@@ -100,3 +105,7 @@ ScriptRefuses {N} old new =
     (sink_bytes new ≡ sink_bytes old)
     × ((counted (sink_writes old) ≡ sink_fail_at old) ⊎ (length (sink_bytes old) ≡ N))
     × IsNextWrite old new
+
+-- its rules
+abbrev pub script_writing : {N : ℕ} → SinkRules (ScriptSink N)
+script_writing = record { has_failed = λ s. s.failed; takes = ScriptTakes; refuses = ScriptRefuses }

@@ -81,7 +81,7 @@ impl From<AllocError> for Fault {
 /// Tells the fault, where there is one, and answers the exit status.
 pub fn conclude<E: Sink>(done: Result<(), Fault>, err: &mut E) -> u8
     requires { E.has_failed err.old ≡ false }
-    ensures tells { Tells E.takes E.refuses E.has_failed done err.old err.new }
+    ensures tells { Tells E.Sink done err.old err.new }
     ensures status { result ≡ status_after done }
 {
     match done {

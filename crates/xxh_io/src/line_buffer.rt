@@ -51,10 +51,10 @@ impl<const N: usize> LineBuffer<N> {
     pub fn push<W: Sink>(&mut self, line: &[u8; LINE], w: &mut W) -> Result<(), DigestError>
         requires { W.has_failed w.old ≡ false }
         ensures gathers { IfOk result
-            (λ _. Gathers W.takes (waiting_bytes self.old ++ line.now) w.old w.new
+            (λ _. Gathers W.Sink (waiting_bytes self.old ++ line.now) w.old w.new
             (waiting_bytes self.new)) }
         ensures refused { OnErr result
-            (Refused W.takes W.refuses (waiting_bytes self.old) w.old w.new) }
+            (Refused W.Sink (waiting_bytes self.old) w.old w.new) }
         ensures kept { OnErr result (waiting_bytes self.new ≡ waiting_bytes self.old) }
         ensures write_failed { (result ≡ Err DigestError.WriteFailed)
             ↔ (W.has_failed w.new ≡ true) }
@@ -80,7 +80,7 @@ impl<const N: usize> LineBuffer<N> {
     /// Writes the lines that wait. After an error they still wait.
     pub fn flush<W: Sink>(&mut self, w: &mut W) -> Result<(), DigestError>
         requires { W.has_failed w.old ≡ false }
-        ensures writes { Writes W.takes W.refuses (waiting_bytes self.old) w.old w.new result }
+        ensures writes { Writes W.Sink (waiting_bytes self.old) w.old w.new result }
         ensures empty { IfOk result (λ _. waiting_count self.new ≡ 0) }
         ensures kept { OnErr result (waiting_bytes self.new ≡ waiting_bytes self.old) }
         ensures write_failed { (result ≡ Err DigestError.WriteFailed)

@@ -14,7 +14,7 @@ const MOST_DIGITS: usize = 32;
 /// Writes all the bytes, as many at a time as the sink takes.
 pub fn write_all<W: Sink>(bytes: &[u8], w: &mut W) -> Result<(), DigestError>
     requires { W.has_failed w.old ≡ false }
-    ensures writes { Writes W.takes W.refuses bytes.now w.old w.new result }
+    ensures writes { Writes W.Sink bytes.now w.old w.new result }
     ensures write_failed { (result ≡ Err DigestError.WriteFailed) ↔ (W.has_failed w.new ≡ true) }
     ensures only { IfErr result (λ e. e ≡ DigestError.WriteFailed) }
 {
@@ -32,7 +32,7 @@ pub fn write_all<W: Sink>(bytes: &[u8], w: &mut W) -> Result<(), DigestError>
 pub fn write_line<W: Sink>(value: u128, digits: usize, w: &mut W) -> Result<(), DigestError>
     requires works { W.has_failed w.old ≡ false }
     requires room { digits ≤ 32 }
-    ensures writes { Writes W.takes W.refuses (hex_line digits value) w.old w.new result }
+    ensures writes { Writes W.Sink (hex_line digits value) w.old w.new result }
     ensures write_failed { (result ≡ Err DigestError.WriteFailed) ↔ (W.has_failed w.new ≡ true) }
     ensures only { IfErr result (λ e. e ≡ DigestError.WriteFailed) }
 {

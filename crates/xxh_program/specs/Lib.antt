@@ -8,6 +8,7 @@ pub use Rattle.xxh_io.specs.Hex
 pub use Rattle.xxh_io.specs.LineBuffer
 pub use Rattle.xxh_io.specs.Pieces
 pub use Rattle.xxh_io.specs.Process
+pub use Rattle.xxh_io.specs.Rules
 pub use Rattle.xxh_io.specs.Script
 pub use Rattle.xxh_io.specs.Tells
 pub mod BlockEnds

@@ -15,9 +15,9 @@ use Rattle.xxh_io.specs.declared.error.DigestError.{DigestError}
 use Rattle.xxh_io.specs.declared.error.DigestError.TheVariants.{ReadFailed, WriteFailed, TooLong}
 use Rattle.xxh_io.specs.declared.fault.Fault.{Fault}
 use Rattle.xxh_io.specs.declared.fault.Fault.TheVariants.{BadState, OutOfMemory, Digest}
-use Rattle.xxh_io.specs.Pieces.{NoneEmpty, Step, Failing}
-use Rattle.xxh_io.specs.Digest.{ReadsOn, Writes}
+use Rattle.xxh_io.specs.Digest.{ReadsTo, Writes}
 use Rattle.xxh_io.specs.Hex.{hex_line}
+use Rattle.xxh_io.specs.Rules.{SourceRules, SinkRules}
 
 -- the program bounds its reads by this
 abbrev pub most_reads : ℕ
@@ -31,42 +31,40 @@ digest_answer (Err e) = Err (Digest e)
 -- ---- save
 
 -- The text was written; or a beginning of it, before a write failed; or nothing, where there is no memory for it.
-abbrev pub Prints : {W : Type 0} → Step W → Failing W → List ℕ → W → W → Result (Unit {0}) Fault
-    → Type 0
-Prints takes refuses text old new (Ok x) = Writes {T = Unit {0}} takes refuses text old new (Ok x)
-Prints takes refuses text old new (Err (Digest WriteFailed)) =
-    Writes {T = Unit {0}} takes refuses text old new (Err WriteFailed)
-Prints takes refuses text old new (Err OutOfMemory) = new ≡ old
-Prints takes refuses text old new (Err _) = ⊥
+abbrev pub Prints : {W : Type 0} → SinkRules W → List ℕ → W → W → Result (Unit {0}) Fault → Type 0
+Prints writing text old new (Ok x) = Writes {T = Unit {0}} writing text old new (Ok x)
+Prints writing text old new (Err (Digest WriteFailed)) =
+    Writes {T = Unit {0}} writing text old new (Err WriteFailed)
+Prints writing text old new (Err OutOfMemory) = new ≡ old
+Prints writing text old new (Err _) = ⊥
 
 -- After the bytes m were read, the saved text of a record of this seed that stands for them was printed; and
 -- nothing, where they were not read to their end.
-abbrev pub PrintsState : {S W : Type 0} → (S → List ℕ → Type 0) → (S → ℕ) → (S → List ℕ) → Step W
-    → Failing W → ℕ → List ℕ → W → W → Result S DigestError → Result (Unit {0}) Fault → Type 0
-PrintsState stands_for seed_of text_of takes refuses seed m old new (Ok state) answer =
+abbrev pub PrintsState : {S W : Type 0} → (S → List ℕ → Type 0) → (S → ℕ) → (S → List ℕ)
+    → SinkRules W → ℕ → List ℕ → W → W → Result S DigestError → Result (Unit {0}) Fault → Type 0
+PrintsState stands_for seed_of text_of writing seed m old new (Ok state) answer =
     (seed_of state ≡ seed) × stands_for state m
-    × Prints takes refuses (text_of state ++ 10 ∷ []) old new answer
-PrintsState stands_for seed_of text_of takes refuses seed m old new (Err e) answer =
+    × Prints writing (text_of state ++ 10 ∷ []) old new answer
+PrintsState stands_for seed_of text_of writing seed m old new (Err e) answer =
     (answer ≡ Err (Digest e)) × (new ≡ old)
 
-abbrev pub Saves : {S R W : Type 0} → (S → List ℕ → Type 0) → (S → ℕ) → (S → List ℕ) → Step R
-    → Failing R → Step W → Failing W → ℕ → R → R → W → W → Result (Unit {0}) Fault → Type 0
-Saves {S} stands_for seed_of text_of gives fails takes refuses seed r_old r_new w_old w_new answer =
-    (read : Result S DigestError) × ((pieces : List (List ℕ)) × NoneEmpty pieces
-    × ReadsOn gives fails most_reads pieces r_old r_new read
-    × PrintsState stands_for seed_of text_of takes refuses seed (concat pieces)
+abbrev pub Saves : {S R W : Type 0} → (S → List ℕ → Type 0) → (S → ℕ) → (S → List ℕ) → SourceRules R
+    → SinkRules W → ℕ → R → R → W → W → Result (Unit {0}) Fault → Type 0
+Saves {S} stands_for seed_of text_of reading writing seed r_old r_new w_old w_new answer =
+    (read : Result S DigestError) × ((pieces : List (List ℕ)) × ReadsTo reading most_reads pieces r_old r_new read
+    × PrintsState stands_for seed_of text_of writing seed (concat pieces)
     w_old w_new read answer)
 
-abbrev pub Saves32 : {R W : Type 0} → Step R → Failing R → Step W → Failing W → ℕ → R → R → W → W
+abbrev pub Saves32 : {R W : Type 0} → SourceRules R → SinkRules W → ℕ → R → R → W → W
     → Result (Unit {0}) Fault → Type 0
-Saves32 gives fails takes refuses seed r_old r_new w_old w_new answer =
-    Saves Record32.StandsFor (λ s. s.seed) Saved32.saved_text gives fails takes refuses seed
+Saves32 reading writing seed r_old r_new w_old w_new answer =
+    Saves Record32.StandsFor (λ s. s.seed) Saved32.saved_text reading writing seed
     r_old r_new w_old w_new answer
 
-abbrev pub Saves64 : {R W : Type 0} → Step R → Failing R → Step W → Failing W → ℕ → R → R → W → W
+abbrev pub Saves64 : {R W : Type 0} → SourceRules R → SinkRules W → ℕ → R → R → W → W
     → Result (Unit {0}) Fault → Type 0
-Saves64 gives fails takes refuses seed r_old r_new w_old w_new answer =
-    Saves Record64.StandsFor (λ s. s.seed) Saved64.saved_text gives fails takes refuses seed
+Saves64 reading writing seed r_old r_new w_old w_new answer =
+    Saves Record64.StandsFor (λ s. s.seed) Saved64.saved_text reading writing seed
     r_old r_new w_old w_new answer
 
 -- ---- resume
@@ -90,29 +88,27 @@ Restores64 text restored =
 
 -- A digest went on from the record, for every list that it stands for; where there is none, nothing was
 -- read and nothing was written.
-abbrev pub GoesOn : {S R W : Type 0} → (S → List ℕ → Type 0) → (S → List ℕ → List ℕ) → Step R
-    → Failing R → Step W → Failing W → Result S Fault → R → R → W → W → Result (Unit {0}) Fault
-    → Type 0
-GoesOn stands_for line_of gives fails takes refuses (Ok state) r_old r_new w_old w_new answer =
+abbrev pub GoesOn : {S R W : Type 0} → (S → List ℕ → Type 0) → (S → List ℕ → List ℕ) → SourceRules R
+    → SinkRules W → Result S Fault → R → R → W → W → Result (Unit {0}) Fault → Type 0
+GoesOn stands_for line_of reading writing (Ok state) r_old r_new w_old w_new answer =
     (digested : Result (Unit {0}) DigestError) × (answer ≡ digest_answer digested)
     × ((digested ≡ Err ReadFailed) ⊎ (digested ≡ Err TooLong) → w_new ≡ w_old)
-    × ((pieces : List (List ℕ)) × NoneEmpty pieces
-    × ReadsOn gives fails most_reads pieces r_old r_new digested
+    × ((pieces : List (List ℕ)) × ReadsTo reading most_reads pieces r_old r_new digested
     × ((m : List ℕ) → stands_for state m
-    → Writes takes refuses (line_of state (m ++ concat pieces)) w_old w_new digested))
-GoesOn stands_for line_of gives fails takes refuses (Err fault) r_old r_new w_old w_new answer =
+    → Writes writing (line_of state (m ++ concat pieces)) w_old w_new digested))
+GoesOn stands_for line_of reading writing (Err fault) r_old r_new w_old w_new answer =
     (answer ≡ Err fault) × (r_new ≡ r_old) × (w_new ≡ w_old)
 
-abbrev pub Resumes32 : {R W : Type 0} → Step R → Failing R → Step W → Failing W → List ℕ → R → R
-    → W → W → Result (Unit {0}) Fault → Type 0
-Resumes32 gives fails takes refuses text r_old r_new w_old w_new answer =
+abbrev pub Resumes32 : {R W : Type 0} → SourceRules R → SinkRules W → List ℕ → R → R → W → W
+    → Result (Unit {0}) Fault → Type 0
+Resumes32 reading writing text r_old r_new w_old w_new answer =
     (restored : Result State32 Fault) × Restores32 text restored
-    × GoesOn Record32.StandsFor (λ s m. hex_line 8 (xxh32 s.seed m)) gives fails takes refuses
+    × GoesOn Record32.StandsFor (λ s m. hex_line 8 (xxh32 s.seed m)) reading writing
     restored r_old r_new w_old w_new answer
 
-abbrev pub Resumes64 : {R W : Type 0} → Step R → Failing R → Step W → Failing W → List ℕ → R → R
-    → W → W → Result (Unit {0}) Fault → Type 0
-Resumes64 gives fails takes refuses text r_old r_new w_old w_new answer =
+abbrev pub Resumes64 : {R W : Type 0} → SourceRules R → SinkRules W → List ℕ → R → R → W → W
+    → Result (Unit {0}) Fault → Type 0
+Resumes64 reading writing text r_old r_new w_old w_new answer =
     (restored : Result State64 Fault) × Restores64 text restored
-    × GoesOn Record64.StandsFor (λ s m. hex_line 16 (xxh64 s.seed m)) gives fails takes refuses
+    × GoesOn Record64.StandsFor (λ s m. hex_line 16 (xxh64 s.seed m)) reading writing
     restored r_old r_new w_old w_new answer

@@ -1,3 +1,4 @@
 pub mod Memory
 pub mod Refusal
+pub mod Rules
 pub mod System

@@ -1,7 +1,8 @@
 -- Findings of lines, and how a list ends behind them.
-use Rattle.std.proofs.Common.{◌≡◌, ◌⊎◌, ℕ, true, List, [], ◌∷◌, ◌++◌, refl, sym, ap, subst, ◌∙◌, inl, inr, append-nil, append_assoc, Bool}
+use Rattle.std.proofs.Common.{◌≡◌, ◌⊎◌, ℕ, true, List, [], ◌∷◌, ◌++◌, refl, sym, ap, subst, ◌∙◌, inl, inr, append-nil, append_assoc}
 use Rattle.std.specs.List.{AllByRecursion, concat}
 use Rattle.xxh_io.specs.Pieces.{Pieces}
+use Rattle.xxh_io.specs.Rules.{SourceRules}
 use Rattle.xxhsum_program.specs.declared.check.Report.{Report}
 use Rattle.xxhsum_program.specs.declared.lines.Lines.{Lines}
 use Rattle.xxhsum_program.specs.declared.lines.Next.TheVariants as Variant
@@ -19,13 +20,13 @@ add_up-push report (f ∷ fs) finding = add_up-push (count_one report f) fs find
 -- ---- the lines so far
 
 -- what was read of a list so far is these lines, and what waits
-abbrev pub Stands : {R : Type 0} → (R → List ℕ → R → Type 0) → R → Lines R → List (List ℕ) → Type 0
-Stands gives source state lines =
-    (done : List ℕ) × HasRead gives source done state
+abbrev pub Stands : {R : Type 0} → SourceRules R → R → Lines R → List (List ℕ) → Type 0
+Stands reading source state lines =
+    (done : List ℕ) × HasRead reading source done state
     × ((AllByRecursion IsLine lines × (done ≡ with_line_feeds lines)) ⊎ (IsAtEnd state × EndsInLine done lines))
 
-pub stands-new : {R : Type 0} (gives : R → List ℕ → R → Type 0) (source : R) (state : Lines R) → HasRead gives source [] state → Stands gives source state []
-stands-new gives source state read = ([], read, inl (tt, refl))
+pub stands-new : {R : Type 0} (reading : SourceRules R) (source : R) (state : Lines R) → HasRead reading source [] state → Stands reading source state []
+stands-new reading source state read = ([], read, inl (tt, refl))
 
 line-feeds-push : (lines : List (List ℕ)) (line : List ℕ) → with_line_feeds (lines ++ line ∷ []) ≡ with_line_feeds lines ++ line ++ 10 ∷ []
 line-feeds-push [] line = refl
@@ -34,48 +35,48 @@ line-feeds-push (x ∷ xs) line =
     ap (λ (r : List ℕ). x ++ 10 ∷ r) (line-feeds-push xs line) ∙ sym (append_assoc x (10 ∷ (before ++ line)) (10 ∷ [])) ∙ ap (λ (r : List ℕ). r ++ 10 ∷ []) (sym (append_assoc x (10 ∷ before) line))
 
 -- one line more
-pub stands-line : {R : Type 0} (gives : R → List ℕ → R → Type 0) (fails : R → R → Type 0) (has_failed : R → Bool) (source : R) (old new : Lines R) (lines : List (List ℕ)) → Stands gives source old lines → ((from : R) (done : List ℕ) → HasRead gives from done old → IsNext gives fails has_failed from done new Variant.Line) → (IsAtEnd old → Variant.Line ≡ Variant.End) → Stands gives source new (lines ++ line_of new ∷ [])
-stands-line gives fails has_failed source old new lines (done, read, inl so_far) next ended =
+pub stands-line : {R : Type 0} (reading : SourceRules R) (source : R) (old new : Lines R) (lines : List (List ℕ)) → Stands reading source old lines → ((from : R) (done : List ℕ) → HasRead reading from done old → IsNext reading from done new Variant.Line) → (IsAtEnd old → Variant.Line ≡ Variant.End) → Stands reading source new (lines ++ line_of new ∷ [])
+stands-line reading source old new lines (done, read, inl so_far) next ended =
     elim (next source done read) [
       | inl more ↦ (done ++ line_of new ++ 10 ∷ [], more.1, inl (all-push IsLine lines (line_of new) so_far.0 more.0, ap (λ (d : List ℕ). d ++ line_of new ++ 10 ∷ []) so_far.1 ∙ sym (line-feeds-push lines (line_of new))))
       | inr last ↦ (done ++ line_of new, last.1, inr (last.2, (lines, line_of new, so_far.0, last.0, ap (λ (d : List ℕ). d ++ line_of new) so_far.1, refl)))
     ]
-stands-line gives fails has_failed source old new lines (done, read, inr so_far) next ended =
+stands-line reading source old new lines (done, read, inr so_far) next ended =
     let never = ended so_far.0 in cc
 
-pub some-read : {R : Type 0} (gives : R → List ℕ → R → Type 0) (source : R) (state : Lines R) (lines : List (List ℕ)) → Stands gives source state lines → ReadsSome gives source lines
-some-read gives source state lines (done, read, inl so_far) =
+pub some-read : {R : Type 0} (reading : SourceRules R) (source : R) (state : Lines R) (lines : List (List ℕ)) → Stands reading source state lines → ReadsSome reading source lines
+some-read reading source state lines (done, read, inl so_far) =
     (state.has_ended, waiting state, (read.0, state.source, read.1, read.2, inl (so_far.0, read.3 ∙ ap (λ (d : List ℕ). d ++ waiting state) so_far.1)))
-some-read gives source state lines (done, read, inr so_far) =
+some-read reading source state lines (done, read, inr so_far) =
     let whole : concat read.0 ≡ done = read.3 ∙ ap (λ (w : List ℕ). done ++ w) so_far.0.1 ∙ append-nil done in
     (state.has_ended, [], (read.0, state.source, read.1, read.2, inr (so_far.0.0, subst (λ (text : List ℕ). EndsInLine text lines) (sym whole) so_far.1, refl)))
 
 -- ---- the end
 
-at-end : {R : Type 0} (gives : R → List ℕ → R → Type 0) (source : R) (done : List ℕ) (state : Lines R) (lines : List (List ℕ)) → HasRead gives source done state → IsAtEnd state → HasLines true done lines [] → EndsWell gives source lines
-at-end gives source done state lines read ended has =
+at-end : {R : Type 0} (reading : SourceRules R) (source : R) (done : List ℕ) (state : Lines R) (lines : List (List ℕ)) → HasRead reading source done state → IsAtEnd state → HasLines true done lines [] → EndsWell reading source lines
+at-end reading source done state lines read ended has =
     let whole : concat read.0 ≡ done = read.3 ∙ ap (λ (w : List ℕ). done ++ w) ended.1 ∙ append-nil done in
-    (read.0, state.source, read.1, subst (λ e. Pieces gives source (read.0 ++ end_piece e) state.source) ended.0 read.2, subst (λ (text : List ℕ). HasLines true text lines []) (sym whole) has)
+    (read.0, state.source, read.1, subst (λ e. Pieces reading.gives source (read.0 ++ end_piece e) state.source) ended.0 read.2, subst (λ (text : List ℕ). HasLines true text lines []) (sym whole) has)
 
-pub ends-well : {R : Type 0} (gives : R → List ℕ → R → Type 0) (fails : R → R → Type 0) (has_failed : R → Bool) (source : R) (old new : Lines R) (lines : List (List ℕ)) → Stands gives source old lines → ((from : R) (done : List ℕ) → HasRead gives from done old → IsNext gives fails has_failed from done new Variant.End) → EndsWell gives source lines
-ends-well gives fails has_failed source old new lines (done, read, inl so_far) next =
+pub ends-well : {R : Type 0} (reading : SourceRules R) (source : R) (old new : Lines R) (lines : List (List ℕ)) → Stands reading source old lines → ((from : R) (done : List ℕ) → HasRead reading from done old → IsNext reading from done new Variant.End) → EndsWell reading source lines
+ends-well reading source old new lines (done, read, inl so_far) next =
     let end = next source done read in
-    at-end gives source done new lines end.0 end.1 (inl (so_far.0, so_far.1 ∙ sym (append-nil (with_line_feeds lines))))
-ends-well gives fails has_failed source old new lines (done, read, inr so_far) next =
+    at-end reading source done new lines end.0 end.1 (inl (so_far.0, so_far.1 ∙ sym (append-nil (with_line_feeds lines))))
+ends-well reading source old new lines (done, read, inr so_far) next =
     let end = next source done read in
-    at-end gives source done new lines end.0 end.1 (inr (refl, so_far.1, refl))
+    at-end reading source done new lines end.0 end.1 (inr (refl, so_far.1, refl))
 
-pub breaks-too-long : {R : Type 0} (gives : R → List ℕ → R → Type 0) (fails : R → R → Type 0) (has_failed : R → Bool) (source : R) (old new : Lines R) (lines : List (List ℕ)) → Stands gives source old lines → ((from : R) (done : List ℕ) → HasRead gives from done old → IsNext gives fails has_failed from done new Variant.TooLong) → (IsAtEnd old → Variant.TooLong ≡ Variant.End) → EndsAs gives fails has_failed source lines LongLine
-breaks-too-long gives fails has_failed source old new lines (done, read, inl so_far) next ended =
+pub breaks-too-long : {R : Type 0} (reading : SourceRules R) (source : R) (old new : Lines R) (lines : List (List ℕ)) → Stands reading source old lines → ((from : R) (done : List ℕ) → HasRead reading from done old → IsNext reading from done new Variant.TooLong) → (IsAtEnd old → Variant.TooLong ≡ Variant.End) → EndsAs reading source lines LongLine
+breaks-too-long reading source old new lines (done, read, inl so_far) next ended =
     let long = next source done read in
     let state = long.0 in
     (new.has_ended, waiting new, (state.0, new.source, state.1, state.2, inl (so_far.0, state.3 ∙ ap (λ (d : List ℕ). d ++ waiting new) so_far.1)), long.1)
-breaks-too-long gives fails has_failed source old new lines (done, read, inr so_far) next ended =
+breaks-too-long reading source old new lines (done, read, inr so_far) next ended =
     let never = ended so_far.0 in cc
 
-pub breaks-failed : {R : Type 0} (gives : R → List ℕ → R → Type 0) (fails : R → R → Type 0) (has_failed : R → Bool) (source : R) (old new : Lines R) (lines : List (List ℕ)) → Stands gives source old lines → ((from : R) (done : List ℕ) → HasRead gives from done old → IsNext gives fails has_failed from done new Variant.Failed) → (IsAtEnd old → Variant.Failed ≡ Variant.End) → EndsAs gives fails has_failed source lines FailedRead
-breaks-failed gives fails has_failed source old new lines (done, read, inl so_far) next ended =
+pub breaks-failed : {R : Type 0} (reading : SourceRules R) (source : R) (old new : Lines R) (lines : List (List ℕ)) → Stands reading source old lines → ((from : R) (done : List ℕ) → HasRead reading from done old → IsNext reading from done new Variant.Failed) → (IsAtEnd old → Variant.Failed ≡ Variant.End) → EndsAs reading source lines FailedRead
+breaks-failed reading source old new lines (done, read, inl so_far) next ended =
     let failed = next source done read in
-    (waiting new, subst (λ (d : List ℕ). FailsAfter gives fails has_failed source (d ++ waiting new)) so_far.1 failed.0, failed.1, so_far.0)
-breaks-failed gives fails has_failed source old new lines (done, read, inr so_far) next ended =
+    (waiting new, subst (λ (d : List ℕ). FailsAfter reading source (d ++ waiting new)) so_far.1 failed.0, failed.1, so_far.0)
+breaks-failed reading source old new lines (done, read, inr so_far) next ended =
     let never = ended so_far.0 in cc

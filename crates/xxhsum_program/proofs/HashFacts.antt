@@ -6,6 +6,7 @@ use Rattle.std.specs.Result.{IsErrAnd}
 use Rattle.xxh_io.specs.Digest.{Took, Refused}
 use Rattle.xxh_io.proofs.WriteFacts.{Refused-join}
 use Rattle.xxh_io.specs.declared.kind.Kind.{Kind}
+use Rattle.xxh_io.specs.Rules.{SinkRules}
 use Rattle.xxhsum_line.specs.declared.printed.Shape.{Shape}
 use Rattle.xxhsum_program.specs.declared.outcome.Outcome.{Outcome}
 use Rattle.xxhsum_program.specs.declared.outcome.Outcome.TheVariants.{Digested, IsDirectory, Unread}
@@ -22,31 +23,31 @@ pub is-err : {T : Type 0} (result : Result T Stop) (stop : Stop) → IsErrAnd re
 is-err (Ok x) stop is = absurd is
 is-err (Err e) stop is = ap Err is
 
-nothing-is-refused : {W : Type 0} (takes : W → List ℕ → W → Type 0) (refuses : W → W → Type 0) (old new : W) → Refused takes refuses [] old new → ⊥
-nothing-is-refused takes refuses old new refused =
+nothing-is-refused : {W : Type 0} (writing : SinkRules W) (old new : W) → Refused writing [] old new → ⊥
+nothing-is-refused writing old new refused =
     let none : 0 ≡ length (concat refused.0) + length refused.4.0 = ap length refused.4.1 ∙ length-append (concat refused.0) refused.4.0 in
     omega (arith, none, refused.4.2)
 
 -- a line that is refused is that of a value, for which nothing is told
-refused-has-value : {W : Type 0} (takes : W → List ℕ → W → Type 0) (refuses : W → W → Type 0) (kind : Kind) (shape : Shape) (name : List ℕ) (outcome : Outcome) (old new : W) → Refused takes refuses (printed_line kind shape name outcome) old new → told_line name outcome ≡ []
-refused-has-value takes refuses kind shape name (Digested value) old new refused = refl
-refused-has-value takes refuses kind shape name IsDirectory old new refused = absurd (nothing-is-refused takes refuses old new refused)
-refused-has-value takes refuses kind shape name (Unread reason) old new refused = absurd (nothing-is-refused takes refuses old new refused)
+refused-has-value : {W : Type 0} (writing : SinkRules W) (kind : Kind) (shape : Shape) (name : List ℕ) (outcome : Outcome) (old new : W) → Refused writing (printed_line kind shape name outcome) old new → told_line name outcome ≡ []
+refused-has-value writing kind shape name (Digested value) old new refused = refl
+refused-has-value writing kind shape name IsDirectory old new refused = absurd (nothing-is-refused writing old new refused)
+refused-has-value writing kind shape name (Unread reason) old new refused = absurd (nothing-is-refused writing old new refused)
 
-pub stops-printing : {W E : Type 0} (comes : List ℕ → Outcome → Type 0) (takes : W → List ℕ → W → Type 0) (refuses : W → W → Type 0) (e_takes : E → List ℕ → E → Type 0) (e_refuses : E → E → Type 0) (e_failed : E → Bool) (kind : Kind) (shape : Shape) (all names after : List (List ℕ)) (outcomes : List Outcome) (name : List ℕ) (outcome : Outcome) (w_old w_mid w_new : W) (e_old e_new : E) (stop : Stop)
-    → all ≡ names ++ name ∷ after → EachHas comes names outcomes → comes name outcome → Took takes (lines_of (printed_line kind shape) names outcomes) w_old w_mid → TellsOn e_takes e_refuses e_failed (lines_of told_line names outcomes) e_old e_new → PrintsLine {T = Unit {0}} takes refuses (printed_line kind shape name outcome) w_mid w_new (Err stop)
-    → (done_outcomes : List Outcome) × (done rest : List (List ℕ)) × ((all ≡ done ++ rest) × EachHas comes done done_outcomes × EndsWith rest done_outcomes (Err stop)) × PrintsLines {T = Bool} takes refuses (lines_of (printed_line kind shape) done done_outcomes) w_old w_new (Err stop) × TellsOn e_takes e_refuses e_failed (lines_of told_line done done_outcomes) e_old e_new
-stops-printing comes takes refuses e_takes e_refuses e_failed kind shape all names after outcomes name outcome w_old w_mid w_new e_old e_new OutOfMemory parts each came took told prints =
-    (outcomes, names, name ∷ after, (parts, each, tt), subst (λ w. Took takes (lines_of (printed_line kind shape) names outcomes) w_old w) (sym prints) took, told)
-stops-printing comes takes refuses e_takes e_refuses e_failed kind shape all names after outcomes name outcome w_old w_mid w_new e_old e_new WriteFailed parts each came took told prints =
+pub stops-printing : {W E : Type 0} (comes : List ℕ → Outcome → Type 0) (writing : SinkRules W) (telling : SinkRules E) (kind : Kind) (shape : Shape) (all names after : List (List ℕ)) (outcomes : List Outcome) (name : List ℕ) (outcome : Outcome) (w_old w_mid w_new : W) (e_old e_new : E) (stop : Stop)
+    → all ≡ names ++ name ∷ after → EachHas comes names outcomes → comes name outcome → Took writing (lines_of (printed_line kind shape) names outcomes) w_old w_mid → TellsOn telling (lines_of told_line names outcomes) e_old e_new → PrintsLine {T = Unit {0}} writing (printed_line kind shape name outcome) w_mid w_new (Err stop)
+    → (done_outcomes : List Outcome) × (done rest : List (List ℕ)) × ((all ≡ done ++ rest) × EachHas comes done done_outcomes × EndsWith rest done_outcomes (Err stop)) × PrintsLines {T = Bool} writing (lines_of (printed_line kind shape) done done_outcomes) w_old w_new (Err stop) × TellsOn telling (lines_of told_line done done_outcomes) e_old e_new
+stops-printing comes writing telling kind shape all names after outcomes name outcome w_old w_mid w_new e_old e_new OutOfMemory parts each came took told prints =
+    (outcomes, names, name ∷ after, (parts, each, tt), subst (λ w. Took writing (lines_of (printed_line kind shape) names outcomes) w_old w) (sym prints) took, told)
+stops-printing comes writing telling kind shape all names after outcomes name outcome w_old w_mid w_new e_old e_new WriteFailed parts each came took told prints =
     let line = printed_line kind shape in
     let lines : lines_of line (names ++ name ∷ []) (outcomes ++ outcome ∷ []) ≡ lines_of line names outcomes ++ line name outcome = lines-push comes line names outcomes name outcome each in
     let silent : lines_of told_line (names ++ name ∷ []) (outcomes ++ outcome ∷ []) ≡ lines_of told_line names outcomes =
-    lines-push comes told_line names outcomes name outcome each ∙ ap (λ bytes. lines_of told_line names outcomes ++ bytes) (refused-has-value takes refuses kind shape name outcome w_mid w_new prints) ∙ append-nil (lines_of told_line names outcomes) in (
+    lines-push comes told_line names outcomes name outcome each ∙ ap (λ bytes. lines_of told_line names outcomes ++ bytes) (refused-has-value writing kind shape name outcome w_mid w_new prints) ∙ append-nil (lines_of told_line names outcomes) in (
       outcomes ++ outcome ∷ [],
       names ++ name ∷ [],
       after,
       (parts ∙ sym (append_assoc names (name ∷ []) after), EachHas-push comes names outcomes name outcome each came, tt),
-      subst (λ bytes. Refused takes refuses bytes w_old w_new) (sym lines) (Refused-join takes refuses _ _ w_old w_mid w_new took prints),
-      subst (λ bytes. TellsOn e_takes e_refuses e_failed bytes e_old e_new) (sym silent) told,
+      subst (λ bytes. Refused writing bytes w_old w_new) (sym lines) (Refused-join writing _ _ w_old w_mid w_new took prints),
+      subst (λ bytes. TellsOn telling bytes e_old e_new) (sym silent) told,
     )

@@ -3,6 +3,7 @@ use Rattle.std.proofs.Common.{◌≡◌, ◌≢◌, ℕ, List, [], ◌∷◌, �
 use Rattle.std.specs.List.{concat}
 use Rattle.std.specs.declared.result.Result.{Result}
 use Rattle.xxh_io.specs.Digest.{Took}
+use Rattle.xxh_io.specs.Rules.{SinkRules}
 use Rattle.xxh_io.proofs.WriteFacts.{Refused-join, Refused-more, Took-join}
 use Rattle.xxhsum_words.specs.declared.options.Options.{Options}
 use Rattle.xxhsum_program.specs.declared.check.Report.{Report}
@@ -13,17 +14,17 @@ use Rattle.xxhsum_program.specs.ListEnd.{FailedRead}
 use Rattle.xxhsum_program.specs.Said.{count_text, printed_summary, told_break, told_of_line, told_summary}
 
 -- the first part was refused
-pub line-more : {W T : Type 0} (takes : W → List ℕ → W → Type 0) (refuses : W → W → Type 0) (a b : List ℕ) (old new : W) (result : Result T Stop) (stop : Stop) → result ≡ Err stop → stop ≡ WriteFailed → PrintsLine {T = T} takes refuses a old new (Err stop) → PrintsLine takes refuses (a ++ b) old new result
-line-more takes refuses a b old new (Ok x) stop is only prints = cc
-line-more takes refuses a b old new (Err WriteFailed) WriteFailed is only prints = Refused-more takes refuses a b old new prints
-line-more takes refuses a b old new (Err OutOfMemory) WriteFailed is only prints = cc
-line-more takes refuses a b old new (Err e) OutOfMemory is only prints = cc
+pub line-more : {W T : Type 0} (writing : SinkRules W) (a b : List ℕ) (old new : W) (result : Result T Stop) (stop : Stop) → result ≡ Err stop → stop ≡ WriteFailed → PrintsLine {T = T} writing a old new (Err stop) → PrintsLine writing (a ++ b) old new result
+line-more writing a b old new (Ok x) stop is only prints = cc
+line-more writing a b old new (Err WriteFailed) WriteFailed is only prints = Refused-more writing a b old new prints
+line-more writing a b old new (Err OutOfMemory) WriteFailed is only prints = cc
+line-more writing a b old new (Err e) OutOfMemory is only prints = cc
 
 -- the first part was taken
-pub line-join : {W T : Type 0} (takes : W → List ℕ → W → Type 0) (refuses : W → W → Type 0) (a b : List ℕ) (old mid new : W) (result : Result T Stop) → Took takes a old mid → IfErr result (λ stop. stop ≡ WriteFailed) → PrintsLine takes refuses b mid new result → PrintsLine takes refuses (a ++ b) old new result
-line-join takes refuses a b old mid new (Ok x) took only prints = Took-join takes a b old mid new took prints
-line-join takes refuses a b old mid new (Err WriteFailed) took only prints = Refused-join takes refuses a b old mid new took prints
-line-join takes refuses a b old mid new (Err OutOfMemory) took only prints = cc
+pub line-join : {W T : Type 0} (writing : SinkRules W) (a b : List ℕ) (old mid new : W) (result : Result T Stop) → Took writing a old mid → IfErr result (λ stop. stop ≡ WriteFailed) → PrintsLine writing b mid new result → PrintsLine writing (a ++ b) old new result
+line-join writing a b old mid new (Ok x) took only prints = Took-join writing a b old mid new took prints
+line-join writing a b old mid new (Err WriteFailed) took only prints = Refused-join writing a b old mid new took prints
+line-join writing a b old mid new (Err OutOfMemory) took only prints = cc
 
 pub count-is : (count : ℕ) (one more word : List ℕ) → count ≢ 0 → word ≡ (if nat_eq count 1 then one else more) → count_text count one more ≡ decimal count ++ word
 count-is count one more word some is = rw is (grind arith)

@@ -5,7 +5,7 @@ use Rattle.xxh_io.specs.Digest.{Took}
 use Rattle.xxh_io.proofs.WriteFacts.{Refused-join, Took-join}
 use Rattle.xxh_io.specs.declared.error.DigestError.{DigestError}
 use Rattle.xxh_io.specs.declared.error.DigestError.TheVariants.{ReadFailed, WriteFailed, TooLong}
-use Rattle.xxhsum_files.specs.declared.refusal.Refusal.{Refusal}
+use Rattle.xxh_io.specs.Rules.{SourceRules, SinkRules}
 use Rattle.xxhsum_program.specs.declared.outcome.Outcome.{Outcome}
 use Rattle.xxhsum_program.specs.Outcomes.{FailsOn, HasNoValue, are_digested, is_digested, reason_of}
 use Rattle.xxhsum_program.specs.CheckList.{ListOutcome, are_good, is_good_outcome}
@@ -14,6 +14,7 @@ use Rattle.xxhsum_program.specs.declared.stop.Stop.TheVariants as Stopped
 use Rattle.xxhsum_program.specs.Lines.{PrintsLines, lines_of}
 use Rattle.xxhsum_program.specs.EachHas.{EachHas}
 use Rattle.xxhsum_program.proofs.EachFacts.{and-assoc, and-true}
+use Rattle.xxhsum_files.specs.Rules.{StoreRules}
 
 pub lines-push : {T : Type 0} (comes : List ℕ → T → Type 0) (line : List ℕ → T → List ℕ) (names : List (List ℕ)) (outcomes : List T) (name : List ℕ) (outcome : T) → EachHas comes names outcomes → lines_of line (names ++ name ∷ []) (outcomes ++ outcome ∷ []) ≡ lines_of line names outcomes ++ line name outcome
 lines-push comes line [] [] name outcome each = append-nil (line name outcome)
@@ -27,18 +28,18 @@ are_digested-push [] outcome = and-true (is_digested outcome)
 are_digested-push (o ∷ os) outcome = ap (λ b. is_digested o && b) (are_digested-push os outcome) ∙ and-assoc (is_digested o) (are_digested os) (is_digested outcome)
 
 -- what ends a reading too early is no write
-pub has-no-value : {S F : Type 0} (opens : S → List ℕ → F → Type 0) (refuses : S → List ℕ → Refusal → Type 0) (gives : F → List ℕ → F → Type 0) (fails : F → F → Type 0) (store : S) (name : List ℕ) (e : DigestError) → e ≢ WriteFailed → FailsOn opens gives fails store name e → HasNoValue opens refuses gives fails store name (reason_of e)
-has-no-value opens refuses gives fails store name ReadFailed never on = on
-has-no-value opens refuses gives fails store name WriteFailed never on = absurd (never refl)
-has-no-value opens refuses gives fails store name TooLong never on = on
+pub has-no-value : {S F : Type 0} (opening : StoreRules S F) (reading : SourceRules F) (store : S) (name : List ℕ) (e : DigestError) → e ≢ WriteFailed → FailsOn opening reading store name e → HasNoValue opening reading store name (reason_of e)
+has-no-value opening reading store name ReadFailed never on = on
+has-no-value opening reading store name WriteFailed never on = absurd (never refl)
+has-no-value opening reading store name TooLong never on = on
 
 -- ---- what is printed of them
 
-pub prints-join : {W T : Type 0} (takes : W → List ℕ → W → Type 0) (refuses : W → W → Type 0) (a b : List ℕ) (old mid new : W) (result : Result T Stop) → Took takes a old mid → PrintsLines takes refuses b mid new result → PrintsLines takes refuses (a ++ b) old new result
-prints-join takes refuses a b old mid new (Ok x) took prints = Took-join takes a b old mid new took prints
-prints-join takes refuses a b old mid new (Err Stopped.WriteFailed) took prints =
-    Refused-join takes refuses a b old mid new took prints
-prints-join takes refuses a b old mid new (Err Stopped.OutOfMemory) took prints = Took-join takes a b old mid new took prints
+pub prints-join : {W T : Type 0} (writing : SinkRules W) (a b : List ℕ) (old mid new : W) (result : Result T Stop) → Took writing a old mid → PrintsLines writing b mid new result → PrintsLines writing (a ++ b) old new result
+prints-join writing a b old mid new (Ok x) took prints = Took-join writing a b old mid new took prints
+prints-join writing a b old mid new (Err Stopped.WriteFailed) took prints =
+    Refused-join writing a b old mid new took prints
+prints-join writing a b old mid new (Err Stopped.OutOfMemory) took prints = Took-join writing a b old mid new took prints
 
 -- ---- lists
 

@@ -5,8 +5,7 @@ use Rattle.std.specs.List.{AllByRecursion, concat}
 use Rattle.xxh_io.specs.Kind.{digits_of}
 use Rattle.std.specs.Prelude.{nat_lt}
 use Rattle.xxh_io.specs.declared.kind.Kind.{Kind}
-use Rattle.xxh_io.specs.Pieces.{Step, Failing}
-use Rattle.xxhsum_files.specs.declared.refusal.Refusal.{Refusal}
+use Rattle.xxh_io.specs.Rules.{SourceRules}
 use Rattle.xxhsum_line.specs.Printed.{line_of}
 use Rattle.xxhsum_line.specs.declared.printed.Shape.{Shape}
 use Rattle.xxhsum_program.specs.EachHas.{EachHas}
@@ -25,6 +24,7 @@ use Rattle.xxhsum_program.specs.declared.outcome.Outcome.{Outcome}
 use Rattle.xxhsum_program.specs.declared.outcome.Outcome.TheVariants.{Digested, IsDirectory, Unread}
 use Rattle.xxhsum_program.proofs.PrintedListFacts.{checks_printed, short_names_fit}
 use Rattle.xxh_program.proofs.ValueFacts.{value-lt}
+use Rattle.xxhsum_files.specs.Rules.{StoreRules}
 
 -- the lines that are printed are those of the entries
 printed_text : (kind : Kind) (shape : Shape) (names : List (List ℕ)) (outcomes : List Outcome)
@@ -36,54 +36,54 @@ printed_text kind shape (name ∷ names) (IsDirectory ∷ outcomes) = printed_te
 printed_text kind shape (name ∷ names) (Unread reason ∷ outcomes) = printed_text kind shape names outcomes
 
 -- the entries of names that are short enough are those of a list
-listed : {S F : Type 0} (opens : S → List ℕ → F → Type 0) (refuses : S → List ℕ → Refusal → Type 0) (holds_directory : S → List ℕ → Bool → Type 0) (gives : Step F) (fails : Failing F)
+listed : {S F : Type 0} (opening : StoreRules S F) (reading : SourceRules F)
     → (store : S) (kind : Kind) (shape : Shape) (names : List (List ℕ)) (outcomes : List Outcome) → AllByRecursion IsName names
-    → EachHas (Comes opens refuses holds_directory gives fails store kind) names outcomes → AreListed shape.is_little (entries_of kind shape names outcomes)
-listed opens refuses holds_directory gives fails store kind shape [] outcomes are come = tt
-listed opens refuses holds_directory gives fails store kind shape (name ∷ names) [] are come = absurd come
-listed opens refuses holds_directory gives fails store kind shape (name ∷ names) (Digested value ∷ outcomes) are ((free, (file, end, pieces, read, told, opened, some, on, is)), come) =
+    → EachHas (Comes opening reading store kind) names outcomes → AreListed shape.is_little (entries_of kind shape names outcomes)
+listed opening reading store kind shape [] outcomes are come = tt
+listed opening reading store kind shape (name ∷ names) [] are come = absurd come
+listed opening reading store kind shape (name ∷ names) (Digested value ∷ outcomes) are ((free, (file, end, pieces, read, told, opened, on, is)), come) =
     let small : value < 16 ^ digits_of kind = subst (λ v. v < 16 ^ digits_of kind) (sym is) (value-lt kind (concat pieces)) in
-    ((small, are.0.0, short_names_fit kind shape value name are.0.1, refl), listed opens refuses holds_directory gives fails store kind shape names outcomes are.1 come)
-listed opens refuses holds_directory gives fails store kind shape (name ∷ names) (IsDirectory ∷ outcomes) are come =
-    listed opens refuses holds_directory gives fails store kind shape names outcomes are.1 come.1
-listed opens refuses holds_directory gives fails store kind shape (name ∷ names) (Unread reason ∷ outcomes) are come =
-    listed opens refuses holds_directory gives fails store kind shape names outcomes are.1 come.1
+    ((small, are.0.0, short_names_fit kind shape value name are.0.1, refl), listed opening reading store kind shape names outcomes are.1 come)
+listed opening reading store kind shape (name ∷ names) (IsDirectory ∷ outcomes) are come =
+    listed opening reading store kind shape names outcomes are.1 come.1
+listed opening reading store kind shape (name ∷ names) (Unread reason ∷ outcomes) are come =
+    listed opening reading store kind shape names outcomes are.1 come.1
 
 -- ---- the findings
 
 abbrev IsSame : Finding → Type 0
 IsSame finding = (name : List ℕ) × (finding ≡ Proper name Same)
 
-one_same : {S F : Type 0} (opens : S → List ℕ → F → Type 0) (refuses : S → List ℕ → Refusal → Type 0) (gives : Step F) (fails : Failing F) (store : S) (e : Listed) (finding : Finding) (found : Found)
-    → FilesStay opens refuses gives fails store e.kind → Rattle.xxhsum_program.specs.Outcomes.IsValueOf opens gives fails store e.kind e.name e.value
-    → finding ≡ Proper e.name found → Rattle.xxhsum_program.specs.Found.IsFound opens refuses gives fails store e.kind e.value e.name found → IsSame finding
-one_same opens refuses gives fails store e finding Same stay has is found = (e.name, is)
-one_same opens refuses gives fails store e finding Different stay has is (other, value, differs) = absurd (differs ((stay e.name e.value has).0 other value))
-one_same opens refuses gives fails store e finding (Is.Unread reason) stay has is none = absurd ((stay e.name e.value has).1 reason none)
+one_same : {S F : Type 0} (opening : StoreRules S F) (reading : SourceRules F) (store : S) (e : Listed) (finding : Finding) (found : Found)
+    → FilesStay opening reading store e.kind → Rattle.xxhsum_program.specs.Outcomes.IsValueOf opening reading store e.kind e.name e.value
+    → finding ≡ Proper e.name found → Rattle.xxhsum_program.specs.Found.IsFound opening reading store e.kind e.value e.name found → IsSame finding
+one_same opening reading store e finding Same stay has is found = (e.name, is)
+one_same opening reading store e finding Different stay has is (other, value, differs) = absurd (differs ((stay e.name e.value has).0 other value))
+one_same opening reading store e finding (Is.Unread reason) stay has is none = absurd ((stay e.name e.value has).1 reason none)
 
-all_same : {S F : Type 0} (opens : S → List ℕ → F → Type 0) (refuses : S → List ℕ → Refusal → Type 0) (holds_directory : S → List ℕ → Bool → Type 0) (gives : Step F) (fails : Failing F)
+all_same : {S F : Type 0} (opening : StoreRules S F) (reading : SourceRules F)
     → (store : S) (kind : Kind) (shape : Shape) (names : List (List ℕ)) (outcomes : List Outcome) (findings : List Finding)
-    → EachHas (Comes opens refuses holds_directory gives fails store kind) names outcomes → FilesStay opens refuses gives fails store kind
-    → AreFindingsOf opens refuses gives fails store (entries_of kind shape names outcomes) findings → AllByRecursion IsSame findings
-all_same opens refuses holds_directory gives fails store kind shape [] outcomes [] come stay are = tt
-all_same opens refuses holds_directory gives fails store kind shape [] outcomes (f ∷ fs) come stay are = absurd are
-all_same opens refuses holds_directory gives fails store kind shape (name ∷ names) [] findings come stay are = absurd come
-all_same opens refuses holds_directory gives fails store kind shape (name ∷ names) (Digested value ∷ outcomes) [] come stay are = absurd are
-all_same opens refuses holds_directory gives fails store kind shape (name ∷ names) (Digested value ∷ outcomes) (f ∷ fs) come stay are = (
-  one_same opens refuses gives fails store (record { kind = kind; shape = shape; value = value; name = name }) f are.0.0 stay come.0.1 are.0.1 are.0.2,
-  all_same opens refuses holds_directory gives fails store kind shape names outcomes fs come.1 stay are.1,
+    → EachHas (Comes opening reading store kind) names outcomes → FilesStay opening reading store kind
+    → AreFindingsOf opening reading store (entries_of kind shape names outcomes) findings → AllByRecursion IsSame findings
+all_same opening reading store kind shape [] outcomes [] come stay are = tt
+all_same opening reading store kind shape [] outcomes (f ∷ fs) come stay are = absurd are
+all_same opening reading store kind shape (name ∷ names) [] findings come stay are = absurd come
+all_same opening reading store kind shape (name ∷ names) (Digested value ∷ outcomes) [] come stay are = absurd are
+all_same opening reading store kind shape (name ∷ names) (Digested value ∷ outcomes) (f ∷ fs) come stay are = (
+  one_same opening reading store (record { kind = kind; shape = shape; value = value; name = name }) f are.0.0 stay come.0.1 are.0.1 are.0.2,
+  all_same opening reading store kind shape names outcomes fs come.1 stay are.1,
 )
-all_same opens refuses holds_directory gives fails store kind shape (name ∷ names) (IsDirectory ∷ outcomes) findings come stay are =
-    all_same opens refuses holds_directory gives fails store kind shape names outcomes findings come.1 stay are
-all_same opens refuses holds_directory gives fails store kind shape (name ∷ names) (Unread reason ∷ outcomes) findings come stay are =
-    all_same opens refuses holds_directory gives fails store kind shape names outcomes findings come.1 stay are
+all_same opening reading store kind shape (name ∷ names) (IsDirectory ∷ outcomes) findings come stay are =
+    all_same opening reading store kind shape names outcomes findings come.1 stay are
+all_same opening reading store kind shape (name ∷ names) (Unread reason ∷ outcomes) findings come stay are =
+    all_same opening reading store kind shape names outcomes findings come.1 stay are
 
-as_many : {S F : Type 0} (opens : S → List ℕ → F → Type 0) (refuses : S → List ℕ → Refusal → Type 0) (gives : Step F) (fails : Failing F) (store : S) (entries : List Listed) (findings : List Finding)
-    → AreFindingsOf opens refuses gives fails store entries findings → length findings ≡ length entries
-as_many opens refuses gives fails store [] [] are = refl
-as_many opens refuses gives fails store [] (f ∷ fs) are = absurd are
-as_many opens refuses gives fails store (e ∷ es) [] are = absurd are
-as_many opens refuses gives fails store (e ∷ es) (f ∷ fs) are = let rest = as_many opens refuses gives fails store es fs are.1 in omega (arith, rest)
+as_many : {S F : Type 0} (opening : StoreRules S F) (reading : SourceRules F) (store : S) (entries : List Listed) (findings : List Finding)
+    → AreFindingsOf opening reading store entries findings → length findings ≡ length entries
+as_many opening reading store [] [] are = refl
+as_many opening reading store [] (f ∷ fs) are = absurd are
+as_many opening reading store (e ∷ es) [] are = absurd are
+as_many opening reading store (e ∷ es) (f ∷ fs) are = let rest = as_many opening reading store es fs are.1 in omega (arith, rest)
 
 -- ---- their report
 
@@ -106,14 +106,14 @@ good : (is_strict : Bool) (proper : ℕ) → 0 < proper → is_good is_strict (r
 good true proper some = let test : nat_lt 0 proper ≡ true = grind (arith, nat_tests, some) in rw test refl
 good false proper some = let test : nat_lt 0 proper ≡ true = grind (arith, nat_tests, some) in rw test refl
 
-pub printed_is_good : {S F R : Type 0} (opens : S → List ℕ → F → Type 0) (refuses : S → List ℕ → Refusal → Type 0) (holds_directory : S → List ℕ → Bool → Type 0) (gives : Step F) (fails : Failing F) (gives_list : Step R) (fails_list : Failing R) (has_failed : R → Bool)
-    → PrintedIsGood opens refuses holds_directory gives fails gives_list fails_list has_failed
-printed_is_good opens refuses holds_directory gives fails gives_list fails_list has_failed store kind shape names outcomes source findings end is_strict come stay are some few holds finds =
+pub printed_is_good : {S F R : Type 0} (opening : StoreRules S F) (reading : SourceRules F) (list_reading : SourceRules R)
+    → PrintedIsGood opening reading list_reading
+printed_is_good opening reading list_reading store kind shape names outcomes source findings end is_strict come stay are some few holds finds =
     let entries = entries_of kind shape names outcomes in
-    let held = subst (Holds gives_list fails_list has_failed source) (printed_text kind shape names outcomes) holds in
-    let found = checks_printed opens refuses gives fails gives_list fails_list has_failed store shape.is_little entries source findings end (listed opens refuses holds_directory gives fails store kind shape names outcomes are come) few held finds in
-    let same = all_same opens refuses holds_directory gives fails store kind shape names outcomes findings come stay found.1 in
-    let some_findings : 0 < 0 + length findings = omega (arith, as_many opens refuses gives fails store entries findings found.1, some) in
+    let held = subst (Holds list_reading source) (printed_text kind shape names outcomes) holds in
+    let found = checks_printed opening reading list_reading store shape.is_little entries source findings end (listed opening reading store kind shape names outcomes are come) few held finds in
+    let same = all_same opening reading store kind shape names outcomes findings come stay found.1 in
+    let some_findings : 0 < 0 + length findings = omega (arith, as_many opening reading store entries findings found.1, some) in
     let sum : report_at end findings ≡ record { proper = proper_after 0 findings; improper = 0; unread = 0; different = 0; is_broken = false } =
     ap (λ e. report_at e findings) found.0 ∙ adds_up no_findings findings same in
     ap (is_good is_strict) sum ∙ good is_strict (proper_after 0 findings) (counted 0 findings some_findings)

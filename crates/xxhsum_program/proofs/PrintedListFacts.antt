@@ -3,10 +3,11 @@ use Rattle.std.proofs.Common.{◌≡◌, ℕ, ◌+◌, ◌<◌, Bool, true, fals
 use Rattle.std.proofs.lemmas.Bool.{both_ways, false≢true}
 use Rattle.std.proofs.lemmas.List.{length-map}
 use Rattle.std.specs.List.{AllByRecursion, concat}
-use Rattle.xxh_io.specs.Pieces.{Pieces, NoneEmpty, Step, Failing}
-use Rattle.xxh_io.specs.Script.{SliceGives, slice_rest}
+use Rattle.xxh_io.specs.Pieces.{Pieces, NoneEmpty}
+use Rattle.xxh_io.specs.Script.{slice_reading, slice_rest}
+use Rattle.xxh_io.proofs.MemoryFacts.{slice-end, slice-pieces}
 use Rattle.xxh_io.specs.declared.script_source.SliceSource.{SliceSource}
-use Rattle.xxhsum_files.specs.declared.refusal.Refusal.{Refusal}
+use Rattle.xxh_io.specs.Rules.{SourceRules}
 use Rattle.xxhsum_line.specs.Entry.{Says, is_comment}
 use Rattle.xxhsum_line.specs.Parts.{Lacks}
 use Rattle.xxhsum_line.proofs.EntryFacts.{says_same}
@@ -19,6 +20,7 @@ use Rattle.xxhsum_program.specs.Found.{IsFound}
 use Rattle.xxhsum_program.specs.ListEnd.{FailedRead, LongLine, TooMany, Whole}
 use Rattle.xxhsum_program.specs.ListLines.{BeginsTooLong, IsLastLine, IsLine, end_piece}
 use Rattle.xxhsum_program.specs.PrintedList.{AreListed, ChecksPrinted, FindsPrintedFiles, FindsPrintedLines, HasJustLines, Holds, HoldsPrintedLines, IsFindingOf, IsLineOf, IsListed, Listed, ShortNamesFit, printed_list, text_of_listed}
+use Rattle.xxhsum_files.specs.Rules.{StoreRules}
 
 -- ---- lines and the rest of a text of lines
 
@@ -111,10 +113,10 @@ finds_printed_lines is_little entries lines all has =
     let same = lines_are texts lines (listed_are_lines is_little entries all) (subst (λ t. HasLines true t lines []) (printed_lines entries) has) in
     subst (λ ls. EachHas (IsLineOf is_little) ls entries) same (each_is_line_of is_little entries all)
 
-pub reads_printed_lines : {R : Type 0} (gives : R → List ℕ → R → Type 0) (is_little : Bool) (entries : List Listed) (source end : R) (pieces : List (List ℕ))
-    → AreListed is_little entries → NoneEmpty pieces → Pieces gives source (pieces ++ [] ∷ []) end → concat pieces ≡ printed_list entries
-    → EndsWell gives source (map text_of_listed entries)
-reads_printed_lines gives is_little entries source end pieces all some read are =
+pub reads_printed_lines : {R : Type 0} (reading : SourceRules R) (is_little : Bool) (entries : List Listed) (source end : R) (pieces : List (List ℕ))
+    → AreListed is_little entries → NoneEmpty pieces → Pieces reading.gives source (pieces ++ [] ∷ []) end → concat pieces ≡ printed_list entries
+    → EndsWell reading source (map text_of_listed entries)
+reads_printed_lines reading is_little entries source end pieces all some read are =
     let texts = map text_of_listed entries in
     let text : concat pieces ≡ with_line_feeds texts ++ [] = are ∙ printed_lines entries ∙ sym (append-nil (with_line_feeds texts)) in
     (pieces, end, some, read, inl (listed_are_lines is_little entries all, text))
@@ -126,113 +128,104 @@ all_right [] others all = all
 all_right (line ∷ lines) others all = all_right lines others all.1
 
 -- what was read is a beginning of the text, and all of it at the end of the source
-read_part : {R : Type 0} (gives : Step R) (fails : Failing R) (has_failed : R → Bool) (source end : R) (text : List ℕ) (has_ended : Bool) (pieces : List (List ℕ))
-    → Holds gives fails has_failed source text → NoneEmpty pieces → Pieces gives source (pieces ++ end_piece has_ended) end
+read_part : {R : Type 0} (reading : SourceRules R) (source end : R) (text : List ℕ) (has_ended : Bool) (pieces : List (List ℕ))
+    → Holds reading source text → NoneEmpty pieces → Pieces reading.gives source (pieces ++ end_piece has_ended) end
     → (more : List ℕ) × (text ≡ concat pieces ++ more) × (has_ended ≡ true → more ≡ [])
-read_part gives fails has_failed source end text true pieces holds some read =
+read_part reading source end text true pieces holds some read =
     ([], sym (append-nil (concat pieces) ∙ holds.1 pieces end some read), λ e. refl)
-read_part gives fails has_failed source end text false pieces holds some read =
-    let part = (holds.0 pieces end some (subst (λ ps. Pieces gives source ps end) (append-nil pieces) read)).0 in
+read_part reading source end text false pieces holds some read =
+    let part = (holds.0 pieces end some (subst (λ ps. Pieces reading.gives source ps end) (append-nil pieces) read)).0 in
     (part.0, part.1, λ e. absurd (false≢true e))
 
 -- the lines that reads give are the first ones
-reads_begin : {R : Type 0} (gives : Step R) (fails : Failing R) (has_failed : R → Bool) (source : R) (texts lines : List (List ℕ)) (rest : List ℕ) (has_ended : Bool)
-    → AllByRecursion IsLine texts → Holds gives fails has_failed source (with_line_feeds texts) → ReadsLines gives source has_ended lines rest
+reads_begin : {R : Type 0} (reading : SourceRules R) (source : R) (texts lines : List (List ℕ)) (rest : List ℕ) (has_ended : Bool)
+    → AllByRecursion IsLine texts → Holds reading source (with_line_feeds texts) → ReadsLines reading source has_ended lines rest
     → (more : List ℕ) × Beginning texts lines (rest ++ more)
-reads_begin gives fails has_failed source texts lines rest has_ended all holds (pieces, end, some, read, inl has) =
-    let part = read_part gives fails has_failed source end (with_line_feeds texts) has_ended pieces holds some read in
+reads_begin reading source texts lines rest has_ended all holds (pieces, end, some, read, inl has) =
+    let part = read_part reading source end (with_line_feeds texts) has_ended pieces holds some read in
     let whole : with_line_feeds texts ≡ with_line_feeds lines ++ (rest ++ part.0) =
     part.1 ∙ ap (λ t. t ++ part.0) has.1 ∙ append_assoc (with_line_feeds lines) rest part.0 in
     (part.0, begins_with_lines texts lines (rest ++ part.0) all has.0 whole)
-reads_begin gives fails has_failed source texts lines rest has_ended all holds (pieces, end, some, read, inr (ended, ends, none)) =
-    let part = read_part gives fails has_failed source end (with_line_feeds texts) has_ended pieces holds some read in
+reads_begin reading source texts lines rest has_ended all holds (pieces, end, some, read, inr (ended, ends, none)) =
+    let part = read_part reading source end (with_line_feeds texts) has_ended pieces holds some read in
     let whole : with_line_feeds texts ≡ with_line_feeds ends.0 ++ ends.1 =
     part.1 ∙ ap (λ m. concat pieces ++ m) (part.2 ended) ∙ append-nil (concat pieces) ∙ ends.4 in
     let begin = begins_with_lines texts ends.0 ends.1 all ends.2 whole in
     absurd (no_last_line begin.0 ends.1 begin.2 ends.3)
 
 -- a source that holds lines has those, and no others
-holds_just_lines : {R : Type 0} (gives : Step R) (fails : Failing R) (has_failed : R → Bool) (source : R) (texts : List (List ℕ))
-    → AllByRecursion IsLine texts → Holds gives fails has_failed source (with_line_feeds texts) → HasJustLines gives fails has_failed source texts
-holds_just_lines gives fails has_failed source texts all holds = (
+holds_just_lines : {R : Type 0} (reading : SourceRules R) (source : R) (texts : List (List ℕ))
+    → AllByRecursion IsLine texts → Holds reading source (with_line_feeds texts) → HasJustLines reading source texts
+holds_just_lines reading source texts all holds = (
   λ lines well. lines_are texts lines all (subst (λ t. HasLines true t lines []) (holds.1 well.0 well.1 well.2 well.3) well.4),
   λ lines some.
-      let begin = (reads_begin gives fails has_failed source texts lines some.1 some.0 all holds some.2).1 in
+      let begin = (reads_begin reading source texts lines some.1 some.0 all holds some.2).1 in
       (begin.0, begin.1),
   λ has_ended lines rest reads long.
-      let begin = reads_begin gives fails has_failed source texts lines rest has_ended all holds reads in
+      let begin = reads_begin reading source texts lines rest has_ended all holds reads in
       let others = all_right lines begin.1.0 (subst (AllByRecursion IsLine) begin.1.1 all) in
       not_too_long begin.1.0 rest begin.0 others begin.1.2 long,
   λ bytes failed. (holds.0 failed.0 failed.1 failed.2 failed.3).1 failed.4,
 )
 
-pub holds_printed_lines : {R : Type 0} (gives : Step R) (fails : Failing R) (has_failed : R → Bool) → HoldsPrintedLines gives fails has_failed
-holds_printed_lines gives fails has_failed is_little entries source all holds =
-    holds_just_lines gives fails has_failed source (map text_of_listed entries) (listed_are_lines is_little entries all)
-    (subst (Holds gives fails has_failed source) (printed_lines entries) holds)
+pub holds_printed_lines : {R : Type 0} (reading : SourceRules R) → HoldsPrintedLines reading
+holds_printed_lines reading is_little entries source all holds =
+    holds_just_lines reading source (map text_of_listed entries) (listed_are_lines is_little entries all)
+    (subst (Holds reading source) (printed_lines entries) holds)
 
-found_one : {S F : Type 0} (opens : S → List ℕ → F → Type 0) (refuses : S → List ℕ → Refusal → Type 0) (gives : Step F) (fails : Failing F) (store : S) (is_little : Bool) (line : List ℕ) (e : Listed) (finding : Finding)
-    → IsLineOf is_little line e → IsFinding opens refuses gives fails store is_little line finding
-    → IsFindingOf opens refuses gives fails store e finding
-found_one opens refuses gives fails store is_little line e Ignored of is = absurd (both_ways (is_comment line) of.1 is)
-found_one opens refuses gives fails store is_little line e Improper of is = absurd (is.1 e.kind e.value e.name of.2)
-found_one opens refuses gives fails store is_little line e (Proper name found) of (kind, value, says, is) =
+found_one : {S F : Type 0} (opening : StoreRules S F) (reading : SourceRules F) (store : S) (is_little : Bool) (line : List ℕ) (e : Listed) (finding : Finding)
+    → IsLineOf is_little line e → IsFinding opening reading store is_little line finding
+    → IsFindingOf opening reading store e finding
+found_one opening reading store is_little line e Ignored of is = absurd (both_ways (is_comment line) of.1 is)
+found_one opening reading store is_little line e Improper of is = absurd (is.1 e.kind e.value e.name of.2)
+found_one opening reading store is_little line e (Proper name found) of (kind, value, says, is) =
     let same = of.3 kind value name says in
-    let at_kind = subst (λ k. IsFound opens refuses gives fails store k value name found) same.0 is in
-    let at_value = subst (λ v. IsFound opens refuses gives fails store e.kind v name found) same.1 at_kind in
-    (found, ap (λ n. Proper n found) same.2, subst (λ n. IsFound opens refuses gives fails store e.kind e.value n found) same.2 at_value)
+    let at_kind = subst (λ k. IsFound opening reading store k value name found) same.0 is in
+    let at_value = subst (λ v. IsFound opening reading store e.kind v name found) same.1 at_kind in
+    (found, ap (λ n. Proper n found) same.2, subst (λ n. IsFound opening reading store e.kind e.value n found) same.2 at_value)
 
-pub finds_printed_files : {S F : Type 0} (opens : S → List ℕ → F → Type 0) (refuses : S → List ℕ → Refusal → Type 0) (gives : Step F) (fails : Failing F)
-    → FindsPrintedFiles opens refuses gives fails
-finds_printed_files opens refuses gives fails store is_little [] [] all each = tt
-finds_printed_files opens refuses gives fails store is_little [] (finding ∷ findings) all each = absurd each
-finds_printed_files opens refuses gives fails store is_little (e ∷ es) [] all each = absurd each
-finds_printed_files opens refuses gives fails store is_little (e ∷ es) (finding ∷ findings) all each = (
-  found_one opens refuses gives fails store is_little (text_of_listed e) e finding (is_line_of is_little e all.0) each.0,
-  finds_printed_files opens refuses gives fails store is_little es findings all.1 each.1,
+pub finds_printed_files : {S F : Type 0} (opening : StoreRules S F) (reading : SourceRules F)
+    → FindsPrintedFiles opening reading
+finds_printed_files opening reading store is_little [] [] all each = tt
+finds_printed_files opening reading store is_little [] (finding ∷ findings) all each = absurd each
+finds_printed_files opening reading store is_little (e ∷ es) [] all each = absurd each
+finds_printed_files opening reading store is_little (e ∷ es) (finding ∷ findings) all each = (
+  found_one opening reading store is_little (text_of_listed e) e finding (is_line_of is_little e all.0) each.0,
+  finds_printed_files opening reading store is_little es findings all.1 each.1,
 )
 
-pub checks_printed : {S F R : Type 0} (opens : S → List ℕ → F → Type 0) (refuses : S → List ℕ → Refusal → Type 0) (gives : Step F) (fails : Failing F) (gives_list : Step R) (fails_list : Failing R) (has_failed : R → Bool)
-    → ChecksPrinted opens refuses gives fails gives_list fails_list has_failed
-checks_printed opens refuses gives fails gives_list fails_list has_failed store is_little entries source findings Whole all few holds (lines, each, well) =
-    let same = (holds_printed_lines gives_list fails_list has_failed is_little entries source all holds).0 lines well in (
+pub checks_printed : {S F R : Type 0} (opening : StoreRules S F) (reading : SourceRules F) (list_reading : SourceRules R)
+    → ChecksPrinted opening reading list_reading
+checks_printed opening reading list_reading store is_little entries source findings Whole all few holds (lines, each, well) =
+    let same = (holds_printed_lines list_reading is_little entries source all holds).0 lines well in (
       refl,
-      finds_printed_files opens refuses gives fails store is_little entries findings all
-          (subst (λ ls. EachHas (IsFinding opens refuses gives fails store is_little) ls findings) (sym same) each),
+      finds_printed_files opening reading store is_little entries findings all
+          (subst (λ ls. EachHas (IsFinding opening reading store is_little) ls findings) (sym same) each),
     )
-checks_printed opens refuses gives fails gives_list fails_list has_failed store is_little entries source findings TooMany all few holds (lines, each, (some, count)) =
+checks_printed opening reading list_reading store is_little entries source findings TooMany all few holds (lines, each, (some, count)) =
     let texts = map text_of_listed entries in
-    let rest = (holds_printed_lines gives_list fails_list has_failed is_little entries source all holds).1 lines some in
+    let rest = (holds_printed_lines list_reading is_little entries source all holds).1 lines some in
     let parts : length texts ≡ length lines + length rest.0 = ap length rest.1 ∙ length-append lines rest.0 in
     let as_many : length texts ≡ length entries = length-map entries text_of_listed in
     absurd (omega (arith, parts, as_many, count, few))
-checks_printed opens refuses gives fails gives_list fails_list has_failed store is_little entries source findings LongLine all few holds (lines, each, (has_ended, rest, reads, long)) =
-    absurd ((holds_printed_lines gives_list fails_list has_failed is_little entries source all holds).2 has_ended lines rest reads long)
-checks_printed opens refuses gives fails gives_list fails_list has_failed store is_little entries source findings FailedRead all few holds (lines, each, (rest, failed, behind, are)) =
-    absurd ((holds_printed_lines gives_list fails_list has_failed is_little entries source all holds).3 (with_line_feeds lines ++ rest) failed)
+checks_printed opening reading list_reading store is_little entries source findings LongLine all few holds (lines, each, (has_ended, rest, reads, long)) =
+    absurd ((holds_printed_lines list_reading is_little entries source all holds).2 has_ended lines rest reads long)
+checks_printed opening reading list_reading store is_little entries source findings FailedRead all few holds (lines, each, (rest, failed, behind, are)) =
+    absurd ((holds_printed_lines list_reading is_little entries source all holds).3 (with_line_feeds lines ++ rest) failed)
 
 -- ---- a source of a slice
 
-slice_pieces : (old new : SliceSource) (pieces : List (List ℕ)) → Pieces SliceGives old pieces new → slice_rest old ≡ concat pieces ++ slice_rest new
-slice_pieces old new [] led = ap slice_rest (sym led)
-slice_pieces old new (piece ∷ pieces) (mid, step, led) =
-    step.0 ∙ ap (λ r. piece ++ r) (slice_pieces mid new pieces led) ∙ sym (append_assoc piece (concat pieces) (slice_rest new))
-
-slice_end : (old end : SliceSource) (pieces : List (List ℕ)) → Pieces SliceGives old (pieces ++ [] ∷ []) end → concat pieces ≡ slice_rest old
-slice_end old end [] (mid, step, led) = sym (step.0 ∙ step.1 refl)
-slice_end old end (piece ∷ pieces) (mid, step, led) = ap (λ r. piece ++ r) (slice_end mid end pieces led) ∙ sym step.0
-
-pub slices_hold : (source : SliceSource) → Holds SliceGives (λ s t. ⊥) (λ s. false) source (slice_rest source)
+pub slices_hold : (source : SliceSource) → Holds slice_reading source (slice_rest source)
 slices_hold source = (
   λ pieces met some read. (
-    (slice_rest met, slice_pieces source met pieces read),
+    (slice_rest met, slice-pieces source met pieces read),
     λ cant.
         elim cant [
           | inl failed ↦ false≢true failed
           | inr fails ↦ fails.1
         ],
   ),
-  λ pieces end some read. slice_end source end pieces read,
+  λ pieces end some read. slice-end source end pieces read,
 )
 
 pub short_names_fit : ShortNamesFit

@@ -2,7 +2,7 @@
 use Rattle.std.proofs.Common.{◌≡◌, ℕ, ◌+◌, Bool, false, List, [], ◌∷◌, ◌++◌, length, Option, Some, None, Ok, Err, refl, sym, subst, append-nil}
 use Rattle.std.specs.declared.result.Result.{Result}
 use Rattle.xxh_io.specs.Digest.{Took, Refused}
-use Rattle.xxh_io.specs.Pieces.{Step, Failing}
+use Rattle.xxh_io.specs.Rules.{SourceRules, SinkRules}
 use Rattle.xxh_io.proofs.WriteFacts.{Refused-join, Took-join}
 use Rattle.xxhsum_words.specs.declared.options.Options.{Options}
 use Rattle.xxhsum_program.specs.declared.check.Report.{Report}
@@ -24,122 +24,122 @@ use Rattle.xxhsum_program.proofs.SaidFacts.{numbered-push}
 use Rattle.xxhsum_program.proofs.ToldFacts.{tells-more, tells-nothing}
 
 -- what `check_lines` ensures, and what `check` does
-abbrev pub LinesChecked : {R W E : Type 0} → (List ℕ → Finding → Type 0) → Step R → Failing R → (R → Bool) → Step W → Failing W → Step E → Failing E → (E → Bool) → Options → List ℕ → R → W → W → E → E → Result Report Stop → Type 0
-LinesChecked is_finding gives fails has_failed takes refuses e_takes e_refuses e_failed options list source w_old w_new e_old e_new result =
-    (findings : List Finding) × (end : Option ListEnd) × FindsLines is_finding gives fails has_failed source findings end
+abbrev pub LinesChecked : {R W E : Type 0} → (List ℕ → Finding → Type 0) → SourceRules R → SinkRules W → SinkRules E → Options → List ℕ → R → W → W → E → E → Result Report Stop → Type 0
+LinesChecked is_finding reading writing telling options list source w_old w_new e_old e_new result =
+    (findings : List Finding) × (end : Option ListEnd) × FindsLines is_finding reading source findings end
     × ReportsLines findings end result
-    × PrintsLines takes refuses (numbered (printed_finding options list) 1 findings) w_old w_new result
-    × TellsOn e_takes e_refuses e_failed (told_lines options list findings end) e_old e_new
+    × PrintsLines writing (numbered (printed_finding options list) 1 findings) w_old w_new result
+    × TellsOn telling (told_lines options list findings end) e_old e_new
 
-abbrev pub ListChecked : {R W E : Type 0} → (List ℕ → Finding → Type 0) → Step R → Failing R → (R → Bool) → Step W → Failing W → Step E → Failing E → (E → Bool) → Options → List ℕ → R → W → W → E → E → Result Bool Stop → Type 0
-ListChecked is_finding gives fails has_failed takes refuses e_takes e_refuses e_failed options list source w_old w_new e_old e_new result =
-    (findings : List Finding) × (end : Option ListEnd) × FindsLines is_finding gives fails has_failed source findings end
+abbrev pub ListChecked : {R W E : Type 0} → (List ℕ → Finding → Type 0) → SourceRules R → SinkRules W → SinkRules E → Options → List ℕ → R → W → W → E → E → Result Bool Stop → Type 0
+ListChecked is_finding reading writing telling options list source w_old w_new e_old e_new result =
+    (findings : List Finding) × (end : Option ListEnd) × FindsLines is_finding reading source findings end
     × AnswersList options.is_strict findings end result
-    × PrintsLines takes refuses (printed_list options list findings end) w_old w_new result
-    × TellsOn e_takes e_refuses e_failed (told_list options list findings end) e_old e_new
+    × PrintsLines writing (printed_list options list findings end) w_old w_new result
+    × TellsOn telling (told_list options list findings end) e_old e_new
 
-pub tells-as : {E : Type 0} (takes : E → List ℕ → E → Type 0) (refuses : E → E → Type 0) (has_failed : E → Bool) (a b : List ℕ) (old new : E) → b ≡ a → TellsOn takes refuses has_failed a old new → TellsOn takes refuses has_failed b old new
-tells-as takes refuses has_failed a b old new same tells =
-    subst (λ bytes. TellsOn takes refuses has_failed bytes old new) (sym same) tells
+pub tells-as : {E : Type 0} (telling : SinkRules E) (a b : List ℕ) (old new : E) → b ≡ a → TellsOn telling a old new → TellsOn telling b old new
+tells-as telling a b old new same tells =
+    subst (λ bytes. TellsOn telling bytes old new) (sym same) tells
 
 -- ---- a line
 
 -- what was found of a file is said, as far as the answer says
-pub line-said : {W E : Type 0} (is_finding : Finding → Type 0) (takes : W → List ℕ → W → Type 0) (refuses : W → W → Type 0) (e_takes : E → List ℕ → E → Type 0) (e_refuses : E → E → Type 0) (e_failed : E → Bool) (options : Options) (list : List ℕ) (number : ℕ) (name shown : List ℕ) (found : Found) (r_old r_new : Report) (w_old w_new : W) (err : E) (result : Result (Unit {0}) Stop)
-    → options.is_status_only ≡ false → shown ≡ name → is_finding (Proper name found) → r_new ≡ count_proper r_old found → PrintsLine takes refuses (found_text options.is_quiet list number shown found) w_old w_new result
-    → ChecksLine is_finding takes refuses e_takes e_refuses e_failed options list number r_old r_new w_old w_new err err result
-line-said is_finding takes refuses e_takes e_refuses e_failed options list number name shown found r_old r_new w_old w_new err (Ok x) speaks same is counted prints =
+pub line-said : {W E : Type 0} (is_finding : Finding → Type 0) (writing : SinkRules W) (telling : SinkRules E) (options : Options) (list : List ℕ) (number : ℕ) (name shown : List ℕ) (found : Found) (r_old r_new : Report) (w_old w_new : W) (err : E) (result : Result (Unit {0}) Stop)
+    → options.is_status_only ≡ false → shown ≡ name → is_finding (Proper name found) → r_new ≡ count_proper r_old found → PrintsLine writing (found_text options.is_quiet list number shown found) w_old w_new result
+    → ChecksLine is_finding writing telling options list number r_old r_new w_old w_new err err result
+line-said is_finding writing telling options list number name shown found r_old r_new w_old w_new err (Ok x) speaks same is counted prints =
     let text : found_text options.is_quiet list number shown found ≡ printed_finding options list number (Proper name found) = rw (speaks, same) refl in
-    (Proper name found, is, counted, subst (λ bytes. Took takes bytes w_old w_new) text prints, tells-nothing e_takes e_refuses e_failed err)
-line-said is_finding takes refuses e_takes e_refuses e_failed options list number name shown found r_old r_new w_old w_new err (Err WriteFailed) speaks same is counted prints =
+    (Proper name found, is, counted, subst (λ bytes. Took writing bytes w_old w_new) text prints, tells-nothing telling err)
+line-said is_finding writing telling options list number name shown found r_old r_new w_old w_new err (Err WriteFailed) speaks same is counted prints =
     let text : found_text options.is_quiet list number shown found ≡ printed_finding options list number (Proper name found) = rw (speaks, same) refl in
-    (Proper name found, is, subst (λ bytes. Refused takes refuses bytes w_old w_new) text prints, tells-nothing e_takes e_refuses e_failed err)
-line-said is_finding takes refuses e_takes e_refuses e_failed options list number name shown found r_old r_new w_old w_new err (Err OutOfMemory) speaks same is counted prints = (prints, refl)
+    (Proper name found, is, subst (λ bytes. Refused writing bytes w_old w_new) text prints, tells-nothing telling err)
+line-said is_finding writing telling options list number name shown found r_old r_new w_old w_new err (Err OutOfMemory) speaks same is counted prints = (prints, refl)
 
 -- ---- a line that could not be said
 
-pub lines-stop : {R W E : Type 0} (is_finding : List ℕ → Finding → Type 0) (gives : R → List ℕ → R → Type 0) (fails : R → R → Type 0) (has_failed : R → Bool) (takes : W → List ℕ → W → Type 0) (refuses : W → W → Type 0) (e_takes : E → List ℕ → E → Type 0) (e_refuses : E → E → Type 0) (e_failed : E → Bool) (options : Options) (list : List ℕ) (source : R) (w_old w_mid w_new : W) (e_old e_mid e_new : E) (old new : Lines R) (read : List (List ℕ)) (findings : List Finding) (line : List ℕ) (number : ℕ) (r_old r_new : Report) (stop : Stop)
-    → EachHas is_finding read findings → Stands gives source old read → Stands gives source new (read ++ line ∷ []) → number ≡ 1 + length findings
-    → Took takes (numbered (printed_finding options list) 1 findings) w_old w_mid → TellsOn e_takes e_refuses e_failed (numbered (told_finding options list) 1 findings) e_old e_mid
-    → ChecksLine (is_finding line) takes refuses e_takes e_refuses e_failed options list number r_old r_new w_mid w_new e_mid e_new (Err stop)
-    → LinesChecked is_finding gives fails has_failed takes refuses e_takes e_refuses e_failed options list source w_old w_new e_old e_new (Err stop)
-lines-stop is_finding gives fails has_failed takes refuses e_takes e_refuses e_failed options list source w_old w_mid w_new e_old e_mid e_new old new read findings line number r_old r_new OutOfMemory each before after count took told (prints, silent) =
+pub lines-stop : {R W E : Type 0} (is_finding : List ℕ → Finding → Type 0) (reading : SourceRules R) (writing : SinkRules W) (telling : SinkRules E) (options : Options) (list : List ℕ) (source : R) (w_old w_mid w_new : W) (e_old e_mid e_new : E) (old new : Lines R) (read : List (List ℕ)) (findings : List Finding) (line : List ℕ) (number : ℕ) (r_old r_new : Report) (stop : Stop)
+    → EachHas is_finding read findings → Stands reading source old read → Stands reading source new (read ++ line ∷ []) → number ≡ 1 + length findings
+    → Took writing (numbered (printed_finding options list) 1 findings) w_old w_mid → TellsOn telling (numbered (told_finding options list) 1 findings) e_old e_mid
+    → ChecksLine (is_finding line) writing telling options list number r_old r_new w_mid w_new e_mid e_new (Err stop)
+    → LinesChecked is_finding reading writing telling options list source w_old w_new e_old e_new (Err stop)
+lines-stop is_finding reading writing telling options list source w_old w_mid w_new e_old e_mid e_new old new read findings line number r_old r_new OutOfMemory each before after count took told (prints, silent) =
     let said = numbered (told_finding options list) 1 findings in (
       findings,
       None,
-      (read, each, some-read gives source old read before),
+      (read, each, some-read reading source old read before),
       refl,
-      subst (λ w. Took takes (numbered (printed_finding options list) 1 findings) w_old w) (sym prints) took,
-      tells-as e_takes e_refuses e_failed said (said ++ []) e_old e_new (append-nil said) (subst (λ e. TellsOn e_takes e_refuses e_failed said e_old e) (sym silent) told),
+      subst (λ w. Took writing (numbered (printed_finding options list) 1 findings) w_old w) (sym prints) took,
+      tells-as telling said (said ++ []) e_old e_new (append-nil said) (subst (λ e. TellsOn telling said e_old e) (sym silent) told),
     )
-lines-stop is_finding gives fails has_failed takes refuses e_takes e_refuses e_failed options list source w_old w_mid w_new e_old e_mid e_new old new read findings line number r_old r_new WriteFailed each before after count took told (finding, is, prints, tells) =
+lines-stop is_finding reading writing telling options list source w_old w_mid w_new e_old e_mid e_new old new read findings line number r_old r_new WriteFailed each before after count took told (finding, is, prints, tells) =
     let printed = printed_finding options list in
     let texts = told_finding options list in
     let all = numbered texts 1 (findings ++ finding ∷ []) in (
       findings ++ finding ∷ [],
       None,
-      (read ++ line ∷ [], EachHas-push is_finding read findings line finding each is, some-read gives source new (read ++ line ∷ []) after),
+      (read ++ line ∷ [], EachHas-push is_finding read findings line finding each is, some-read reading source new (read ++ line ∷ []) after),
       refl,
-      subst (λ bytes. Refused takes refuses bytes w_old w_new) (sym (numbered-push printed 1 findings finding number count)) (Refused-join takes refuses _ _ w_old w_mid w_new took prints),
-      tells-as e_takes e_refuses e_failed all (all ++ []) e_old e_new (append-nil all) (tells-as e_takes e_refuses e_failed (numbered texts 1 findings ++ texts number finding) all e_old e_new (numbered-push texts 1 findings finding number count) (tells-more e_takes e_refuses e_failed _ _ e_old e_mid e_new told tells)),
+      subst (λ bytes. Refused writing bytes w_old w_new) (sym (numbered-push printed 1 findings finding number count)) (Refused-join writing _ _ w_old w_mid w_new took prints),
+      tells-as telling all (all ++ []) e_old e_new (append-nil all) (tells-as telling (numbered texts 1 findings ++ texts number finding) all e_old e_new (numbered-push texts 1 findings finding number count) (tells-more telling _ _ e_old e_mid e_new told tells)),
     )
 
 -- ---- behind the lines
 
-prints-nothing-more : {W : Type 0} (takes : W → List ℕ → W → Type 0) (refuses : W → W → Type 0) (lines : List ℕ) (old new : W) (stop : Stop) → PrintsLines {T = Report} takes refuses lines old new (Err stop) → PrintsLines {T = Bool} takes refuses (lines ++ []) old new (Err stop)
-prints-nothing-more takes refuses lines old new WriteFailed prints =
-    subst (λ bytes. Refused takes refuses bytes old new) (sym (append-nil lines)) prints
-prints-nothing-more takes refuses lines old new OutOfMemory prints =
-    subst (λ bytes. Took takes bytes old new) (sym (append-nil lines)) prints
+prints-nothing-more : {W : Type 0} (writing : SinkRules W) (lines : List ℕ) (old new : W) (stop : Stop) → PrintsLines {T = Report} writing lines old new (Err stop) → PrintsLines {T = Bool} writing (lines ++ []) old new (Err stop)
+prints-nothing-more writing lines old new WriteFailed prints =
+    subst (λ bytes. Refused writing bytes old new) (sym (append-nil lines)) prints
+prints-nothing-more writing lines old new OutOfMemory prints =
+    subst (λ bytes. Took writing bytes old new) (sym (append-nil lines)) prints
 
 -- the lines were not all checked
-pub check-stops : {R W E : Type 0} (is_finding : List ℕ → Finding → Type 0) (gives : R → List ℕ → R → Type 0) (fails : R → R → Type 0) (has_failed : R → Bool) (takes : W → List ℕ → W → Type 0) (refuses : W → W → Type 0) (e_takes : E → List ℕ → E → Type 0) (e_refuses : E → E → Type 0) (e_failed : E → Bool) (options : Options) (list : List ℕ) (source : R) (w_old w_new : W) (e_old e_new : E) (stop : Stop)
-    → LinesChecked is_finding gives fails has_failed takes refuses e_takes e_refuses e_failed options list source w_old w_new e_old e_new (Err stop)
-    → ListChecked is_finding gives fails has_failed takes refuses e_takes e_refuses e_failed options list source w_old w_new e_old e_new (Err stop)
-check-stops is_finding gives fails has_failed takes refuses e_takes e_refuses e_failed options list source w_old w_new e_old e_new stop (findings, None, finds, is, prints, tells) = (
+pub check-stops : {R W E : Type 0} (is_finding : List ℕ → Finding → Type 0) (reading : SourceRules R) (writing : SinkRules W) (telling : SinkRules E) (options : Options) (list : List ℕ) (source : R) (w_old w_new : W) (e_old e_new : E) (stop : Stop)
+    → LinesChecked is_finding reading writing telling options list source w_old w_new e_old e_new (Err stop)
+    → ListChecked is_finding reading writing telling options list source w_old w_new e_old e_new (Err stop)
+check-stops is_finding reading writing telling options list source w_old w_new e_old e_new stop (findings, None, finds, is, prints, tells) = (
   findings,
   None,
   finds,
   tt,
-  prints-nothing-more takes refuses _ w_old w_new stop prints,
-  tells-as e_takes e_refuses e_failed _ (told_lines options list findings None ++ []) e_old e_new (append-nil (told_lines options list findings None)) tells,
+  prints-nothing-more writing _ w_old w_new stop prints,
+  tells-as telling _ (told_lines options list findings None ++ []) e_old e_new (append-nil (told_lines options list findings None)) tells,
 )
-check-stops is_finding gives fails has_failed takes refuses e_takes e_refuses e_failed options list source w_old w_new e_old e_new stop (findings, Some end, finds, is, prints, tells) = cc
+check-stops is_finding reading writing telling options list source w_old w_new e_old e_new stop (findings, Some end, finds, is, prints, tells) = cc
 
 -- the summary could not be printed
-pub check-summary-stops : {R W E : Type 0} (is_finding : List ℕ → Finding → Type 0) (gives : R → List ℕ → R → Type 0) (fails : R → R → Type 0) (has_failed : R → Bool) (takes : W → List ℕ → W → Type 0) (refuses : W → W → Type 0) (e_takes : E → List ℕ → E → Type 0) (e_refuses : E → E → Type 0) (e_failed : E → Bool) (options : Options) (list : List ℕ) (source : R) (w_old w_mid w_new : W) (e_old e_mid e_new : E) (report : Report) (stop : Stop)
-    → LinesChecked is_finding gives fails has_failed takes refuses e_takes e_refuses e_failed options list source w_old w_mid e_old e_mid (Ok report)
-    → PrintsLine {T = Unit {0}} takes refuses (printed_summary options report) w_mid w_new (Err stop) → stop ≡ WriteFailed → TellsOn e_takes e_refuses e_failed (told_summary list report) e_mid e_new
-    → ListChecked is_finding gives fails has_failed takes refuses e_takes e_refuses e_failed options list source w_old w_new e_old e_new (Err stop)
-check-summary-stops is_finding gives fails has_failed takes refuses e_takes e_refuses e_failed options list source w_old w_mid w_new e_old e_mid e_new report WriteFailed (findings, Some end, finds, is, took, told) prints only tells = (
+pub check-summary-stops : {R W E : Type 0} (is_finding : List ℕ → Finding → Type 0) (reading : SourceRules R) (writing : SinkRules W) (telling : SinkRules E) (options : Options) (list : List ℕ) (source : R) (w_old w_mid w_new : W) (e_old e_mid e_new : E) (report : Report) (stop : Stop)
+    → LinesChecked is_finding reading writing telling options list source w_old w_mid e_old e_mid (Ok report)
+    → PrintsLine {T = Unit {0}} writing (printed_summary options report) w_mid w_new (Err stop) → stop ≡ WriteFailed → TellsOn telling (told_summary list report) e_mid e_new
+    → ListChecked is_finding reading writing telling options list source w_old w_new e_old e_new (Err stop)
+check-summary-stops is_finding reading writing telling options list source w_old w_mid w_new e_old e_mid e_new report WriteFailed (findings, Some end, finds, is, took, told) prints only tells = (
   findings,
   Some end,
   finds,
   tt,
-  Refused-join takes refuses _ _ w_old w_mid w_new took (subst (λ r. Refused takes refuses (printed_summary options r) w_mid w_new) is prints),
-  tells-more e_takes e_refuses e_failed _ _ e_old e_mid e_new told (subst (λ r. TellsOn e_takes e_refuses e_failed (told_summary list r) e_mid e_new) is tells),
+  Refused-join writing _ _ w_old w_mid w_new took (subst (λ r. Refused writing (printed_summary options r) w_mid w_new) is prints),
+  tells-more telling _ _ e_old e_mid e_new told (subst (λ r. TellsOn telling (told_summary list r) e_mid e_new) is tells),
 )
-check-summary-stops is_finding gives fails has_failed takes refuses e_takes e_refuses e_failed options list source w_old w_mid w_new e_old e_mid e_new report WriteFailed (findings, None, finds, is, took, told) prints only tells = absurd is
-check-summary-stops is_finding gives fails has_failed takes refuses e_takes e_refuses e_failed options list source w_old w_mid w_new e_old e_mid e_new report OutOfMemory checked prints only tells = cc
+check-summary-stops is_finding reading writing telling options list source w_old w_mid w_new e_old e_mid e_new report WriteFailed (findings, None, finds, is, took, told) prints only tells = absurd is
+check-summary-stops is_finding reading writing telling options list source w_old w_mid w_new e_old e_mid e_new report OutOfMemory checked prints only tells = cc
 
-pub check-ends : {R W E : Type 0} (is_finding : List ℕ → Finding → Type 0) (gives : R → List ℕ → R → Type 0) (fails : R → R → Type 0) (has_failed : R → Bool) (takes : W → List ℕ → W → Type 0) (refuses : W → W → Type 0) (e_takes : E → List ℕ → E → Type 0) (e_refuses : E → E → Type 0) (e_failed : E → Bool) (options : Options) (list : List ℕ) (source : R) (w_old w_mid w_new : W) (e_old e_mid e_new : E) (report : Report) (good : Bool)
-    → LinesChecked is_finding gives fails has_failed takes refuses e_takes e_refuses e_failed options list source w_old w_mid e_old e_mid (Ok report)
-    → Took takes (printed_summary options report) w_mid w_new → TellsOn e_takes e_refuses e_failed (told_summary list report) e_mid e_new → good ≡ is_good options.is_strict report
-    → ListChecked is_finding gives fails has_failed takes refuses e_takes e_refuses e_failed options list source w_old w_new e_old e_new (Ok good)
-check-ends is_finding gives fails has_failed takes refuses e_takes e_refuses e_failed options list source w_old w_mid w_new e_old e_mid e_new report good (findings, Some end, finds, is, took, told) prints tells answer = (
+pub check-ends : {R W E : Type 0} (is_finding : List ℕ → Finding → Type 0) (reading : SourceRules R) (writing : SinkRules W) (telling : SinkRules E) (options : Options) (list : List ℕ) (source : R) (w_old w_mid w_new : W) (e_old e_mid e_new : E) (report : Report) (good : Bool)
+    → LinesChecked is_finding reading writing telling options list source w_old w_mid e_old e_mid (Ok report)
+    → Took writing (printed_summary options report) w_mid w_new → TellsOn telling (told_summary list report) e_mid e_new → good ≡ is_good options.is_strict report
+    → ListChecked is_finding reading writing telling options list source w_old w_new e_old e_new (Ok good)
+check-ends is_finding reading writing telling options list source w_old w_mid w_new e_old e_mid e_new report good (findings, Some end, finds, is, took, told) prints tells answer = (
   findings,
   Some end,
   finds,
   (tt, subst (λ r. good ≡ is_good options.is_strict r) is answer),
-  Took-join takes _ _ w_old w_mid w_new took (subst (λ r. Took takes (printed_summary options r) w_mid w_new) is prints),
-  tells-more e_takes e_refuses e_failed _ _ e_old e_mid e_new told (subst (λ r. TellsOn e_takes e_refuses e_failed (told_summary list r) e_mid e_new) is tells),
+  Took-join writing _ _ w_old w_mid w_new took (subst (λ r. Took writing (printed_summary options r) w_mid w_new) is prints),
+  tells-more telling _ _ e_old e_mid e_new told (subst (λ r. TellsOn telling (told_summary list r) e_mid e_new) is tells),
 )
-check-ends is_finding gives fails has_failed takes refuses e_takes e_refuses e_failed options list source w_old w_mid w_new e_old e_mid e_new report good (findings, None, finds, is, took, told) prints tells answer = absurd is
+check-ends is_finding reading writing telling options list source w_old w_mid w_new e_old e_mid e_new report good (findings, None, finds, is, took, told) prints tells answer = absurd is
 
 -- the same break, of the number and the report of the lines so far
-pub tells-break : {E : Type 0} (takes : E → List ℕ → E → Type 0) (refuses : E → E → Type 0) (has_failed : E → Bool) (list : List ℕ) (end : ListEnd) (m n : ℕ) (r s : Report) (old new : E) → m ≡ n → r ≡ s → TellsOn takes refuses has_failed (told_break list m r end) old new → TellsOn takes refuses has_failed (told_break list n s end) old new
-tells-break takes refuses has_failed list end m n r s old new numbers reports tells =
-    subst (λ k. TellsOn takes refuses has_failed (told_break list k s end) old new) numbers (subst (λ x. TellsOn takes refuses has_failed (told_break list m x end) old new) reports tells)
+pub tells-break : {E : Type 0} (telling : SinkRules E) (list : List ℕ) (end : ListEnd) (m n : ℕ) (r s : Report) (old new : E) → m ≡ n → r ≡ s → TellsOn telling (told_break list m r end) old new → TellsOn telling (told_break list n s end) old new
+tells-break telling list end m n r s old new numbers reports tells =
+    subst (λ k. TellsOn telling (told_break list k s end) old new) numbers (subst (λ x. TellsOn telling (told_break list m x end) old new) reports tells)
 
 -- ---- a list by its name
 

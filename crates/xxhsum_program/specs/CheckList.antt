@@ -4,14 +4,16 @@ use Rattle.std.specs.List.{AllByRecursion, concat}
 use Rattle.std.specs.declared.result.Result.{Result}
 use Rattle.std.specs.declared.result.Result.TheVariants.{Ok, Err}
 use Rattle.xxh_io.specs.Digest.{Refused, Took}
-use Rattle.xxh_io.specs.Pieces.{Pieces, NoneEmpty, Step, Failing}
+use Rattle.xxh_io.specs.Pieces.{Pieces, NoneEmpty}
+use Rattle.xxh_io.specs.Rules.{SourceRules, SinkRules}
 use Rattle.xxhsum_files.specs.declared.refusal.Refusal.{Refusal}
+use Rattle.xxhsum_files.specs.Rules.{StoreRules}
 use Rattle.xxhsum_words.specs.declared.options.Options.{Options}
 use Rattle.xxhsum_program.specs.declared.check.Report.{Report}
 use Rattle.xxhsum_program.specs.declared.stop.Stop.{Stop}
 use Rattle.xxhsum_program.specs.declared.stop.Stop.TheVariants.{WriteFailed, OutOfMemory}
 use Rattle.xxhsum_program.specs.EachHas.{EachHas}
-use Rattle.xxhsum_program.specs.Findings.{Finding, count_one}
+use Rattle.xxhsum_program.specs.Findings.{Finding, IsFinding, count_one}
 use Rattle.xxhsum_program.specs.Lines.{PrintsUnlessFailed, lines_of}
 use Rattle.xxhsum_program.specs.ListEnd.{ListEnd, Whole, TooMany, LongLine, FailedRead, report_at}
 use Rattle.xxhsum_program.specs.ListLines.{BeginsTooLong, FailsAfter, IsLastLine, IsLine, IsUnended, end_piece}
@@ -37,55 +39,55 @@ HasLines has_ended text lines rest =
     ⊎ ((has_ended ≡ true) × EndsInLine text lines × (rest ≡ []))
 
 -- reads of the source, of which none but the last was empty, gave these lines and then the rest
-abbrev pub ReadsLines : {R : Type 0} → Step R → R → Bool → List (List ℕ) → List ℕ → Type 0
-ReadsLines {R} gives source has_ended lines rest =
+abbrev pub ReadsLines : {R : Type 0} → SourceRules R → R → Bool → List (List ℕ) → List ℕ → Type 0
+ReadsLines {R} reading source has_ended lines rest =
     (pieces : List (List ℕ)) × (end : R) × NoneEmpty pieces
-    × Pieces gives source (pieces ++ end_piece has_ended) end × HasLines has_ended (concat pieces) lines rest
+    × Pieces reading.gives source (pieces ++ end_piece has_ended) end × HasLines has_ended (concat pieces) lines rest
 
 -- the source has ended, and these are its lines
-abbrev pub EndsWell : {R : Type 0} → Step R → R → List (List ℕ) → Type 0
-EndsWell gives source lines = ReadsLines gives source true lines []
+abbrev pub EndsWell : {R : Type 0} → SourceRules R → R → List (List ℕ) → Type 0
+EndsWell reading source lines = ReadsLines reading source true lines []
 
 -- reads of the source gave these lines, and perhaps more
-abbrev pub ReadsSome : {R : Type 0} → Step R → R → List (List ℕ) → Type 0
-ReadsSome gives source lines = (has_ended : Bool) × (rest : List ℕ) × ReadsLines gives source has_ended lines rest
+abbrev pub ReadsSome : {R : Type 0} → SourceRules R → R → List (List ℕ) → Type 0
+ReadsSome reading source lines = (has_ended : Bool) × (rest : List ℕ) × ReadsLines reading source has_ended lines rest
 
 -- how the lines of a source end
-abbrev pub EndsAs : {R : Type 0} → Step R → Failing R → (R → Bool) → R → List (List ℕ) → ListEnd → Type 0
-EndsAs gives fails has_failed source lines Whole = EndsWell gives source lines
-EndsAs gives fails has_failed source lines TooMany = ReadsSome gives source lines × (length lines ≡ 2 ^ 64 - 2)
-EndsAs gives fails has_failed source lines LongLine =
-    (has_ended : Bool) × (rest : List ℕ) × ReadsLines gives source has_ended lines rest × BeginsTooLong rest
-EndsAs gives fails has_failed source lines FailedRead =
-    (rest : List ℕ) × FailsAfter gives fails has_failed source (with_line_feeds lines ++ rest)
+abbrev pub EndsAs : {R : Type 0} → SourceRules R → R → List (List ℕ) → ListEnd → Type 0
+EndsAs reading source lines Whole = EndsWell reading source lines
+EndsAs reading source lines TooMany = ReadsSome reading source lines × (length lines ≡ 2 ^ 64 - 2)
+EndsAs reading source lines LongLine =
+    (has_ended : Bool) × (rest : List ℕ) × ReadsLines reading source has_ended lines rest × BeginsTooLong rest
+EndsAs reading source lines FailedRead =
+    (rest : List ℕ) × FailsAfter reading source (with_line_feeds lines ++ rest)
     × IsUnended rest × AllByRecursion IsLine lines
 
 -- the first lines of a source, or all of them and how they end
-abbrev pub MeetsLines : {R : Type 0} → Step R → Failing R → (R → Bool) → R → List (List ℕ) → Option ListEnd → Type 0
-MeetsLines gives fails has_failed source lines None = ReadsSome gives source lines
-MeetsLines gives fails has_failed source lines (Some end) = EndsAs gives fails has_failed source lines end
+abbrev pub MeetsLines : {R : Type 0} → SourceRules R → R → List (List ℕ) → Option ListEnd → Type 0
+MeetsLines reading source lines None = ReadsSome reading source lines
+MeetsLines reading source lines (Some end) = EndsAs reading source lines end
 
 -- each of the lines of a source, as far as its check has come, has a finding
-abbrev pub FindsLines : {R : Type 0} → (List ℕ → Finding → Type 0) → Step R → Failing R → (R → Bool) → R → List Finding
+abbrev pub FindsLines : {R : Type 0} → (List ℕ → Finding → Type 0) → SourceRules R → R → List Finding
     → Option ListEnd → Type 0
-FindsLines is_finding gives fails has_failed source findings end =
-    (lines : List (List ℕ)) × EachHas is_finding lines findings × MeetsLines gives fails has_failed source lines end
+FindsLines is_finding reading source findings end =
+    (lines : List (List ℕ)) × EachHas is_finding lines findings × MeetsLines reading source lines end
 
 -- A line has a finding, which is counted and said. Where a write failed, it was counted, and a beginning of its line was
 -- printed; where there was no memory, nothing was said.
-abbrev pub ChecksLine : {W E : Type 0} → (Finding → Type 0) → Step W → Failing W → Step E → Failing E → (E → Bool)
+abbrev pub ChecksLine : {W E : Type 0} → (Finding → Type 0) → SinkRules W → SinkRules E
     → Options → List ℕ → ℕ → Report → Report → W → W → E → E → Result (Unit {0}) Stop → Type 0
-ChecksLine is_finding takes w_refuses e_takes e_refuses e_failed options list number r_old r_new w_old w_new e_old e_new
+ChecksLine is_finding writing telling options list number r_old r_new w_old w_new e_old e_new
     (Ok _) =
     (finding : Finding) × is_finding finding × (r_new ≡ count_one r_old finding)
-    × Took takes (printed_finding options list number finding) w_old w_new
-    × TellsOn e_takes e_refuses e_failed (told_finding options list number finding) e_old e_new
-ChecksLine is_finding takes w_refuses e_takes e_refuses e_failed options list number r_old r_new w_old w_new e_old e_new
+    × Took writing (printed_finding options list number finding) w_old w_new
+    × TellsOn telling (told_finding options list number finding) e_old e_new
+ChecksLine is_finding writing telling options list number r_old r_new w_old w_new e_old e_new
     (Err WriteFailed) =
     (finding : Finding) × is_finding finding
-    × Refused takes w_refuses (printed_finding options list number finding) w_old w_new
-    × TellsOn e_takes e_refuses e_failed (told_finding options list number finding) e_old e_new
-ChecksLine is_finding takes w_refuses e_takes e_refuses e_failed options list number r_old r_new w_old w_new e_old e_new
+    × Refused writing (printed_finding options list number finding) w_old w_new
+    × TellsOn telling (told_finding options list number finding) e_old e_new
+ChecksLine is_finding writing telling options list number r_old r_new w_old w_new e_old e_new
     (Err OutOfMemory) =
     (w_new ≡ w_old) × (e_new ≡ e_old)
 
@@ -117,12 +119,11 @@ pub data ListOutcome : Type 0 where
   Checked : List Finding → Option ListEnd → ListOutcome
   Unopened : Refusal → ListOutcome
 
-abbrev pub IsListOutcome : {S F : Type 0} → (List ℕ → Finding → Type 0) → (S → List ℕ → F → Type 0)
-    → (S → List ℕ → Refusal → Type 0) → Step F → Failing F → (F → Bool) → S → List ℕ → ListOutcome → Type 0
-IsListOutcome {S} {F} is_finding opens refuses gives fails has_failed store name (Checked findings end) =
-    (file : F) × opens store name file × FindsLines is_finding gives fails has_failed file findings end
-IsListOutcome is_finding opens refuses gives fails has_failed store name (Unopened refusal) =
-    refuses store name refusal
+abbrev pub IsListOutcome : {S F : Type 0} → StoreRules S F → SourceRules F → S → Bool → List ℕ → ListOutcome → Type 0
+IsListOutcome {S} {F} opening reading store is_little name (Checked findings end) =
+    (file : F) × opening.opens store name file
+    × FindsLines (IsFinding opening reading store is_little) reading file findings end
+IsListOutcome opening reading store is_little name (Unopened refusal) = opening.refuses store name refusal
 
 -- what is printed and told of it
 abbrev pub printed_outcome : Options → List ℕ → ListOutcome → List ℕ
@@ -167,35 +168,29 @@ AnswersLists is_strict rest outcomes (Ok all) =
 AnswersLists is_strict rest outcomes (Err stop) = AreDoneButLast outcomes
 
 -- the lists that are done, each with its outcome, and then the rest
-abbrev pub ChecksLists : {S F : Type 0} → (List ℕ → Finding → Type 0) → (S → List ℕ → F → Type 0)
-    → (S → List ℕ → Refusal → Type 0) → Step F → Failing F → (F → Bool) → S → Bool → List (List ℕ)
-    → List (List ℕ) → List (List ℕ) → List ListOutcome → Result Bool Stop → Type 0
-ChecksLists is_finding opens refuses gives fails has_failed store is_strict names done rest outcomes result =
-    (names ≡ done ++ rest)
-    × EachHas (IsListOutcome is_finding opens refuses gives fails has_failed store) done outcomes
+abbrev pub ChecksLists : {S F : Type 0} → StoreRules S F → SourceRules F → S → Bool → Bool → List (List ℕ) → List (List ℕ)
+    → List (List ℕ) → List ListOutcome → Result Bool Stop → Type 0
+ChecksLists opening reading store is_little is_strict names done rest outcomes result =
+    (names ≡ done ++ rest) × EachHas (IsListOutcome opening reading store is_little) done outcomes
     × AnswersLists is_strict rest outcomes result
 
 -- ---- what is found, and what is said of it
 
 -- the lines of a list have their findings, and both ends have just what is said of these
-abbrev pub SaysList : {R W E : Type 0} → (List ℕ → Finding → Type 0) → Step R → Failing R → (R → Bool) → Step W
-    → Failing W → (W → Bool) → Step E → Failing E → (E → Bool) → Options → List ℕ → R → W → W → E → E
-    → Result Bool Stop → Type 0
-SaysList is_finding gives fails has_failed takes w_refuses w_failed e_takes e_refuses e_failed options name source w_old
-    w_new e_old e_new result =
+abbrev pub SaysList : {S F R W E : Type 0} → StoreRules S F → SourceRules F → SourceRules R → SinkRules W → SinkRules E → S
+    → Options → List ℕ → R → W → W → E → E → Result Bool Stop → Type 0
+SaysList opening reading list_reading writing telling store options name source w_old w_new e_old e_new result =
     (findings : List Finding) × (end : Option ListEnd)
-    × FindsLines is_finding gives fails has_failed source findings end
+    × FindsLines (IsFinding opening reading store options.is_little_endian) list_reading source findings end
     × AnswersList options.is_strict findings end result
-    × PrintsUnlessFailed takes w_refuses w_failed (printed_list options name findings end) w_old w_new result
-    × TellsOn e_takes e_refuses e_failed (told_list options name findings end) e_old e_new
+    × PrintsUnlessFailed writing (printed_list options name findings end) w_old w_new result
+    × TellsOn telling (told_list options name findings end) e_old e_new
 
 -- each of the lists has its outcome, and both ends have just what is said of these
-abbrev pub SaysLists : {S F W E : Type 0} → (List ℕ → Finding → Type 0) → (S → List ℕ → F → Type 0)
-    → (S → List ℕ → Refusal → Type 0) → Step F → Failing F → (F → Bool) → Step W → Failing W → (W → Bool)
-    → Step E → Failing E → (E → Bool) → S → Options → List (List ℕ) → W → W → E → E → Result Bool Stop → Type 0
-SaysLists is_finding opens refuses gives fails has_failed takes w_refuses w_failed e_takes e_refuses e_failed store options
-    names w_old w_new e_old e_new result =
+abbrev pub SaysLists : {S F W E : Type 0} → StoreRules S F → SourceRules F → SinkRules W → SinkRules E → S → Options
+    → List (List ℕ) → W → W → E → E → Result Bool Stop → Type 0
+SaysLists opening reading writing telling store options names w_old w_new e_old e_new result =
     (outcomes : List ListOutcome) × (done rest : List (List ℕ))
-    × ChecksLists is_finding opens refuses gives fails has_failed store options.is_strict names done rest outcomes result
-    × PrintsUnlessFailed takes w_refuses w_failed (lines_of (printed_outcome options) done outcomes) w_old w_new result
-    × TellsOn e_takes e_refuses e_failed (lines_of (told_outcome options) done outcomes) e_old e_new
+    × ChecksLists opening reading store options.is_little_endian options.is_strict names done rest outcomes result
+    × PrintsUnlessFailed writing (lines_of (printed_outcome options) done outcomes) w_old w_new result
+    × TellsOn telling (lines_of (told_outcome options) done outcomes) e_old e_new

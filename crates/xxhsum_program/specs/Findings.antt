@@ -1,13 +1,13 @@
 -- What is found of the lines of a list, and the report that it adds up to.
 use Rattle.std.specs.Prelude.{◌≡◌, ℕ, ◌+◌, ◌-◌, ◌^◌, Bool, true, false, List, [], ◌∷◌, min}
-use Rattle.xxh_io.specs.Pieces.{Step, Failing}
-use Rattle.xxhsum_files.specs.declared.refusal.Refusal.{Refusal}
 use Rattle.xxhsum_line.specs.Entry.{Says, SaysNothing, is_comment}
 use Rattle.xxh_io.specs.declared.kind.Kind.{Kind}
+use Rattle.xxh_io.specs.Rules.{SourceRules}
 use Rattle.xxhsum_program.specs.declared.check.Report.{Report}
 use Rattle.xxhsum_program.specs.declared.entry.Found.{Found}
 use Rattle.xxhsum_program.specs.declared.entry.Found.TheVariants.{Same, Different, Unread}
 use Rattle.xxhsum_program.specs.Found.{IsFound}
+use Rattle.xxhsum_files.specs.Rules.{StoreRules}
 
 -- a line is a comment, or malformed, or names a file that was found like this
 pub data Finding : Type 0 where
@@ -16,13 +16,12 @@ pub data Finding : Type 0 where
   Proper : List ℕ → Found → Finding
 
 -- what is found of a line
-abbrev pub IsFinding : {S F : Type 0} → (S → List ℕ → F → Type 0) → (S → List ℕ → Refusal → Type 0) → Step F
-    → Failing F → S → Bool → List ℕ → Finding → Type 0
-IsFinding opens refuses gives fails store is_little line Ignored = is_comment line ≡ true
-IsFinding opens refuses gives fails store is_little line Improper = SaysNothing is_little line
-IsFinding opens refuses gives fails store is_little line (Proper name found) =
+abbrev pub IsFinding : {S F : Type 0} → StoreRules S F → SourceRules F → S → Bool → List ℕ → Finding → Type 0
+IsFinding opening reading store is_little line Ignored = is_comment line ≡ true
+IsFinding opening reading store is_little line Improper = SaysNothing is_little line
+IsFinding opening reading store is_little line (Proper name found) =
     (kind : Kind) × (value : ℕ) × Says is_little line kind value name
-    × IsFound opens refuses gives fails store kind value name found
+    × IsFound opening reading store kind value name found
 
 -- one more, but no more than the largest number of 64 bits
 abbrev pub one_more : ℕ → ℕ

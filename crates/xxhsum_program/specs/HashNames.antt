@@ -5,11 +5,10 @@ use Rattle.std.specs.declared.result.Result.{Result}
 use Rattle.std.specs.declared.result.Result.TheVariants.{Ok, Err}
 use Rattle.xxh_io.specs.declared.kind.Kind.{Kind}
 use Rattle.xxh_io.specs.declared.error.DigestError.{DigestError}
-use Rattle.xxh_io.specs.Digest.{ReadsOn}
-use Rattle.xxh_io.specs.Pieces.{NoneEmpty, Step, Failing}
+use Rattle.xxh_io.specs.Digest.{ReadsTo}
+use Rattle.xxh_io.specs.Rules.{SourceRules, SinkRules}
 use Rattle.xxh_program.specs.Kind.{value_of}
 use Rattle.xxh_program.specs.States.{most_reads}
-use Rattle.xxhsum_files.specs.declared.refusal.Refusal.{Refusal}
 use Rattle.xxhsum_line.specs.declared.printed.Shape.{Shape}
 use Rattle.xxhsum_program.specs.declared.outcome.Outcome.{Outcome}
 use Rattle.xxhsum_program.specs.declared.stop.Stop.{Stop}
@@ -17,6 +16,7 @@ use Rattle.xxhsum_program.specs.EachHas.{EachHas}
 use Rattle.xxhsum_program.specs.Outcomes.{Comes, are_digested}
 use Rattle.xxhsum_program.specs.Lines.{PrintsLine, PrintsLines, lines_of, printed_input, printed_line, told_input, told_line}
 use Rattle.xxhsum_program.specs.Told.{TellsOn}
+use Rattle.xxhsum_files.specs.Rules.{StoreRules}
 
 -- Where the run came to its end, no name is left, and the answer is whether each has a value. Only a write that failed
 -- or want of memory keeps it from there: no reason of a `Stop` is another.
@@ -25,36 +25,33 @@ EndsWith rest outcomes (Ok all) = (rest ≡ []) × (all ≡ are_digested outcome
 EndsWith rest outcomes (Err stop) = Unit {0}
 
 -- the names that are done, each with its outcome, and then the rest
-abbrev pub HashesNames : {S F : Type 0} → (S → List ℕ → F → Type 0) → (S → List ℕ → Refusal → Type 0)
-    → (S → List ℕ → Bool → Type 0) → Step F → Failing F → S → Kind → List (List ℕ) → List (List ℕ)
+abbrev pub HashesNames : {S F : Type 0} → StoreRules S F → SourceRules F → S → Kind → List (List ℕ) → List (List ℕ)
     → List (List ℕ) → List Outcome → Result Bool Stop → Type 0
-HashesNames opens refuses holds_directory gives fails store kind names done rest outcomes result =
+HashesNames opening reading store kind names done rest outcomes result =
     (names ≡ done ++ rest)
-    × EachHas (Comes opens refuses holds_directory gives fails store kind) done outcomes
+    × EachHas (Comes opening reading store kind) done outcomes
     × EndsWith rest outcomes result
 
 -- ---- what becomes of names, and what is said of it
 
 -- Each of the names has its outcome. Standard output has the lines of those with a value, and standard error those of
 -- the others.
-abbrev pub SaysNames : {S F W E : Type 0} → (S → List ℕ → F → Type 0) → (S → List ℕ → Refusal → Type 0)
-    → (S → List ℕ → Bool → Type 0) → Step F → Failing F → Step W → Failing W → Step E → Failing E → (E → Bool)
+abbrev pub SaysNames : {S F W E : Type 0} → StoreRules S F → SourceRules F → SinkRules W → SinkRules E
     → S → Kind → Shape → List (List ℕ) → W → W → E → E → Result Bool Stop → Type 0
-SaysNames opens refuses holds_directory gives fails takes w_refuses e_takes e_refuses e_failed store kind shape names w_old
+SaysNames opening reading writing telling store kind shape names w_old
     w_new e_old e_new result =
     (outcomes : List Outcome) × (done rest : List (List ℕ))
-    × HashesNames opens refuses holds_directory gives fails store kind names done rest outcomes result
-    × PrintsLines takes w_refuses (lines_of (printed_line kind shape) done outcomes) w_old w_new result
-    × TellsOn e_takes e_refuses e_failed (lines_of told_line done outcomes) e_old e_new
+    × HashesNames opening reading store kind names done rest outcomes result
+    × PrintsLines writing (lines_of (printed_line kind shape) done outcomes) w_old w_new result
+    × TellsOn telling (lines_of told_line done outcomes) e_old e_new
 
 -- A source was read to its end, or not. Standard output has the line of its value, or standard error why there is none;
 -- the answer is whether there is one.
-abbrev pub SaysInput : {R W E : Type 0} → Step R → Failing R → Step W → Failing W → Step E → Failing E → (E → Bool)
+abbrev pub SaysInput : {R W E : Type 0} → SourceRules R → SinkRules W → SinkRules E
     → Kind → Shape → List ℕ → R → R → W → W → E → E → Result Bool Stop → Type 0
-SaysInput gives fails takes w_refuses e_takes e_refuses e_failed kind shape name r_old r_new w_old w_new e_old e_new result =
-    (pieces : List (List ℕ)) × (read : Result ℕ DigestError) × NoneEmpty pieces
-    × ReadsOn gives fails most_reads pieces r_old r_new read
+SaysInput reading writing telling kind shape name r_old r_new w_old w_new e_old e_new result =
+    (pieces : List (List ℕ)) × (read : Result ℕ DigestError) × ReadsTo reading most_reads pieces r_old r_new read
     × IfOk result (λ all. all ≡ is_ok read)
-    × PrintsLine takes w_refuses (printed_input kind shape name (value_of kind 0 (concat pieces)) read)
+    × PrintsLine writing (printed_input kind shape name (value_of kind 0 (concat pieces)) read)
     w_old w_new result
-    × TellsOn e_takes e_refuses e_failed (told_input read) e_old e_new
+    × TellsOn telling (told_input read) e_old e_new

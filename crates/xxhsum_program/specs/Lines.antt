@@ -1,12 +1,12 @@
 -- The lines of the names, and what was written of them.
-use Rattle.std.specs.Prelude.{◌≡◌, ◌⊎◌, ℕ, Bool, true, List, [], ◌∷◌, ◌++◌, codes}
+use Rattle.std.specs.Prelude.{◌≡◌, ◌⊎◌, ℕ, true, List, [], ◌∷◌, ◌++◌, codes}
 use Rattle.std.specs.List.{concat}
 use Rattle.std.specs.declared.result.Result.{Result}
 use Rattle.std.specs.declared.result.Result.TheVariants.{Ok, Err}
 use Rattle.xxh_io.specs.declared.error.DigestError.{DigestError}
 use Rattle.xxh_io.specs.declared.kind.Kind.{Kind}
-use Rattle.xxh_io.specs.Pieces.{Step, Failing}
 use Rattle.xxh_io.specs.Digest.{Took, Refused}
+use Rattle.xxh_io.specs.Rules.{SinkRules}
 use Rattle.xxhsum_line.specs.declared.printed.Shape.{Shape}
 use Rattle.xxhsum_line.specs.Printed.{line_of}
 use Rattle.xxhsum_program.specs.declared.outcome.Outcome.{Outcome}
@@ -44,23 +44,23 @@ lines_of line [] outcomes = []
 lines_of line (name ∷ names) [] = []
 
 -- a line was written: all of it; where a write failed, a beginning of it; where there was no memory, nothing
-abbrev pub PrintsLine : {W T : Type 0} → Step W → Failing W → List ℕ → W → W → Result T Stop → Type 0
-PrintsLine takes refuses line old new (Ok _) = Took takes line old new
-PrintsLine takes refuses line old new (Err WriteFailed) = Refused takes refuses line old new
-PrintsLine takes refuses line old new (Err OutOfMemory) = new ≡ old
+abbrev pub PrintsLine : {W T : Type 0} → SinkRules W → List ℕ → W → W → Result T Stop → Type 0
+PrintsLine writing line old new (Ok _) = Took writing line old new
+PrintsLine writing line old new (Err WriteFailed) = Refused writing line old new
+PrintsLine writing line old new (Err OutOfMemory) = new ≡ old
 
 -- the lines were written: all of them; where a write failed, a beginning
-abbrev pub PrintsLines : {W T : Type 0} → Step W → Failing W → List ℕ → W → W → Result T Stop → Type 0
-PrintsLines takes refuses lines old new (Ok _) = Took takes lines old new
-PrintsLines takes refuses lines old new (Err WriteFailed) = Refused takes refuses lines old new
-PrintsLines takes refuses lines old new (Err OutOfMemory) = Took takes lines old new
+abbrev pub PrintsLines : {W T : Type 0} → SinkRules W → List ℕ → W → W → Result T Stop → Type 0
+PrintsLines writing lines old new (Ok _) = Took writing lines old new
+PrintsLines writing lines old new (Err WriteFailed) = Refused writing lines old new
+PrintsLines writing lines old new (Err OutOfMemory) = Took writing lines old new
 
 -- the lines were written; or a write had failed before, and nothing was
-abbrev pub PrintsUnlessFailed : {W T : Type 0} → Step W → Failing W → (W → Bool) → List ℕ → W → W → Result T Stop
+abbrev pub PrintsUnlessFailed : {W T : Type 0} → SinkRules W → List ℕ → W → W → Result T Stop
     → Type 0
-PrintsUnlessFailed takes refuses has_failed lines old new result =
-    PrintsLines takes refuses lines old new result
-    ⊎ ((has_failed old ≡ true) × (new ≡ old) × (result ≡ Err WriteFailed))
+PrintsUnlessFailed writing lines old new result =
+    PrintsLines writing lines old new result
+    ⊎ ((writing.has_failed old ≡ true) × (new ≡ old) × (result ≡ Err WriteFailed))
 
 -- ---- standard input
 

@@ -1,11 +1,12 @@
 -- What the reader of a list's lines is seen as: the bytes that wait, the line that came last, and what was read. No
 -- public clause speaks of it.
-use Rattle.std.specs.Prelude.{◌≡◌, ◌⊎◌, ℕ, ◌+◌, ◌-◌, ◌<◌, Bool, true, List, [], ◌∷◌, ◌++◌, Option, Some, None, slice_range, if◌then◌else◌}
+use Rattle.std.specs.Prelude.{◌≡◌, ◌⊎◌, ℕ, ◌+◌, ◌-◌, ◌<◌, true, List, [], ◌∷◌, ◌++◌, Option, Some, None, slice_range, if◌then◌else◌}
 use Rattle.std.specs.List.{concat}
 use Rattle.std.specs.declared.result.Result.{Result}
 use Rattle.std.specs.declared.result.Result.TheVariants.{Ok, Err}
 use Rattle.xxh_io.specs.declared.ends.Failed.{Failed}
-use Rattle.xxh_io.specs.Pieces.{Pieces, NoneEmpty, Step, Failing}
+use Rattle.xxh_io.specs.Pieces.{Pieces, NoneEmpty}
+use Rattle.xxh_io.specs.Rules.{SourceRules}
 use Rattle.xxhsum_line.specs.Parts.{Lacks}
 use Rattle.xxhsum_program.specs.declared.lines.Lines.{Lines}
 use Rattle.xxhsum_program.specs.declared.lines.Next.{Next}
@@ -50,27 +51,27 @@ abbrev pub most_reads_left : {R : Type 0} → Lines R → ℕ
 most_reads_left lines = (if lines.has_ended then 0 else 1) + (65536 - (lines.end - lines.start))
 
 -- reads, of which none but the last was empty, gave the bytes `done` and then those that wait
-abbrev pub HasRead : {R : Type 0} → Step R → R → List ℕ → Lines R → Type 0
-HasRead gives from done lines =
+abbrev pub HasRead : {R : Type 0} → SourceRules R → R → List ℕ → Lines R → Type 0
+HasRead reading from done lines =
     (pieces : List (List ℕ)) × NoneEmpty pieces
-    × Pieces gives from (pieces ++ end_piece lines.has_ended) lines.source
+    × Pieces reading.gives from (pieces ++ end_piece lines.has_ended) lines.source
     × (concat pieces ≡ done ++ waiting lines)
 
 -- what was read behind `done`, and whether a read failed
-abbrev pub ReadsBehind : {R T : Type 0} → Step R → Failing R → (R → Bool) → R → List ℕ → Lines R
+abbrev pub ReadsBehind : {R T : Type 0} → SourceRules R → R → List ℕ → Lines R
     → Result T Failed → Type 0
-ReadsBehind gives fails has_failed from done new (Ok x) = HasRead gives from done new
-ReadsBehind gives fails has_failed from done new (Err e) =
-    FailsAfter gives fails has_failed from (done ++ waiting new) × IsUnended (waiting new)
+ReadsBehind reading from done new (Ok x) = HasRead reading from done new
+ReadsBehind reading from done new (Err e) =
+    FailsAfter reading from (done ++ waiting new) × IsUnended (waiting new)
 
 -- What comes next behind the bytes `done`: a line and its line feed; a last line; bytes that are too long for a line;
 -- nothing, since the source has ended; or bytes that no line feed ends, since a read failed.
-abbrev pub IsNext : {R : Type 0} → Step R → Failing R → (R → Bool) → R → List ℕ → Lines R → Next → Type 0
-IsNext gives fails has_failed from done new Variant.Line =
-    (IsLine (line_of new) × HasRead gives from (done ++ line_of new ++ 10 ∷ []) new)
-    ⊎ (IsLastLine (line_of new) × HasRead gives from (done ++ line_of new) new × IsAtEnd new)
-IsNext gives fails has_failed from done new Variant.TooLong =
-    HasRead gives from done new × BeginsTooLong (waiting new)
-IsNext gives fails has_failed from done new Variant.End = HasRead gives from done new × IsAtEnd new
-IsNext gives fails has_failed from done new Variant.Failed =
-    FailsAfter gives fails has_failed from (done ++ waiting new) × IsUnended (waiting new)
+abbrev pub IsNext : {R : Type 0} → SourceRules R → R → List ℕ → Lines R → Next → Type 0
+IsNext reading from done new Variant.Line =
+    (IsLine (line_of new) × HasRead reading from (done ++ line_of new ++ 10 ∷ []) new)
+    ⊎ (IsLastLine (line_of new) × HasRead reading from (done ++ line_of new) new × IsAtEnd new)
+IsNext reading from done new Variant.TooLong =
+    HasRead reading from done new × BeginsTooLong (waiting new)
+IsNext reading from done new Variant.End = HasRead reading from done new × IsAtEnd new
+IsNext reading from done new Variant.Failed =
+    FailsAfter reading from (done ++ waiting new) × IsUnended (waiting new)

@@ -1,7 +1,8 @@
 -- The lines of a list, and reads of a list that break off.
 use Rattle.std.specs.Prelude.{◌≡◌, ◌⊎◌, ℕ, ◌<◌, ◌≤◌, Bool, true, List, [], ◌∷◌, ◌++◌, length, if◌then◌else◌}
 use Rattle.std.specs.List.{concat}
-use Rattle.xxh_io.specs.Pieces.{Pieces, NoneEmpty, Step, Failing}
+use Rattle.xxh_io.specs.Pieces.{Pieces, NoneEmpty}
+use Rattle.xxh_io.specs.Rules.{SourceRules}
 use Rattle.xxhsum_line.specs.Parts.{Lacks}
 
 -- a line without the line feed that ends it: with it, it has at most 32,767 bytes
@@ -27,11 +28,11 @@ abbrev pub end_piece : Bool → List (List ℕ)
 end_piece has_ended = if has_ended then [] ∷ [] else []
 
 -- the source had failed before, or its read fails
-abbrev pub CantRead : {R : Type 0} → Failing R → (R → Bool) → R → Type 0
-CantRead {R} fails has_failed met = (has_failed met ≡ true) ⊎ ((end : R) × fails met end)
+abbrev pub CantRead : {R : Type 0} → SourceRules R → R → Type 0
+CantRead {R} reading met = (reading.has_failed met ≡ true) ⊎ ((end : R) × reading.fails met end)
 
 -- reads gave these bytes, and the next one failed
-abbrev pub FailsAfter : {R : Type 0} → Step R → Failing R → (R → Bool) → R → List ℕ → Type 0
-FailsAfter {R} gives fails has_failed from bytes =
-    (pieces : List (List ℕ)) × (met : R) × NoneEmpty pieces × Pieces gives from pieces met
-    × CantRead fails has_failed met × (concat pieces ≡ bytes)
+abbrev pub FailsAfter : {R : Type 0} → SourceRules R → R → List ℕ → Type 0
+FailsAfter {R} reading from bytes =
+    (pieces : List (List ℕ)) × (met : R) × NoneEmpty pieces × Pieces reading.gives from pieces met
+    × CantRead reading met × (concat pieces ≡ bytes)

@@ -6,48 +6,46 @@ use Rattle.std.specs.declared.result.Result.TheVariants.{Ok, Err}
 use Rattle.xxh_io.specs.declared.error.DigestError.{DigestError}
 use Rattle.xxh_io.specs.declared.error.DigestError.TheVariants.{ReadFailed, WriteFailed, TooLong}
 use Rattle.xxh_io.specs.declared.kind.Kind.{Kind}
-use Rattle.xxh_io.specs.Pieces.{NoneEmpty, Step, Failing}
-use Rattle.xxh_io.specs.Digest.{ReadsOn}
+use Rattle.xxh_io.specs.Digest.{ReadsTo}
+use Rattle.xxh_io.specs.Rules.{SourceRules}
 use Rattle.xxh_program.specs.Kind.{value_of}
 use Rattle.xxh_program.specs.States.{most_reads}
-use Rattle.xxhsum_files.specs.declared.refusal.Refusal.{Refusal}
 use Rattle.xxhsum_files.specs.Refusal.{refusal_text}
+use Rattle.xxhsum_files.specs.Rules.{StoreRules}
 use Rattle.xxhsum_program.specs.declared.outcome.Outcome.{Outcome}
 use Rattle.xxhsum_program.specs.declared.outcome.Outcome.TheVariants.{Digested, IsDirectory, Unread}
 use Rattle.xxhsum_program.specs.declared.outcome.Reason.{Reason}
 use Rattle.xxhsum_program.specs.declared.outcome.Reason.TheVariants as Why
 
 -- the name leads to a file that was read to its end, and this is the hash of what its reads gave
-abbrev pub IsValueOf : {S F : Type 0} → (S → List ℕ → F → Type 0) → Step F → Failing F → S → Kind → List ℕ
+abbrev pub IsValueOf : {S F : Type 0} → StoreRules S F → SourceRules F → S → Kind → List ℕ
     → ℕ → Type 0
-IsValueOf {S} {F} opens gives fails store kind name value =
+IsValueOf {S} {F} opening reading store kind name value =
     (file end : F) × (pieces : List (List ℕ)) × (read : Result ℕ DigestError) × (read ≡ Ok value)
-    × opens store name file × NoneEmpty pieces × ReadsOn gives fails most_reads pieces file end read
+    × opening.opens store name file × ReadsTo reading most_reads pieces file end read
     × (value ≡ value_of kind 0 (concat pieces))
 
 -- the name leads to a file whose reading came to no end, for this reason
-abbrev pub FailsOn : {S F : Type 0} → (S → List ℕ → F → Type 0) → Step F → Failing F → S → List ℕ → DigestError
+abbrev pub FailsOn : {S F : Type 0} → StoreRules S F → SourceRules F → S → List ℕ → DigestError
     → Type 0
-FailsOn {S} {F} opens gives fails store name e =
+FailsOn {S} {F} opening reading store name e =
     (file end : F) × (pieces : List (List ℕ)) × (read : Result ℕ DigestError) × (read ≡ Err e)
-    × opens store name file × NoneEmpty pieces × ReadsOn gives fails most_reads pieces file end read
+    × opening.opens store name file × ReadsTo reading most_reads pieces file end read
 
 -- the name has no value, for this reason
-abbrev pub HasNoValue : {S F : Type 0} → (S → List ℕ → F → Type 0) → (S → List ℕ → Refusal → Type 0) → Step F
-    → Failing F → S → List ℕ → Reason → Type 0
-HasNoValue opens refuses gives fails store name (Why.Unopened refusal) = refuses store name refusal
-HasNoValue opens refuses gives fails store name Why.ReadFailed = FailsOn opens gives fails store name ReadFailed
-HasNoValue opens refuses gives fails store name Why.TooLong = FailsOn opens gives fails store name TooLong
+abbrev pub HasNoValue : {S F : Type 0} → StoreRules S F → SourceRules F → S → List ℕ → Reason → Type 0
+HasNoValue opening reading store name (Why.Unopened refusal) = opening.refuses store name refusal
+HasNoValue opening reading store name Why.ReadFailed = FailsOn opening reading store name ReadFailed
+HasNoValue opening reading store name Why.TooLong = FailsOn opening reading store name TooLong
 
 -- what became of a name: a directory is told exactly where the store says that it is one
-abbrev pub Comes : {S F : Type 0} → (S → List ℕ → F → Type 0) → (S → List ℕ → Refusal → Type 0)
-    → (S → List ℕ → Bool → Type 0) → Step F → Failing F → S → Kind → List ℕ → Outcome → Type 0
-Comes opens refuses holds_directory gives fails store kind name (Digested value) =
-    holds_directory store name false × IsValueOf opens gives fails store kind name value
-Comes opens refuses holds_directory gives fails store kind name IsDirectory =
-    holds_directory store name true
-Comes opens refuses holds_directory gives fails store kind name (Unread reason) =
-    holds_directory store name false × HasNoValue opens refuses gives fails store name reason
+abbrev pub Comes : {S F : Type 0} → StoreRules S F → SourceRules F → S → Kind → List ℕ → Outcome → Type 0
+Comes opening reading store kind name (Digested value) =
+    opening.holds_directory store name false × IsValueOf opening reading store kind name value
+Comes opening reading store kind name IsDirectory =
+    opening.holds_directory store name true
+Comes opening reading store kind name (Unread reason) =
+    opening.holds_directory store name false × HasNoValue opening reading store name reason
 
 -- the reason by what ended the reading: no write does
 abbrev pub reason_of : DigestError → Reason

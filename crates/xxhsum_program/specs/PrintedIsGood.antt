@@ -2,8 +2,7 @@
 use Rattle.std.specs.Prelude.{◌≡◌, ℕ, ◌-◌, ◌<◌, ◌≤◌, ◌^◌, Bool, true, List, Some, [], ◌∷◌, length}
 use Rattle.std.specs.List.{AllByRecursion}
 use Rattle.xxh_io.specs.declared.kind.Kind.{Kind}
-use Rattle.xxh_io.specs.Pieces.{Step, Failing}
-use Rattle.xxhsum_files.specs.declared.refusal.Refusal.{Refusal}
+use Rattle.xxh_io.specs.Rules.{SourceRules}
 use Rattle.xxhsum_line.specs.Parts.{Lacks}
 use Rattle.xxhsum_line.specs.declared.printed.Shape.{Shape}
 use Rattle.xxhsum_program.specs.CheckList.{FindsLines, is_good_list}
@@ -16,6 +15,7 @@ use Rattle.xxhsum_program.specs.PrintedList.{Holds, Listed}
 use Rattle.xxhsum_program.specs.declared.outcome.Outcome.{Outcome}
 use Rattle.xxhsum_program.specs.declared.outcome.Outcome.TheVariants.{Digested, IsDirectory, Unread}
 use Rattle.xxhsum_program.specs.declared.outcome.Reason.{Reason}
+use Rattle.xxhsum_files.specs.Rules.{StoreRules}
 
 -- the entries of the lines that are printed: those of the names with a value
 abbrev pub entries_of : Kind → Shape → List (List ℕ) → List Outcome → List Listed
@@ -27,12 +27,11 @@ entries_of kind shape (name ∷ names) (IsDirectory ∷ outcomes) = entries_of k
 entries_of kind shape (name ∷ names) (Unread reason ∷ outcomes) = entries_of kind shape names outcomes
 
 -- the files stay as they are: where a name has a value, it has no other, and there is no reason for none
-abbrev pub FilesStay : {S F : Type 0} → (S → List ℕ → F → Type 0) → (S → List ℕ → Refusal → Type 0) → Step F
-    → Failing F → S → Kind → Type 0
-FilesStay opens refuses gives fails store kind =
-    (name : List ℕ) (value : ℕ) → IsValueOf opens gives fails store kind name value
-    → ((other : ℕ) → IsValueOf opens gives fails store kind name other → other ≡ value)
-    × ((reason : Reason) → ¬ HasNoValue opens refuses gives fails store name reason)
+abbrev pub FilesStay : {S F : Type 0} → StoreRules S F → SourceRules F → S → Kind → Type 0
+FilesStay opening reading store kind =
+    (name : List ℕ) (value : ℕ) → IsValueOf opening reading store kind name value
+    → ((other : ℕ) → IsValueOf opening reading store kind name other → other ≡ value)
+    × ((reason : Reason) → ¬ HasNoValue opening reading store name reason)
 
 -- a name of no more bytes than any of the system's, and with no NUL, as those are
 abbrev pub IsName : List ℕ → Type 0
@@ -40,17 +39,16 @@ IsName name = Lacks 0 name × (length name ≤ 16359)
 
 -- The names have their outcomes, of which one is a value; and the files stay as they are. Then a list that holds the lines
 -- which are printed is good where its check comes to an end, strict or not.
-abbrev pub PrintedIsGood : {S F R : Type 0} → (S → List ℕ → F → Type 0) → (S → List ℕ → Refusal → Type 0)
-    → (S → List ℕ → Bool → Type 0) → Step F → Failing F → Step R → Failing R → (R → Bool) → Type 0
-PrintedIsGood {S} {F} {R} opens refuses holds_directory gives fails gives_list fails_list has_failed =
+abbrev pub PrintedIsGood : {S F R : Type 0} → StoreRules S F → SourceRules F → SourceRules R → Type 0
+PrintedIsGood {S} {F} {R} opening reading list_reading =
     (store : S) (kind : Kind) (shape : Shape) (names : List (List ℕ)) (outcomes : List Outcome) (source : R)
     → (findings : List Finding) (end : ListEnd) (is_strict : Bool)
-    → EachHas (Comes opens refuses holds_directory gives fails store kind) names outcomes
-    → FilesStay opens refuses gives fails store kind
+    → EachHas (Comes opening reading store kind) names outcomes
+    → FilesStay opening reading store kind
     → AllByRecursion IsName names
     → 0 < length (entries_of kind shape names outcomes)
     → length (entries_of kind shape names outcomes) < 2 ^ 64 - 2
-    → Holds gives_list fails_list has_failed source (lines_of (printed_line kind shape) names outcomes)
-    → FindsLines (IsFinding opens refuses gives fails store shape.is_little) gives_list fails_list has_failed source
+    → Holds list_reading source (lines_of (printed_line kind shape) names outcomes)
+    → FindsLines (IsFinding opening reading store shape.is_little) list_reading source
     findings (Some end)
     → is_good_list is_strict findings (Some end) ≡ true

@@ -3,8 +3,8 @@ use Rattle.std.specs.Prelude.{◌≡◌, ℕ, ◌-◌, ◌<◌, ◌≤◌, ◌^�
 use Rattle.std.specs.List.{AllByRecursion, concat}
 use Rattle.xxh_io.specs.Kind.{digits_of}
 use Rattle.xxh_io.specs.declared.kind.Kind.{Kind}
-use Rattle.xxh_io.specs.Pieces.{Pieces, NoneEmpty, Step, Failing}
-use Rattle.xxhsum_files.specs.declared.refusal.Refusal.{Refusal}
+use Rattle.xxh_io.specs.Pieces.{Pieces, NoneEmpty}
+use Rattle.xxh_io.specs.Rules.{SourceRules}
 use Rattle.xxhsum_line.specs.Entry.{Says, is_comment}
 use Rattle.xxhsum_line.specs.Parts.{Lacks}
 use Rattle.xxhsum_line.specs.Printed.{line_of, text_of}
@@ -16,6 +16,7 @@ use Rattle.xxhsum_program.specs.Findings.{Finding, IsFinding, Proper}
 use Rattle.xxhsum_program.specs.Found.{IsFound}
 use Rattle.xxhsum_program.specs.ListLines.{BeginsTooLong, CantRead, FailsAfter}
 use Rattle.xxhsum_program.specs.declared.entry.Found.{Found}
+use Rattle.xxhsum_files.specs.Rules.{StoreRules}
 
 -- what a line is printed of
 abbrev pub Listed : Type 0
@@ -62,71 +63,68 @@ FindsPrintedLines =
     → HasLines true (printed_list entries) lines [] → EachHas (IsLineOf is_little) lines entries
 
 -- however reads cut a printed list, the lines of its source are those of its entries
-abbrev pub ReadsPrintedLines : {R : Type 0} → Step R → Type 0
-ReadsPrintedLines {R} gives =
+abbrev pub ReadsPrintedLines : {R : Type 0} → SourceRules R → Type 0
+ReadsPrintedLines {R} reading =
     (is_little : Bool) (entries : List Listed) (source end : R) (pieces : List (List ℕ)) → AreListed is_little entries
-    → NoneEmpty pieces → Pieces gives source (pieces ++ [] ∷ []) end → concat pieces ≡ printed_list entries
-    → EndsWell gives source (map text_of_listed entries)
+    → NoneEmpty pieces → Pieces reading.gives source (pieces ++ [] ∷ []) end → concat pieces ≡ printed_list entries
+    → EndsWell reading source (map text_of_listed entries)
 
 -- ---- what a check of the list meets
 
 -- reads of a source, however they go, give a beginning of the text; at the end they have given all; and none fails
-abbrev pub Holds : {R : Type 0} → Step R → Failing R → (R → Bool) → R → List ℕ → Type 0
-Holds {R} gives fails has_failed source text =
-    ((pieces : List (List ℕ)) (met : R) → NoneEmpty pieces → Pieces gives source pieces met
-    → ((more : List ℕ) × (text ≡ concat pieces ++ more)) × ¬ CantRead fails has_failed met)
-    × ((pieces : List (List ℕ)) (end : R) → NoneEmpty pieces → Pieces gives source (pieces ++ [] ∷ []) end
+abbrev pub Holds : {R : Type 0} → SourceRules R → R → List ℕ → Type 0
+Holds {R} reading source text =
+    ((pieces : List (List ℕ)) (met : R) → NoneEmpty pieces → Pieces reading.gives source pieces met
+    → ((more : List ℕ) × (text ≡ concat pieces ++ more)) × ¬ CantRead reading met)
+    × ((pieces : List (List ℕ)) (end : R) → NoneEmpty pieces → Pieces reading.gives source (pieces ++ [] ∷ []) end
     → concat pieces ≡ text)
 
 -- Where the source has ended, its lines are these; before, those that were read are the first of these; no line is too
 -- long; and no read fails.
-abbrev pub HasJustLines : {R : Type 0} → Step R → Failing R → (R → Bool) → R → List (List ℕ) → Type 0
-HasJustLines gives fails has_failed source texts =
-    ((lines : List (List ℕ)) → EndsWell gives source lines → texts ≡ lines)
-    × ((lines : List (List ℕ)) → ReadsSome gives source lines → (others : List (List ℕ)) × (texts ≡ lines ++ others))
-    × ((has_ended : Bool) (lines : List (List ℕ)) (rest : List ℕ) → ReadsLines gives source has_ended lines rest
+abbrev pub HasJustLines : {R : Type 0} → SourceRules R → R → List (List ℕ) → Type 0
+HasJustLines reading source texts =
+    ((lines : List (List ℕ)) → EndsWell reading source lines → texts ≡ lines)
+    × ((lines : List (List ℕ)) → ReadsSome reading source lines → (others : List (List ℕ)) × (texts ≡ lines ++ others))
+    × ((has_ended : Bool) (lines : List (List ℕ)) (rest : List ℕ) → ReadsLines reading source has_ended lines rest
     → ¬ BeginsTooLong rest)
-    × ((bytes : List ℕ) → ¬ FailsAfter gives fails has_failed source bytes)
+    × ((bytes : List ℕ) → ¬ FailsAfter reading source bytes)
 
 -- a source that holds a printed list has the lines of its entries, and no others
-abbrev pub HoldsPrintedLines : {R : Type 0} → Step R → Failing R → (R → Bool) → Type 0
-HoldsPrintedLines {R} gives fails has_failed =
+abbrev pub HoldsPrintedLines : {R : Type 0} → SourceRules R → Type 0
+HoldsPrintedLines {R} reading =
     (is_little : Bool) (entries : List Listed) (source : R) → AreListed is_little entries
-    → Holds gives fails has_failed source (printed_list entries)
-    → HasJustLines gives fails has_failed source (map text_of_listed entries)
+    → Holds reading source (printed_list entries)
+    → HasJustLines reading source (map text_of_listed entries)
 
 -- the finding is how the file of this entry is
-abbrev pub IsFindingOf : {S F : Type 0} → (S → List ℕ → F → Type 0) → (S → List ℕ → Refusal → Type 0) → Step F
-    → Failing F → S → Listed → Finding → Type 0
-IsFindingOf opens refuses gives fails store e finding =
+abbrev pub IsFindingOf : {S F : Type 0} → StoreRules S F → SourceRules F → S → Listed → Finding → Type 0
+IsFindingOf opening reading store e finding =
     (found : Found) × (finding ≡ Proper e.name found)
-    × IsFound opens refuses gives fails store e.kind e.value e.name found
+    × IsFound opening reading store e.kind e.value e.name found
 
 -- as many findings as entries, each that of its own
-abbrev pub AreFindingsOf : {S F : Type 0} → (S → List ℕ → F → Type 0) → (S → List ℕ → Refusal → Type 0) → Step F
-    → Failing F → S → List Listed → List Finding → Type 0
-AreFindingsOf opens refuses gives fails store [] [] = Unit {0}
-AreFindingsOf opens refuses gives fails store [] (finding ∷ findings) = ⊥
-AreFindingsOf opens refuses gives fails store (e ∷ es) [] = ⊥
-AreFindingsOf opens refuses gives fails store (e ∷ es) (finding ∷ findings) =
-    IsFindingOf opens refuses gives fails store e finding × AreFindingsOf opens refuses gives fails store es findings
+abbrev pub AreFindingsOf : {S F : Type 0} → StoreRules S F → SourceRules F → S → List Listed → List Finding → Type 0
+AreFindingsOf opening reading store [] [] = Unit {0}
+AreFindingsOf opening reading store [] (finding ∷ findings) = ⊥
+AreFindingsOf opening reading store (e ∷ es) [] = ⊥
+AreFindingsOf opening reading store (e ∷ es) (finding ∷ findings) =
+    IsFindingOf opening reading store e finding × AreFindingsOf opening reading store es findings
 
 -- what is found of the lines of a printed list is how the files of its entries are
-abbrev pub FindsPrintedFiles : {S F : Type 0} → (S → List ℕ → F → Type 0) → (S → List ℕ → Refusal → Type 0)
-    → Step F → Failing F → Type 0
-FindsPrintedFiles {S} opens refuses gives fails =
+abbrev pub FindsPrintedFiles : {S F : Type 0} → StoreRules S F
+    → SourceRules F → Type 0
+FindsPrintedFiles {S} opening reading =
     (store : S) (is_little : Bool) (entries : List Listed) (findings : List Finding) → AreListed is_little entries
-    → EachHas (IsFinding opens refuses gives fails store is_little) (map text_of_listed entries) findings
-    → AreFindingsOf opens refuses gives fails store entries findings
+    → EachHas (IsFinding opening reading store is_little) (map text_of_listed entries) findings
+    → AreFindingsOf opening reading store entries findings
 
 -- A check that comes to the end of a source that holds a printed list has come to the end of the list, with the findings of
 -- its entries and no others.
-abbrev pub ChecksPrinted : {S F R : Type 0} → (S → List ℕ → F → Type 0) → (S → List ℕ → Refusal → Type 0) → Step F
-    → Failing F → Step R → Failing R → (R → Bool) → Type 0
-ChecksPrinted {S} {F} {R} opens refuses gives fails gives_list fails_list has_failed =
+abbrev pub ChecksPrinted : {S F R : Type 0} → StoreRules S F → SourceRules F → SourceRules R → Type 0
+ChecksPrinted {S} {F} {R} opening reading list_reading =
     (store : S) (is_little : Bool) (entries : List Listed) (source : R) (findings : List Finding) (end : ListEnd)
     → AreListed is_little entries → length entries < 2 ^ 64 - 2
-    → Holds gives_list fails_list has_failed source (printed_list entries)
-    → FindsLines (IsFinding opens refuses gives fails store is_little) gives_list fails_list has_failed source findings
+    → Holds list_reading source (printed_list entries)
+    → FindsLines (IsFinding opening reading store is_little) list_reading source findings
     (Some end)
-    → (end ≡ Whole) × AreFindingsOf opens refuses gives fails store entries findings
+    → (end ≡ Whole) × AreFindingsOf opening reading store entries findings

@@ -1,8 +1,8 @@
 -- What is shown of the reading of a long file.
 use Rattle.std.specs.Prelude.{◌≡◌, ℕ, ◌+◌, ◌-◌, ◌^◌, ◌/◌, Bool, true, false, List, [], ◌++◌, codes, decimal, if◌then◌else◌, min, nat_eq, nat_lt}
-use Rattle.xxh_io.specs.Pieces.{Step, Failing}
 use Rattle.xxhsum_program.specs.declared.progress.Meter.{Meter}
 use Rattle.xxhsum_program.specs.Told.{TellsOn}
+use Rattle.xxh_io.specs.Rules.{SinkRules}
 
 -- where a meter shows what it counts
 abbrev pub end_of : {E : Type 0} → Meter E → E
@@ -39,9 +39,9 @@ shown_text true before count =
     if nat_eq count 0 then cleared before else progress_line before (count_after before count)
 
 -- a read of so many bytes was counted and shown; without a place to show it nothing was written
-abbrev pub Shows : {E : Type 0} → Step E → Failing E → (E → Bool) → ℕ → Meter E → Meter E → Type 0
-Shows takes refuses has_failed count old new =
+abbrev pub Shows : {E : Type 0} → SinkRules E → ℕ → Meter E → Meter E → Type 0
+Shows telling count old new =
     (is_shown new ≡ is_shown old)
     × (bytes_read new ≡ count_after (bytes_read old) count)
     × (is_shown old ≡ false → end_of new ≡ end_of old)
-    × TellsOn takes refuses has_failed (shown_text (is_shown old) (bytes_read old) count) (end_of old) (end_of new)
+    × TellsOn telling (shown_text (is_shown old) (bytes_read old) count) (end_of old) (end_of new)

@@ -3,11 +3,12 @@ use Rattle.std.specs.Prelude.{◌≡◌, ℕ, Bool}
 use Rattle.std.specs.declared.result.Result.{Result}
 use Rattle.std.specs.declared.result.Result.TheVariants.{Ok, Err}
 use Rattle.xxh_io.specs.declared.ends.Failed.{Failed}
-use Rattle.xxh_io.specs.Pieces.{Step, Failing}
+use Rattle.xxh_io.specs.Rules.{SourceRules, SinkRules}
 use Rattle.xxhsum_program.specs.declared.progress.Meter.{Meter}
 use Rattle.xxhsum_program.specs.declared.watched.Watched.{Watched}
 use Rattle.xxhsum_program.specs.declared.watched.WatchedFiles.{WatchedFiles}
 use Rattle.xxhsum_program.specs.Progress.{Shows, bytes_read, is_shown}
+use Rattle.xxhsum_files.specs.Rules.{StoreRules}
 
 -- what gives the bytes
 abbrev pub source_of : {R E : Type 0} → Watched R E → R
@@ -26,11 +27,29 @@ abbrev pub shows_reads : {S W : Type 0} → WatchedFiles S W → Bool
 shows_reads files = files.is_on
 
 -- a read was shown as that of so many bytes, and one that failed as that of none
-abbrev pub ShowsRead : {E : Type 0} → Step E → Failing E → (E → Bool) → Meter E → Meter E → Result ℕ Failed
+abbrev pub ShowsRead : {E : Type 0} → SinkRules E → Meter E → Meter E → Result ℕ Failed
     → Type 0
-ShowsRead takes refuses has_failed old new (Ok count) = Shows takes refuses has_failed count old new
-ShowsRead takes refuses has_failed old new (Err e) = Shows takes refuses has_failed 0 old new
+ShowsRead telling old new (Ok count) = Shows telling count old new
+ShowsRead telling old new (Err e) = Shows telling 0 old new
 
 -- the meter of a file that is not read yet
 abbrev pub IsFresh : {S W E : Type 0} → WatchedFiles S W → Meter E → Type 0
 IsFresh files meter = (is_shown meter ≡ shows_reads files) × (bytes_read meter ≡ 0)
+
+-- ---- rules
+
+-- a watched source has the rules of what it watches
+abbrev pub watched_reading : {R E : Type 0} → SourceRules R → SourceRules (Watched R E)
+watched_reading reading = record {
+  has_failed = λ watched. reading.has_failed (source_of watched);
+  gives = λ old piece new. reading.gives (source_of old) piece (source_of new);
+  fails = λ old new. reading.fails (source_of old) (source_of new);
+}
+
+-- watched files have those of the files, each with a meter of its own
+abbrev pub watched_opening : {S F T E : Type 0} → StoreRules S F → StoreRules (WatchedFiles S T) (Watched F E)
+watched_opening opening = record {
+  opens = λ files name file. opening.opens (files_of files) name (source_of file) × IsFresh files (meter_of file);
+  refuses = λ files name why. opening.refuses (files_of files) name why;
+  holds_directory = λ files name answer. opening.holds_directory (files_of files) name answer;
+}

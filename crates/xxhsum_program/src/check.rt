@@ -106,14 +106,13 @@ impl<S: Store> ListCheck<'_, S> {
     ) -> Result<bool, Stop>
         requires { W.has_failed out.old ≡ false }
         ensures checks { (findings : List Finding) × (end : Option ListEnd)
-            × FindsLines (IsFinding S.opens S.refuses S.File.gives S.File.fails
-            self.now.store.now self.now.options.is_little_endian)
-            R.gives R.fails R.has_failed source findings end
+            × FindsLines (IsFinding S.Store S.File.Source self.now.store.now
+            self.now.options.is_little_endian) R.Source source findings end
             × AnswersList self.now.options.is_strict findings end result
-            × PrintsLines W.takes W.refuses
-            (printed_list self.now.options self.now.name.now findings end) out.old out.new result
-            × TellsOn E.takes E.refuses E.has_failed
-            (told_list self.now.options self.now.name.now findings end) err.old err.new }
+            × PrintsLines W.Sink (printed_list self.now.options self.now.name.now findings end)
+            out.old out.new result
+            × TellsOn E.Sink (told_list self.now.options self.now.name.now findings end)
+            err.old err.new }
         ensures works { IfOk result (λ _. W.has_failed out.new ≡ false) }
     {
         let report = self.check_lines(source, out, err)?;
@@ -130,15 +129,14 @@ impl<S: Store> ListCheck<'_, S> {
     ) -> Result<Report, Stop>
         requires { W.has_failed out.old ≡ false }
         ensures checks { (findings : List Finding) × (end : Option ListEnd)
-            × FindsLines (IsFinding S.opens S.refuses S.File.gives S.File.fails
-            self.now.store.now self.now.options.is_little_endian)
-            R.gives R.fails R.has_failed source findings end
+            × FindsLines (IsFinding S.Store S.File.Source self.now.store.now
+            self.now.options.is_little_endian) R.Source source findings end
             × ReportsLines findings end result
-            × PrintsLines W.takes W.refuses
+            × PrintsLines W.Sink
             (numbered (printed_finding self.now.options self.now.name.now) 1 findings)
             out.old out.new result
-            × TellsOn E.takes E.refuses E.has_failed
-            (told_lines self.now.options self.now.name.now findings end) err.old err.new }
+            × TellsOn E.Sink (told_lines self.now.options self.now.name.now findings end)
+            err.old err.new }
         ensures works { IfOk result (λ _. W.has_failed out.new ≡ false) }
     {
         let mut lines = Lines::new(source);
@@ -176,9 +174,8 @@ impl<S: Store> ListCheck<'_, S> {
         requires room { 0 < length buf.old }
         requires writer { W.has_failed out.old ≡ false }
         ensures checks { ChecksLine
-            (IsFinding S.opens S.refuses S.File.gives S.File.fails self.now.store.now
-            self.now.options.is_little_endian line.now)
-            W.takes W.refuses E.takes E.refuses E.has_failed self.now.options self.now.name.now number
+            (IsFinding S.Store S.File.Source self.now.store.now self.now.options.is_little_endian
+            line.now) W.Sink E.Sink self.now.options self.now.name.now number
             report.old report.new out.old out.new err.old err.new result }
         ensures works { IfOk result (λ _. W.has_failed out.new ≡ false) }
     {
@@ -201,7 +198,7 @@ impl<S: Store> ListCheck<'_, S> {
     // Counts a line that is malformed, and tells it where that is asked for.
     fn count_improper<E: Sink>(&self, number: u64, report: &mut Report, err: &mut E)
         ensures counts { report.new ≡ count_one report.old Improper }
-        ensures tells { TellsOn E.takes E.refuses E.has_failed
+        ensures tells { TellsOn E.Sink
             (told_finding self.now.options self.now.name.now number Improper) err.old err.new }
     {
         report.improper = report.improper.saturating_add(1);
@@ -224,7 +221,7 @@ impl<S: Store> ListCheck<'_, S> {
         out: &mut W,
     ) -> Result<(), Stop>
         requires { W.has_failed out.old ≡ false }
-        ensures prints { PrintsLine W.takes W.refuses
+        ensures prints { PrintsLine W.Sink
             (found_text self.now.options.is_quiet self.now.name.now number name.now found.now)
             out.old out.new result }
         ensures works { IfOk result (λ _. W.has_failed out.new ≡ false) }
@@ -241,7 +238,7 @@ impl<S: Store> ListCheck<'_, S> {
 
     // Tells that the list could not be read on. Where it has no proper line so far, that is told at its end.
     fn tell_of_failure<E: Sink>(&self, number: u64, report: &Report, err: &mut E)
-        ensures { TellsOn E.takes E.refuses E.has_failed
+        ensures { TellsOn E.Sink
             (told_break self.now.name.now number report.now FailedRead) err.old err.new }
     {
         if report.proper == 0 {
@@ -263,12 +260,11 @@ impl<S: Store> ListCheck<'_, S> {
         err: &mut E,
     ) -> Result<(), Stop>
         requires { W.has_failed out.old ≡ false }
-        ensures prints { PrintsLine W.takes W.refuses (printed_summary self.now.options report.now)
+        ensures prints { PrintsLine W.Sink (printed_summary self.now.options report.now)
             out.old out.new result }
         ensures works { IfOk result (λ _. W.has_failed out.new ≡ false) }
         ensures only { IfErr result (λ stop. stop ≡ Stop.WriteFailed) }
-        ensures tells { TellsOn E.takes E.refuses E.has_failed
-            (told_summary self.now.name.now report.now) err.old err.new }
+        ensures tells { TellsOn E.Sink (told_summary self.now.name.now report.now) err.old err.new }
     {
         if report.proper == 0 {
             tell_parts(
@@ -307,8 +303,7 @@ impl<S: Store> ListCheck<'_, S> {
 // Says a word of the file of this name, which stands as lists have it.
 fn say_named<W: Sink>(alloc: Global, name: &[u8], word: &[u8], out: &mut W) -> Result<(), Stop>
     requires { W.has_failed out.old ≡ false }
-    ensures prints { PrintsLine W.takes W.refuses (named_text name.now word.now)
-        out.old out.new result }
+    ensures prints { PrintsLine W.Sink (named_text name.now word.now) out.old out.new result }
     ensures works { IfOk result (λ _. W.has_failed out.new ≡ false) }
 {
     let mut line = Vec::new(alloc);
@@ -328,8 +323,8 @@ fn say_unread<'a, W: Sink>(
     out: &mut W,
 ) -> Result<(), Stop>
     requires { W.has_failed out.old ≡ false }
-    ensures prints { PrintsLine W.takes W.refuses
-        (unread_text list.now number name.now why.now) out.old out.new result }
+    ensures prints { PrintsLine W.Sink (unread_text list.now number name.now why.now)
+        out.old out.new result }
     ensures works { IfOk result (λ _. W.has_failed out.new ≡ false) }
 {
     let mut digits = Buffer::new();
@@ -349,8 +344,7 @@ fn say_unread<'a, W: Sink>(
 
 // Tells what is wrong with the line of this number in this list.
 fn tell_of_line<'a, E: Sink>(list: &'a [u8], number: u64, what: &'a [u8], err: &mut E)
-    ensures { TellsOn E.takes E.refuses E.has_failed (told_of_line list.now number what.now)
-        err.old err.new }
+    ensures { TellsOn E.Sink (told_of_line list.now number what.now) err.old err.new }
 {
     let mut digits = Buffer::new();
     let digits = digits.format(number).as_bytes();
@@ -361,8 +355,7 @@ fn tell_of_line<'a, E: Sink>(list: &'a [u8], number: u64, what: &'a [u8], err: &
 // Says how many there are, in the singular or the plural, where there are any.
 fn say_count<W: Sink>(count: u64, one: &[u8], more: &[u8], out: &mut W) -> Result<(), Stop>
     requires { W.has_failed out.old ≡ false }
-    ensures prints { PrintsLine W.takes W.refuses (count_text count one.now more.now)
-        out.old out.new result }
+    ensures prints { PrintsLine W.Sink (count_text count one.now more.now) out.old out.new result }
     ensures works { IfOk result (λ _. W.has_failed out.new ≡ false) }
     ensures only { IfErr result (λ stop. stop ≡ Stop.WriteFailed) }
 {
@@ -397,9 +390,8 @@ pub fn check_list<S: Store, R: Source + Drop, W: Sink, E: Sink>(
     out: &mut W,
     err: &mut E,
 ) -> Result<bool, Stop>
-    ensures { SaysList (IsFinding S.opens S.refuses S.File.gives S.File.fails store.now
-        options.is_little_endian) R.gives R.fails R.has_failed W.takes W.refuses W.has_failed
-        E.takes E.refuses E.has_failed options name.now source out.old out.new err.old err.new result }
+    ensures { SaysList S.Store S.File.Source R.Source W.Sink E.Sink store.now options name.now
+        source out.old out.new err.old err.new result }
 {
     if out.failed() {
         return Err(Stop::WriteFailed);
@@ -424,14 +416,10 @@ fn check_named<S: Store, W: Sink, E: Sink>(
 ) -> Result<bool, Stop>
     requires { W.has_failed out.old ≡ false }
     ensures checks { (outcome : ListOutcome)
-        × IsListOutcome (IsFinding S.opens S.refuses S.File.gives S.File.fails store.now
-        options.is_little_endian) S.opens S.refuses S.File.gives S.File.fails S.File.has_failed
-        store.now name.now outcome
+        × IsListOutcome S.Store S.File.Source store.now options.is_little_endian name.now outcome
         × AnswersOutcome options.is_strict outcome result
-        × PrintsLines W.takes W.refuses (printed_outcome options name.now outcome)
-        out.old out.new result
-        × TellsOn E.takes E.refuses E.has_failed (told_outcome options name.now outcome)
-        err.old err.new }
+        × PrintsLines W.Sink (printed_outcome options name.now outcome) out.old out.new result
+        × TellsOn E.Sink (told_outcome options name.now outcome) err.old err.new }
     ensures works { IfOk result (λ _. W.has_failed out.new ≡ false) }
 {
     match store.open(name) {
@@ -473,9 +461,7 @@ pub fn check_lists<S: Store, W: Sink, E: Sink>(
     out: &mut W,
     err: &mut E,
 ) -> Result<bool, Stop>
-    ensures { SaysLists (IsFinding S.opens S.refuses S.File.gives S.File.fails store.now
-        options.is_little_endian) S.opens S.refuses S.File.gives S.File.fails S.File.has_failed
-        W.takes W.refuses W.has_failed E.takes E.refuses E.has_failed store.now options
+    ensures { SaysLists S.Store S.File.Source W.Sink E.Sink store.now options
         (map (λ name. name.items) names.now) out.old out.new err.old err.new result }
 {
     if out.failed() {

@@ -21,8 +21,8 @@ pub(crate) enum Found {
 // Hashes the file that the line names, with reads that are offered the whole buffer.
 pub(crate) fn compare<S: Store>(store: &S, entry: &Entry, buf: &mut [u8]) -> Found
     requires { 0 < length buf.old }
-    ensures { IsFound S.opens S.refuses S.File.gives S.File.fails store.now entry.now.kind
-        entry.now.value entry.now.name.items result }
+    ensures { IsFound S.Store S.File.Source store.now entry.now.kind entry.now.value
+        entry.now.name.items result }
 {
     match value_named(store, entry.kind, &entry.name, buf) {
         Ok(value) if value == entry.value => Found::Same,

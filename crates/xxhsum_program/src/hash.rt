@@ -38,8 +38,7 @@ pub fn hash_names<S: Store, W: Sink, E: Sink>(
 
     // There is one outcome a name, in their order; standard output has the lines of those that have a value, and
     // standard error those of the others.
-    ensures { SaysNames S.opens S.refuses S.holds_directory S.File.gives S.File.fails W.takes
-        W.refuses E.takes E.refuses E.has_failed store.now kind shape
+    ensures { SaysNames S.Store S.File.Source W.Sink E.Sink store.now kind shape
         (map (λ name. name.items) names.now) out.old out.new err.old err.new result }
 {
     let mut buf = [0; OFFERED];
@@ -72,8 +71,8 @@ pub fn hash_input<R: Source, W: Sink, E: Sink>(
 ) -> Result<bool, Stop>
     requires reader { R.has_failed input.old ≡ false }
     requires writer { W.has_failed out.old ≡ false }
-    ensures { SaysInput R.gives R.fails W.takes W.refuses E.takes E.refuses E.has_failed kind shape
-        name.now input.old input.new out.old out.new err.old err.new result }
+    ensures { SaysInput R.Source W.Sink E.Sink kind shape name.now input.old input.new
+        out.old out.new err.old err.new result }
 {
     match value_of_source(kind, 0, MAX_READS, input, &mut [0; OFFERED]) {
         Ok(value) => {
@@ -98,7 +97,7 @@ fn print_outcome<W: Sink>(
     out: &mut W,
 ) -> Result<(), Stop>
     requires { W.has_failed out.old ≡ false }
-    ensures prints { PrintsLine W.takes W.refuses (printed_line kind shape name.now outcome.now)
+    ensures prints { PrintsLine W.Sink (printed_line kind shape name.now outcome.now)
         out.old out.new result }
     ensures works { IfOk result (λ _. W.has_failed out.new ≡ false) }
 {
@@ -113,8 +112,7 @@ fn print_outcome<W: Sink>(
 
 // Tells why a name has no value.
 fn tell_outcome<'a, E: Sink>(name: &'a [u8], outcome: &'a Outcome, err: &mut E)
-    ensures { TellsOn E.takes E.refuses E.has_failed (told_line name.now outcome.now)
-        err.old err.new }
+    ensures { TellsOn E.Sink (told_line name.now outcome.now) err.old err.new }
 {
     match outcome {
         Outcome::Digested { .. } => {}

@@ -44,7 +44,7 @@ impl<R: Source + Drop> Lines<R> {
     ghost use Rattle.xxhsum_program.specs.LinesView.{HasRead, IsAtEnd, IsBeforeLineFeed, IsNext, IsTaken, ReadsBehind, StopsAt, line_of, most_reads_left, waiting};
 
     pub(crate) fn new(source: R) -> Lines<R>
-        ensures { HasRead R.gives source [] result }
+        ensures { HasRead R.Source source [] result }
     {
         Lines {
             source,
@@ -62,8 +62,8 @@ impl<R: Source + Drop> Lines<R> {
         requires open { self.old.has_ended ≡ false }
         requires unended { Lacks 10 (waiting self.old) }
         requires room { self.old.end ≤ self.old.start + 32767 }
-        ensures reads { (from : R) (done : List ℕ) → HasRead R.gives from done self.old
-            → ReadsBehind R.gives R.fails R.has_failed from done self.new result }
+        ensures reads { (from : R) (done : List ℕ) → HasRead R.Source from done self.old
+            → ReadsBehind R.Source from done self.new result }
         ensures ends { OnOk result (most_reads_left self.new < most_reads_left self.old) }
     {
         let len = self.end - self.start;
@@ -89,8 +89,8 @@ impl<R: Source + Drop> Lines<R> {
     // Reads until what waits has a line feed or is too long for a line, or the source has ended. Answers how many bytes
     // come before the line feed.
     fn gather(&mut self) -> Result<Option<usize>, Failed>
-        ensures reads { (from : R) (done : List ℕ) → HasRead R.gives from done self.old
-            → ReadsBehind R.gives R.fails R.has_failed from done self.new result }
+        ensures reads { (from : R) (done : List ℕ) → HasRead R.Source from done self.old
+            → ReadsBehind R.Source from done self.new result }
         ensures ended { IsAtEnd self.old → IsAtEnd self.new × (result ≡ Ok None) }
         ensures found { IfOk result (λ found. StopsAt found self.new) }
     {
@@ -116,8 +116,8 @@ impl<R: Source + Drop> Lines<R> {
 
     /// Goes on to the next line.
     pub(crate) fn next(&mut self) -> Next
-        ensures next { (from : R) (done : List ℕ) → HasRead R.gives from done self.old
-            → IsNext R.gives R.fails R.has_failed from done self.new result }
+        ensures next { (from : R) (done : List ℕ) → HasRead R.Source from done self.old
+            → IsNext R.Source from done self.new result }
         ensures ended { IsAtEnd self.old → result ≡ Next.End }
     {
         match self.gather() {

@@ -99,10 +99,8 @@ pub(crate) fn value_named<S: Store>(
     buf: &mut [u8],
 ) -> Result<u128, Reason>
     requires { 0 < length buf.old }
-    ensures value { IfOk result
-        (IsValueOf S.opens S.File.gives S.File.fails store.now kind name.now) }
-    ensures reason { IfErr result
-        (HasNoValue S.opens S.refuses S.File.gives S.File.fails store.now name.now) }
+    ensures value { IfOk result (IsValueOf S.Store S.File.Source store.now kind name.now) }
+    ensures reason { IfErr result (HasNoValue S.Store S.File.Source store.now name.now) }
 {
     match store.open(name) {
         Ok(file) => {
@@ -117,8 +115,7 @@ pub(crate) fn value_named<S: Store>(
 /// the store says so.
 pub fn outcome_of<S: Store>(store: &S, kind: Kind, name: &[u8], buf: &mut [u8]) -> Outcome
     requires { 0 < length buf.old }
-    ensures { Comes S.opens S.refuses S.holds_directory S.File.gives S.File.fails store.now kind
-        name.now result }
+    ensures { Comes S.Store S.File.Source store.now kind name.now result }
 {
     if store.is_directory(name) {
         return Outcome::IsDirectory;

@@ -15,21 +15,18 @@ use xxhsum_files::store::Store;
 /// is how the entries' files are. A source holds a list where its reads give just that, as those of a slice do.
 pub fn laws_of_printed_lists<S: Store, R: Source + Drop>()
     ensures finds_lines { FindsPrintedLines }
-    ensures reads_lines { ReadsPrintedLines R.gives }
-    ensures holds_lines { HoldsPrintedLines R.gives R.fails R.has_failed }
-    ensures finds_files { FindsPrintedFiles S.opens S.refuses S.File.gives S.File.fails }
-    ensures checks { ChecksPrinted S.opens S.refuses S.File.gives S.File.fails
-        R.gives R.fails R.has_failed }
+    ensures reads_lines { ReadsPrintedLines R.Source }
+    ensures holds_lines { HoldsPrintedLines R.Source }
+    ensures finds_files { FindsPrintedFiles S.Store S.File.Source }
+    ensures checks { ChecksPrinted S.Store S.File.Source R.Source }
     ensures short_names { ShortNamesFit }
-    ensures slices_hold { (source : SliceSource) → Holds ⟦<SliceSource<'static> as Source>⟧.gives
-        ⟦<SliceSource<'static> as Source>⟧.fails
-        ⟦<SliceSource<'static> as Source>⟧.has_failed source (slice_rest source) }
+    ensures slices_hold { (source : SliceSource)
+        → Holds ⟦<SliceSource<'static> as Source>⟧ source (slice_rest source) }
 {}
 
 /// A law, with nothing to run: what a hashing run prints of names, some of them with a value, is a good list while the
 /// files stay as they are. Whatever directories and files that could not be read stood among the names, each check of
 /// the list that comes to an end says so, strict or not. The names have no NUL and at most 16,359 bytes.
 pub fn printed_is_good<S: Store, R: Source + Drop>()
-    ensures { PrintedIsGood S.opens S.refuses S.holds_directory S.File.gives S.File.fails
-        R.gives R.fails R.has_failed }
+    ensures { PrintedIsGood S.Store S.File.Source R.Source }
 {}

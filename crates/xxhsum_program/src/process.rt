@@ -6,7 +6,6 @@ ghost use Rattle.xxhsum_program.specs.Run.{DoesArguments, DoesTask, PerformsAs, 
 ghost use Rattle.xxhsum_program.specs.Task.{IsProgram, answer_text, has_none, is_well, run_asked, shows_progress, task_of, usage_text, waits_for_terminal};
 ghost use Rattle.xxhsum_program.specs.Told.{TellsOn};
 ghost use Rattle.xxhsum_program.specs.declared.stop.Stop.{Stop};
-ghost use Rattle.xxh_io.specs.declared.from_write.FromWrite.{FromWrite};
 
 use crate::arguments::{Arguments, all_arguments, last_part};
 use crate::check::{check_list, check_lists};
@@ -62,12 +61,10 @@ where
     requires writer { W.has_failed out.old ≡ false }
     ensures { (args : Option (List (List ℕ))) × (done : Result Bool Stop) × (told : E)
         × IfSome args (AreArguments A.holds A.ends arguments.now)
-        × DoesArguments (PerformsWatched T (FromWrite T) S.opens S.refuses S.holds_directory
-        S.File.gives S.File.fails S.File.has_failed R.gives R.fails R.has_failed
-        W.takes W.refuses W.has_failed E.takes E.refuses E.has_failed store.now input
+        × DoesArguments (PerformsWatched T S.Store S.File.Source R.Source W.Sink E.Sink store.now input
         out.old out.new err.old told done)
-        E.takes E.refuses E.has_failed terminals args out.old out.new err.old told done
-        × TellsOn E.takes E.refuses E.has_failed (end_text done) told err.new
+        E.Sink terminals args out.old out.new err.old told done
+        × TellsOn E.Sink (end_text done) told err.new
         × (result ≡ status_of done) }
 {
     match all_arguments(alloc, arguments) {
@@ -100,12 +97,9 @@ where
     requires writer { W.has_failed out.old ≡ false }
     ensures { let arguments = map (λ argument. argument.items) args.now in (program : List ℕ)
         × IsProgram arguments program
-        × DoesTask (PerformsWatched T (FromWrite T) S.opens S.refuses S.holds_directory
-        S.File.gives S.File.fails S.File.has_failed R.gives R.fails R.has_failed
-        W.takes W.refuses W.has_failed E.takes E.refuses E.has_failed store.now input
+        × DoesTask (PerformsWatched T S.Store S.File.Source R.Source W.Sink E.Sink store.now input
         out.old out.new err.old err.new result)
-        E.takes E.refuses E.has_failed (task_of terminals program (drop 1 arguments))
-        out.old out.new err.old err.new result }
+        E.Sink (task_of terminals program (drop 1 arguments)) out.old out.new err.old err.new result }
 {
     let program = program_of(args);
     let words = words_of(args);
@@ -188,8 +182,7 @@ fn waits_for_terminal(terminals: Terminals, options: Options, names: &[Vec<u8>])
 // Tells what is asked for where that is no run, and answers whether all is well. Of a run nothing is told.
 fn tell_answer<E: Sink>(program: &[u8], asked: Asked, err: &mut E) -> bool
     ensures well { result ≡ is_well asked }
-    ensures tells { TellsOn E.takes E.refuses E.has_failed (answer_text program.now asked)
-        err.old err.new }
+    ensures tells { TellsOn E.Sink (answer_text program.now asked) err.old err.new }
 {
     match asked {
         Asked::Version => {
@@ -218,8 +211,7 @@ fn tell_answer<E: Sink>(program: &[u8], asked: Asked, err: &mut E) -> bool
 
 // Tells how the program is used, after these words.
 fn tell_usage<'a, E: Sink>(program: &'a [u8], before: &'a [u8], err: &mut E)
-    ensures { TellsOn E.takes E.refuses E.has_failed (usage_text before.now program.now)
-        err.old err.new }
+    ensures { TellsOn E.Sink (usage_text before.now program.now) err.old err.new }
 {
     let parts: [&[u8]; 6] = [before, program, TITLE, ABOUT, program, OPTIONS];
     tell_parts(&parts, err);
@@ -246,9 +238,7 @@ where
     T: Write + Copy + Drop,
     requires reader { R.has_failed input ≡ false }
     requires writer { W.has_failed out.old ≡ false }
-    ensures { PerformsWatched T (FromWrite T) S.opens S.refuses S.holds_directory
-        S.File.gives S.File.fails S.File.has_failed R.gives R.fails R.has_failed
-        W.takes W.refuses W.has_failed E.takes E.refuses E.has_failed store.now input
+    ensures { PerformsWatched T S.Store S.File.Source R.Source W.Sink E.Sink store.now input
         out.old out.new err.old err.new result options (map (λ name. name.items) names.now) shows }
 {
     let files = WatchedFiles::new(store, screen, shows);
@@ -276,10 +266,8 @@ where
     requires reader { R.has_failed input ≡ false }
     requires writer { W.has_failed out.old ≡ false }
     ensures { let given = map (λ name. name.items) names.now in
-        PerformsAs S.opens S.refuses S.holds_directory S.File.gives S.File.fails
-        S.File.has_failed R.gives R.fails R.has_failed W.takes W.refuses W.has_failed
-        E.takes E.refuses E.has_failed store.now options given input out.old out.new err.old err.new
-        result options.checks (has_none given) }
+        PerformsAs S.Store S.File.Source R.Source W.Sink E.Sink store.now options given input
+        out.old out.new err.old err.new result options.checks (has_none given) }
 {
     let mut input = input;
     if options.checks {
@@ -313,7 +301,7 @@ fn has_none(names: &[Vec<u8>]) -> bool
 // Tells why the program stops, and answers the exit status.
 fn conclude<E: Sink>(done: Result<bool, Stop>, err: &mut E) -> u8
     ensures status { result ≡ status_of done }
-    ensures tells { TellsOn E.takes E.refuses E.has_failed (end_text done) err.old err.new }
+    ensures tells { TellsOn E.Sink (end_text done) err.old err.new }
 {
     match done {
         Ok(true) => 0,

@@ -53,7 +53,7 @@ impl<E: Sink> Meter<E> {
 
     /// Counts a read of so many bytes. One of none takes the line away, where there is one.
     pub fn show(&mut self, count: usize)
-        ensures { Shows E.takes E.refuses E.has_failed count self.old self.new }
+        ensures { Shows E.Sink count self.old self.new }
     {
         let before = self.count;
         self.count = before.saturating_add(count as u64);
@@ -69,7 +69,7 @@ impl<E: Sink> Meter<E> {
 
 // Shows the second count where a step ends between both.
 fn show_between<E: Sink>(before: u64, count: u64, end: &mut E)
-    ensures { TellsOn E.takes E.refuses E.has_failed (progress_line before count) end.old end.new }
+    ensures { TellsOn E.Sink (progress_line before count) end.old end.new }
 {
     if before / STEP < count / STEP {
         let mut digits = Buffer::new();
@@ -80,7 +80,7 @@ fn show_between<E: Sink>(before: u64, count: u64, end: &mut E)
 
 // Takes the line away, where so many bytes had one.
 fn clear_after<E: Sink>(count: u64, end: &mut E)
-    ensures { TellsOn E.takes E.refuses E.has_failed (cleared count) end.old end.new }
+    ensures { TellsOn E.Sink (cleared count) end.old end.new }
 {
     if count >= STEP {
         tell(CLEARED, end);

@@ -25,7 +25,7 @@ fn put_parts(text: &mut Vec<u8>, parts: &[&[u8]]) -> Result<(), AllocError>
 // Writes the parts of a line at once.
 pub(crate) fn say<W: Sink>(alloc: Global, parts: &[&[u8]], out: &mut W) -> Result<(), Stop>
     requires { W.has_failed out.old ≡ false }
-    ensures prints { PrintsLine W.takes W.refuses (joined parts.now) out.old out.new result }
+    ensures prints { PrintsLine W.Sink (joined parts.now) out.old out.new result }
     ensures works { IfOk result (λ _. W.has_failed out.new ≡ false) }
 {
     let mut text = Vec::new(alloc);
@@ -36,7 +36,7 @@ pub(crate) fn say<W: Sink>(alloc: Global, parts: &[&[u8]], out: &mut W) -> Resul
 // Writes the bytes.
 pub(crate) fn print<W: Sink>(bytes: &[u8], out: &mut W) -> Result<(), Stop>
     requires { W.has_failed out.old ≡ false }
-    ensures prints { PrintsLine W.takes W.refuses bytes.now out.old out.new result }
+    ensures prints { PrintsLine W.Sink bytes.now out.old out.new result }
     ensures works { IfOk result (λ _. W.has_failed out.new ≡ false) }
     ensures only { IfErr result (λ stop. stop ≡ Stop.WriteFailed) }
 {

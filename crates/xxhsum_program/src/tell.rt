@@ -8,7 +8,7 @@ use xxh_io::write::write_all;
 
 // Writes the bytes, unless a write has failed before.
 pub(crate) fn tell<E: Sink>(bytes: &[u8], err: &mut E)
-    ensures { TellsOn E.takes E.refuses E.has_failed bytes.now err.old err.new }
+    ensures { TellsOn E.Sink bytes.now err.old err.new }
 {
     if !err.failed() {
         // Standard error has no other place for what it refuses.
@@ -18,7 +18,7 @@ pub(crate) fn tell<E: Sink>(bytes: &[u8], err: &mut E)
 
 // Writes the parts of a line, one after another.
 pub(crate) fn tell_parts<E: Sink>(parts: &[&[u8]], err: &mut E)
-    ensures { TellsOn E.takes E.refuses E.has_failed (joined parts.now) err.old err.new }
+    ensures { TellsOn E.Sink (joined parts.now) err.old err.new }
 {
     if let Some((part, rest)) = parts.split_first() {
         tell(part, err);

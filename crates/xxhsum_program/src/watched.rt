@@ -56,8 +56,7 @@ impl<R: Source, E: Sink> Source for Watched<R, E> {
             (λ n. R.gives (source_of self.old) (take n buf.new) (source_of self.new)) }
         ensures fails { OnErr result (R.fails (source_of self.old) (source_of self.new)) }
         ensures failed { R.has_failed (source_of self.new) ≡ is_err result }
-        ensures shows { ShowsRead E.takes E.refuses E.has_failed (meter_of self.old)
-            (meter_of self.new) result }
+        ensures shows { ShowsRead E.Sink (meter_of self.old) (meter_of self.new) result }
     {
         let found = self.source.read(buf);
         match found {
@@ -126,14 +125,9 @@ pub fn watched_pieces<R: Source, E: Sink>()
 pub fn watched_names<S: Store, W: Write + Copy + Drop>()
     ensures { (files : WatchedFiles S W) (kind : Kind) (names done rest : List (List ℕ))
         → (outcomes : List Outcome) → (result : Result Bool Stop)
-        → HashesNames ⟦<WatchedFiles<'static, S, W> as Store>⟧.opens
-        ⟦<WatchedFiles<'static, S, W> as Store>⟧.refuses
-        ⟦<WatchedFiles<'static, S, W> as Store>⟧.holds_directory
-        ⟦<Watched<S::File, FromWrite<W>> as Source>⟧.gives
-        ⟦<Watched<S::File, FromWrite<W>> as Source>⟧.fails
-        files kind names done rest outcomes result
-        → HashesNames S.opens S.refuses S.holds_directory S.File.gives S.File.fails
-        (files_of files) kind names done rest outcomes result }
+        → HashesNames ⟦<WatchedFiles<'static, S, W> as Store>⟧
+        ⟦<Watched<S::File, FromWrite<W>> as Source>⟧ files kind names done rest outcomes result
+        → HashesNames S.Store S.File.Source (files_of files) kind names done rest outcomes result }
 {}
 
 /// A law, with nothing to run: what the check of a watched list over watched files finds is found of the list and the
@@ -141,15 +135,11 @@ pub fn watched_names<S: Store, W: Write + Copy + Drop>()
 pub fn watched_list<S: Store, W: Write + Copy + Drop, R: Source, E: Sink>()
     ensures { (files : WatchedFiles S W) (list : Watched R E) (is_little : Bool)
         → (findings : List Finding) (end : Option ListEnd)
-        → FindsLines (IsFinding ⟦<WatchedFiles<'static, S, W> as Store>⟧.opens
-        ⟦<WatchedFiles<'static, S, W> as Store>⟧.refuses
-        ⟦<Watched<S::File, FromWrite<W>> as Source>⟧.gives
-        ⟦<Watched<S::File, FromWrite<W>> as Source>⟧.fails files is_little)
-        ⟦<Watched<R, E> as Source>⟧.gives ⟦<Watched<R, E> as Source>⟧.fails
-        ⟦<Watched<R, E> as Source>⟧.has_failed list findings end
-        → FindsLines (IsFinding S.opens S.refuses S.File.gives S.File.fails
-        (files_of files) is_little)
-        R.gives R.fails R.has_failed (source_of list) findings end }
+        → FindsLines (IsFinding ⟦<WatchedFiles<'static, S, W> as Store>⟧
+        ⟦<Watched<S::File, FromWrite<W>> as Source>⟧ files is_little)
+        ⟦<Watched<R, E> as Source>⟧ list findings end
+        → FindsLines (IsFinding S.Store S.File.Source (files_of files) is_little)
+        R.Source (source_of list) findings end }
 {}
 
 /// A law, with nothing to run: what the check of watched lists says it says of the lists.
@@ -157,17 +147,9 @@ pub fn watched_lists<S: Store, W: Write + Copy + Drop>()
     ensures { (files : WatchedFiles S W) (is_little is_strict : Bool)
         → (names done rest : List (List ℕ)) (outcomes : List ListOutcome)
         → (result : Result Bool Stop)
-        → ChecksLists (IsFinding ⟦<WatchedFiles<'static, S, W> as Store>⟧.opens
-        ⟦<WatchedFiles<'static, S, W> as Store>⟧.refuses
-        ⟦<Watched<S::File, FromWrite<W>> as Source>⟧.gives
-        ⟦<Watched<S::File, FromWrite<W>> as Source>⟧.fails files is_little)
-        ⟦<WatchedFiles<'static, S, W> as Store>⟧.opens
-        ⟦<WatchedFiles<'static, S, W> as Store>⟧.refuses
-        ⟦<Watched<S::File, FromWrite<W>> as Source>⟧.gives
-        ⟦<Watched<S::File, FromWrite<W>> as Source>⟧.fails
-        ⟦<Watched<S::File, FromWrite<W>> as Source>⟧.has_failed
-        files is_strict names done rest outcomes result
-        → ChecksLists (IsFinding S.opens S.refuses S.File.gives S.File.fails
-        (files_of files) is_little) S.opens S.refuses S.File.gives S.File.fails
-        S.File.has_failed (files_of files) is_strict names done rest outcomes result }
+        → ChecksLists ⟦<WatchedFiles<'static, S, W> as Store>⟧
+        ⟦<Watched<S::File, FromWrite<W>> as Source>⟧
+        files is_little is_strict names done rest outcomes result
+        → ChecksLists S.Store S.File.Source (files_of files) is_little is_strict names done rest
+        outcomes result }
 {}

@@ -91,7 +91,7 @@ impl CurrentBlock {
         ensures follows { IfOk result
             (λ _. (m : List ℕ) → HasTaken self.old m → HasTaken self.new (m ++ piece.now)) }
         ensures writes { (m : List ℕ) → HasTaken self.old m
-            → Writes W.takes W.refuses (added_lines self.old.size m piece.now) w.old w.new result }
+            → Writes W.Sink (added_lines self.old.size m piece.now) w.old w.new result }
         ensures write_failed { (result ≡ Err DigestError.WriteFailed)
             ↔ (W.has_failed w.new ≡ true) }
         ensures only { IfErr result (λ e. e ≡ DigestError.WriteFailed) }
@@ -115,7 +115,7 @@ impl CurrentBlock {
     fn finish<W: Sink>(&self, w: &mut W) -> Result<(), DigestError>
         requires { W.has_failed w.old ≡ false }
         ensures writes { (m : List ℕ) → HasTaken self.now m
-            → Writes W.takes W.refuses (last_lines self.now.size m) w.old w.new result }
+            → Writes W.Sink (last_lines self.now.size m) w.old w.new result }
         ensures write_failed { (result ≡ Err DigestError.WriteFailed)
             ↔ (W.has_failed w.new ≡ true) }
         ensures only { IfErr result (λ e. e ≡ DigestError.WriteFailed) }
@@ -144,8 +144,7 @@ pub(crate) fn digest_blocks_by<R: Source, W: Sink, const READ: usize, const LINE
     requires room { 50 ≤ LINES }
     requires small { LINES ≤ 65536 }
     ensures digests { (pieces : List (List ℕ)) × NoneEmpty pieces
-        × DigestsBlocks R.gives R.fails W.takes W.refuses block max_reads pieces
-        r.old r.new w.old w.new result
+        × DigestsBlocks R.Source W.Sink block max_reads pieces r.old r.new w.old w.new result
         × ((result ≡ Err DigestError.TooLong)
         ↔ ((length pieces ≡ max_reads) × (W.has_failed w.new ≡ false))) }
     ensures read_failed { (result ≡ Err DigestError.ReadFailed) ↔ (R.has_failed r.new ≡ true) }
@@ -202,8 +201,7 @@ pub fn digest_blocks<R: Source, W: Sink>(
 
     // What was read and what was written, `pieces` being the pieces read that are not empty.
     ensures digests { (pieces : List (List ℕ)) × NoneEmpty pieces
-        × DigestsBlocks R.gives R.fails W.takes W.refuses block max_reads pieces
-        r.old r.new w.old w.new result
+        × DigestsBlocks R.Source W.Sink block max_reads pieces r.old r.new w.old w.new result
         × ((result ≡ Err DigestError.TooLong)
         ↔ ((length pieces ≡ max_reads) × (W.has_failed w.new ≡ false))) }
 

@@ -55,9 +55,8 @@ pub fn run<R: Source, W: Sink, E: Sink>(
     requires writer { W.has_failed out.old ≡ false }
     requires faults { E.has_failed err.old ≡ false }
     ensures { (answer : Result (Unit {0}) Fault)
-        × Performs R.gives R.fails W.takes W.refuses (command_of words.now)
-        r.old r.new out.old out.new answer
-        × Tells E.takes E.refuses E.has_failed answer err.old err.new
+        × Performs R.Source W.Sink (command_of words.now) r.old r.new out.old out.new answer
+        × Tells E.Sink answer err.old err.new
         × (result ≡ status_after answer) }
 {
     let answer = match parse(words) {
@@ -72,8 +71,7 @@ fn print_blocks<R: Source, W: Sink>(size: u64, r: &mut R, out: &mut W) -> Result
     requires reader { R.has_failed r.old ≡ false }
     requires writer { W.has_failed out.old ≡ false }
     requires some { 1 ≤ size }
-    ensures { DigestsInput R.gives R.fails W.takes W.refuses size
-        r.old r.new out.old out.new result }
+    ensures { DigestsInput R.Source W.Sink size r.old r.new out.old out.new result }
 {
     digest_blocks_by::<R, W, READ, BLOCKS_WRITE>(r, out, size, MAX_READS)
 }
@@ -87,8 +85,7 @@ fn perform<R: Source, W: Sink>(
     requires reader { R.has_failed r.old ≡ false }
     requires writer { W.has_failed out.old ≡ false }
     requires number { NumberFits command }
-    ensures { Performs R.gives R.fails W.takes W.refuses (Ok command.entry)
-        r.old r.new out.old out.new result }
+    ensures { Performs R.Source W.Sink (Ok command.entry) r.old r.new out.old out.new result }
 {
     match command {
         Command::Hash { kind, seed } => {

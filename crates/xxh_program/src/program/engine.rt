@@ -2,8 +2,7 @@
 
 ghost use Rattle.std.specs.Prelude.{◌≡◌, ◌≢◌, ◌↔◌, ◌<◌, ◌≤◌, ◌^◌, ◌⊎◌, ◌++◌, [], true, false, List, ℕ, length, Err, IfOk};
 ghost use Rattle.std.specs.List.{concat};
-ghost use Rattle.xxh_io.specs.Pieces.{NoneEmpty};
-ghost use Rattle.xxh_io.specs.Digest.{ReadsOn, Writes};
+ghost use Rattle.xxh_io.specs.Digest.{ReadsTo, Writes};
 ghost use Rattle.xxh_io.specs.Hex.{hex_line};
 ghost use Rattle.xxh_program.specs.Feeding.{IsFed};
 ghost use Rattle.xxh_program.specs.Kind.{digits_of, value_of};
@@ -27,9 +26,8 @@ pub(crate) fn read_all<H: Feed, R: Source>(
 ) -> Result<H, DigestError>
     requires works { R.has_failed r.old ≡ false }
     requires room { 0 < length buf.old }
-    ensures reads { (pieces : List (List ℕ)) × NoneEmpty pieces
-        × ReadsOn R.gives R.fails max_reads pieces r.old r.new result
-        × ((result ≡ Err DigestError.TooLong) ↔ (length pieces ≡ max_reads))
+    ensures reads { (pieces : List (List ℕ))
+        × ReadsTo R.Source max_reads pieces r.old r.new result
         × IfOk result (IsFed H.follows H.has_seed hasher (concat pieces)) }
     ensures read_failed { (result ≡ Err DigestError.ReadFailed) ↔ (R.has_failed r.new ≡ true) }
     ensures never_writes { result ≢ Err DigestError.WriteFailed }
@@ -58,11 +56,10 @@ pub(crate) fn digest_on<H: Feed, R: Source, W: Sink, const READ: usize>(
     requires room { digits ≤ 32 }
     requires offers { 1 ≤ READ }
     requires few { READ ≤ 131072 }
-    ensures digests { (pieces : List (List ℕ)) × NoneEmpty pieces
-        × ReadsOn R.gives R.fails max_reads pieces r.old r.new result
-        × ((result ≡ Err DigestError.TooLong) ↔ (length pieces ≡ max_reads))
+    ensures digests { (pieces : List (List ℕ))
+        × ReadsTo R.Source max_reads pieces r.old r.new result
         × ((seed : ℕ) (m : List ℕ) → H.follows hasher seed m
-        → Writes W.takes W.refuses (hex_line digits (H.value_at seed (m ++ concat pieces)))
+        → Writes W.Sink (hex_line digits (H.value_at seed (m ++ concat pieces)))
         w.old w.new result) }
     ensures read_failed { (result ≡ Err DigestError.ReadFailed) ↔ (R.has_failed r.new ≡ true) }
     ensures write_failed { (result ≡ Err DigestError.WriteFailed) ↔ (W.has_failed w.new ≡ true) }
@@ -86,10 +83,9 @@ pub(crate) fn digest_reading<R: Source, W: Sink, const READ: usize>(
     requires offers { 1 ≤ READ }
     requires few { READ ≤ 131072 }
     requires seed { kind ≡ Kind.X32 → seed < 2 ^ 32 }
-    ensures digests { (pieces : List (List ℕ)) × NoneEmpty pieces
-        × ReadsOn R.gives R.fails max_reads pieces r.old r.new result
-        × ((result ≡ Err DigestError.TooLong) ↔ (length pieces ≡ max_reads))
-        × Writes W.takes W.refuses (hex_line (digits_of kind) (value_of kind seed (concat pieces)))
+    ensures digests { (pieces : List (List ℕ))
+        × ReadsTo R.Source max_reads pieces r.old r.new result
+        × Writes W.Sink (hex_line (digits_of kind) (value_of kind seed (concat pieces)))
         w.old w.new result }
     ensures read_failed { (result ≡ Err DigestError.ReadFailed) ↔ (R.has_failed r.new ≡ true) }
     ensures write_failed { (result ≡ Err DigestError.WriteFailed) ↔ (W.has_failed w.new ≡ true) }
@@ -129,10 +125,9 @@ pub fn digest<R: Source, W: Sink>(
     requires seed { kind ≡ Kind.X32 → seed < 2 ^ 32 }
 
     // What was read and what was written, `pieces` being the pieces read that are not empty.
-    ensures digests { (pieces : List (List ℕ)) × NoneEmpty pieces
-        × ReadsOn R.gives R.fails max_reads pieces r.old r.new result
-        × ((result ≡ Err DigestError.TooLong) ↔ (length pieces ≡ max_reads))
-        × Writes W.takes W.refuses (hex_line (digits_of kind) (value_of kind seed (concat pieces)))
+    ensures digests { (pieces : List (List ℕ))
+        × ReadsTo R.Source max_reads pieces r.old r.new result
+        × Writes W.Sink (hex_line (digits_of kind) (value_of kind seed (concat pieces)))
         w.old w.new result }
 
     // When each end fails.

@@ -4,8 +4,7 @@ ghost use Rattle.std.specs.Prelude.{◌≡◌, ◌≢◌, ◌↔◌, ◌⊎◌, 
 ghost use Rattle.std.specs.List.{concat};
 ghost use Rattle.twox_hash.specs.Xxh32.{xxh32};
 ghost use Rattle.twox_hash.specs.Record32.{StandsFor};
-ghost use Rattle.xxh_io.specs.Pieces.{NoneEmpty};
-ghost use Rattle.xxh_io.specs.Digest.{ReadsOn, Writes};
+ghost use Rattle.xxh_io.specs.Digest.{ReadsTo, Writes};
 ghost use Rattle.xxh_io.specs.Hex.{hex_line};
 
 use crate::program::engine::{OFFERED, digest_on, read_all};
@@ -42,12 +41,10 @@ pub fn digest_from_32<R: Source, W: Sink>(
     requires writer { W.has_failed w.old ≡ false }
 
     // What was read and what was written, for every list of bytes that the hasher stands for.
-    ensures digests { (pieces : List (List ℕ)) × NoneEmpty pieces
-        × ReadsOn R.gives R.fails max_reads pieces r.old r.new result
-        × ((result ≡ Err DigestError.TooLong) ↔ (length pieces ≡ max_reads))
+    ensures digests { (pieces : List (List ℕ))
+        × ReadsTo R.Source max_reads pieces r.old r.new result
         × ((m : List ℕ) → StandsFor hasher m
-        → Writes W.takes W.refuses (hex_line 8 (xxh32 hasher.seed (m ++ concat pieces)))
-        w.old w.new result) }
+        → Writes W.Sink (hex_line 8 (xxh32 hasher.seed (m ++ concat pieces))) w.old w.new result) }
 
     // When each end fails, and when nothing is written, whatever the hasher stands for.
     ensures read_failed { (result ≡ Err DigestError.ReadFailed) ↔ (R.has_failed r.new ≡ true) }
@@ -67,9 +64,8 @@ pub fn read_on_32<R: Source>(
     requires { R.has_failed r.old ≡ false }
 
     // What was read, and what the hasher then stands for.
-    ensures reads { (pieces : List (List ℕ)) × NoneEmpty pieces
-        × ReadsOn R.gives R.fails max_reads pieces r.old r.new result
-        × ((result ≡ Err DigestError.TooLong) ↔ (length pieces ≡ max_reads))
+    ensures reads { (pieces : List (List ℕ))
+        × ReadsTo R.Source max_reads pieces r.old r.new result
         × IfOk result (λ after. (after.seed ≡ hasher.seed)
         × ((m : List ℕ) → StandsFor hasher m → StandsFor after (m ++ concat pieces))) }
     ensures read_failed { (result ≡ Err DigestError.ReadFailed) ↔ (R.has_failed r.new ≡ true) }

@@ -82,11 +82,11 @@ fn run_arguments<R: Source, W: Write, E: Sink>(
     requires faults { E.has_failed err.old ≡ false }
     ensures { (asked : Result (List (Bor (List ℕ))) Fault) × Asks (map string_bytes args.now) asked
         × ((ran answer : Result (Unit {0}) Fault) × (written : FromWrite W)
-        × Performs R.gives R.fails ⟦<FromWrite<W> as Sink>⟧.takes ⟦<FromWrite<W> as Sink>⟧.refuses
+        × Performs R.Source ⟦<FromWrite<W> as Sink>⟧
         (command_asked asked) r.old r.new out.old written ran
         × EndsAs ran answer
         × Keeps (W.contents (writer_of written)) (W.contents (writer_of out.new))
-        × Tells E.takes E.refuses E.has_failed answer err.old err.new
+        × Tells E.Sink answer err.old err.new
         × (result ≡ status_after answer)) }
 {
     match words_after_name(alloc, args) {

@@ -24,7 +24,7 @@ pub(crate) fn save_32<R: Source, W: Sink>(
 ) -> Result<(), Fault>
     requires reader { R.has_failed r.old ≡ false }
     requires writer { W.has_failed out.old ≡ false }
-    ensures { Saves32 R.gives R.fails W.takes W.refuses seed r.old r.new out.old out.new result }
+    ensures { Saves32 R.Source W.Sink seed r.old r.new out.old out.new result }
 {
     let hasher = read_on_32(XxHash32::with_seed(seed), MAX_READS, r)?;
     let text = hasher.to_state().to_json(alloc)?;
@@ -40,7 +40,7 @@ pub(crate) fn save_64<R: Source, W: Sink>(
 ) -> Result<(), Fault>
     requires reader { R.has_failed r.old ≡ false }
     requires writer { W.has_failed out.old ≡ false }
-    ensures { Saves64 R.gives R.fails W.takes W.refuses seed r.old r.new out.old out.new result }
+    ensures { Saves64 R.Source W.Sink seed r.old r.new out.old out.new result }
 {
     let hasher = read_on_64(XxHash64::with_seed(seed), MAX_READS, r)?;
     let text = hasher.to_state().to_json(alloc)?;
@@ -50,7 +50,7 @@ pub(crate) fn save_64<R: Source, W: Sink>(
 // Writes the text and a line feed.
 fn print_line<W: Sink>(text: String, out: &mut W) -> Result<(), Fault>
     requires { W.has_failed out.old ≡ false }
-    ensures { Prints W.takes W.refuses (string_bytes text ++ 10 ∷ []) out.old out.new result }
+    ensures { Prints W.Sink (string_bytes text ++ 10 ∷ []) out.old out.new result }
 {
     let mut line = text;
     line.push('\n')?;
@@ -66,8 +66,7 @@ pub(crate) fn resume_32<R: Source, W: Sink>(
 ) -> Result<(), Fault>
     requires reader { R.has_failed r.old ≡ false }
     requires writer { W.has_failed out.old ≡ false }
-    ensures { Resumes32 R.gives R.fails W.takes W.refuses json.now
-        r.old r.new out.old out.new result }
+    ensures { Resumes32 R.Source W.Sink json.now r.old r.new out.old out.new result }
 {
     let hasher = restored_32(alloc, json)?;
     Ok(digest_from_32(hasher, MAX_READS, r, out)?)
@@ -82,8 +81,7 @@ pub(crate) fn resume_64<R: Source, W: Sink>(
 ) -> Result<(), Fault>
     requires reader { R.has_failed r.old ≡ false }
     requires writer { W.has_failed out.old ≡ false }
-    ensures { Resumes64 R.gives R.fails W.takes W.refuses json.now
-        r.old r.new out.old out.new result }
+    ensures { Resumes64 R.Source W.Sink json.now r.old r.new out.old out.new result }
 {
     let hasher = restored_64(alloc, json)?;
     Ok(digest_from_64(hasher, MAX_READS, r, out)?)

@@ -2,8 +2,7 @@
 
 ghost use Rattle.std.specs.Prelude.{◌≡◌, ◌≢◌, ◌↔◌, ◌<◌, ◌≤◌, ◌^◌, [], true, false, List, ℕ, length, Err, IfOk};
 ghost use Rattle.std.specs.List.{concat};
-ghost use Rattle.xxh_io.specs.Pieces.{NoneEmpty};
-ghost use Rattle.xxh_io.specs.Digest.{ReadsOn};
+ghost use Rattle.xxh_io.specs.Digest.{ReadsTo};
 ghost use Rattle.xxh_program.specs.Kind.{value_of};
 
 use crate::program::engine::read_all;
@@ -28,9 +27,8 @@ fn value_by<H: Feed, R: Source>(
     requires empty { H.follows hasher seed [] }
     requires room { 0 < length buf.old }
     requires value { (m : List ℕ) → H.value_at seed m ≡ value_of kind seed m }
-    ensures value { (pieces : List (List ℕ)) × NoneEmpty pieces
-        × ReadsOn R.gives R.fails max_reads pieces r.old r.new result
-        × ((result ≡ Err DigestError.TooLong) ↔ (length pieces ≡ max_reads))
+    ensures value { (pieces : List (List ℕ))
+        × ReadsTo R.Source max_reads pieces r.old r.new result
         × IfOk result (λ value. value ≡ value_of kind seed (concat pieces)) }
     ensures read_failed { (result ≡ Err DigestError.ReadFailed) ↔ (R.has_failed r.new ≡ true) }
     ensures never_writes { result ≢ Err DigestError.WriteFailed }
@@ -60,9 +58,8 @@ pub fn value_of_source<R: Source>(
     requires reader { R.has_failed r.old ≡ false }
     requires room { 0 < length buf.old }
     requires seed { kind ≡ Kind.X32 → seed < 2 ^ 32 }
-    ensures value { (pieces : List (List ℕ)) × NoneEmpty pieces
-        × ReadsOn R.gives R.fails max_reads pieces r.old r.new result
-        × ((result ≡ Err DigestError.TooLong) ↔ (length pieces ≡ max_reads))
+    ensures value { (pieces : List (List ℕ))
+        × ReadsTo R.Source max_reads pieces r.old r.new result
         × IfOk result (λ value. value ≡ value_of kind seed (concat pieces)) }
     ensures read_failed { (result ≡ Err DigestError.ReadFailed) ↔ (R.has_failed r.new ≡ true) }
     ensures never_writes { result ≢ Err DigestError.WriteFailed }

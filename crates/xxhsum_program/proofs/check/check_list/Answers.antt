@@ -4,7 +4,7 @@ use Rattle.xxhsum_program.proofs.check.check_list.Goals as goal
 
 pub returns-then-failed : goal.returns-then-failed
 returns-then-failed g c =
-    ([], None, ([], tt, (false, [], ([], c.args.source, tt, refl, inl (tt, refl)))), tt, inr (sym c.failed.ensures ∙ c.if-failed.true, refl, refl), tells-nothing g.E.Sink.takes g.E.Sink.refuses g.E.Sink.has_failed c.args.err.now)
+    ([], None, ([], tt, (false, [], ([], c.args.source, tt, refl, inl (tt, refl)))), tt, inr (sym c.failed.ensures ∙ c.if-failed.true, refl, refl), tells-nothing g.E.Sink c.args.err.now)
 
 pub returns : goal.returns
 returns g c =

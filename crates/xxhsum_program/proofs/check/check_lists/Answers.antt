@@ -16,7 +16,7 @@ loop-name-init g c = record {
   finished = tt;
   all = refl;
   prints = ([], refl, refl);
-  tells = tells-nothing g.E.Sink.takes g.E.Sink.refuses g.E.Sink.has_failed c.args.err.now;
+  tells = tells-nothing g.E.Sink c.args.err.now;
   works = search rules;
 }
 
@@ -42,9 +42,9 @@ loop-name-preserved g c =
             | else-all w ↦ rw (w.all-is, w.if-all.false) refl
           ]);
       prints = rw (lines-push _ (printed_outcome options) names so_far.outcomes name outcome so_far.each)
-          (Took-join g.W.Sink.takes _ _ _ _ _ so_far.prints checked.3);
+          (Took-join g.W.Sink _ _ _ _ _ so_far.prints checked.3);
       tells = rw (lines-push _ (told_outcome options) names so_far.outcomes name outcome so_far.each)
-          (tells-more g.E.Sink.takes g.E.Sink.refuses g.E.Sink.has_failed _ _ _ _ _ so_far.tells checked.4);
+          (tells-more g.E.Sink _ _ _ _ _ so_far.tells checked.4);
       works = c.in_ok-good.ensures.works;
     }
 
@@ -68,10 +68,10 @@ returns-in_err-good g c =
         EachHas-push _ names so_far.outcomes name outcome so_far.each checked.1,
         inr (so_far.outcomes, outcome, refl, so_far.finished),
       ),
-      inl (subst (λ bytes. PrintsLines {T = Bool} g.W.Sink.takes g.W.Sink.refuses bytes c.args.out.now c.check_named.new.out (Err stop)) (sym (lines-push _ (printed_outcome options) names so_far.outcomes name outcome so_far.each)) (prints-join {T = Bool} g.W.Sink.takes g.W.Sink.refuses _ _ c.args.out.now c.loop-name.out c.check_named.new.out (Err stop) so_far.prints (subst (λ bytes. PrintsLines {T = Bool} g.W.Sink.takes g.W.Sink.refuses (printed_outcome options bytes outcome) c.loop-name.out c.check_named.new.out (Err stop)) c.deref.ensures.value checked.3))),
-      rw (lines-push _ (told_outcome options) names so_far.outcomes name outcome so_far.each) (tells-more g.E.Sink.takes g.E.Sink.refuses g.E.Sink.has_failed _ _ _ _ _ so_far.tells checked.4),
+      inl (subst (λ bytes. PrintsLines {T = Bool} g.W.Sink bytes c.args.out.now c.check_named.new.out (Err stop)) (sym (lines-push _ (printed_outcome options) names so_far.outcomes name outcome so_far.each)) (prints-join {T = Bool} g.W.Sink _ _ c.args.out.now c.loop-name.out c.check_named.new.out (Err stop) so_far.prints (subst (λ bytes. PrintsLines {T = Bool} g.W.Sink (printed_outcome options bytes outcome) c.loop-name.out c.check_named.new.out (Err stop)) c.deref.ensures.value checked.3))),
+      rw (lines-push _ (told_outcome options) names so_far.outcomes name outcome so_far.each) (tells-more g.E.Sink _ _ _ _ _ so_far.tells checked.4),
     )
 
 pub returns-then-failed : goal.returns-then-failed
 returns-then-failed g c =
-    ([], [], map (λ name. name.items) c.args.names.now, (refl, tt, inl tt), inr (sym c.failed.ensures ∙ c.if-failed.true, refl, refl), tells-nothing g.E.Sink.takes g.E.Sink.refuses g.E.Sink.has_failed c.args.err.now)
+    ([], [], map (λ name. name.items) c.args.names.now, (refl, tt, inl tt), inr (sym c.failed.ensures ∙ c.if-failed.true, refl, refl), tells-nothing g.E.Sink c.args.err.now)

@@ -2,7 +2,6 @@ use Rattle.std.proofs.Common.{◌≡◌, List, take, map, false}
 use Rattle.xxh_io.specs.Digest.{Took}
 use Rattle.xxhsum_program.specs.CheckList.{AreAllDone, IsListOutcome, ListOutcome, are_good, printed_outcome, told_outcome}
 use Rattle.xxhsum_program.specs.EachHas.{EachHas}
-use Rattle.xxhsum_program.specs.Findings.{IsFinding}
 use Rattle.xxhsum_program.specs.Lines.{lines_of}
 use Rattle.xxhsum_program.specs.Told.{TellsOn}
 use Rattle.xxhsum_program.proofs.check.check_lists.Given as goal
@@ -11,10 +10,10 @@ use Rattle.xxhsum_program.proofs.check.check_lists.Given as goal
 abbrev pub invariant-loop-name : goal.invariant-loop-name
 invariant-loop-name g l = record {
   outcomes : List ListOutcome;
-  each : EachHas (IsListOutcome (IsFinding g.S.Store.opens g.S.Store.refuses g.S.File.Source.gives g.S.File.Source.fails l.fn.store l.fn.options.is_little_endian) g.S.Store.opens g.S.Store.refuses g.S.File.Source.gives g.S.File.Source.fails g.S.File.Source.has_failed l.fn.store) (map (λ name. name.items) (take l.name-index l.names)) outcomes;
+  each : EachHas (IsListOutcome g.S.Store g.S.File.Source l.fn.store l.fn.options.is_little_endian) (map (λ name. name.items) (take l.name-index l.names)) outcomes;
   finished : AreAllDone outcomes;
   all : l.all ≡ are_good l.fn.options.is_strict outcomes;
-  prints : Took g.W.Sink.takes (lines_of (printed_outcome l.fn.options) (map (λ name. name.items) (take l.name-index l.names)) outcomes) l.initial.out l.out;
-  tells : TellsOn g.E.Sink.takes g.E.Sink.refuses g.E.Sink.has_failed (lines_of (told_outcome l.fn.options) (map (λ name. name.items) (take l.name-index l.names)) outcomes) l.initial.err l.err;
+  prints : Took g.W.Sink (lines_of (printed_outcome l.fn.options) (map (λ name. name.items) (take l.name-index l.names)) outcomes) l.initial.out l.out;
+  tells : TellsOn g.E.Sink (lines_of (told_outcome l.fn.options) (map (λ name. name.items) (take l.name-index l.names)) outcomes) l.initial.err l.err;
   works : g.W.Sink.has_failed l.out ≡ false;
 }

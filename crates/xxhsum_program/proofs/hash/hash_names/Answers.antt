@@ -14,7 +14,7 @@ loop-name-init g c = record {
   outcomes = [];
   each = tt;
   prints = ([], refl, refl);
-  tells = tells-nothing g.E.Sink.takes g.E.Sink.refuses g.E.Sink.has_failed c.args.err.now;
+  tells = tells-nothing g.E.Sink c.args.err.now;
   all = refl;
   works = c.requires;
 }
@@ -33,9 +33,9 @@ loop-name-preserved g c =
       outcomes = so_far.outcomes ++ outcome ∷ [];
       each = EachHas-push _ names so_far.outcomes name outcome so_far.each (rw (sym c.deref.ensures.value) c.outcome_of-outcome.ensures);
       prints = rw (lines-push _ line names so_far.outcomes name outcome so_far.each, sym c.deref-in-loop-name.ensures.value)
-          (Took-join g.W.Sink.takes _ _ _ _ _ so_far.prints c.in_ok-print_outcome.ensures.prints);
+          (Took-join g.W.Sink _ _ _ _ _ so_far.prints c.in_ok-print_outcome.ensures.prints);
       tells = rw (lines-push _ told_line names so_far.outcomes name outcome so_far.each, sym c.deref-in-loop-name-2.ensures.value)
-          (tells-more g.E.Sink.takes g.E.Sink.refuses g.E.Sink.has_failed _ _ _ _ _ so_far.tells c.tell_outcome.ensures);
+          (tells-more g.E.Sink _ _ _ _ _ so_far.tells c.tell_outcome.ensures);
       all = rw (are_digested-push so_far.outcomes outcome, sym so_far.all)
           (elim c.if-all.branch [
             | then-all w ↦ rw (w.all-is, w.if-all.true) w.is_digested-all.ensures
@@ -52,7 +52,7 @@ returns-in_err-print_outcome g c =
     let outcome = c.outcome_of-outcome.result in
     let stop = c.in_err-print_outcome.field-0.0 in
     let is : c.from_residual.result ≡ Err stop = is-err c.from_residual.result stop c.from_residual.ensures.1 in
-    rw is (stops-printing (Comes g.S.Store.opens g.S.Store.refuses g.S.Store.holds_directory g.S.File.Source.gives g.S.File.Source.fails c.args.store.now c.args.kind) g.W.Sink.takes g.W.Sink.refuses g.E.Sink.takes g.E.Sink.refuses g.E.Sink.has_failed c.args.kind c.args.shape _ (map (λ name. name.items) (take k c.args.names.now)) (map (λ name. name.items) (drop (k + 1) c.args.names.now)) so_far.outcomes name outcome _ _ _ _ _ stop
+    rw is (stops-printing (Comes g.S.Store g.S.File.Source c.args.store.now c.args.kind) g.W.Sink g.E.Sink c.args.kind c.args.shape _ (map (λ name. name.items) (take k c.args.names.now)) (map (λ name. name.items) (drop (k + 1) c.args.names.now)) so_far.outcomes name outcome _ _ _ _ _ stop
     (map-split (λ name. name.items) c.args.names.now k c.name-item.result c.loop-name-test.true c.name-item.is)
     so_far.each (rw c.deref.ensures.value at c.outcome_of-outcome.ensures) so_far.prints so_far.tells
-    (subst (λ bytes. PrintsLine {T = Unit {0}} g.W.Sink.takes g.W.Sink.refuses (printed_line c.args.kind c.args.shape bytes outcome) c.loop-name.out c.print_outcome.new.out (Err stop)) c.deref-in-loop-name.ensures.value c.in_err-print_outcome.ensures.prints))
+    (subst (λ bytes. PrintsLine {T = Unit {0}} g.W.Sink (printed_line c.args.kind c.args.shape bytes outcome) c.loop-name.out c.print_outcome.new.out (Err stop)) c.deref-in-loop-name.ensures.value c.in_err-print_outcome.ensures.prints))

@@ -11,9 +11,9 @@ use Rattle.xxhsum_program.proofs.hash.hash_names.Given as goal
 abbrev pub invariant-loop-name : goal.invariant-loop-name
 invariant-loop-name g l = record {
   outcomes : List Outcome;
-  each : EachHas (Comes g.S.Store.opens g.S.Store.refuses g.S.Store.holds_directory g.S.File.Source.gives g.S.File.Source.fails l.fn.store l.fn.kind) (map (λ name. name.items) (take l.name-index l.names)) outcomes;
-  prints : Took g.W.Sink.takes (lines_of (printed_line l.fn.kind l.fn.shape) (map (λ name. name.items) (take l.name-index l.names)) outcomes) l.initial.out l.out;
-  tells : TellsOn g.E.Sink.takes g.E.Sink.refuses g.E.Sink.has_failed (lines_of told_line (map (λ name. name.items) (take l.name-index l.names)) outcomes) l.initial.err l.err;
+  each : EachHas (Comes g.S.Store g.S.File.Source l.fn.store l.fn.kind) (map (λ name. name.items) (take l.name-index l.names)) outcomes;
+  prints : Took g.W.Sink (lines_of (printed_line l.fn.kind l.fn.shape) (map (λ name. name.items) (take l.name-index l.names)) outcomes) l.initial.out l.out;
+  tells : TellsOn g.E.Sink (lines_of told_line (map (λ name. name.items) (take l.name-index l.names)) outcomes) l.initial.err l.err;
   all : l.all ≡ are_digested outcomes;
   works : g.W.Sink.has_failed l.out ≡ false;
 }

@@ -5,4 +5,4 @@ use Rattle.xxhsum_program.proofs.process.conclude.Goals as goal
 
 pub returns-in-Err-clause-tells : goal.returns-in-Err-clause-tells
 returns-in-Err-clause-tells g c =
-    subst (λ done. TellsOn g.E.Sink.takes g.E.Sink.refuses g.E.Sink.has_failed (end_text done) c.args.err.now c.tell.new.err) (sym c.in-Err.is) (rw c.line_of.ensures at c.tell.ensures)
+    subst (λ done. TellsOn g.E.Sink (end_text done) c.args.err.now c.tell.new.err) (sym c.in-Err.is) (rw c.line_of.ensures at c.tell.ensures)

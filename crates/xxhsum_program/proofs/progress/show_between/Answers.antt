@@ -5,5 +5,5 @@ use Rattle.xxhsum_program.proofs.progress.show_between.Goals as goal
 
 pub returns-then-before-count : goal.returns-then-before-count
 returns-then-before-count g c =
-    subst (λ bytes. TellsOn g.E.Sink.takes g.E.Sink.refuses g.E.Sink.has_failed bytes c.args.end.now c.tell_parts.new.err) (sym (line-between c.args.before c.args.count c.if-before-count.true))
+    subst (λ bytes. TellsOn g.E.Sink bytes c.args.end.now c.tell_parts.new.err) (sym (line-between c.args.before c.args.count c.if-before-count.true))
     (rw (c.as_bytes-number.ensures.value, c.format.ensures.text) at c.tell_parts.ensures)

@@ -4,8 +4,8 @@ use Rattle.xxhsum_program.proofs.tell.tell.Goals as goal
 
 pub returns-then-not-failed : goal.returns-then-not-failed
 returns-then-not-failed g c = λ initial before told.
-    Told-write g.E.Sink.takes g.E.Sink.refuses g.E.Sink.has_failed before c.args.bytes.now initial _ _ c.write_all.result (search rules) told c.write_all.ensures.writes c.write_all.ensures.only c.write_all.ensures.write_failed
+    Told-write g.E.Sink before c.args.bytes.now initial _ _ c.write_all.result (search rules) told c.write_all.ensures.writes c.write_all.ensures.only c.write_all.ensures.write_failed
 
 pub returns-else-not-failed : goal.returns-else-not-failed
 returns-else-not-failed g c = λ initial before told.
-    Told-failed g.E.Sink.takes g.E.Sink.refuses g.E.Sink.has_failed before c.args.bytes.now initial _ (search rules) told
+    Told-failed g.E.Sink before c.args.bytes.now initial _ (search rules) told

@@ -23,8 +23,8 @@ loop-turn-preserved g c =
     let b = c.args.block in
     let m = concat so_far.pieces in
     let wide : 0 < b = omega (arith, c.requires.some) in
-    let here : Took g.W.Sink.takes (added_lines b m piece) c.loop-turn.w c.take.new.w =
-    subst (λ k. Took g.W.Sink.takes (added_lines k m piece) c.loop-turn.w c.take.new.w) so_far.same (c.in_ok-take-in-Ok.ensures.writes m so_far.follows) in
+    let here : Took g.W.Sink (added_lines b m piece) c.loop-turn.w c.take.new.w =
+    subst (λ k. Took g.W.Sink (added_lines k m piece) c.loop-turn.w c.take.new.w) so_far.same (c.in_ok-take-in-Ok.ensures.writes m so_far.follows) in
     let lines : whole_block_lines b m ++ added_lines b m piece ≡ whole_block_lines b (concat (so_far.pieces ++ piece ∷ [])) =
     sym (ap (whole_block_lines b) joined ∙ whole-append b m piece wide) in
     record {
@@ -37,7 +37,7 @@ loop-turn-preserved g c =
       some = NoneEmpty-push so_far.pieces piece so_far.some some;
       read = Pieces-push g.R.Source.gives _ _ _ so_far.pieces piece so_far.read c.in-Ok.ensures.piece;
       follows = subst (HasTaken c.take.new.self) (sym joined) (c.in_ok-take-in-Ok.ensures.follows m so_far.follows);
-      wrote = subst (λ (x : List ℕ). Took g.W.Sink.takes x c.args.w.now c.take.new.w) lines (Took-join g.W.Sink.takes _ _ _ _ _ so_far.wrote here);
+      wrote = subst (λ (x : List ℕ). Took g.W.Sink x c.args.w.now c.take.new.w) lines (Took-join g.W.Sink _ _ _ _ _ so_far.wrote here);
     }
 
 pub returns-in-Ok-eq0-clause-digests : goal.returns-in-Ok-eq0-clause-digests
@@ -49,12 +49,12 @@ returns-in-Ok-eq0-clause-digests g c =
     let at_end : g.R.Source.gives c.loop-turn.r [] c.read.new.self =
     subst (λ n. g.R.Source.gives c.loop-turn.r (take n c.read.new.buf) c.read.new.self) c.in-Ok-eq0.field-0-test c.in-Ok-eq0.ensures.piece in
     let read = Pieces-push g.R.Source.gives _ _ _ so_far.pieces [] so_far.read at_end in
-    let last : Writes g.W.Sink.takes g.W.Sink.refuses (last_lines b m) c.loop-turn.w c.finish.new.w c.finish.result =
-    subst (λ k. Writes g.W.Sink.takes g.W.Sink.refuses (last_lines k m) c.loop-turn.w c.finish.new.w c.finish.result) so_far.same (c.finish.ensures.writes m so_far.follows) in
-    let all : Writes g.W.Sink.takes g.W.Sink.refuses (block_lines b m) c.args.w.now c.finish.new.w c.finish.result =
-    subst (λ (x : List ℕ). Writes g.W.Sink.takes g.W.Sink.refuses x c.args.w.now c.finish.new.w c.finish.result) (sym (all-split b m))
-    (Writes-join g.W.Sink.takes g.W.Sink.refuses _ _ _ _ _ c.finish.result c.finish.ensures.only so_far.wrote last) in
-    (so_far.pieces, so_far.some, ends-well g.R.Source.gives g.R.Source.fails g.W.Sink.takes g.W.Sink.refuses b c.args.max_reads so_far.pieces _ _ _ _ c.finish.result c.finish.ensures.only (fewer, read) all, (λ e. absurd (never-too-long c.finish.result c.finish.ensures.only e), λ e. absurd (omega (arith, fewer, e.0))))
+    let last : Writes g.W.Sink (last_lines b m) c.loop-turn.w c.finish.new.w c.finish.result =
+    subst (λ k. Writes g.W.Sink (last_lines k m) c.loop-turn.w c.finish.new.w c.finish.result) so_far.same (c.finish.ensures.writes m so_far.follows) in
+    let all : Writes g.W.Sink (block_lines b m) c.args.w.now c.finish.new.w c.finish.result =
+    subst (λ (x : List ℕ). Writes g.W.Sink x c.args.w.now c.finish.new.w c.finish.result) (sym (all-split b m))
+    (Writes-join g.W.Sink _ _ _ _ _ c.finish.result c.finish.ensures.only so_far.wrote last) in
+    (so_far.pieces, so_far.some, ends-well g.R.Source g.W.Sink b c.args.max_reads so_far.pieces _ _ _ _ c.finish.result c.finish.ensures.only (fewer, read) all, (λ e. absurd (never-too-long c.finish.result c.finish.ensures.only e), λ e. absurd (omega (arith, fewer, e.0))))
 
 pub returns-in_err-take-in-Ok-clause-digests : goal.returns-in_err-take-in-Ok-clause-digests
 returns-in_err-take-in-Ok-clause-digests g c =
@@ -71,15 +71,15 @@ returns-in_err-take-in-Ok-clause-digests g c =
     let failed : ◌≡◌ {A = Result (Unit {0}) DigestError} (Err c.in_err-take-in-Ok.field-0.0) (Err WriteFailed) = ap Err c.in_err-take-in-Ok.ensures.only in
     let only : IfErr c.from_residual.result (λ e. e ≡ WriteFailed) = search rules in
     let is : c.from_residual.result ≡ Err WriteFailed = write-failed c.from_residual.result c.from_residual.ensures.0 only in
-    let here : Refused g.W.Sink.takes g.W.Sink.refuses (added_lines b m piece) c.loop-turn.w c.take.new.w =
-    subst (λ k. Refused g.W.Sink.takes g.W.Sink.refuses (added_lines k m piece) c.loop-turn.w c.take.new.w) so_far.same
-    (subst (λ r. Writes {T = Unit {0}} g.W.Sink.takes g.W.Sink.refuses (added_lines c.loop-turn.current.size m piece) c.loop-turn.w c.take.new.w r) failed (c.in_err-take-in-Ok.ensures.writes m so_far.follows)) in
-    let refused : Refused g.W.Sink.takes g.W.Sink.refuses (whole_block_lines b (concat (so_far.pieces ++ piece ∷ []))) c.args.w.now c.take.new.w =
-    subst (λ (x : List ℕ). Refused g.W.Sink.takes g.W.Sink.refuses x c.args.w.now c.take.new.w) lines (Refused-join g.W.Sink.takes g.W.Sink.refuses _ _ _ _ _ so_far.wrote here) in
+    let here : Refused g.W.Sink (added_lines b m piece) c.loop-turn.w c.take.new.w =
+    subst (λ k. Refused g.W.Sink (added_lines k m piece) c.loop-turn.w c.take.new.w) so_far.same
+    (subst (λ r. Writes {T = Unit {0}} g.W.Sink (added_lines c.loop-turn.current.size m piece) c.loop-turn.w c.take.new.w r) failed (c.in_err-take-in-Ok.ensures.writes m so_far.follows)) in
+    let refused : Refused g.W.Sink (whole_block_lines b (concat (so_far.pieces ++ piece ∷ []))) c.args.w.now c.take.new.w =
+    subst (λ (x : List ℕ). Refused g.W.Sink x c.args.w.now c.take.new.w) lines (Refused-join g.W.Sink _ _ _ _ _ so_far.wrote here) in
     let most : length (so_far.pieces ++ piece ∷ []) ≤ c.args.max_reads = simp length-append (omega (arith, so_far.count)) in
     let read = Pieces-push g.R.Source.gives _ _ _ so_far.pieces piece so_far.read c.in-Ok.ensures.piece in (
       so_far.pieces ++ piece ∷ [],
       NoneEmpty-push so_far.pieces piece so_far.some some,
-      subst (λ r. DigestsBlocks g.R.Source.gives g.R.Source.fails g.W.Sink.takes g.W.Sink.refuses b c.args.max_reads (so_far.pieces ++ piece ∷ []) c.args.r.now c.read.new.self c.args.w.now c.take.new.w r) (sym is) (inr (most, read, refused)),
+      subst (λ r. DigestsBlocks g.R.Source g.W.Sink b c.args.max_reads (so_far.pieces ++ piece ∷ []) c.args.r.now c.read.new.self c.args.w.now c.take.new.w r) (sym is) (inr (most, read, refused)),
       (λ e. absurd (never-too-long c.from_residual.result only e), λ e. let works = e.1 in let stops = c.in_err-take-in-Ok.ensures.write_failed.0 failed in absurd cc),
     )

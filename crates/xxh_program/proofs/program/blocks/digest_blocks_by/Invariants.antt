@@ -19,5 +19,5 @@ invariant-loop-turn g l = record {
   some : NoneEmpty pieces;
   read : Pieces g.R.Source.gives l.initial.r pieces l.r;
   follows : HasTaken l.current (concat pieces);
-  wrote : Took g.W.Sink.takes (whole_block_lines l.fn.block (concat pieces)) l.initial.w l.w;
+  wrote : Took g.W.Sink (whole_block_lines l.fn.block (concat pieces)) l.initial.w l.w;
 }

@@ -24,4 +24,4 @@ returns-in-Ok-eq0-clause-reads g c =
     let fewer : length so_far.pieces < c.args.max_reads = omega (arith, so_far.count) in
     let at_end : g.R.Source.gives c.loop-turn.r [] c.read.new.self =
     subst (λ n. g.R.Source.gives c.loop-turn.r (take n c.read.new.buf) c.read.new.self) c.in-Ok-eq0.field-0-test c.in-Ok-eq0.ensures.piece in
-    (so_far.pieces, so_far.some, (fewer, Pieces-push g.R.Source.gives _ _ _ so_far.pieces [] so_far.read at_end), (λ e. cc, λ e. absurd (omega arith)), so_far.fed)
+    (so_far.pieces, (so_far.some, (fewer, Pieces-push g.R.Source.gives _ _ _ so_far.pieces [] so_far.read at_end), (λ e. cc, λ e. absurd (omega arith))), so_far.fed)

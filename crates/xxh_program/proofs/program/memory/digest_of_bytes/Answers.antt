@@ -15,12 +15,12 @@ returns-clause-answer g c =
     let same : length (slice_rest c.new.result) ≡ length c.args.bytes.now = ap length c.new.ensures in
     let enough : length (slice_rest c.new.result) < length c.args.bytes.now + 1 = omega (arith, same) in
     let room : length (sink_bytes c.args.w.now) + length (hex_line digits value) ≤ g.row.N = omega (arith, c.requires.room, length-hex_line digits value) in
-    always-ok _ done.0 _ _ _ _ _ c.digest.result done.1 enough c.requires.never_fails room done.2 done.4
+    always-ok _ done.0 _ _ _ _ _ c.digest.result done.1.0 enough c.requires.never_fails room done.1.1 done.2
 
 pub returns-clause-line : goal.returns-clause-line
 returns-clause-line g c =
     let done = c.digest.ensures.digests in
     let line = λ (m : List ℕ). hex_line (digits_of c.args.kind) (value_of c.args.kind c.args.seed m) in
     let is : c.digest.result ≡ Ok tt = returns-clause-answer g c in
-    let all : concat done.0 ≡ c.args.bytes.now = read-all _ done.0 _ _ c.digest.result is done.2 ∙ c.new.ensures in
-    wrote-all (line (concat done.0)) _ _ c.digest.result is done.4 ∙ ap (λ m. sink_bytes c.args.w.now ++ line m) all
+    let all : concat done.0 ≡ c.args.bytes.now = read-all _ done.0 _ _ c.digest.result is done.1.1 ∙ c.new.ensures in
+    wrote-all (line (concat done.0)) _ _ c.digest.result is done.2 ∙ ap (λ m. sink_bytes c.args.w.now ++ line m) all

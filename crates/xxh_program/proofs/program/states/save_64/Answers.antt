@@ -7,5 +7,5 @@ pub returns : goal.returns
 returns g c =
     let read = c.in_ok-hasher.ensures.reads in
     let text : string_bytes c.in_ok-text.text ≡ saved_text c.in_ok-hasher.hasher = c.in_ok-text.ensures.text ∙ ap saved_text c.to_state.ensures in
-    let seed : c.in_ok-hasher.hasher.seed ≡ c.args.seed = read.4.0 ∙ ap (λ s. s.seed) c.with_seed.ensures.record in
-    (Ok c.in_ok-hasher.hasher, (read.0, read.1, read.2, (seed, read.4.1 [] c.with_seed.ensures.empty, rw text at c.print_line.ensures)))
+    let seed : c.in_ok-hasher.hasher.seed ≡ c.args.seed = read.2.0 ∙ ap (λ s. s.seed) c.with_seed.ensures.record in
+    (Ok c.in_ok-hasher.hasher, (read.0, read.1, (seed, read.2.1 [] c.with_seed.ensures.empty, rw text at c.print_line.ensures)))

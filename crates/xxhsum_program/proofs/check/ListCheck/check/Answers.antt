@@ -6,18 +6,18 @@ use Rattle.xxhsum_program.proofs.check.ListCheck.check.Goals as goal
 pub returns-in_err-report-clause-checks : goal.returns-in_err-report-clause-checks
 returns-in_err-report-clause-checks g c =
     let stop = c.in_err-report.field-0.0 in
-    let is_finding = IsFinding g.S.Store.opens g.S.Store.refuses g.S.File.Source.gives g.S.File.Source.fails c.args.self.now.store.now c.args.self.now.options.is_little_endian in
+    let is_finding = IsFinding g.S.Store g.S.File.Source c.args.self.now.store.now c.args.self.now.options.is_little_endian in
     rw (is-err c.from_residual.result stop c.from_residual.ensures.1)
-    (check-stops is_finding g.R.Source.gives g.R.Source.fails g.R.Source.has_failed g.W.Sink.takes g.W.Sink.refuses g.E.Sink.takes g.E.Sink.refuses g.E.Sink.has_failed c.args.self.now.options c.args.self.now.name.now c.args.source c.args.out.now c.check_lines.new.out c.args.err.now c.check_lines.new.err stop c.in_err-report.ensures.checks)
+    (check-stops is_finding g.R.Source g.W.Sink g.E.Sink c.args.self.now.options c.args.self.now.name.now c.args.source c.args.out.now c.check_lines.new.out c.args.err.now c.check_lines.new.err stop c.in_err-report.ensures.checks)
 
 pub returns-in_err-sum_up-clause-checks : goal.returns-in_err-sum_up-clause-checks
 returns-in_err-sum_up-clause-checks g c =
     let stop = c.in_err-sum_up.field-0.0 in
-    let is_finding = IsFinding g.S.Store.opens g.S.Store.refuses g.S.File.Source.gives g.S.File.Source.fails c.args.self.now.store.now c.args.self.now.options.is_little_endian in
+    let is_finding = IsFinding g.S.Store g.S.File.Source c.args.self.now.store.now c.args.self.now.options.is_little_endian in
     rw (is-err c.from_residual-in_err-sum_up.result stop c.from_residual-in_err-sum_up.ensures.1)
-    (check-summary-stops is_finding g.R.Source.gives g.R.Source.fails g.R.Source.has_failed g.W.Sink.takes g.W.Sink.refuses g.E.Sink.takes g.E.Sink.refuses g.E.Sink.has_failed c.args.self.now.options c.args.self.now.name.now c.args.source c.args.out.now c.check_lines.new.out c.sum_up.new.out c.args.err.now c.check_lines.new.err c.sum_up.new.err c.in_ok-report.report stop c.in_ok-report.ensures.checks c.in_err-sum_up.ensures.prints c.in_err-sum_up.ensures.only c.sum_up.ensures.tells)
+    (check-summary-stops is_finding g.R.Source g.W.Sink g.E.Sink c.args.self.now.options c.args.self.now.name.now c.args.source c.args.out.now c.check_lines.new.out c.sum_up.new.out c.args.err.now c.check_lines.new.err c.sum_up.new.err c.in_ok-report.report stop c.in_ok-report.ensures.checks c.in_err-sum_up.ensures.prints c.in_err-sum_up.ensures.only c.sum_up.ensures.tells)
 
 pub returns-clause-checks : goal.returns-clause-checks
 returns-clause-checks g c =
-    let is_finding = IsFinding g.S.Store.opens g.S.Store.refuses g.S.File.Source.gives g.S.File.Source.fails c.args.self.now.store.now c.args.self.now.options.is_little_endian in
-    check-ends is_finding g.R.Source.gives g.R.Source.fails g.R.Source.has_failed g.W.Sink.takes g.W.Sink.refuses g.E.Sink.takes g.E.Sink.refuses g.E.Sink.has_failed c.args.self.now.options c.args.self.now.name.now c.args.source c.args.out.now c.check_lines.new.out c.sum_up.new.out c.args.err.now c.check_lines.new.err c.sum_up.new.err c.in_ok-report.report c.is_good.result c.in_ok-report.ensures.checks c.in_ok-sum_up.ensures.prints c.sum_up.ensures.tells c.is_good.ensures
+    let is_finding = IsFinding g.S.Store g.S.File.Source c.args.self.now.store.now c.args.self.now.options.is_little_endian in
+    check-ends is_finding g.R.Source g.W.Sink g.E.Sink c.args.self.now.options c.args.self.now.name.now c.args.source c.args.out.now c.check_lines.new.out c.sum_up.new.out c.args.err.now c.check_lines.new.err c.sum_up.new.err c.in_ok-report.report c.is_good.result c.in_ok-report.ensures.checks c.in_ok-sum_up.ensures.prints c.sum_up.ensures.tells c.is_good.ensures

@@ -8,7 +8,7 @@ use Rattle.xxhsum_program.proofs.check.ListCheck.check_line.Goals as goal
 pub returns-in-Comment-clause-checks : goal.returns-in-Comment-clause-checks
 returns-in-Comment-clause-checks g c =
     let means = subst (Means c.args.self.now.options.is_little_endian c.args.line.now) c.in-Comment.is c.in_ok-entry.ensures.meaning in
-    (Ignored, means, refl, ([], refl, refl), tells-nothing g.E.Sink.takes g.E.Sink.refuses g.E.Sink.has_failed c.args.err.now)
+    (Ignored, means, refl, ([], refl, refl), tells-nothing g.E.Sink c.args.err.now)
 
 pub returns-in-Malformed-clause-checks : goal.returns-in-Malformed-clause-checks
 returns-in-Malformed-clause-checks g c =
@@ -19,10 +19,10 @@ pub returns-then-self-clause-checks : goal.returns-then-self-clause-checks
 returns-then-self-clause-checks g c =
     let means = subst (Means c.args.self.now.options.is_little_endian c.args.line.now) c.in-Entry.is c.in_ok-entry.ensures.meaning in
     let entry = c.in-Entry.entry in
-    (Proper entry.name.items c.compare-found.result, (entry.kind, entry.value, means, c.compare-found.ensures), c.count.ensures, ([], refl, rw c.if-self.true refl), tells-nothing g.E.Sink.takes g.E.Sink.refuses g.E.Sink.has_failed c.args.err.now)
+    (Proper entry.name.items c.compare-found.result, (entry.kind, entry.value, means, c.compare-found.ensures), c.count.ensures, ([], refl, rw c.if-self.true refl), tells-nothing g.E.Sink c.args.err.now)
 
 pub returns-clause-checks : goal.returns-clause-checks
 returns-clause-checks g c =
     let means = subst (Means c.args.self.now.options.is_little_endian c.args.line.now) c.in-Entry.is c.in_ok-entry.ensures.meaning in
     let entry = c.in-Entry.entry in
-    line-said (IsFinding g.S.Store.opens g.S.Store.refuses g.S.File.Source.gives g.S.File.Source.fails c.args.self.now.store.now c.args.self.now.options.is_little_endian c.args.line.now) g.W.Sink.takes g.W.Sink.refuses g.E.Sink.takes g.E.Sink.refuses g.E.Sink.has_failed c.args.self.now.options c.args.self.now.name.now c.args.number entry.name.items c.deref.result.now c.compare-found.result c.args.report.now c.count.new.self c.args.out.now c.say_found.new.out c.args.err.now c.say_found.result c.if-self.false c.deref.ensures.value (entry.kind, entry.value, means, c.compare-found.ensures) c.count.ensures c.say_found.ensures.prints
+    line-said (IsFinding g.S.Store g.S.File.Source c.args.self.now.store.now c.args.self.now.options.is_little_endian c.args.line.now) g.W.Sink g.E.Sink c.args.self.now.options c.args.self.now.name.now c.args.number entry.name.items c.deref.result.now c.compare-found.result c.args.report.now c.count.new.self c.args.out.now c.say_found.new.out c.args.err.now c.say_found.result c.if-self.false c.deref.ensures.value (entry.kind, entry.value, means, c.compare-found.ensures) c.count.ensures c.say_found.ensures.prints

@@ -22,9 +22,9 @@ loop-number-init g c = record {
   report = c.new-report.ensures;
   lines = refl;
   count = refl;
-  stands = stands-new g.R.Source.gives c.args.source c.new-lines.result c.new-lines.ensures;
+  stands = stands-new g.R.Source c.args.source c.new-lines.result c.new-lines.ensures;
   prints = ([], refl, refl);
-  tells = tells-nothing g.E.Sink.takes g.E.Sink.refuses g.E.Sink.has_failed c.args.err.now;
+  tells = tells-nothing g.E.Sink c.args.err.now;
   works = c.requires;
 }
 
@@ -44,9 +44,9 @@ loop-number-preserved g c =
       report = checked.2 ∙ ap (λ r. count_one r finding) so_far.report ∙ sym (add_up-push no_findings so_far.findings finding);
       lines = omega (arith, length_push so_far.read (line_of state), so_far.lines);
       count = omega (arith, length_push so_far.findings finding, so_far.count);
-      stands = stands-line g.R.Source.gives g.R.Source.fails g.R.Source.has_failed c.args.source c.loop-number.lines state so_far.read so_far.stands c.in-Line.ensures.next c.in-Line.ensures.ended;
-      prints = rw (numbered-push (printed_finding options list) 1 so_far.findings finding number so_far.count) (Took-join g.W.Sink.takes _ _ _ _ _ so_far.prints checked.3);
-      tells = rw (numbered-push (told_finding options list) 1 so_far.findings finding number so_far.count) (tells-more g.E.Sink.takes g.E.Sink.refuses g.E.Sink.has_failed _ _ _ _ _ so_far.tells checked.4);
+      stands = stands-line g.R.Source c.args.source c.loop-number.lines state so_far.read so_far.stands c.in-Line.ensures.next c.in-Line.ensures.ended;
+      prints = rw (numbered-push (printed_finding options list) 1 so_far.findings finding number so_far.count) (Took-join g.W.Sink _ _ _ _ _ so_far.prints checked.3);
+      tells = rw (numbered-push (told_finding options list) 1 so_far.findings finding number so_far.count) (tells-more g.E.Sink _ _ _ _ _ so_far.tells checked.4);
       works = c.in_ok-check_line-in-Line.ensures.works;
     }
 
@@ -56,10 +56,10 @@ returns-in-End-clause-checks g c =
     let said = numbered (told_finding c.args.self.now.options c.args.self.now.name.now) 1 so_far.findings in (
       so_far.findings,
       Some Whole,
-      (so_far.read, so_far.each, ends-well g.R.Source.gives g.R.Source.fails g.R.Source.has_failed c.args.source c.loop-number.lines c.next.new.self so_far.read so_far.stands c.in-End.ensures.next),
+      (so_far.read, so_far.each, ends-well g.R.Source c.args.source c.loop-number.lines c.next.new.self so_far.read so_far.stands c.in-End.ensures.next),
       so_far.report,
       so_far.prints,
-      tells-as g.E.Sink.takes g.E.Sink.refuses g.E.Sink.has_failed said (said ++ []) _ _ (append-nil said) so_far.tells,
+      tells-as g.E.Sink said (said ++ []) _ _ (append-nil said) so_far.tells,
     )
 
 pub returns-in-Failed-clause-checks : goal.returns-in-Failed-clause-checks
@@ -68,10 +68,10 @@ returns-in-Failed-clause-checks g c =
     let count : c.loop-number.number ≡ length so_far.findings + 1 = omega (arith, so_far.count) in (
       so_far.findings,
       Some FailedRead,
-      (so_far.read, so_far.each, breaks-failed g.R.Source.gives g.R.Source.fails g.R.Source.has_failed c.args.source c.loop-number.lines c.next.new.self so_far.read so_far.stands c.in-Failed.ensures.next c.in-Failed.ensures.ended),
+      (so_far.read, so_far.each, breaks-failed g.R.Source c.args.source c.loop-number.lines c.next.new.self so_far.read so_far.stands c.in-Failed.ensures.next c.in-Failed.ensures.ended),
       c.with_broken_end.ensures ∙ ap with_broken_end so_far.report,
       so_far.prints,
-      tells-more g.E.Sink.takes g.E.Sink.refuses g.E.Sink.has_failed _ _ c.args.err.now c.loop-number.err c.tell_of_failure.new.err so_far.tells (tells-break g.E.Sink.takes g.E.Sink.refuses g.E.Sink.has_failed c.args.self.now.name.now FailedRead c.loop-number.number (length so_far.findings + 1) c.loop-number.report (report_of so_far.findings) c.loop-number.err c.tell_of_failure.new.err count so_far.report c.tell_of_failure.ensures),
+      tells-more g.E.Sink _ _ c.args.err.now c.loop-number.err c.tell_of_failure.new.err so_far.tells (tells-break g.E.Sink c.args.self.now.name.now FailedRead c.loop-number.number (length so_far.findings + 1) c.loop-number.report (report_of so_far.findings) c.loop-number.err c.tell_of_failure.new.err count so_far.report c.tell_of_failure.ensures),
     )
 
 pub returns-in-TooLong-clause-checks : goal.returns-in-TooLong-clause-checks
@@ -80,10 +80,10 @@ returns-in-TooLong-clause-checks g c =
     let count : c.loop-number.number ≡ length so_far.findings + 1 = omega (arith, so_far.count) in (
       so_far.findings,
       Some LongLine,
-      (so_far.read, so_far.each, breaks-too-long g.R.Source.gives g.R.Source.fails g.R.Source.has_failed c.args.source c.loop-number.lines c.next.new.self so_far.read so_far.stands c.in-TooLong.ensures.next c.in-TooLong.ensures.ended),
+      (so_far.read, so_far.each, breaks-too-long g.R.Source c.args.source c.loop-number.lines c.next.new.self so_far.read so_far.stands c.in-TooLong.ensures.next c.in-TooLong.ensures.ended),
       c.with_broken_end-in-TooLong.ensures ∙ ap with_broken_end so_far.report,
       so_far.prints,
-      tells-more g.E.Sink.takes g.E.Sink.refuses g.E.Sink.has_failed _ _ c.args.err.now c.loop-number.err c.tell_of_line.new.err so_far.tells (tells-break g.E.Sink.takes g.E.Sink.refuses g.E.Sink.has_failed c.args.self.now.name.now LongLine c.loop-number.number (length so_far.findings + 1) c.loop-number.report (report_of so_far.findings) c.loop-number.err c.tell_of_line.new.err count so_far.report c.tell_of_line.ensures),
+      tells-more g.E.Sink _ _ c.args.err.now c.loop-number.err c.tell_of_line.new.err so_far.tells (tells-break g.E.Sink c.args.self.now.name.now LongLine c.loop-number.number (length so_far.findings + 1) c.loop-number.report (report_of so_far.findings) c.loop-number.err c.tell_of_line.new.err count so_far.report c.tell_of_line.ensures),
     )
 
 pub returns-clause-checks : goal.returns-clause-checks
@@ -93,10 +93,10 @@ returns-clause-checks g c =
     let most : length so_far.read ≡ 2 ^ 64 - 2 = omega (arith, so_far.lines) in (
       so_far.findings,
       Some TooMany,
-      (so_far.read, so_far.each, (some-read g.R.Source.gives c.args.source c.loop-number.lines so_far.read so_far.stands, most)),
+      (so_far.read, so_far.each, (some-read g.R.Source c.args.source c.loop-number.lines so_far.read so_far.stands, most)),
       so_far.report,
       so_far.prints,
-      tells-as g.E.Sink.takes g.E.Sink.refuses g.E.Sink.has_failed said (said ++ []) _ _ (append-nil said) so_far.tells,
+      tells-as g.E.Sink said (said ++ []) _ _ (append-nil said) so_far.tells,
     )
 
 pub returns-in_err-check_line-in-Line-clause-checks : goal.returns-in_err-check_line-in-Line-clause-checks
@@ -105,7 +105,7 @@ returns-in_err-check_line-in-Line-clause-checks g c =
     let state = c.next.new.self in
     let stop = c.in_err-check_line-in-Line.field-0.0 in
     let checked = c.in_err-check_line-in-Line.ensures.checks in
-    let after = stands-line g.R.Source.gives g.R.Source.fails g.R.Source.has_failed c.args.source c.loop-number.lines state so_far.read so_far.stands c.in-Line.ensures.next c.in-Line.ensures.ended in
-    let is_finding = IsFinding g.S.Store.opens g.S.Store.refuses g.S.File.Source.gives g.S.File.Source.fails c.args.self.now.store.now c.args.self.now.options.is_little_endian in
+    let after = stands-line g.R.Source c.args.source c.loop-number.lines state so_far.read so_far.stands c.in-Line.ensures.next c.in-Line.ensures.ended in
+    let is_finding = IsFinding g.S.Store g.S.File.Source c.args.self.now.store.now c.args.self.now.options.is_little_endian in
     rw (is-err c.from_residual.result stop c.from_residual.ensures.1)
-    (lines-stop is_finding g.R.Source.gives g.R.Source.fails g.R.Source.has_failed g.W.Sink.takes g.W.Sink.refuses g.E.Sink.takes g.E.Sink.refuses g.E.Sink.has_failed c.args.self.now.options c.args.self.now.name.now c.args.source c.args.out.now c.loop-number.out _ c.args.err.now c.loop-number.err _ c.loop-number.lines state so_far.read so_far.findings (line_of state) c.loop-number.number c.loop-number.report c.check_line.new.report stop so_far.each so_far.stands after so_far.count so_far.prints so_far.tells (subst (λ bytes. ChecksLine (is_finding bytes) g.W.Sink.takes g.W.Sink.refuses g.E.Sink.takes g.E.Sink.refuses g.E.Sink.has_failed c.args.self.now.options c.args.self.now.name.now c.loop-number.number c.loop-number.report c.check_line.new.report c.loop-number.out c.check_line.new.out c.loop-number.err c.check_line.new.err (Err stop)) c.line.ensures checked))
+    (lines-stop is_finding g.R.Source g.W.Sink g.E.Sink c.args.self.now.options c.args.self.now.name.now c.args.source c.args.out.now c.loop-number.out _ c.args.err.now c.loop-number.err _ c.loop-number.lines state so_far.read so_far.findings (line_of state) c.loop-number.number c.loop-number.report c.check_line.new.report stop so_far.each so_far.stands after so_far.count so_far.prints so_far.tells (subst (λ bytes. ChecksLine (is_finding bytes) g.W.Sink g.E.Sink c.args.self.now.options c.args.self.now.name.now c.loop-number.number c.loop-number.report c.check_line.new.report c.loop-number.out c.check_line.new.out c.loop-number.err c.check_line.new.err (Err stop)) c.line.ensures checked))

@@ -12,12 +12,12 @@ abbrev pub invariant-loop-number : goal.invariant-loop-number
 invariant-loop-number g l = record {
   read : List (List ℕ);
   findings : List Finding;
-  each : EachHas (IsFinding g.S.Store.opens g.S.Store.refuses g.S.File.Source.gives g.S.File.Source.fails l.fn.self.store.now l.fn.self.options.is_little_endian) read findings;
+  each : EachHas (IsFinding g.S.Store g.S.File.Source l.fn.self.store.now l.fn.self.options.is_little_endian) read findings;
   report : l.report ≡ report_of findings;
   lines : length read + 1 ≡ l.number;
   count : l.number ≡ 1 + length findings;
-  stands : Stands g.R.Source.gives l.fn.source l.lines read;
-  prints : Took g.W.Sink.takes (numbered (printed_finding l.fn.self.options l.fn.self.name.now) 1 findings) l.initial.out l.out;
-  tells : TellsOn g.E.Sink.takes g.E.Sink.refuses g.E.Sink.has_failed (numbered (told_finding l.fn.self.options l.fn.self.name.now) 1 findings) l.initial.err l.err;
+  stands : Stands g.R.Source l.fn.source l.lines read;
+  prints : Took g.W.Sink (numbered (printed_finding l.fn.self.options l.fn.self.name.now) 1 findings) l.initial.out l.out;
+  tells : TellsOn g.E.Sink (numbered (told_finding l.fn.self.options l.fn.self.name.now) 1 findings) l.initial.err l.err;
   works : g.W.Sink.has_failed l.out ≡ false;
 }

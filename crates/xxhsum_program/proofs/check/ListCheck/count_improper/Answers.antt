@@ -9,4 +9,4 @@ returns-then-self-clause-tells g c =
     let options = c.args.self.now.options in
     let list = c.args.self.now.name.now in
     let text : told_finding options list c.args.number Improper ≡ told_of_line list c.args.number (codes "Improperly formatted checksum line") = rw c.if-self.true refl in
-    subst (λ bytes. TellsOn g.E.Sink.takes g.E.Sink.refuses g.E.Sink.has_failed bytes c.args.err.now c.tell_of_line.new.err) (sym text) c.tell_of_line.ensures
+    subst (λ bytes. TellsOn g.E.Sink bytes c.args.err.now c.tell_of_line.new.err) (sym text) c.tell_of_line.ensures

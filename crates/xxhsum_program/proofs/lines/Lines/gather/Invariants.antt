@@ -5,8 +5,8 @@ use Rattle.xxhsum_program.proofs.lines.Lines.gather.Given as goal
 -- what was read so far, unless it had ended before
 abbrev pub invariant-loop-found : goal.invariant-loop-found
 invariant-loop-found g l = record {
-  reads : (from : g.row.R.Denot) (done : List ℕ) → HasRead g.R.Source.gives from done l.initial.self
-      → HasRead g.R.Source.gives from done l.self;
+  reads : (from : g.row.R.Denot) (done : List ℕ) → HasRead g.R.Source from done l.initial.self
+      → HasRead g.R.Source from done l.self;
   ended : IsAtEnd l.initial.self → IsAtEnd l.self;
 }
 

@@ -8,7 +8,7 @@ returns-in-Err-clause-next g c = λ from done read. c.in-Err.ensures.reads from 
 pub returns-in-Ok-Some-2-clause-next : goal.returns-in-Ok-Some-2-clause-next
 returns-in-Ok-Some-2-clause-next g c = λ from done read.
     let stops = rw c.in-Ok-Some.field-0-is at c.in-Ok-Some.ensures in
-    inl (comes-line g.R.Source.gives from done c.gather.new.self c.take.new.self c.in-Ok-Some.len (omega arith) (omega arith) stops.found c.take.ensures (stops.reads from done read))
+    inl (comes-line g.R.Source from done c.gather.new.self c.take.new.self c.in-Ok-Some.len (omega arith) (omega arith) stops.found c.take.ensures (stops.reads from done read))
 
 pub returns-in_default-clause-next : goal.returns-in_default-clause-next
 returns-in_default-clause-next g c = λ from done read.
@@ -22,7 +22,7 @@ returns-in_default-clause-ended g c = λ at_end.
 pub returns-in_default-2-clause-next : goal.returns-in_default-2-clause-next
 returns-in_default-2-clause-next g c = λ from done read.
     let stops = rw c.in-Ok-None.field-0-is at c.in-Ok-None.ensures in
-    inr (comes-last-line g.R.Source.gives from done c.gather.new.self c.take-in_default-2.new.self _ (omega arith) (omega arith) (omega arith) (omega arith) stops.found c.take-in_default-2.ensures (stops.reads from done read))
+    inr (comes-last-line g.R.Source from done c.gather.new.self c.take-in_default-2.new.self _ (omega arith) (omega arith) (omega arith) (omega arith) stops.found c.take-in_default-2.ensures (stops.reads from done read))
 
 pub returns-in_default-2-clause-ended : goal.returns-in_default-2-clause-ended
 returns-in_default-2-clause-ended g c = λ at_end.

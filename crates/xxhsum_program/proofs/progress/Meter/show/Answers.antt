@@ -8,7 +8,7 @@ returns-then-count-eq0 g c = (
   refl,
   c.saturating_add-self.ensures,
   λ off. cc,
-  subst (λ bytes. TellsOn g.E.Sink.takes g.E.Sink.refuses g.E.Sink.has_failed bytes c.args.self.now.end c.clear_after.new.end) (sym (shown-end c.args.self.now.is_on c.args.self.now.count c.args.count c.if-self.true c.if-count-eq0.true)) c.clear_after.ensures,
+  subst (λ bytes. TellsOn g.E.Sink bytes c.args.self.now.end c.clear_after.new.end) (sym (shown-end c.args.self.now.is_on c.args.self.now.count c.args.count c.if-self.true c.if-count-eq0.true)) c.clear_after.ensures,
 )
 
 pub returns-else-count-eq0 : goal.returns-else-count-eq0
@@ -16,5 +16,5 @@ returns-else-count-eq0 g c = (
   refl,
   c.saturating_add-self.ensures,
   λ off. cc,
-  subst (λ bytes. TellsOn g.E.Sink.takes g.E.Sink.refuses g.E.Sink.has_failed bytes c.args.self.now.end c.show_between.new.end) (sym (shown-line c.args.self.now.is_on c.args.self.now.count c.args.count c.if-self.true c.if-count-eq0.false)) (rw c.saturating_add-self.ensures at c.show_between.ensures),
+  subst (λ bytes. TellsOn g.E.Sink bytes c.args.self.now.end c.show_between.new.end) (sym (shown-line c.args.self.now.is_on c.args.self.now.count c.args.count c.if-self.true c.if-count-eq0.false)) (rw c.saturating_add-self.ensures at c.show_between.ensures),
 )

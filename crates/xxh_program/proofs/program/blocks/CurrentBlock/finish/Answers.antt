@@ -17,4 +17,4 @@ returns-clause-writes g c = λ m before.
     c.finish_128.ensures.message (Some 0) default_secret bytes before.follows ∙ ap (λ s. xxh3_128 0 s bytes) (effective-default bytes) in
     let line : offset_line c.args.self.now.offset c.finish_128.result ≡ last_lines b m =
     rw (before.start, value) (sym (last_short b m some short)) in
-    subst (λ (bytes : List ℕ). Writes g.W.Sink.takes g.W.Sink.refuses bytes c.args.w.now c.write_all.new.w c.write_all.result) (c.offset_line-line.ensures ∙ line) c.write_all.ensures.writes
+    subst (λ (bytes : List ℕ). Writes g.W.Sink bytes c.args.w.now c.write_all.new.w c.write_all.result) (c.offset_line-line.ensures ∙ line) c.write_all.ensures.writes

@@ -39,8 +39,8 @@ returns-then-rest-room-clause-writes g c = λ m before.
     subst (λ k. added_lines k (m ++ so_far.done) rest ≡ []) so_far.same (c.extend.ensures.follows (m ++ so_far.done) (so_far.follows m before)).1 in
     let lines : added_lines b m c.args.piece.now ≡ added_lines b m so_far.done =
     ap (added_lines b m) so_far.cut ∙ added-append b m so_far.done rest some ∙ ap (λ x. added_lines b m so_far.done ++ x) none ∙ append-nil (added_lines b m so_far.done) in
-    subst (λ (x : List ℕ). Writes g.W.Sink.takes g.W.Sink.refuses x c.args.w.now c.flush.new.w c.flush.result) (sym lines)
-    (Gathers-flush g.W.Sink.takes g.W.Sink.refuses _ _ _ _ _ c.flush.result c.flush.ensures.only (so_far.wrote m before) c.flush.ensures.writes)
+    subst (λ (x : List ℕ). Writes g.W.Sink x c.args.w.now c.flush.new.w c.flush.result) (sym lines)
+    (Gathers-flush g.W.Sink _ _ _ _ _ c.flush.result c.flush.ensures.only (so_far.wrote m before) c.flush.ensures.writes)
 
 pub returns-in_err-push-clause-writes : goal.returns-in_err-push-clause-writes
 returns-in_err-push-clause-writes g c = λ m before.
@@ -54,9 +54,9 @@ returns-in_err-push-clause-writes g c = λ m before.
     let failed : ◌≡◌ {A = Result (Unit {0}) DigestError} (Err c.in_err-push.field-0.0) (Err WriteFailed) = ap Err c.in_err-push.ensures.only in
     let only : IfErr c.from_residual.result (λ e. e ≡ WriteFailed) = first_of (search rules, grind (arith, common_steps)) in
     let is : c.from_residual.result ≡ Err WriteFailed = write-failed c.from_residual.result c.from_residual.ensures.0 only in
-    Writes-refused g.W.Sink.takes g.W.Sink.refuses _ _ _ c.from_residual.result is
-    (subst (λ (x : List ℕ). Refused g.W.Sink.takes g.W.Sink.refuses x c.args.w.now c.push.new.w) (sym lines)
-    (Gathers-refused g.W.Sink.takes g.W.Sink.refuses _ (added_lines b (m ++ so_far.done) rest) _ _ _ _ (so_far.wrote m before) c.in_err-push.ensures.refused))
+    Writes-refused g.W.Sink _ _ _ c.from_residual.result is
+    (subst (λ (x : List ℕ). Refused g.W.Sink x c.args.w.now c.push.new.w) (sym lines)
+    (Gathers-refused g.W.Sink _ (added_lines b (m ++ so_far.done) rest) _ _ _ _ (so_far.wrote m before) c.in_err-push.ensures.refused))
 
 pub loop-rest-preserved : goal.loop-rest-preserved
 loop-rest-preserved g c =
@@ -77,8 +77,8 @@ loop-rest-preserved g c =
       wrote = λ m before.
           let line : c.complete-line.result ≡ added_lines b (m ++ so_far.done) front =
           sym (subst (λ k. added_lines k (m ++ so_far.done) front ≡ c.complete-line.result) so_far.same (c.complete-line.ensures.follows (m ++ so_far.done) (so_far.follows m before)).1) in
-          let more : Gathers g.W.Sink.takes (waiting_bytes c.loop-rest.lines ++ added_lines b (m ++ so_far.done) front) c.loop-rest.w c.push.new.w (waiting_bytes c.push.new.self) =
-          subst (λ (x : List ℕ). Gathers g.W.Sink.takes (waiting_bytes c.loop-rest.lines ++ x) c.loop-rest.w c.push.new.w (waiting_bytes c.push.new.self)) line c.in_ok-push.ensures.gathers in
-          subst (λ (x : List ℕ). Gathers g.W.Sink.takes x c.args.w.now c.push.new.w (waiting_bytes c.push.new.self)) (sym (added-append b m so_far.done front some))
-          (Gathers-push g.W.Sink.takes _ _ _ _ _ _ _ (so_far.wrote m before) more);
+          let more : Gathers g.W.Sink (waiting_bytes c.loop-rest.lines ++ added_lines b (m ++ so_far.done) front) c.loop-rest.w c.push.new.w (waiting_bytes c.push.new.self) =
+          subst (λ (x : List ℕ). Gathers g.W.Sink (waiting_bytes c.loop-rest.lines ++ x) c.loop-rest.w c.push.new.w (waiting_bytes c.push.new.self)) line c.in_ok-push.ensures.gathers in
+          subst (λ (x : List ℕ). Gathers g.W.Sink x c.args.w.now c.push.new.w (waiting_bytes c.push.new.self)) (sym (added-append b m so_far.done front some))
+          (Gathers-push g.W.Sink _ _ _ _ _ _ _ (so_far.wrote m before) more);
     }

@@ -13,7 +13,7 @@ invariant-loop-rest g l = record {
   done : List ℕ;
   cut : l.fn.piece ≡ done ++ l.rest;
   follows : (m : List ℕ) → HasTaken l.fn.self m → HasTaken l.self (m ++ done);
-  wrote : (m : List ℕ) → HasTaken l.fn.self m → Gathers g.W.Sink.takes (added_lines l.fn.self.size m done) l.fn.w l.w (waiting_bytes l.lines);
+  wrote : (m : List ℕ) → HasTaken l.fn.self m → Gathers g.W.Sink (added_lines l.fn.self.size m done) l.fn.w l.w (waiting_bytes l.lines);
 }
 
 abbrev pub decreases-loop-rest : goal.decreases-loop-rest
