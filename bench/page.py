@@ -110,7 +110,7 @@ def wasm(rows):
     """The header built for WebAssembly: as `web/bench` has it, or as it was before there were vectors."""
     peers = {it: WASM[it] for it in WASM if it in rows[0].peers}
     said = "over the module that the page has; none has vectors." if "c_wasm64" in peers else \
-        "release 0.8.1, over the module with vectors, in Node; [web/README.md](../web/README.md#speed) has 0.8.3, whose own vectors are faster, and browsers."
+        "release 0.8.1, over the module with vectors, in Node, on 2026-11-27 at a load of 4 to 13; [web/README.md](../web/README.md#speed) has 0.8.3, whose own vectors are faster, and browsers."
     lines = [[name, *(ranged([it.peers[peer].median for it in rows if it.name == name]) for peer in peers)]
              for name in dict.fromkeys(it.name for it in rows)]
     return [f"The reference library's header built by clang for WebAssembly, {said}", "", *markdown(["hash", *peers.values()], lines)]

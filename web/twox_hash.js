@@ -134,7 +134,7 @@ async function fetched(response) {
 
 const encoder = new TextEncoder();
 
-/** The module's memory, lent in rooms whose sizes are powers of two. Its calls take addresses as numbers of 64 bits. */
+/** The module's memory, lent in rooms whose sizes are powers of two. */
 class Room {
   constructor(exports) {
     this.exports = exports;
@@ -142,8 +142,6 @@ class Room {
     this.free = new Map();
     this.value = this.take(16);
     this.chunk = this.take(CHUNK_BYTES);
-    this.valueAddress = BigInt(this.value);
-    this.chunkAddress = BigInt(this.chunk);
   }
 
   /** The bytes of the memory, of which a larger view is needed where it has grown. */
@@ -391,7 +389,7 @@ function hash(kind, given, options) {
   const key = asKey(kind, options);
   if (input.length > CHUNK_BYTES) return hashInPieces(kind, input, options);
   const { end, length } = memory.putPiece(input, 0);
-  return end < input.length ? hashInPieces(kind, input, options) : hashAtOnce(memory, kind, BigInt(length), key);
+  return end < input.length ? hashInPieces(kind, input, options) : hashAtOnce(memory, kind, length, key);
 }
 
 function hashInPieces(kind, input, options) {
@@ -409,21 +407,21 @@ function hashAtOnce(memory, kind, length, { seed, secret }) {
   const at = memory.take(secret.length);
   try {
     memory.put(at, secret);
-    return oneshotWithSecret(memory, kind, seed, [BigInt(at), BigInt(secret.length)], length);
+    return oneshotWithSecret(memory, kind, seed, [at, secret.length], length);
   } finally {
     memory.give(at, secret.length);
   }
 }
 
 function oneshot(memory, kind, seed, length) {
-  const { exports: calls, chunkAddress: input } = memory;
+  const { exports: calls, chunk: input } = memory;
   switch (kind) {
     case "xxh32": return calls.twox_xxh32(Number(seed), input, length) >>> 0;
     case "xxh64": return BigInt.asUintN(64, calls.twox_xxh64(seed, input, length));
     case "xxh3_64": return BigInt.asUintN(64, oneshot64(calls, seed, input, length));
     default:
-      if (seed === 0n) calls.twox_xxh3_128(input, length, memory.valueAddress);
-      else calls.twox_xxh3_128_with_seed(seed, input, length, memory.valueAddress);
+      if (seed === 0n) calls.twox_xxh3_128(input, length, memory.value);
+      else calls.twox_xxh3_128_with_seed(seed, input, length, memory.value);
       return memory.written(128);
   }
 }
@@ -435,7 +433,7 @@ function oneshot64(calls, seed, input, length) {
 function oneshotWithSecret(memory, kind, seed, secret, length) {
   const name = seed === undefined ? `twox_${kind}_with_secret` : `twox_${kind}_with_seed_and_secret`;
   const seeds = seed === undefined ? [] : [seed];
-  refuse(memory.exports[name](...seeds, ...secret, memory.chunkAddress, length, memory.valueAddress));
+  refuse(memory.exports[name](...seeds, ...secret, memory.chunk, length, memory.value));
   return memory.written(VALUE_BITS[kind]);
 }
 
@@ -523,8 +521,7 @@ export class Stream {
    */
   save() {
     const memory = this.#room();
-    const start = Number(this.#record);
-    const record = memory.bytes.slice(start, start + recordLength(memory, this.#kind));
+    const record = memory.bytes.slice(this.#record, this.#record + recordLength(memory, this.#kind));
     return savedOf(this.#kind, record, this.#hasOwnSecret ? this.#digestOfSecret(memory) : undefined);
   }
 
@@ -554,7 +551,7 @@ export class Stream {
   #goOnFrom(memory, { record, digestOfSecret }) {
     const digest = this.#hasOwnSecret ? this.#digestOfSecret(memory) : undefined;
     if (digest !== digestOfSecret) throw new TwoxHashError("secret", secretInWords(digest, digestOfSecret));
-    memory.put(Number(this.#record), record);
+    memory.put(this.#record, record);
     if (this.#digestCode(memory) !== DONE) throw notAState("no bytes lead to it");
   }
 
@@ -564,7 +561,7 @@ export class Stream {
 
   // What the module says of the record, with the digest at the value's place.
   #digestCode(memory, kind = this.#kind) {
-    return memory.exports[`twox_${kind}_digest`](this.#record, ...this.#secret, memory.valueAddress);
+    return memory.exports[`twox_${kind}_digest`](this.#record, ...this.#secret, memory.value);
   }
 
   /** Another stream that has taken the same bytes. */
@@ -572,15 +569,14 @@ export class Stream {
     const memory = this.#room();
     const secret = this.#hasOwnSecret ? this.#secretBytes(memory).slice() : undefined;
     const other = new Stream(this.#kind, { secret });
-    const start = Number(this.#record);
-    memory.bytes.copyWithin(Number(other.#record), start, start + recordLength(memory, this.#kind));
-    if (isXxh3(this.#kind)) memory.put(Number(other.#secret[0]), this.#secretBytes(memory));
+    memory.bytes.copyWithin(other.#record, this.#record, this.#record + recordLength(memory, this.#kind));
+    if (isXxh3(this.#kind)) memory.put(other.#secret[0], this.#secretBytes(memory));
     return other;
   }
 
   // The secret that each call is handed, where it lies.
   #secretBytes(memory) {
-    const [at, length] = this.#secret.map(Number);
+    const [at, length] = this.#secret;
     return memory.bytes.subarray(at, at + length);
   }
 
@@ -595,7 +591,10 @@ export class Stream {
   #updateFrom(start, length) {
     const memory = this.#room();
     const update = memory.exports[`twox_${FAMILY[this.#kind]}_update`];
-    refuse(update(this.#record, ...this.#secret, start, length));
+    const [secret, secretLength] = this.#secret;
+    const code = secret === undefined ? update(this.#record, start, length)
+      : update(this.#record, secret, secretLength, start, length);
+    refuse(code);
   }
 
   #startPlain(memory, { seed = 0n }) {
@@ -609,22 +608,22 @@ export class Stream {
     if (secret === undefined) {
       const at = this.#take(DERIVED_SECRET_LENGTH);
       calls.twox_xxh3_start_with_seed(this.#record, at, seed ?? 0n);
-      this.#secret = [at, BigInt(DERIVED_SECRET_LENGTH)];
+      this.#secret = [at, DERIVED_SECRET_LENGTH];
       return;
     }
     const at = this.#take(secret.length);
-    memory.put(Number(at), secret);
-    this.#secret = [at, BigInt(secret.length)];
+    memory.put(at, secret);
+    this.#secret = [at, secret.length];
     this.#hasOwnSecret = true;
     if (seed === undefined) refuse(calls.twox_xxh3_start_with_secret(this.#record, ...this.#secret));
     else refuse(calls.twox_xxh3_start_with_seed_and_secret(this.#record, seed, ...this.#secret));
   }
 
-  // Room of the stream's own, as the address that a call takes.
+  // The address of room of the stream's own.
   #take(length) {
     const start = loaded.take(length);
     this.#rooms.push([start, length]);
-    return BigInt(start);
+    return start;
   }
 
   #room() {
@@ -646,7 +645,7 @@ export function updateAll(streams, piece) {
   let at = 0;
   do {
     const { end, length } = memory.putPiece(input, at);
-    for (const stream of all) updateFromMemory(stream, memory.chunkAddress, BigInt(length));
+    for (const stream of all) updateFromMemory(stream, memory.chunk, length);
     at = end;
   } while (at < input.length);
 }

@@ -6,6 +6,35 @@ import { runNodeHashTests } from "./node_hash_tests.mjs";
 import { runStreamTests } from "./stream_tests.js";
 import { runXxhashWasmTests } from "./xxhash_wasm_tests.js";
 
+// The stack of 1 MiB begins a memory and is used from its upper end. wasm-opt is told that the first 1,024 bytes of a memory
+// are never used, and all but the upper 64 KiB of the stack are looked at here.
+const UNUSED_BYTES = (1024 - 64) * 1024;
+const MARK = 0xa5;
+const instances = [];
+const { instantiate } = WebAssembly;
+WebAssembly.instantiate = async (...words) => {
+  const made = await instantiate(...words);
+  instances.push(made.instance ?? made);
+  new Uint8Array(instances.at(-1).exports.memory.buffer, 0, UNUSED_BYTES).fill(MARK);
+  return made;
+};
+
+function stackIsShort() {
+  const isUnused = ({ exports }) => new Uint8Array(exports.memory.buffer, 0, UNUSED_BYTES).every((byte) => byte === MARK);
+  return { name: "calls use 64 KiB of the stack at most", ok: instances.length > 0 && instances.every(isUnused) };
+}
+
+/** Addresses and lengths cross as numbers of 32 bits, of which JavaScript has the upper half as negative ones too. */
+function largeNumbersCross({ Stream }) {
+  const { memory, twox_xxh3_64: hash } = instances[0].exports;
+  const [start, length] = [memory.buffer.byteLength, 2 ** 31 + 5];
+  memory.grow(2 ** 15 + 1);
+  const far = new Uint8Array(memory.buffer, start, length);
+  far.set([1, 2, 3], length - 3);
+  const isRight = (from) => BigInt.asUintN(64, hash(start + from, length - from)) === new Stream("xxh3_64").update(far.subarray(from)).digest();
+  return { name: "an input of 2 GiB, and one that lies above", ok: isRight(0) && isRight(2 ** 31 - 1) };
+}
+
 const readTable = () => readFile(new URL("../../oracle/vectors.txt", import.meta.url), "utf8");
 
 /** All tests of the entry, and of the others that are given: streams.js, the entry for Node, that of xxhash-wasm's names. */
@@ -15,5 +44,6 @@ export async function report(digests, { entry, streams, node, xxhash }) {
   if (streams) lines.push(...await runStreamTests(entry, streams, values));
   if (node) lines.push(...await runNodeHashTests(node, values));
   if (xxhash) lines.push(...await runXxhashWasmTests(xxhash, table));
+  lines.push(stackIsShort(), largeNumbersCross(entry));
   console.log(JSON.stringify({ lines, hasVectors: entry.hasVectors(), version: process.versions.node }));
 }

@@ -1,0 +1,133 @@
+#!/usr/bin/env python3
+"""Compiles a proved module for WebAssembly a second time, as engines run it fastest:
+
+    assembly/webassembly.py MODULE OUT [--vectors]
+
+MODULE is a folder that `annotated` has kept. The toolchain's clang compiles its text, by the words that it was called by, and
+four things are other than there. All but the first are no step of a computation:
+
+- The product of two words of 64 bits is made of four products of their halves, in place of a call that gives it by memory.
+- The bodies of exports, which are functions of their own, and what INLINED and CALLS_INLINED name are inlined. Elsewhere
+  they are calls for the registers that a function has to keep, and WebAssembly has none.
+- A line that hands a number on as it is stands between the loop of XXH64 and the product that follows it. Without it clang
+  joins that product with the loop's last one, and engines keep four more words in the loop.
+- With --vectors each function has the feature simd128. The kit itself compiles for WebAssembly without."""
+import os
+import re
+import subprocess
+import sys
+
+sys.dont_write_bytecode = True
+sys.path.insert(0, os.path.dirname(os.path.abspath(__file__)))
+
+from retarget import clang_of_kit, text_of, words_of
+
+TARGET = 'wasm64-unknown-unknown'
+# Functions that are always inlined, and calls that are, by caller and callee: of inputs of up to 240 bytes with no secret.
+INLINED = re.compile(r'^(define internal .*@"(?:rattle::export [^"]*|twox_core::width_128::oneshot_from_65)"\(.*) (#\d+) \{$', re.M)
+CALLS_INLINED = [('twox_core::width_128::oneshot_from_65', 'twox_core::width_128::impl_129_to_240_bytes'),
+                 ('twox_core::width_64::oneshot_with_secret', 'twox_core::width_64::impl_129_to_240_bytes')]
+# The function that multiplies, and its body by halves, as on paper. A number is handed on as it is in the midst: clang would
+# find the product, and make the call of it.
+PRODUCT = re.compile(r'^(define internal noundef i128 @"twox_core::xxhash3::mixing::full_product"'
+                     r'\(i64 noundef %a0, i64 noundef %a1\) .*\{\n)(?s:.*?)^}\n', re.M)
+BY_HALVES = '''start:
+  %left.low = and i64 %a0, 4294967295
+  %left.high = lshr i64 %a0, 32
+  %right.low = and i64 %a1, 4294967295
+  %right.high = lshr i64 %a1, 32
+  %low.low = mul i64 %left.low, %right.low
+  %low.high = mul i64 %left.low, %right.high
+  %high.low = mul i64 %left.high, %right.low
+  %high.high = mul i64 %left.high, %right.high
+  %carried = lshr i64 %low.low, 32
+  %first = add i64 %high.low, %carried
+  %middle = call i64 asm "", "=r,0"(i64 %first)
+  %middle.low = and i64 %middle, 4294967295
+  %middle.high = lshr i64 %middle, 32
+  %second = add i64 %middle.low, %low.high
+  %second.high = lshr i64 %second, 32
+  %sum = add i64 %high.high, %middle.high
+  %high = add i64 %sum, %second.high
+  %low = mul i64 %a0, %a1
+  %low.wide = zext i64 %low to i128
+  %high.wide = zext i64 %high to i128
+  %shifted = shl i128 %high.wide, 64
+  %product = or i128 %shifted, %low.wide
+  ret i128 %product
+}
+'''
+# The function that takes an accumulator from the loop, up to its first line.
+MERGE = re.compile(r'^define internal noundef i64 @"twox_plain::xxhash64::rounds::merge_accumulator"'
+                   r'\(i64 noundef %a0, i64 noundef %a1\) .*\{\nstart:\n', re.M)
+# Hands the accumulator on, by an assembly of no instruction.
+HANDED_ON = '  %a1 = call i64 asm "", "=r,0"(i64 %from_loop)\n'
+
+
+def stop(why):
+    sys.exit(f'assembly/webassembly.py: {why}')
+
+
+def with_product_by_halves(module):
+    """The module in which that function has that body."""
+    module, count = PRODUCT.subn(lambda function: function[1] + BY_HALVES, module)
+    if count != 1:
+        stop(f'this module has {count} functions that multiply words of 64 bits')
+    return module
+
+
+def with_loop_apart(module):
+    """The module in which that function's accumulator has the other name, and the line gives it its own."""
+    found = MERGE.findall(module)
+    if len(found) != 1:
+        stop(f'this module has {len(found)} functions that take an accumulator of XXH64')
+    return MERGE.sub(lambda head: head[0].replace('%a1', '%from_loop') + HANDED_ON, module)
+
+
+def with_functions_inlined(module):
+    """The module that says of those functions that they are inlined, where it said that they never are."""
+    groups = dict(re.findall(r'^attributes (#\d+) = { (noinline|alwaysinline) nounwind ', module, re.M))
+    always = {word: group for group, word in groups.items()}.get('alwaysinline')
+    if not always or {groups.get(group) for _, group in INLINED.findall(module)} != {'noinline'}:
+        stop('this module says otherwise which functions are inlined')
+    module, count = INLINED.subn(rf'\1 {always} {{', module)
+    if count != module.count('"wasm-export-name"=') + 1:
+        stop(f'this module has {count} functions that are to be inlined')
+    return module
+
+
+def with_calls_inlined(module):
+    """The module that says so of those calls."""
+    for caller, callee in CALLS_INLINED:
+        head = re.search(rf'^define internal .*@"{caller}"\(.*\{{$', module, re.M) or stop(f'this module has no {caller}')
+        start, end = head.end(), module.index('\n}\n', head.end())
+        call = rf'^(  %\S+ = call .*@"{callee}"\(.*\))$'
+        body, count = re.subn(call, r'\1 alwaysinline', module[start:end], flags=re.M)
+        if count != 1:
+            stop(f'{caller} has {count} calls that are to be inlined')
+        module = module[:start] + body + module[end:]
+    return module
+
+
+def with_vectors(module):
+    """The module whose functions are for a processor with vectors."""
+    module, count = re.subn(r'^(attributes #\d+ = .*"target-cpu"="lime1")', r'\1 "target-features"="+simd128"', module, flags=re.M)
+    if not count or len(re.findall(r'"target-(?:cpu|features)"', module)) != 2 * count:
+        stop('the functions of this module name another processor, or features')
+    return module
+
+
+def main(folder, out, *flags):
+    module, vectors = text_of(os.path.join(folder, 'module.ll')), []
+    for change in with_functions_inlined, with_calls_inlined, with_product_by_halves, with_loop_apart:
+        module = change(module)
+    if flags:
+        module, vectors = with_vectors(module), ['-msimd128']
+    words = [f'--target={TARGET}', '-mcpu=lime1', *vectors, *words_of(folder)]
+    subprocess.run([clang_of_kit(), *words, '-w', '-c', '-x', 'ir', '-', '-o', out], input=module, text=True, check=True)
+
+
+if __name__ == '__main__':
+    if len(sys.argv) not in (3, 4) or sys.argv[3:] not in ([], ['--vectors']):
+        sys.exit(__doc__)
+    main(*sys.argv[1:])
