@@ -1,0 +1,5 @@
+pub mod Audit
+pub mod Item
+pub mod Laws
+pub mod Merge
+pub mod Order
