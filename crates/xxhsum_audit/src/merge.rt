@@ -22,12 +22,12 @@ pub fn merge<'n>(
         ≡ merged by (items_of lines.now) (items_of names.now)) }
 {
     let mut found = Vec::new(alloc);
-    let mut lines = lines;
-    let mut names = names;
-    while let Some(outcome) = first(by, lines, names) {
+    let mut lines_left = lines;
+    let mut names_left = names;
+    while let Some(outcome) = first(by, lines_left, names_left) {
         found.push(outcome)?;
-        lines = &lines[outcome.lines()..];
-        names = &names[outcome.names()..];
+        lines_left = &lines_left[outcome.lines()..];
+        names_left = &names_left[outcome.names()..];
     }
     Ok(found)
 }
