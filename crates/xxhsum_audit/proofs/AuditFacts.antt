@@ -1,5 +1,5 @@
 -- What holds of an audit.
-use Rattle.std.proofs.Common.{◌≡◌, ◌≢◌, ◌⊎◌, ℕ, ◌+◌, ◌<◌, ◌≤◌, Bool, true, false, List, [], ◌∷◌, ◌++◌, Option, Some, None, map, length, refl, sym, ap, subst, ◌∙◌, inl, inr, arith}
+use Rattle.std.proofs.Common.{◌≡◌, ◌⊎◌, ℕ, ◌≤◌, Bool, true, false, List, [], ◌∷◌, ◌++◌, Some, None, refl, sym, ap, subst, ◌∙◌, inl, inr, arith}
 use Rattle.std.proofs.lemmas.Bool.{cond-true, cond-false}
 use Rattle.std.proofs.lemmas.List.Concat.{flat_map-append}
 use Rattle.std.proofs.lemmas.List.Sorted.{IsPermutation-append_right, IsPermutation-cons, IsPermutation-middle, IsPermutation-refl, IsPermutation-sym, IsPermutation-trans, sum_by-IsPermutation}
@@ -16,13 +16,13 @@ use Rattle.std.specs.Ordering.{is_eq, is_lt, nat_cmp, ordering_then}
 use Rattle.xxhsum_audit.proofs.AmongFacts.{among_either, among_flat_map, among_permutation, among_same}
 use Rattle.xxhsum_audit.proofs.DigestFacts.{FitsDigest, FitsName, all_fit_digest, all_fit_name, by_digests, climbs}
 use Rattle.xxhsum_audit.proofs.MergeFacts.{lines_in_merged, names_in_merged}
-use Rattle.xxhsum_audit.proofs.OrderFacts.{back, names_exact, names_tied, names_total}
+use Rattle.xxhsum_audit.proofs.OrderFacts.{back, names_exact, names_total}
 use Rattle.xxhsum_audit.proofs.SideFacts.{Rises, by_names}
 use Rattle.xxhsum_audit.proofs.UniqueFacts.{one_order}
 use Rattle.xxhsum_audit.specs.declared.order.By.TheVariants.{Name, Digest}
-use Rattle.xxhsum_audit.specs.Audit.{HasMoves, IsAudit, IsTwice, missing_in, missing_one, new_in, new_one, settled_in}
-use Rattle.xxhsum_audit.specs.Item.{HasSameDigest, IsAmong, Item, LacksName, name_of}
-use Rattle.xxhsum_audit.specs.Laws.{CountsAddUp, HasNoneTwice, IsOneReport, IsRight, LeavesNoMove, TellsEachLineOnce, TellsEachNameOnce, TellsRight}
+use Rattle.xxhsum_audit.specs.Audit.{HasMoves, IsTwice, missing_in, missing_one, new_in, new_one, settled_in}
+use Rattle.xxhsum_audit.specs.Item.{IsAmong, Item, LacksName, name_of}
+use Rattle.xxhsum_audit.specs.Laws.{HasNoneTwice, IsOneReport, IsRight, LeavesNoMove, TellsEachLineOnce, TellsEachNameOnce, TellsRight}
 use Rattle.xxhsum_audit.specs.Merge.{Changed, Found, Missing, Moved, New, Same, line_in, lines_in, merged, name_in, names_in}
 use Rattle.xxhsum_audit.specs.Order.{Ascends, clash_in, compare_digests, compare_names, shares_name}
 
@@ -146,12 +146,16 @@ twice_past : (x : Item) (xs : List Item) (name : List ℕ) → IsTwice xs name �
 twice_past x xs name twice =
     let a = twice.0 in
     let b = twice.1 in
-    let rest = twice.2 in
-    (a, b, x ∷ rest,
-    IsPermutation-trans (x ∷ xs) (x ∷ a ∷ b ∷ rest) (a ∷ b ∷ x ∷ rest)
-    (IsPermutation-cons x xs (a ∷ b ∷ rest) twice.3)
-    (IsPermutation-sym (a ∷ b ∷ x ∷ rest) (x ∷ a ∷ b ∷ rest) (IsPermutation-middle (a ∷ b ∷ []) x rest)),
-    twice.4, twice.5)
+    let rest = twice.2 in (
+      a,
+      b,
+      x ∷ rest,
+      IsPermutation-trans (x ∷ xs) (x ∷ a ∷ b ∷ rest) (a ∷ b ∷ x ∷ rest)
+          (IsPermutation-cons x xs (a ∷ b ∷ rest) twice.3)
+          (IsPermutation-sym (a ∷ b ∷ x ∷ rest) (x ∷ a ∷ b ∷ rest) (IsPermutation-middle (a ∷ b ∷ []) x rest)),
+      twice.4,
+      twice.5,
+    )
 
 pub is_twice : (xs : List Item) (name : List ℕ) → clash_in xs ≡ Some name → IsTwice xs name
 is_twice [] name some = absurd (none-some name some)
@@ -225,11 +229,12 @@ not_twice items ordered name moved up twice =
     omega (arith, same, most, first, second, one, two)
 
 pub has_none_twice : HasNoneTwice
-has_none_twice lines names found name audit =
-    (not_twice lines audit.ordered_lines name audit.lines_in_order.0
-    (rises audit.ordered_lines audit.lines_in_order.1 audit.no_line_twice),
-    not_twice names audit.ordered_names name audit.names_in_order.0
-    (rises audit.ordered_names audit.names_in_order.1 audit.no_name_twice))
+has_none_twice lines names found name audit = (
+  not_twice lines audit.ordered_lines name audit.lines_in_order.0
+      (rises audit.ordered_lines audit.lines_in_order.1 audit.no_line_twice),
+  not_twice names audit.ordered_names name audit.names_in_order.0
+      (rises audit.ordered_names audit.names_in_order.1 audit.no_name_twice),
+)
 
 -- ---- the classes are right
 
@@ -271,6 +276,7 @@ line_among : (gone come : List Item) (one : Found) (l : Item) → IsAmong (merge
 line_among gone come one l h k =
     among_same (lines_in (merged Digest gone come)) gone l (lines_in_merged Digest gone come)
     (among_flat_map line_in (merged Digest gone come) one l h k)
+
 name_among : (gone come : List Item) (one : Found) (n : Item) → IsAmong (merged Digest gone come) one → IsAmong (name_in one) n
     → IsAmong come n
 name_among gone come one n h k =
@@ -281,9 +287,11 @@ right_by_digest : (lines names gone come : List Item) → IsGone lines names gon
     → IsAmong (merged Digest gone come) one → FitsDigest one → IsRight lines names one
 right_by_digest lines names gone come known (Same l n) h fits = absurd fits
 right_by_digest lines names gone come known (Changed l n) h fits = absurd fits
-right_by_digest lines names gone come known (Moved l n) h fits =
-    (fits, known.gone_lacks l (line_among gone come (Moved l n) l h (inl refl)),
-    known.come_lacks n (name_among gone come (Moved l n) n h (inl refl)))
+right_by_digest lines names gone come known (Moved l n) h fits = (
+  fits,
+  known.gone_lacks l (line_among gone come (Moved l n) l h (inl refl)),
+  known.come_lacks n (name_among gone come (Moved l n) n h (inl refl)),
+)
 right_by_digest lines names gone come known (New n) h fits =
     known.come_lacks n (name_among gone come (New n) n h (inl refl))
 right_by_digest lines names gone come known (Missing l) h fits =

@@ -1,11 +1,11 @@
 -- The classes add up.
-use Rattle.std.proofs.Common.{◌≡◌, ℕ, ◌+◌, List, [], ◌∷◌, length, refl, cond, arith}
+use Rattle.std.proofs.Common.{◌≡◌, ◌+◌, List, [], ◌∷◌, refl, cond, arith}
 use Rattle.std.proofs.lemmas.List.Sums.{sum_by-cons}
 use Rattle.std.specs.List.{count_by}
 use Rattle.xxhsum_audit.specs.declared.outcome.Class.{Class}
 use Rattle.xxhsum_audit.specs.declared.outcome.Class.TheVariants as Of
 use Rattle.xxhsum_audit.specs.Laws.{CountsAddUp}
-use Rattle.xxhsum_audit.specs.Merge.{Changed, Found, Missing, Moved, New, Same, is_of_class, lines_in, names_in}
+use Rattle.xxhsum_audit.specs.Merge.{Changed, Found, Missing, Moved, New, Same, is_of_class}
 
 -- one more of what is found
 more : (class : Class) (x : Found) (f : List Found)

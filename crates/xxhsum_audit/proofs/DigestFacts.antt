@@ -1,17 +1,16 @@
 -- Pairs by name and by digest are right, and by digest no partner is left.
-use Rattle.std.proofs.Common.{◌≡◌, ◌≢◌, ◌⊎◌, ℕ, Bool, true, false, List, [], ◌∷◌, ◌++◌, map, refl, sym, ap, subst, ◌∙◌, inl, inr}
+use Rattle.std.proofs.Common.{◌≡◌, true, false, List, [], ◌∷◌, map, refl, sym, ap, subst, ◌∙◌, inl, inr}
 use Rattle.std.specs.declared.cmp.Ordering.{Ordering}
 use Rattle.std.specs.declared.cmp.Ordering.TheVariants.{Less, Equal, Greater}
 use Rattle.std.specs.Ordering.{is_eq, is_lt, ordering_then}
-use Rattle.xxhsum_audit.proofs.MergeFacts.{by_turns, line_in_paired, lines_in_news, name_in_paired, names_in_news, pair_by_name}
+use Rattle.xxhsum_audit.proofs.MergeFacts.{by_turns, lines_in_news, names_in_news, pair_by_name}
 use Rattle.xxhsum_audit.proofs.OrderFacts.{back, digests_exact, digests_tied, digests_total, items_same, less_upto, names_exact}
-use Rattle.xxhsum_audit.proofs.SideFacts.{missing_are_lines, new_are_names, none_missing, past_pair_missing, past_pair_new}
-use Rattle.xxhsum_audit.specs.declared.order.By.{By}
+use Rattle.xxhsum_audit.proofs.SideFacts.{missing_are_lines, new_are_names, none_missing}
 use Rattle.xxhsum_audit.specs.declared.order.By.TheVariants.{Name, Digest}
 use Rattle.xxhsum_audit.specs.Audit.{missing_in, new_in}
 use Rattle.xxhsum_audit.specs.Item.{HasSameDigest, IsAmong, Item, name_of}
 use Rattle.xxhsum_audit.specs.Merge.{Changed, Found, Missing, Moved, New, Same, lines_in, merged, names_in, paired}
-use Rattle.xxhsum_audit.specs.Order.{Ascends, compare_all, compare_by, compare_digests, compare_names}
+use Rattle.xxhsum_audit.specs.Order.{Ascends, compare_digests, compare_names}
 
 eq_true : (o : Ordering) → is_eq o ≡ true → o ≡ Equal
 eq_true Less e = let no : ⊥ = cc in absurd no

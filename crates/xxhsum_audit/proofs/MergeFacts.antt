@@ -1,8 +1,7 @@
 -- What is found of lines and names side by side, by induction.
-use Rattle.std.proofs.Common.{◌≡◌, ℕ, ◌+◌, ◌<◌, ◌≤◌, Bool, true, false, List, [], ◌∷◌, ◌++◌, map, drop, length, refl, sym, ap, subst, ◌∙◌, append_assoc, arith}
+use Rattle.std.proofs.Common.{◌≡◌, ℕ, Bool, true, false, List, [], ◌∷◌, ◌++◌, map, drop, length, refl, sym, ap, subst, ◌∙◌, append_assoc, arith}
 use Rattle.std.proofs.lemmas.Bool.{cond-true, cond-false}
 use Rattle.std.proofs.lemmas.List.{drop-map, map-append}
-use Rattle.std.specs.List.{flat_map}
 use Rattle.std.specs.declared.cmp.Ordering.{Ordering}
 use Rattle.std.specs.declared.cmp.Ordering.TheVariants.{Less, Equal, Greater}
 use Rattle.std.specs.Ordering.{is_eq}
@@ -10,20 +9,19 @@ use Rattle.xxhsum_audit.specs.declared.order.By.{By}
 use Rattle.xxhsum_audit.specs.declared.order.By.TheVariants.{Name, Digest}
 use Rattle.xxhsum_audit.specs.declared.entry.Entry.{Entry}
 use Rattle.xxhsum_audit.specs.declared.outcome.Outcome.{Outcome}
-use Rattle.xxhsum_audit.specs.Item.{IsAmong, Item, item_of, items_of}
-use Rattle.xxhsum_audit.specs.Merge.{Changed, Found, IsNext, Missing, Moved, New, Same, against, found_of, founds_of, in_turn, line_in, lines_in, merged, name_in, names_in, paired}
+use Rattle.xxhsum_audit.specs.Item.{Item, item_of, items_of}
+use Rattle.xxhsum_audit.specs.Merge.{Changed, Found, IsNext, Missing, New, Same, against, found_of, founds_of, in_turn, line_in, lines_in, merged, name_in, names_in, paired}
 use Rattle.xxhsum_audit.specs.Order.{compare_by, compare_digests}
 
 module _ (by : By) (P : List Item → List Item → List Found → Type 0)
     (news : (ns : List Item) → P [] ns (map New ns))
     (past : (l : Item) (ls : List Item) (f : List Found) → P ls [] f → P (l ∷ ls) [] (Missing l ∷ f))
     (less : (l n : Item) (ls ns : List Item) (f : List Found) → compare_by by l n ≡ Less → P ls (n ∷ ns) f
-      → P (l ∷ ls) (n ∷ ns) (Missing l ∷ f))
+    → P (l ∷ ls) (n ∷ ns) (Missing l ∷ f))
     (equal : (l n : Item) (ls ns : List Item) (f : List Found) → compare_by by l n ≡ Equal → P ls ns f
-      → P (l ∷ ls) (n ∷ ns) (paired by l n ∷ f))
+    → P (l ∷ ls) (n ∷ ns) (paired by l n ∷ f))
     (greater : (l n : Item) (ls ns : List Item) (f : List Found) → compare_by by l n ≡ Greater → P (l ∷ ls) ns f
-      → P (l ∷ ls) (n ∷ ns) (New n ∷ f)) where
-
+    → P (l ∷ ls) (n ∷ ns) (New n ∷ f)) where
   turn : (l n : Item) (ls ns : List Item) (a b c : List Found) (o : Ordering) → compare_by by l n ≡ o → P ls (n ∷ ns) a
       → P ls ns b → P (l ∷ ls) ns c → P (l ∷ ls) (n ∷ ns) (in_turn o by l n a b c)
   turn l n ls ns a b c Less e p q r = less l n ls ns a e p

@@ -1,19 +1,15 @@
 -- What stands alone side by side has no partner.
-use Rattle.std.proofs.Common.{◌≡◌, ◌≢◌, ◌⊎◌, ℕ, Bool, true, false, List, [], ◌∷◌, ◌++◌, map, refl, sym, ap, subst, ◌∙◌, inl, inr}
-use Rattle.std.proofs.lemmas.Cmp.{tied_itself, tied_back}
-use Rattle.std.specs.Cmp.{IsTotalOrder}
-use Rattle.std.specs.declared.cmp.Ordering.{Ordering}
+use Rattle.std.proofs.Common.{◌≡◌, ◌≢◌, List, [], ◌∷◌, ◌++◌, map, refl, sym, ap, subst, ◌∙◌, inl, inr}
 use Rattle.std.specs.declared.cmp.Ordering.TheVariants.{Less, Equal, Greater}
-use Rattle.std.specs.Ordering.{is_eq, is_lt}
 use Rattle.xxhsum_audit.proofs.AmongFacts.{among_either, among_left, among_right}
 use Rattle.xxhsum_audit.proofs.MergeFacts.{by_turns, line_in_paired, lines_in_news, name_in_paired, names_in_news, pair_by_name}
-use Rattle.xxhsum_audit.proofs.OrderFacts.{back, digests_exact, digests_tied, digests_total, items_same, less_upto, names_exact, names_tied, names_total}
+use Rattle.xxhsum_audit.proofs.OrderFacts.{back, names_exact, names_tied, names_total}
 use Rattle.xxhsum_audit.specs.declared.order.By.{By}
 use Rattle.xxhsum_audit.specs.declared.order.By.TheVariants.{Name, Digest}
 use Rattle.xxhsum_audit.specs.Audit.{missing_in, missing_one, new_in, new_one}
-use Rattle.xxhsum_audit.specs.Item.{HasSameDigest, IsAmong, Item, LacksName, name_of}
+use Rattle.xxhsum_audit.specs.Item.{IsAmong, Item, LacksName, name_of}
 use Rattle.xxhsum_audit.specs.Merge.{Changed, Found, Missing, Moved, New, Same, line_in, lines_in, merged, name_in, names_in, paired}
-use Rattle.xxhsum_audit.specs.Order.{compare_by, compare_digests, compare_names}
+use Rattle.xxhsum_audit.specs.Order.{compare_names}
 
 -- ---- missing lines are lines, and new names are names
 

@@ -1,5 +1,5 @@
 -- What a sort leaves ascends.
-use Rattle.std.proofs.Common.{◌≡◌, ℕ, suc, zero, ◌+◌, ◌<◌, Bool, false, List, [], ◌∷◌, map, length, get_or, refl, sym, ap, subst, inl, inr, arith}
+use Rattle.std.proofs.Common.{◌≡◌, ℕ, suc, ◌+◌, ◌<◌, Bool, false, List, [], ◌∷◌, map, length, get_or, subst, inl, inr, arith}
 use Rattle.std.proofs.lemmas.List.Sorted.{ranks_by, sorted_far}
 use Rattle.std.specs.List.Sorted.{IsSortedBy}
 use Rattle.std.specs.Ordering.{is_lt}

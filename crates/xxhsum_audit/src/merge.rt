@@ -55,8 +55,10 @@ fn pair<'n>(by: By, line: Entry<'n>, name: Entry<'n>) -> Outcome<'n>
 {
     match by {
         By::Digest => Outcome::Moved { line, name },
-        By::Name if compare_by(By::Digest, line, name) == Ordering::Equal =>
-            Outcome::Same { line, name },
+        By::Name if compare_by(By::Digest, line, name) == Ordering::Equal => Outcome::Same {
+            line,
+            name,
+        },
         By::Name => Outcome::Changed { line, name },
     }
 }

@@ -1,6 +1,5 @@
 use Rattle.std.proofs.Common.{◌≡◌, take}
 use Rattle.xxhsum_audit.specs.Audit.{settled_in}
-use Rattle.xxhsum_audit.specs.Item.{items_of}
 use Rattle.xxhsum_audit.specs.Merge.{founds_of}
 use Rattle.xxhsum_audit.proofs.audit.settled_in.Given as goal
 
