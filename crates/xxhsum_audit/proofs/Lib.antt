@@ -7,3 +7,5 @@ pub mod SideFacts
 pub mod DigestFacts
 pub mod AuditFacts
 pub mod CountFacts
+pub mod PartFacts
+pub mod ListFacts
