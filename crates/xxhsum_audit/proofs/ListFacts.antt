@@ -7,9 +7,13 @@ pub say_more : (is_little : Bool) (lines : List (List ℕ)) (text : List ℕ) (i
     → SaysOne is_little text more → SayAll is_little (lines ++ text ∷ []) (items ++ more)
 say_more is_little [] text items more none one =
     (more, [], ap (λ x. x ++ more) none ∙ sym (append-nil more), one, refl)
-say_more is_little (line ∷ lines) text items more all one =
-    (all.0, all.1 ++ more, ap (λ x. x ++ more) all.2 ∙ append_assoc all.0 all.1 more, all.3,
-    say_more is_little lines text all.1 more all.4 one)
+say_more is_little (line ∷ lines) text items more all one = (
+  all.0,
+  all.1 ++ more,
+  ap (λ x. x ++ more) all.2 ∙ append_assoc all.0 all.1 more,
+  all.3,
+  say_more is_little lines text all.1 more all.4 one,
+)
 
 -- what stands at a place of the lines' bytes
 pub at_place : (lines : List (Bor (List ℕ))) (k : ℕ) (d : Bor (List ℕ)) → k < length lines

@@ -60,10 +60,7 @@ impl<P: Env> Arguments for ProcessArguments<'_, P> {
 }
 
 /// All arguments, the program's name first. `AllocError` where there was no memory for them.
-pub fn all_arguments<A: Arguments>(
-    alloc: Global,
-    arguments: &A,
-) -> Result<Vec<Vec<u8>>, AllocError>
+pub fn all_arguments<A: Arguments>(alloc: Global, arguments: &A) -> Result<Vec<Vec<u8>>, AllocError>
     ensures { IfOk result (λ all. AreArguments A.holds A.ends arguments.now
         (map (λ argument. argument.items) all.items)) }
 {

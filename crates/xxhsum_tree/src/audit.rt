@@ -36,7 +36,7 @@ pub fn audit_names<S: Store, W: Sink, E: Sink>(
     store: &S,
     options: Options,
     list: &[u8],
-    names: &[&[u8]],
+    names: &[Vec<u8>],
     out: &mut W,
     err: &mut E,
 ) -> Result<bool, Stop>
@@ -67,13 +67,13 @@ pub fn audit_names<S: Store, W: Sink, E: Sink>(
 }
 
 // Puts the names beside what the lines of a list say.
-fn audit_entries<S: Store, W: Sink, E: Sink>(
+fn audit_entries<'n, S: Store, W: Sink, E: Sink>(
     alloc: Global,
     store: &S,
     options: Options,
     list: &[u8],
-    said: &[Line],
-    names: &[&[u8]],
+    said: &'n [Line],
+    names: &'n [Vec<u8>],
     out: &mut W,
     err: &mut E,
 ) -> Result<bool, Stop>
@@ -93,11 +93,15 @@ fn audit_entries<S: Store, W: Sink, E: Sink>(
     }
     let sides = merge(alloc, By::Name, &lines, &asked)?;
     let kind = kind_of_new(&lines, options.kind);
-    let mut digests = digests_of(alloc, store, kind, &sides, err)?;
-    match audit(alloc, &mut digests.lines, &mut digests.names) {
+    let Digests {
+        lines: mut kept,
+        names: mut seen,
+        are_all,
+    } = digests_of(alloc, store, kind, &sides, err)?;
+    match audit(alloc, &mut kept, &mut seen) {
         Ok(found) => {
             let same = say_all(alloc, options, &found, out)?;
-            Ok(same && digests.are_all)
+            Ok(same && are_all)
         }
         Err(AuditError::OutOfMemory) => Err(Stop::OutOfMemory),
         Err(AuditError::LineTwice(name)) | Err(AuditError::NameTwice(name)) => {
@@ -132,15 +136,11 @@ fn rows_of(alloc: Global, said: &[Line]) -> Result<Vec<Entry<'_>>, AllocError> {
 }
 
 // The names, whose digests are not known yet.
-fn asked_of<'n>(
-    alloc: Global,
-    names: &[&'n [u8]],
-    kind: Kind,
-) -> Result<Vec<Entry<'n>>, AllocError> {
+fn asked_of(alloc: Global, names: &[Vec<u8>], kind: Kind) -> Result<Vec<Entry<'_>>, AllocError> {
     let mut asked = Vec::new(alloc);
     for name in names {
         asked.push(Entry {
-            name: *name,
+            name,
             kind,
             value: 0,
         })?;

@@ -4,7 +4,7 @@ ghost use Rattle.std.specs.Prelude.{◌≡◌, false};
 
 use crate::audit::audit_names;
 use crate::names::texts_named;
-use std::alloc::Global;
+use std::alloc::{AllocError, Global};
 use std::io::Write;
 use xxh_io::ends::{Sink, Source};
 use xxhsum_audit::parts::parts_of;
@@ -63,8 +63,10 @@ fn tree_of(args: &[Vec<u8>]) -> Option<(Options, usize)> {
         Asked::Run {
             options,
             names_from,
-        } if options.audits || options.names_from != NamesFrom::Words =>
-            Some((options, names_from.saturating_add(1))),
+        } if options.audits || options.names_from != NamesFrom::Words => Some((
+            options,
+            names_from.saturating_add(1),
+        )),
         _ => None,
     }
 }
@@ -90,29 +92,12 @@ fn walk<S: Store, R: Source + Drop, W: Sink, E: Sink>(
         return Ok(false);
     };
     if options.names_from == NamesFrom::Words {
-        let mut given = Vec::new(alloc);
-        for name in rest {
-            push_slice(&mut given, name.as_slice())?;
-        }
-        return audit_names(alloc, store, options, list, &given, out, err);
+        return audit_names(alloc, store, options, list, rest, out, err);
     }
-    let Some(texts) = texts_named(alloc, store, rest, input, err)? else {
+    let Some(given) = names_listed(alloc, store, options, rest, input, err)? else {
         return Ok(false);
     };
-    let mut given = Vec::new(alloc);
-    for text in &texts {
-        let parts = parts_of(alloc, end_of(options), text)?;
-        given.extend_from_slice(&parts)?;
-    }
     audit_names(alloc, store, options, list, &given, out, err)
-}
-
-fn push_slice<'n>(
-    slices: &mut Vec<&'n [u8]>,
-    slice: &'n [u8],
-) -> Result<(), std::alloc::AllocError> {
-    slices.push(slice)?;
-    Ok(())
 }
 
 // The byte that ends each name of a list of names.
@@ -136,15 +121,9 @@ fn walk_names<S: Store, R: Source + Drop, W: Sink, E: Sink>(
     requires reader { R.has_failed input ≡ false }
     requires writer { W.has_failed out.old ≡ false }
 {
-    let Some(texts) = texts_named(alloc, store, lists, input, err)? else {
+    let Some(names) = names_listed(alloc, store, options, lists, input, err)? else {
         return Ok(false);
     };
-    let mut names = Vec::new(alloc);
-    for text in &texts {
-        for name in &parts_of(alloc, end_of(options), text)? {
-            push_name(alloc, &mut names, name)?;
-        }
-    }
     if options.checks {
         return check_lists(alloc, store, options, &names, out, err);
     }
@@ -155,11 +134,31 @@ fn walk_names<S: Store, R: Source + Drop, W: Sink, E: Sink>(
     hash_names(alloc, store, options.kind, shape, &names, out, err)
 }
 
-fn push_name(
+// The names that stand in lists of names. `None` where one of these can't be read, which is told.
+fn names_listed<S: Store, R: Source + Drop, E: Sink>(
     alloc: Global,
-    names: &mut Vec<Vec<u8>>,
-    name: &[u8],
-) -> Result<(), std::alloc::AllocError> {
+    store: &S,
+    options: Options,
+    lists: &[Vec<u8>],
+    input: R,
+    err: &mut E,
+) -> Result<Option<Vec<Vec<u8>>>, Stop>
+    requires { R.has_failed input ≡ false }
+{
+    let Some(texts) = texts_named(alloc, store, lists, input, err)? else {
+        return Ok(None);
+    };
+    let mut names = Vec::new(alloc);
+    for text in &texts {
+        let parts = parts_of(alloc, end_of(options), text)?;
+        for name in &parts {
+            push_name(alloc, &mut names, name)?;
+        }
+    }
+    Ok(Some(names))
+}
+
+fn push_name(alloc: Global, names: &mut Vec<Vec<u8>>, name: &[u8]) -> Result<(), AllocError> {
     let mut owned = Vec::new(alloc);
     owned.extend_from_slice(name)?;
     names.push(owned)?;

@@ -20,5 +20,5 @@ returns c =
     let there : slice_index l f ≡ end = search rules in (
       at_place l f end inside there ∙ ap (λ r. take f l ++ end ∷ r) (sym (take_rest l (f + 1))),
       lacks_before end l f (omega arith) (λ k lt e.
-      c.in_ok-place.ensures.0.before k (omega arith) lt (ap (λ x. is_byte end x) e ∙ eq-eqb end end refl)),
+          c.in_ok-place.ensures.0.before k (omega arith) lt (ap (λ x. is_byte end x) e ∙ eq-eqb end end refl)),
     )

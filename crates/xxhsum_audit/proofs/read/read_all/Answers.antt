@@ -7,9 +7,12 @@ pub returns-then-count-eq0 : goal.returns-then-count-eq0
 returns-then-count-eq0 g c =
     let so_far = c.loop.invariant in
     let none : c.in_ok-count.count ≡ 0 = omega arith in
-    let piece = subst (λ n. g.R.Source.gives c.loop.source (take n c.read.new.buf) c.read.new.self) none c.in_ok-count.ensures.piece in
-    (so_far.pieces, so_far.none_empty,
-    Pieces-push g.R.Source.gives c.args.source.now c.loop.source c.read.new.self so_far.pieces [] so_far.read piece, so_far.bytes)
+    let piece = subst (λ n. g.R.Source.gives c.loop.source (take n c.read.new.buf) c.read.new.self) none c.in_ok-count.ensures.piece in (
+      so_far.pieces,
+      so_far.none_empty,
+      Pieces-push g.R.Source.gives c.args.source.now c.loop.source c.read.new.self so_far.pieces [] so_far.read piece,
+      so_far.bytes,
+    )
 
 pub loop-preserved : goal.loop-preserved
 loop-preserved g c =
