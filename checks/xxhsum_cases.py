@@ -383,13 +383,53 @@ def ends():
     ]
 
 
+def trees():
+    """Lists of names, and audits, which neither original has."""
+    listed = {'listed': b'a\nb c\n(p)\n', 'more': b'e\n*star'}
+    ended = {'ended': b'a\0line\nfeed\0e'}
+    lines = X64 + b'  a\n' + WRONG + b'  *star\n' + EMPTY + b'  e\n' + X64 + b'  old\n' + X64_LE + b'  lost\n'
+    told = (b'*star: changed\na: same\ne: same\n(p): moved from old\nlost: missing\nb c: new\n'
+            b'2 same, 1 changed, 1 moved, 1 new, 1 missing\n')
+    changed = {'out': told, 'err': b'', 'status': 1}
+    return [
+        Case('names of a file', ('--files-from', 'listed'), files=listed),
+        Case('names of a file, by the other word', ('--filelist', '-H0', 'listed'), files=listed),
+        Case('names of two files', ('--files-from', '--tag', 'listed', 'more'), files=listed),
+        Case('names of the input', ('--files-from',), given=b'a\ne\n'),
+        Case('names that NULs end', ('--files0-from', 'ended'), files=ended, wanted={
+            'out': X64 + b'  a\n\\' + X64 + b'  line\\nfeed\n' + EMPTY + b'  e\n', 'err': b'', 'status': 0}),
+        Case('names that NULs end, of the input', ('--files0-from', '-'), given=b'a\0e\0', wanted={
+            'out': X64 + b'  a\n' + EMPTY + b'  e\n', 'err': b'', 'status': 0}),
+        Case('an audit', ('--audit', 'lines', 'a', 'e', 'b c', '(p)', '*star'), files={'lines': lines}, wanted=changed),
+        Case('an audit of names of the input', ('--audit', '--files0-from', 'lines'), files={'lines': lines},
+             given=b'*star\0b c\0a\0(p)\0e', wanted=changed),
+        Case('an audit of what stayed', ('--audit', '-H0', 'lines', 'a'), files={'lines': GOOD},
+             wanted={'out': b'a: same\n1 same, 0 changed, 0 moved, 0 new, 0 missing\n', 'err': b'', 'status': 0}),
+        Case('an audit of two kinds', ('--audit', 'lines', 'a'), files={'lines': X128 + b'  old\n'}, wanted={
+            'out': b'a: moved from old\n0 same, 0 changed, 1 moved, 0 new, 0 missing\n', 'err': b'', 'status': 1}),
+        Case('an audit of a name that is not there', ('--audit', 'lines', 'a', 'gone'), files={'lines': GOOD}, wanted={
+            'out': b'a: same\n1 same, 0 changed, 0 moved, 0 new, 0 missing\n',
+            'err': b"Error: Could not open 'gone': No such file or directory. \n", 'status': 1}),
+        Case('an audit of a line that stands twice', ('--audit', 'lines', 'a'), files={'lines': GOOD * 2}, wanted={
+            'out': b'', 'err': b"lines: 'a' stands twice.\n", 'status': 1}),
+        Case('an audit of a name that stands twice', ('--audit', 'lines', 'a', 'a'), files={'lines': GOOD}, wanted={
+            'out': b'', 'err': b"Error: 'a' stands twice.\n", 'status': 1}),
+        Case('an audit of a list that breaks off', ('--audit', 'lines', 'a'), files={'lines': GOOD + X64}, wanted={
+            'out': b'', 'err': b'lines:2: Error: Improperly formatted checksum line.\n', 'status': 1}),
+        Case('an audit without a list', ('--audit',), wanted={
+            'out': b'', 'err': b'Error: --audit needs a list.\n', 'status': 1}),
+        Case('an audit to a full disk', files={'lines': GOOD}, shell='"$X" --audit lines a >/dev/full', wanted=refused()),
+    ]
+
+
 CASES = (names() + kinds() + lines() + options() + input_alone() + program_names() + verdicts() + plain_lines()
-         + tagged_lines() + several_lists() + ends())
+         + tagged_lines() + several_lists() + ends() + trees())
 
 # The cases in which one of the originals does something else than ours, for the reasons that docs/XXHSUM.md gives: 0.8.1
 # knows no escapes, comments and XXH3 without a tag, and 0.8.3 has further options.
 OLDER_DIFFERS = {
     'a backslash in a name', 'a line feed in a name', 'a carriage return in a name', '-H3', 'every length, -H3',
     'little endian, -H3', 'tagged lines of odd names', 'XXH3 of odd names', 'input, XXH3', 'called xxh3sum', 'a comment',
-    'comments alone', 'odd names', 'the prefix of later versions'}
-NEWER_DIFFERS = {'called xxh32sum, a list', 'the word --ignore-missing', 'the word --binary'}
+    'comments alone', 'odd names', 'the prefix of later versions', 'the word --binary', 'names of a file',
+    'names of a file, by the other word', 'names of two files', 'names of the input'}
+NEWER_DIFFERS = {'called xxh32sum, a list', 'the word --ignore-missing'}

@@ -7,7 +7,8 @@ use xxh_io::from_read::FromRead;
 use xxh_io::from_write::FromWrite;
 use xxhsum_files::system::SystemFiles;
 use xxhsum_program::arguments::ProcessArguments;
-use xxhsum_program::process::{Terminals, run};
+use xxhsum_program::process::Terminals;
+use xxhsum_tree::run::run;
 
 // Hands over what the process has: its arguments, files and streams.
 fn main(rt: HostRuntime) -> ExitCode {

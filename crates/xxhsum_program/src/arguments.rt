@@ -59,11 +59,8 @@ impl<P: Env> Arguments for ProcessArguments<'_, P> {
     }
 }
 
-// All arguments, the program's name first. An error says that there was no memory for them.
-pub(crate) fn all_arguments<A: Arguments>(
-    alloc: Global,
-    arguments: &A,
-) -> Result<Vec<Vec<u8>>, AllocError>
+/// All arguments, the program's name first. `AllocError` where there was no memory for them.
+pub fn all_arguments<A: Arguments>(alloc: Global, arguments: &A) -> Result<Vec<Vec<u8>>, AllocError>
     ensures { IfOk result (λ all. AreArguments A.holds A.ends arguments.now
         (map (λ argument. argument.items) all.items)) }
 {
@@ -101,8 +98,8 @@ fn argument<A: Arguments>(
     Err(AllocError)
 }
 
-// What stands behind the last slash of a path.
-pub(crate) fn last_part(path: &[u8]) -> &[u8]
+/// What stands behind the last slash of a path.
+pub fn last_part(path: &[u8]) -> &[u8]
     ensures { IsLastPart path.now result.now }
 {
     match memchr::memrchr(b'/', path) {

@@ -110,8 +110,8 @@ fn print_outcome<W: Sink>(
     }
 }
 
-// Tells why a name has no value.
-fn tell_outcome<'a, E: Sink>(name: &'a [u8], outcome: &'a Outcome, err: &mut E)
+/// Tells why a name has no value. Of one that has, nothing.
+pub fn tell_outcome<'a, E: Sink>(name: &'a [u8], outcome: &'a Outcome, err: &mut E)
     ensures { TellsOn E.Sink (told_line name.now outcome.now) err.old err.new }
 {
     match outcome {

@@ -13,8 +13,8 @@ use xxhsum_files::store::Store;
 // How many reads a file has at most.
 pub(crate) const MAX_READS: u64 = u64::MAX;
 
-// How many bytes each read of a file is offered.
-pub(crate) const OFFERED: usize = 131072;
+/// How many bytes each read of a file is offered.
+pub const OFFERED: usize = 131072;
 
 /// What became of a name.
 #[derive(Clone, Copy, Debug, PartialEq, Eq)]

@@ -298,8 +298,8 @@ fn has_none(names: &[Vec<u8>]) -> bool
     names.is_empty()
 }
 
-// Tells why the program stops, and answers the exit status.
-fn conclude<E: Sink>(done: Result<bool, Stop>, err: &mut E) -> u8
+/// Tells why the program stops, and answers the exit status: 0 where all went well, and else 1.
+pub fn conclude<E: Sink>(done: Result<bool, Stop>, err: &mut E) -> u8
     ensures status { result ≡ status_of done }
     ensures tells { TellsOn E.Sink (end_text done) err.old err.new }
 {

@@ -33,8 +33,8 @@ pub(crate) fn say<W: Sink>(alloc: Global, parts: &[&[u8]], out: &mut W) -> Resul
     print(&text, out)
 }
 
-// Writes the bytes.
-pub(crate) fn print<W: Sink>(bytes: &[u8], out: &mut W) -> Result<(), Stop>
+/// Writes the bytes. `Stop::WriteFailed` where a write fails.
+pub fn print<W: Sink>(bytes: &[u8], out: &mut W) -> Result<(), Stop>
     requires { W.has_failed out.old ≡ false }
     ensures prints { PrintsLine W.Sink bytes.now out.old out.new result }
     ensures works { IfOk result (λ _. W.has_failed out.new ≡ false) }

@@ -6,8 +6,8 @@ ghost use Rattle.xxhsum_program.specs.Told.{TellsOn};
 use xxh_io::ends::Sink;
 use xxh_io::write::write_all;
 
-// Writes the bytes, unless a write has failed before.
-pub(crate) fn tell<E: Sink>(bytes: &[u8], err: &mut E)
+/// Writes the bytes, unless a write has failed before.
+pub fn tell<E: Sink>(bytes: &[u8], err: &mut E)
     ensures { TellsOn E.Sink bytes.now err.old err.new }
 {
     if !err.failed() {
@@ -16,8 +16,8 @@ pub(crate) fn tell<E: Sink>(bytes: &[u8], err: &mut E)
     }
 }
 
-// Writes the parts of a line, one after another.
-pub(crate) fn tell_parts<E: Sink>(parts: &[&[u8]], err: &mut E)
+/// Writes the parts of a line, one after another.
+pub fn tell_parts<E: Sink>(parts: &[&[u8]], err: &mut E)
     ensures { TellsOn E.Sink (joined parts.now) err.old err.new }
 {
     if let Some((part, rest)) = parts.split_first() {

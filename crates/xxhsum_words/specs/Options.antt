@@ -1,8 +1,9 @@
 -- What the words of the command line ask for.
-use Rattle.std.specs.Prelude.{ℕ, ◌+◌, List, [], ◌∷◌, drop, true, false, bytes_eq, codes, if◌then◌else◌}
+use Rattle.std.specs.Prelude.{ℕ, ◌+◌, List, [], ◌∷◌, drop, true, false, bytes_eq, ◌||◌, codes, if◌then◌else◌}
 use Rattle.xxh_io.specs.declared.kind.Kind.{Kind}
 use Rattle.xxhsum_words.specs.declared.options.Asked.{Asked}
 use Rattle.xxhsum_words.specs.declared.options.Asked.TheVariants.{Run, Benchmark, Version, Help, BadUsage}
+use Rattle.xxhsum_words.specs.declared.options.NamesFrom.TheVariants.{Words, Lines, Nuls}
 use Rattle.xxhsum_words.specs.declared.options.Options.{Options}
 use Rattle.xxhsum_words.specs.declared.options.Step.{Step}
 use Rattle.xxhsum_words.specs.declared.options.Step.TheVariants.{Takes, EndsBefore, EndsAfter, Settles}
@@ -20,6 +21,8 @@ no_options kind = record {
   warns = false;
   is_tagged = false;
   is_little_endian = false;
+  audits = false;
+  names_from = Words;
   takes_terminal = false;
 }
 
@@ -32,6 +35,16 @@ long_end name =
     else if bytes_eq name (codes "bench-all") then Settles Benchmark
     else Settles BadUsage
 
+-- what `--` and this name do, where it is of whole trees; files are read as they are, so `--binary` does nothing
+abbrev pub tree_step : Options → List ℕ → Step
+tree_step options name =
+    if bytes_eq name (codes "audit") then Takes (record options { audits = true })
+    else if bytes_eq name (codes "files-from") || bytes_eq name (codes "filelist")
+    then Takes (record options { names_from = Lines })
+    else if bytes_eq name (codes "files0-from") then Takes (record options { names_from = Nuls })
+    else if bytes_eq name (codes "binary") then Takes options
+    else long_end name
+
 -- what `--` and this name do
 abbrev pub long_step : Options → List ℕ → Step
 long_step options name =
@@ -43,7 +56,7 @@ long_step options name =
     else if bytes_eq name (codes "tag") then Takes (record options { is_tagged = true })
     else if bytes_eq name (codes "little-endian")
     then Takes (record options { is_little_endian = true })
-    else long_end name
+    else tree_step options name
 
 -- what the word does after words that made these options
 abbrev pub word_step : Options → List ℕ → Step

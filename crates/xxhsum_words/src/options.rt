@@ -1,10 +1,21 @@
 //! The words of the command line.
 
 ghost use Rattle.std.specs.Prelude.{◌≡◌, bytes_eq, map};
-ghost use Rattle.xxhsum_words.specs.Options.{asked_of, long_end, long_step, word_step};
+ghost use Rattle.xxhsum_words.specs.Options.{asked_of, long_end, long_step, tree_step, word_step};
 
 use crate::letters::letters;
 use xxh_io::kind::Kind;
+
+/// Where the names of a run come from.
+#[derive(Clone, Copy, Debug, PartialEq, Eq)]
+pub enum NamesFrom {
+    /// The words are names.
+    Words,
+    /// `--files-from`, `--filelist`: the words are files of names, a name a line.
+    Lines,
+    /// `--files0-from`: the words are files of names, each ended by a NUL.
+    Nuls,
+}
 
 /// What the options say.
 #[derive(Clone, Copy, Debug, PartialEq, Eq)]
@@ -25,6 +36,10 @@ pub struct Options {
     pub is_tagged: bool,
     /// `--little-endian`: digests are printed, and read, with their lowest byte first.
     pub is_little_endian: bool,
+    /// `--audit`: the first word is a list, whose lines are put beside the names.
+    pub audits: bool,
+    /// Where the names come from.
+    pub names_from: NamesFrom,
     /// `-`: standard input is taken even where it is a terminal.
     pub takes_terminal: bool,
 }
@@ -72,6 +87,8 @@ pub fn asked_by(kind: Kind, words: &[Vec<u8>]) -> Asked
         warns: false,
         is_tagged: false,
         is_little_endian: false,
+        audits: false,
+        names_from: NamesFrom::Words,
         takes_terminal: false,
     };
     for (at, word) in words.iter().enumerate() {
@@ -130,6 +147,22 @@ fn long_step(name: &[u8], mut options: Options) -> Step
     } else if is(name, "little-endian") {
         options.is_little_endian = true;
     } else {
+        return tree_step(name, options);
+    }
+    Step::Takes(options)
+}
+
+// What `--` and this name do, where it is of whole trees.
+fn tree_step(name: &[u8], mut options: Options) -> Step
+    ensures { result ≡ tree_step options name.now }
+{
+    if is(name, "audit") {
+        options.audits = true;
+    } else if is(name, "files-from") || is(name, "filelist") {
+        options.names_from = NamesFrom::Lines;
+    } else if is(name, "files0-from") {
+        options.names_from = NamesFrom::Nuls;
+    } else if !is(name, "binary") {
         return long_end(name);
     }
     Step::Takes(options)

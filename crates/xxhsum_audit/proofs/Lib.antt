@@ -1,0 +1,11 @@
+pub mod OrderFacts
+pub mod AmongFacts
+pub mod SortFacts
+pub mod UniqueFacts
+pub mod MergeFacts
+pub mod SideFacts
+pub mod DigestFacts
+pub mod AuditFacts
+pub mod CountFacts
+pub mod PartFacts
+pub mod ListFacts

@@ -1,0 +1,14 @@
+use Rattle.xxhsum_audit.proofs.AuditFacts.{has_none_twice, is_one_report, leaves_no_move, tells_each_line_once, tells_each_name_once, tells_right}
+use Rattle.xxhsum_audit.proofs.CountFacts.{counts_add_up}
+use Rattle.xxhsum_audit.proofs.laws.laws_of_audits.Goals as goal
+
+pub returns : goal.returns
+returns c = record {
+  lines = tells_each_line_once;
+  names = tells_each_name_once;
+  none_twice = has_none_twice;
+  right = tells_right;
+  no_move = leaves_no_move;
+  counts = counts_add_up;
+  one_report = is_one_report;
+}

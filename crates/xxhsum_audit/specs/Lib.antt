@@ -1,0 +1,9 @@
+pub mod Audit
+pub mod Item
+pub mod Laws
+pub mod List
+pub mod Merge
+pub mod Order
+pub mod Parts
+pub mod Read
+pub mod Text

@@ -1,0 +1,35 @@
+-- What the lines of a list say.
+use Rattle.std.specs.Prelude.{ℕ, ◌≡◌, ◌<◌, Bool, true, false, List, [], ◌∷◌, ◌++◌, get_or, length}
+use Rattle.xxh_io.specs.declared.kind.Kind.{Kind}
+use Rattle.xxhsum_line.specs.Entry as line
+use Rattle.xxhsum_line.specs.Entry.{SaysNothing, is_comment}
+use Rattle.xxhsum_line.specs.declared.entry.Entry.{Entry}
+use Rattle.xxhsum_audit.specs.declared.list.ListError.{ListError}
+use Rattle.xxhsum_audit.specs.declared.list.ListError.TheVariants.{Improper, OutOfMemory}
+use Rattle.xxhsum_audit.specs.Item.{Item, Says, kind_of, name_of, value_of}
+
+-- what an entry of a list says
+abbrev pub said_by : Entry → Item
+said_by entry = Says entry.name.items entry.kind entry.value
+
+-- what one line says: of a comment nothing
+abbrev pub SaysOne : Bool → List ℕ → List Item → Type 0
+SaysOne is_little text [] = is_comment text ≡ true
+SaysOne is_little text (item ∷ []) = line.Says is_little text (kind_of item) (value_of item) (name_of item)
+SaysOne is_little text (item ∷ next ∷ items) = ⊥
+
+-- what lines say, one after another
+abbrev pub SayAll : Bool → List (List ℕ) → List Item → Type 0
+SayAll is_little [] items = items ≡ []
+SayAll is_little (text ∷ lines) items =
+    (front rest : List Item) × (items ≡ front ++ rest) × SaysOne is_little text front × SayAll is_little lines rest
+
+-- a line says nothing, and is no comment
+abbrev pub IsBroken : Bool → List (List ℕ) → ListError → Type 0
+IsBroken is_little lines (Improper index) = (index < length lines) × SaysNothing is_little (get_or lines index [])
+IsBroken is_little lines OutOfMemory = Unit {0}
+
+-- what a line says stands behind what was said before; or it says nothing, and is no comment
+abbrev pub TakesLine : Bool → List ℕ → List Item → List Item → Bool → Type 0
+TakesLine is_little text old new true = (more : List Item) × (new ≡ old ++ more) × SaysOne is_little text more
+TakesLine is_little text old new false = SaysNothing is_little text

@@ -1,0 +1,35 @@
+//! Bytes that are cut at each byte of one value: lines at line feeds, names at NULs.
+
+ghost use Rattle.std.specs.Prelude.{◌≡◌, ◌++◌, ◌∷◌, map, IfOk, MatchOption};
+ghost use Rattle.xxhsum_line.specs.Parts.{Lacks};
+ghost use Rattle.xxhsum_audit.specs.Parts.{ArePartsOf};
+
+use std::alloc::{AllocError, Global};
+
+/// What stands before each byte of this value, and what is left behind the last one where that is anything.
+/// `AllocError` where memory runs out.
+pub fn parts_of<'b>(alloc: Global, end: u8, bytes: &'b [u8]) -> Result<Vec<&'b [u8]>, AllocError>
+    ensures { IfOk result (λ parts. ArePartsOf end bytes.now
+        (map (λ part. part.now) parts.items)) }
+{
+    let mut parts = Vec::new(alloc);
+    let mut left = bytes;
+    while let Some((part, rest)) = cut(end, left) {
+        parts.push(part)?;
+        left = rest;
+    }
+    if left.is_empty() {
+        return Ok(parts);
+    }
+    parts.push(left)?;
+    Ok(parts)
+}
+
+// What stands before the first byte of this value, and behind it.
+fn cut(end: u8, bytes: &[u8]) -> Option<(&[u8], &[u8])>
+    ensures { MatchOption result (Lacks end bytes.now)
+        (λ parts. (bytes.now ≡ parts.0.now ++ end ∷ parts.1.now) × Lacks end parts.0.now) }
+{
+    let place = memchr::memchr(end, bytes)?;
+    Some((&bytes[..place], &bytes[place + 1..]))
+}

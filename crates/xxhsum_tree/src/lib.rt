@@ -1,0 +1,7 @@
+//! The program `xxhsum` over whole trees: names that come from lists of names, and the audit of names against a list
+//! of digests. Where no tree is asked for, it is the program of `xxhsum_program`.
+#![tactic(auto)]
+
+pub mod audit;
+pub mod names;
+pub mod run;
