@@ -68,27 +68,24 @@ MeetsLines reading source lines None = ReadsSome reading source lines
 MeetsLines reading source lines (Some end) = EndsAs reading source lines end
 
 -- each of the lines of a source, as far as its check has come, has a finding
-abbrev pub FindsLines : {R : Type 0} → (List ℕ → Finding → Type 0) → SourceRules R → R → List Finding
-    → Option ListEnd → Type 0
+abbrev pub FindsLines : {R : Type 0} → (List ℕ → Finding → Type 0) → SourceRules R → R → List Finding → Option ListEnd
+    → Type 0
 FindsLines is_finding reading source findings end =
     (lines : List (List ℕ)) × EachHas is_finding lines findings × MeetsLines reading source lines end
 
 -- A line has a finding, which is counted and said. Where a write failed, it was counted, and a beginning of its line was
 -- printed; where there was no memory, nothing was said.
-abbrev pub ChecksLine : {W E : Type 0} → (Finding → Type 0) → SinkRules W → SinkRules E
-    → Options → List ℕ → ℕ → Report → Report → W → W → E → E → Result (Unit {0}) Stop → Type 0
-ChecksLine is_finding writing telling options list number r_old r_new w_old w_new e_old e_new
-    (Ok _) =
+abbrev pub ChecksLine : {W E : Type 0} → (Finding → Type 0) → SinkRules W → SinkRules E → Options → List ℕ → ℕ → Report
+    → Report → W → W → E → E → Result (Unit {0}) Stop → Type 0
+ChecksLine is_finding writing telling options list number r_old r_new w_old w_new e_old e_new (Ok _) =
     (finding : Finding) × is_finding finding × (r_new ≡ count_one r_old finding)
     × Took writing (printed_finding options list number finding) w_old w_new
     × TellsOn telling (told_finding options list number finding) e_old e_new
-ChecksLine is_finding writing telling options list number r_old r_new w_old w_new e_old e_new
-    (Err WriteFailed) =
+ChecksLine is_finding writing telling options list number r_old r_new w_old w_new e_old e_new (Err WriteFailed) =
     (finding : Finding) × is_finding finding
     × Refused writing (printed_finding options list number finding) w_old w_new
     × TellsOn telling (told_finding options list number finding) e_old e_new
-ChecksLine is_finding writing telling options list number r_old r_new w_old w_new e_old e_new
-    (Err OutOfMemory) =
+ChecksLine is_finding writing telling options list number r_old r_new w_old w_new e_old e_new (Err OutOfMemory) =
     (w_new ≡ w_old) × (e_new ≡ e_old)
 
 -- whether the list is good, once its end is known
@@ -168,8 +165,8 @@ AnswersLists is_strict rest outcomes (Ok all) =
 AnswersLists is_strict rest outcomes (Err stop) = AreDoneButLast outcomes
 
 -- the lists that are done, each with its outcome, and then the rest
-abbrev pub ChecksLists : {S F : Type 0} → StoreRules S F → SourceRules F → S → Bool → Bool → List (List ℕ) → List (List ℕ)
-    → List (List ℕ) → List ListOutcome → Result Bool Stop → Type 0
+abbrev pub ChecksLists : {S F : Type 0} → StoreRules S F → SourceRules F → S → Bool → Bool → List (List ℕ)
+    → List (List ℕ) → List (List ℕ) → List ListOutcome → Result Bool Stop → Type 0
 ChecksLists opening reading store is_little is_strict names done rest outcomes result =
     (names ≡ done ++ rest) × EachHas (IsListOutcome opening reading store is_little) done outcomes
     × AnswersLists is_strict rest outcomes result
@@ -177,8 +174,8 @@ ChecksLists opening reading store is_little is_strict names done rest outcomes r
 -- ---- what is found, and what is said of it
 
 -- the lines of a list have their findings, and both ends have just what is said of these
-abbrev pub SaysList : {S F R W E : Type 0} → StoreRules S F → SourceRules F → SourceRules R → SinkRules W → SinkRules E → S
-    → Options → List ℕ → R → W → W → E → E → Result Bool Stop → Type 0
+abbrev pub SaysList : {S F R W E : Type 0} → StoreRules S F → SourceRules F → SourceRules R → SinkRules W → SinkRules E
+    → S → Options → List ℕ → R → W → W → E → E → Result Bool Stop → Type 0
 SaysList opening reading list_reading writing telling store options name source w_old w_new e_old e_new result =
     (findings : List Finding) × (end : Option ListEnd)
     × FindsLines (IsFinding opening reading store options.is_little_endian) list_reading source findings end

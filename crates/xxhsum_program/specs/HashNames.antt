@@ -36,10 +36,9 @@ HashesNames opening reading store kind names done rest outcomes result =
 
 -- Each of the names has its outcome. Standard output has the lines of those with a value, and standard error those of
 -- the others.
-abbrev pub SaysNames : {S F W E : Type 0} → StoreRules S F → SourceRules F → SinkRules W → SinkRules E
-    → S → Kind → Shape → List (List ℕ) → W → W → E → E → Result Bool Stop → Type 0
-SaysNames opening reading writing telling store kind shape names w_old
-    w_new e_old e_new result =
+abbrev pub SaysNames : {S F W E : Type 0} → StoreRules S F → SourceRules F → SinkRules W → SinkRules E → S → Kind
+    → Shape → List (List ℕ) → W → W → E → E → Result Bool Stop → Type 0
+SaysNames opening reading writing telling store kind shape names w_old w_new e_old e_new result =
     (outcomes : List Outcome) × (done rest : List (List ℕ))
     × HashesNames opening reading store kind names done rest outcomes result
     × PrintsLines writing (lines_of (printed_line kind shape) done outcomes) w_old w_new result
@@ -47,11 +46,10 @@ SaysNames opening reading writing telling store kind shape names w_old
 
 -- A source was read to its end, or not. Standard output has the line of its value, or standard error why there is none;
 -- the answer is whether there is one.
-abbrev pub SaysInput : {R W E : Type 0} → SourceRules R → SinkRules W → SinkRules E
-    → Kind → Shape → List ℕ → R → R → W → W → E → E → Result Bool Stop → Type 0
+abbrev pub SaysInput : {R W E : Type 0} → SourceRules R → SinkRules W → SinkRules E → Kind → Shape → List ℕ → R → R → W
+    → W → E → E → Result Bool Stop → Type 0
 SaysInput reading writing telling kind shape name r_old r_new w_old w_new e_old e_new result =
     (pieces : List (List ℕ)) × (read : Result ℕ DigestError) × ReadsTo reading most_reads pieces r_old r_new read
     × IfOk result (λ all. all ≡ is_ok read)
-    × PrintsLine writing (printed_input kind shape name (value_of kind 0 (concat pieces)) read)
-    w_old w_new result
+    × PrintsLine writing (printed_input kind shape name (value_of kind 0 (concat pieces)) read) w_old w_new result
     × TellsOn telling (told_input read) e_old e_new

@@ -56,8 +56,7 @@ PrintsLines writing lines old new (Err WriteFailed) = Refused writing lines old 
 PrintsLines writing lines old new (Err OutOfMemory) = Took writing lines old new
 
 -- the lines were written; or a write had failed before, and nothing was
-abbrev pub PrintsUnlessFailed : {W T : Type 0} → SinkRules W → List ℕ → W → W → Result T Stop
-    → Type 0
+abbrev pub PrintsUnlessFailed : {W T : Type 0} → SinkRules W → List ℕ → W → W → Result T Stop → Type 0
 PrintsUnlessFailed writing lines old new result =
     PrintsLines writing lines old new result
     ⊎ ((writing.has_failed old ≡ true) × (new ≡ old) × (result ≡ Err WriteFailed))

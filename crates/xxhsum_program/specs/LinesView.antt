@@ -58,8 +58,7 @@ HasRead reading from done lines =
     × (concat pieces ≡ done ++ waiting lines)
 
 -- what was read behind `done`, and whether a read failed
-abbrev pub ReadsBehind : {R T : Type 0} → SourceRules R → R → List ℕ → Lines R
-    → Result T Failed → Type 0
+abbrev pub ReadsBehind : {R T : Type 0} → SourceRules R → R → List ℕ → Lines R → Result T Failed → Type 0
 ReadsBehind reading from done new (Ok x) = HasRead reading from done new
 ReadsBehind reading from done new (Err e) =
     FailsAfter reading from (done ++ waiting new) × IsUnended (waiting new)

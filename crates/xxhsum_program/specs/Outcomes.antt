@@ -18,16 +18,14 @@ use Rattle.xxhsum_program.specs.declared.outcome.Reason.{Reason}
 use Rattle.xxhsum_program.specs.declared.outcome.Reason.TheVariants as Why
 
 -- the name leads to a file that was read to its end, and this is the hash of what its reads gave
-abbrev pub IsValueOf : {S F : Type 0} → StoreRules S F → SourceRules F → S → Kind → List ℕ
-    → ℕ → Type 0
+abbrev pub IsValueOf : {S F : Type 0} → StoreRules S F → SourceRules F → S → Kind → List ℕ → ℕ → Type 0
 IsValueOf {S} {F} opening reading store kind name value =
     (file end : F) × (pieces : List (List ℕ)) × (read : Result ℕ DigestError) × (read ≡ Ok value)
     × opening.opens store name file × ReadsTo reading most_reads pieces file end read
     × (value ≡ value_of kind 0 (concat pieces))
 
 -- the name leads to a file whose reading came to no end, for this reason
-abbrev pub FailsOn : {S F : Type 0} → StoreRules S F → SourceRules F → S → List ℕ → DigestError
-    → Type 0
+abbrev pub FailsOn : {S F : Type 0} → StoreRules S F → SourceRules F → S → List ℕ → DigestError → Type 0
 FailsOn {S} {F} opening reading store name e =
     (file end : F) × (pieces : List (List ℕ)) × (read : Result ℕ DigestError) × (read ≡ Err e)
     × opening.opens store name file × ReadsTo reading most_reads pieces file end read

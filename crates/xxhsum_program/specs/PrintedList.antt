@@ -111,8 +111,7 @@ AreFindingsOf opening reading store (e ∷ es) (finding ∷ findings) =
     IsFindingOf opening reading store e finding × AreFindingsOf opening reading store es findings
 
 -- what is found of the lines of a printed list is how the files of its entries are
-abbrev pub FindsPrintedFiles : {S F : Type 0} → StoreRules S F
-    → SourceRules F → Type 0
+abbrev pub FindsPrintedFiles : {S F : Type 0} → StoreRules S F → SourceRules F → Type 0
 FindsPrintedFiles {S} opening reading =
     (store : S) (is_little : Bool) (entries : List Listed) (findings : List Finding) → AreListed is_little entries
     → EachHas (IsFinding opening reading store is_little) (map text_of_listed entries) findings

@@ -27,14 +27,14 @@ abbrev pub input_name : List ℕ
 input_name = codes "stdin"
 
 -- by whether lists are checked, and whether there is no name: then standard input is read
-unfoldable pub PerformsAs : {S F R W E : Type 0} → StoreRules S F → SourceRules F → SourceRules R → SinkRules W → SinkRules E
-    → S → Options → List (List ℕ) → R → W → W → E → E → Result Bool Stop → Bool → Bool → Type 0
+unfoldable pub PerformsAs : {S F R W E : Type 0} → StoreRules S F → SourceRules F → SourceRules R → SinkRules W
+    → SinkRules E → S → Options → List (List ℕ) → R → W → W → E → E → Result Bool Stop → Bool → Bool → Type 0
 PerformsAs opening reading input_reading writing telling store options names source w_old w_new e_old e_new result true true =
     SaysList opening reading input_reading writing telling store options input_name source w_old w_new e_old e_new result
 PerformsAs opening reading input_reading writing telling store options names source w_old w_new e_old e_new result true false =
     SaysLists opening reading writing telling store options names w_old w_new e_old e_new result
-PerformsAs {S} {F} {R} opening reading input_reading writing telling store options names source w_old w_new e_old e_new result false
-    true =
+PerformsAs {S} {F} {R} opening reading input_reading writing telling store options names source w_old w_new e_old e_new
+    result false true =
     (end : R) × SaysInput input_reading writing telling options.kind (shape_of options) input_name source end w_old w_new
     e_old e_new result
 PerformsAs opening reading input_reading writing telling store options names source w_old w_new e_old e_new result false
@@ -44,8 +44,8 @@ PerformsAs opening reading input_reading writing telling store options names sou
 -- the same over files and an input that are watched, whose reads are shown on a writer T or not
 unfoldable pub PerformsWatched : {S F R W E : Type 0} → (T : Type 0) → StoreRules S F → SourceRules F → SourceRules R
     → SinkRules W → SinkRules E → S → R → W → W → E → E → Result Bool Stop → Options → List (List ℕ) → Bool → Type 0
-PerformsWatched {S} {F} {R} T opening reading input_reading writing telling store input w_old w_new e_old e_new result options
-    names shows =
+PerformsWatched {S} {F} {R} T opening reading input_reading writing telling store input w_old w_new e_old e_new result
+    options names shows =
     (files : WatchedFiles S T) × (source : Watched R (FromWrite T)) × (files_of files ≡ store)
     × (shows_reads files ≡ shows) × (source_of source ≡ input) × (is_shown (meter_of source) ≡ shows)
     × PerformsAs {F = Watched F (FromWrite T)} (watched_opening opening) (watched_reading reading)
@@ -53,21 +53,21 @@ PerformsWatched {S} {F} {R} T opening reading input_reading writing telling stor
     options.checks (has_none names)
 
 -- a text is told, or files are read as `performs` says
-abbrev pub DoesTask : {W E : Type 0} → (Options → List (List ℕ) → Bool → Type 0) → SinkRules E
-    → Task → W → W → E → E → Result Bool Stop → Type 0
+abbrev pub DoesTask : {W E : Type 0} → (Options → List (List ℕ) → Bool → Type 0) → SinkRules E → Task → W → W → E → E
+    → Result Bool Stop → Type 0
 DoesTask performs telling (Tells text good) w_old w_new e_old e_new result =
     (result ≡ Ok good) × (w_new ≡ w_old) × TellsOn telling text e_old e_new
 DoesTask performs telling (Reads options names shows) w_old w_new e_old e_new result =
     performs options names shows
 
 -- the task of the arguments is done; or there was no memory for them, and nothing is
-abbrev pub DoesArguments : {W E : Type 0} → (Options → List (List ℕ) → Bool → Type 0) → SinkRules E → Terminals → Option (List (List ℕ)) → W → W → E → E → Result Bool Stop → Type 0
+abbrev pub DoesArguments : {W E : Type 0} → (Options → List (List ℕ) → Bool → Type 0) → SinkRules E → Terminals
+    → Option (List (List ℕ)) → W → W → E → E → Result Bool Stop → Type 0
 DoesArguments performs telling terminals None w_old w_new e_old e_new result =
     (result ≡ Err OutOfMemory) × (w_new ≡ w_old) × (e_new ≡ e_old)
 DoesArguments performs telling terminals (Some arguments) w_old w_new e_old e_new result =
     (program : List ℕ) × IsProgram arguments program
-    × DoesTask performs telling (task_of terminals program (drop 1 arguments)) w_old w_new e_old e_new
-    result
+    × DoesTask performs telling (task_of terminals program (drop 1 arguments)) w_old w_new e_old e_new result
 
 -- ---- the end
 

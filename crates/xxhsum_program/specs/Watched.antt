@@ -27,8 +27,7 @@ abbrev pub shows_reads : {S W : Type 0} → WatchedFiles S W → Bool
 shows_reads files = files.is_on
 
 -- a read was shown as that of so many bytes, and one that failed as that of none
-abbrev pub ShowsRead : {E : Type 0} → SinkRules E → Meter E → Meter E → Result ℕ Failed
-    → Type 0
+abbrev pub ShowsRead : {E : Type 0} → SinkRules E → Meter E → Meter E → Result ℕ Failed → Type 0
 ShowsRead telling old new (Ok count) = Shows telling count old new
 ShowsRead telling old new (Err e) = Shows telling 0 old new
 
