@@ -296,8 +296,7 @@ def main():
             words.error(f'{library} is neither c nor rust')
         report.attempt(f'{BUILDS[library]} --target {chosen.target}', is_built, library, chosen.target, chosen.of_ci)
         check_texts(report, library, chosen.target)
-    print(f'{report.passed} passed, {report.failed} failed')
-    sys.exit(1 if report.failed else 0)
+    sys.exit(report.end())
 
 
 if __name__ == '__main__':

@@ -1,4 +1,5 @@
-# What c/build and rust/build-library share: sourced by each, with `fail` defined. $assembly is this folder.
+# What proves and builds: sourced by c/build, c/install, rust/build-library, web/build and the benchmark's scripts, with `fail`
+# defined. $assembly is this folder.
 assembly=$(cd "$(dirname "${BASH_SOURCE[0]}")" && pwd)
 
 # read_build WORDS: sets `update` where the word is --update, and `static_library` to the command that builds one, which
@@ -12,6 +13,30 @@ read_build() {
     --of-ci) static_library=("$assembly/library_of_ci.py") ;;
     *) return 1 ;;
     esac
+}
+
+# proving NAME LOG COMMAND..: runs a command of rt in the current folder, whose output goes to a log, and says what it
+# proves and how long that took. It stops with what the log says.
+proving() {
+    local name=$1 log=$2 start=$SECONDS functions
+    shift 2
+    printf '%s: %s: ' "$(basename "$0")" "$name" >&2
+    if ! "$@" > "$log" 2>&1; then
+        echo >&2
+        grep -E 'error|^[a-z]+ \S+::' "$log" | grep -v ': proved' | head -n 20 >&2 || true
+        fail "$name is not proved or not built: $log"
+    fi
+    functions=$(sed -nE 's/^logic=proved functions=([0-9]+) .*/functions proved: \1/p' "$log" | tail -n 1)
+    echo "${functions:-proved before}, $((SECONDS - start)) s" >&2
+}
+
+# prove_into FILE NAME LOG COMMAND..: proves and builds the crate in whose folder out/ the file is made. What was built
+# before is removed first, also for another target, since a refused build leaves the older file.
+prove_into() {
+    local file=$1
+    rm -f "$file"
+    (cd "$(dirname "$(dirname "$file")")" && proving "${@:2}") || exit 1
+    [ -f "$file" ] || fail "rt made no $file: $3"
 }
 
 # write_text OBJECT FOLDER NAME TITLE [TAG]: gives the object's functions the text's names, and writes the text and its

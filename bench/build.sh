@@ -13,6 +13,7 @@ fail() {
     echo "$(basename "$0"): $*" >&2
     exit 1
 }
+. ../assembly/common.sh
 
 # need PACKAGE COMMAND: installs the Debian package where the command is missing.
 need() {
@@ -28,8 +29,7 @@ need_file() {
 
 # our_library TREE SET FILE: builds the libraries of the benchmark's crates in a tree, proved, for an instruction
 # set, as one object, as the tree builds what it ships: with prefetches, if it has them. Kernels that calls have to name
-# have none, and their crate lacks the other hashes. An older build is removed first, so that what is measured is what was
-# proved. A tree may lack all crates but the first.
+# have none, and their crate lacks the other hashes. A tree may lack all crates but the first.
 our_library() {
     local tree=$1 set=$2 file=$3 crate archives=() cpu=() annotated=()
     [ ! -x "$tree/assembly/annotated" ] || annotated=("$tree/assembly/annotated")
@@ -38,14 +38,9 @@ our_library() {
     for crate in bench_exports bench_calls bench_kernels; do
         [ -d "$tree/crates/$crate/src" ] || continue
         archives+=("$tree/crates/$crate/out/lib$crate.a")
-        rm -f "${archives[-1]}"
         [ "$crate" != bench_kernels ] || annotated=()
-        (cd "$tree/crates/$crate" && "${annotated[@]}" rt lib "${cpu[@]}") > "$room/lib.log" 2>&1 || {
-            grep -E 'error|^[a-z]+ \S+::' "$room/lib.log" | grep -v ': proved' | head -n 20 >&2
-            cp "$room/lib.log" "${TMPDIR:-/tmp}/bench-lib.log"
-            fail "$crate of $tree is not proved or not built for $set: ${TMPDIR:-/tmp}/bench-lib.log"
-        }
-        [ -f "${archives[-1]}" ] || fail "rt lib made no library of $crate in $tree"
+        prove_into "${archives[-1]}" "$crate of $tree for $set" "${TMPDIR:-/tmp}/bench-lib.log" \
+            "${annotated[@]}" rt lib "${cpu[@]}"
     done
     ld -r --whole-archive "${archives[@]}" -o "$file"
 }

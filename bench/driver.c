@@ -4,27 +4,16 @@
  *
  * FORM is oneshot, inlined or called (streams), kernel or kernel_stream; SIZE is the input's length, or of a
  * stream the length of its pieces. NANOSECONDS is what a call of a one-shot takes, or what a stream takes for
- * 1 MiB: the best of many short turns, since a virtual machine's neighbours slow it for milliseconds: a call
- * through a pointer then takes 39 cycles in place of 10. Before a row is timed its peers have to agree; status 1
- * if they do not.
+ * 1 MiB: the best of many short turns (turns.h). Before a row is timed its peers have to agree; status 1 if they
+ * do not.
  *
  *     driver [--quick] [--only WORD]..
  *
  * --quick takes fewer rows, and less time for each; --only takes the rows whose "FORM NAME SIZE" holds WORD
  * (of several words each). The peers are those of `peers`, a list that is compiled beside this file.
  */
-#include <stdio.h>
-#include <stdlib.h>
-#include <string.h>
-#include <time.h>
 #include "peer.h"
-
-#define MOST_PEERS 8
-#define TURN 25000.0 /* nanoseconds that a peer is timed for, a turn, or a call's where that takes longer */
-#define TURNS 6000000.0 /* nanoseconds of a peer's turns together */
-#define LEAST_TURNS 3
-#define MIB ((size_t)1 << 20)
-#define SECRET 192
+#include "turns.h"
 
 extern const struct peer *const peers[];
 extern const size_t peer_count;
@@ -36,21 +25,13 @@ enum hash { XXH32_, XXH64_, XXH3_64_, XXH3_64_SEEDED, XXH3_64_SECRET, XXH3_128_,
 static const char *const hashes[] = { "XXH32", "XXH64", "XXH3-64", "XXH3-64-seeded", "XXH3-64-secret", "XXH3-128", "XXH3-128-seeded" };
 static const char *const kernels[] = { "scalar", "lanes2", "lanes4", "split2" };
 
-/* A row: which is a hash, or a kernel. */
-struct row { enum form form; int which; size_t size; };
-
+static const char *form_of(struct row r) { return forms[r.form]; }
 static const char *name_of(struct row r) { return r.form == KERNEL || r.form == KERNEL_STREAM ? kernels[r.which] : hashes[r.which]; }
-
-static unsigned char *input, secret[SECRET];
-static int quick;
 
 /* Of 128 bits the sum of the halves is answered. */
 static uint64_t both(struct halves h) { return h.low + h.high; }
 
-/* A stream takes 1 MiB in large pieces, and a part of it in small ones, so that a turn is short. */
-static size_t stream_length(struct row r) { return r.size < 24 ? MIB / 64 : r.size < 1000 ? MIB / 16 : MIB; }
-
-static const struct streams *streams_of(const struct peer *p, enum form form) { return form == INLINED ? &p->inlined : &p->called; }
+static const struct streams *streams_of(const struct peer *p, int form) { return form == INLINED ? &p->inlined : &p->called; }
 
 static int offers(const struct peer *p, struct row r)
 {
@@ -78,11 +59,11 @@ static int offers(const struct peer *p, struct row r)
     }
 }
 
-/* The sum of the answers of so many calls. The choice of the function stands outside the loop. */
-static uint64_t called(const struct peer *p, struct row r, long times)
+static uint64_t called(const void *peer, struct row r, long times)
 {
+    const struct peer *p = peer;
     const struct streams *s = streams_of(p, r.form);
-    const size_t n = r.size, all = stream_length(r);
+    const size_t n = r.size, all = stream_length(r.size);
     uint64_t sum = 0;
 #define TIMES(expression) do { for (long i = 0; i < times; i++) sum += (expression); return sum; } while (0)
     switch (r.form) {
@@ -108,87 +89,23 @@ static uint64_t called(const struct peer *p, struct row r, long times)
     }
 }
 
-/* The clock that is read the fastest. That a turn may wait for a processor doesn't matter, since the best one counts. */
-static double now(void)
-{
-    struct timespec t;
-    clock_gettime(CLOCK_MONOTONIC, &t);
-    return 1e9 * (double)t.tv_sec + (double)t.tv_nsec;
-}
-
-static volatile uint64_t sink;
-
-static double timed(const struct peer *p, struct row r, long times)
-{
-    double start = now();
-    sink += called(p, r, times);
-    return (now() - start) / (double)times;
-}
-
-/* How long a call takes, roughly: the best of three, of which the first is slow. */
-static double roughly(const struct peer *p, struct row r)
-{
-    double best = timed(p, r, 1);
-    long times = best < 100000 ? 100 : 1;
-    for (int i = 0; i < 2; i++) {
-        double taken = timed(p, r, times);
-        if (taken < best) best = taken;
-    }
-    return best;
-}
-
 /* The peers that offer the row, which have to agree on it. */
-static size_t offering(struct row r, const struct peer **those)
+static size_t offering(struct row r, const void **those, const char **names)
 {
     size_t count = 0;
     for (size_t p = 0; p < peer_count; p++)
-        if (offers(peers[p], r)) those[count++] = peers[p];
-    for (size_t p = 1; p < count; p++)
-        if (called(those[p], r, 1) != called(those[0], r, 1)) {
-            fprintf(stderr, "%s and %s disagree: %s %s %zu\n", those[0]->name, those[p]->name, forms[r.form], name_of(r), r.size);
-            exit(1);
-        }
+        if (offers(peers[p], r)) names[count] = peers[p]->name, those[count++] = peers[p];
+    agree(those, names, count, r);
     return count;
 }
 
 static void measure(struct row r)
 {
-    const struct peer *those[MOST_PEERS];
-    double best[MOST_PEERS], longest = TURN;
-    long times[MOST_PEERS];
-    size_t count = offering(r, those);
+    const void *those[MOST_PEERS];
+    const char *names[MOST_PEERS];
+    size_t count = offering(r, those, names);
     if (count < 2) return;
-    for (size_t p = 0; p < count; p++) {
-        double once = roughly(those[p], r);
-        times[p] = (long)(TURN / once) + 1;
-        best[p] = 1e18;
-        if (once > longest) longest = once;
-    }
-    int turns = (int)((quick ? TURNS / 4 : TURNS) / longest);
-    if (turns < LEAST_TURNS) turns = LEAST_TURNS;
-    for (int turn = 0; turn < turns; turn++)
-        for (size_t k = 0; k < count; k++) {
-            size_t p = (k + (size_t)turn) % count;
-            double taken = timed(those[p], r, times[p]);
-            if (taken < best[p]) best[p] = taken;
-        }
-    double scale = r.form == ONESHOT || r.form == KERNEL ? 1 : (double)MIB / (double)stream_length(r);
-    for (size_t p = 0; p < count; p++)
-        printf("%s %s %zu %s %.4f\n", forms[r.form], name_of(r), r.size, those[p]->name, best[p] * scale);
-    fflush(stdout);
-}
-
-static int words;
-static char **word;
-
-/* Whether each word stands in the row's name. */
-static int wanted(struct row r)
-{
-    char name[100];
-    snprintf(name, sizeof name, "%s %s %zu", forms[r.form], name_of(r), r.size);
-    for (int w = 0; w < words; w++)
-        if (!strstr(name, word[w])) return 0;
-    return 1;
+    measure_each(those, names, count, r, r.form == ONESHOT || r.form == KERNEL ? 1 : (double)MIB / (double)stream_length(r.size));
 }
 
 static void rows(enum form form, int which, const size_t *sizes)
@@ -208,22 +125,12 @@ int main(int argc, char **argv)
     static const size_t few_pieces[] = { 1, 8, 24, 64, 100, 1000, 65536, 0 };
     static const size_t kernel_lengths[] = { 256, 1 << 10, 4 << 10, 64 << 10, MIB, 16 * MIB, 0 };
     static const size_t kernel_pieces[] = { 64, 1000, 65536, 0 };
-    static char *given[100];
-    word = given;
-    for (int i = 1; i < argc && i < 100; i++)
-        if (!strcmp(argv[i], "--quick")) quick = 1;
-        else if (!strcmp(argv[i], "--only") && i + 1 < argc) given[words++] = argv[++i];
-        else return fprintf(stderr, "usage: driver [--quick] [--only WORD]..\n"), 2;
-    if (!(input = malloc(ROOM))) return 1;
-    uint64_t x = 1;
-    for (size_t i = 0; i < ROOM; i++) {
-        x = x * 6364136223846793005u + 1442695040888963407u;
-        input[i] = (unsigned char)(x >> 56);
-        if (i < SECRET) secret[i] = (unsigned char)(x >> 48);
-    }
+    if (!read_words(argc, argv, 1)) return fprintf(stderr, "usage: driver [--quick] [--only WORD]..\n"), 2;
+    if (!fill_input(ROOM)) return 1;
     for (int hash = 0; hash < HASHES; hash++) {
-        const struct peer *those[MOST_PEERS];
-        for (size_t n = 0; n <= 1100; n++) offering((struct row){ ONESHOT, hash, n }, those);
+        const void *those[MOST_PEERS];
+        const char *names[MOST_PEERS];
+        for (size_t n = 0; n <= 1100; n++) offering((struct row){ ONESHOT, hash, n }, those, names);
         rows(ONESHOT, hash, quick ? few_lengths : lengths);
     }
     static const enum hash streamed[] = { XXH32_, XXH64_, XXH3_64_, XXH3_128_ };

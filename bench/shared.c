@@ -8,24 +8,16 @@
  *     FORM NAME SIZE LIBRARY NANOSECONDS
  *
  * FORM is oneshot or stream; SIZE is the input's length, or of a stream the length of its pieces. NANOSECONDS is what
- * a call takes, or what a stream takes for 1 MiB with its reset and its digest: the best of many short turns, as in
- * driver.c. Before a row is timed both have to agree; status 1 if they do not.
+ * a call takes, or what a stream takes for 1 MiB with its reset and its digest: the best of many short turns (turns.h).
+ * Before a row is timed both have to agree; status 1 if they do not.
  */
 #define _GNU_SOURCE
 #include <dlfcn.h>
 #include <link.h>
-#include <stdio.h>
-#include <stdlib.h>
-#include <string.h>
-#include <time.h>
 #include "../c/include/xxhash.h"
+#include "turns.h"
 
-#define TURN 25000.0 /* nanoseconds that a library is timed for, a turn, or a call's where that takes longer */
-#define TURNS 6000000.0 /* nanoseconds of a library's turns together */
-#define LEAST_TURNS 3
-#define MIB ((size_t)1 << 20)
 #define ROOM (64 * MIB)
-#define SECRET 192
 #define SEED 7
 
 #define EACH_CALL(X) \
@@ -77,9 +69,8 @@ enum hash { XXH32_, XXH64_, XXH3_64_, XXH3_64_SEEDED, XXH3_64_SECRET, XXH3_128_,
 static const char *const hashes[] = { "XXH32", "XXH64", "XXH3-64", "XXH3-64-seeded", "XXH3-64-secret", "XXH3-128",
     "XXH3-128-seeded", "XXH3-128-secret" };
 
-struct row { enum form form; enum hash hash; size_t size; };
-
-static unsigned char *input, secret[SECRET];
+static const char *form_of(struct row r) { return forms[r.form]; }
+static const char *name_of(struct row r) { return hashes[r.which]; }
 
 /* Of 128 bits the sum of the halves is answered. */
 static uint64_t both(XXH128_hash_t hash) { return hash.low64 + hash.high64; }
@@ -100,9 +91,6 @@ static uint64_t oneshots(const struct library *l, enum hash hash, size_t n, long
     default: TIMES(both(l->XXH3_128bits_withSecret(input, n, secret, SECRET)));
     }
 }
-
-/* A stream takes 1 MiB in large pieces, and a part of it in small ones, so that a turn is short. */
-static size_t stream_length(size_t piece) { return piece < 24 ? MIB / 64 : piece < 1000 ? MIB / 16 : MIB; }
 
 /* The sum of the answers of so many streams. */
 static uint64_t streams(const struct library *l, enum hash hash, size_t piece, long times)
@@ -127,100 +115,26 @@ static uint64_t streams(const struct library *l, enum hash hash, size_t piece, l
     }
 }
 
-static uint64_t called(const struct library *l, struct row r, long times)
+static uint64_t called(const void *library, struct row r, long times)
 {
-    return r.form == ONESHOT ? oneshots(l, r.hash, r.size, times) : streams(l, r.hash, r.size, times);
-}
-
-/* Wall time, in nanoseconds: a turn that had to wait for a processor is one of many, of which the best counts. */
-static double now(void)
-{
-    struct timespec t;
-    clock_gettime(CLOCK_MONOTONIC, &t);
-    return 1e9 * (double)t.tv_sec + (double)t.tv_nsec;
-}
-
-static volatile uint64_t sink;
-
-static double timed(const struct library *l, struct row r, long times)
-{
-    double start = now();
-    sink += called(l, r, times);
-    return (now() - start) / (double)times;
-}
-
-static int quick;
-
-/* How long a call takes, roughly: the best of three, of which the first is slow. */
-static double roughly(const struct library *l, struct row r)
-{
-    double best = timed(l, r, 1);
-    long times = best < 100000 ? 100 : 1;
-    for (int i = 0; i < 2; i++) {
-        double taken = timed(l, r, times);
-        if (taken < best) best = taken;
-    }
-    return best;
+    enum hash hash = (enum hash)r.which;
+    return r.form == ONESHOT ? oneshots(library, hash, r.size, times) : streams(library, hash, r.size, times);
 }
 
 static void measure(struct row r)
 {
-    double best[2] = { 1e18, 1e18 }, longest = TURN;
-    long times[2];
-    if (called(&libraries[0], r, 1) != called(&libraries[1], r, 1)) {
-        fprintf(stderr, "the libraries disagree: %s %s %zu\n", forms[r.form], hashes[r.hash], r.size);
-        exit(1);
-    }
-    for (int k = 0; k < 2; k++) {
-        double taken = roughly(&libraries[k], r);
-        times[k] = (long)(TURN / taken) + 1;
-        if (taken > longest) longest = taken;
-    }
-    int turns = (int)((quick ? TURNS / 4 : TURNS) / longest);
-    if (turns < LEAST_TURNS) turns = LEAST_TURNS;
-    for (int turn = 0; turn < turns; turn++)
-        for (int k = 0; k < 2; k++) {
-            int which = (k + turn) % 2;
-            double taken = timed(&libraries[which], r, times[which]);
-            if (taken < best[which]) best[which] = taken;
-        }
-    double scale = r.form == ONESHOT ? 1 : (double)MIB / (double)stream_length(r.size);
-    for (int k = 0; k < 2; k++)
-        printf("%s %s %zu %s %.4f\n", forms[r.form], hashes[r.hash], r.size, libraries[k].name, best[k] * scale);
-    fflush(stdout);
-}
-
-static int words;
-static char **word;
-
-/* Whether each word stands in the row's name. */
-static int wanted(struct row r)
-{
-    char name[100];
-    snprintf(name, sizeof name, "%s %s %zu", forms[r.form], hashes[r.hash], r.size);
-    for (int w = 0; w < words; w++)
-        if (!strstr(name, word[w])) return 0;
-    return 1;
+    const void *those[] = { &libraries[0], &libraries[1] };
+    const char *names[] = { libraries[0].name, libraries[1].name };
+    measure_each(those, names, 2, r, r.form == ONESHOT ? 1 : (double)MIB / (double)stream_length(r.size));
 }
 
 static void rows(enum form form, const size_t *sizes)
 {
-    for (enum hash hash = 0; hash < HASHES; hash++)
+    for (int hash = 0; hash < HASHES; hash++)
         for (const size_t *size = sizes; *size; size++) {
             struct row r = { form, hash, *size };
             if (wanted(r)) measure(r);
         }
-}
-
-static void fill_input(void)
-{
-    uint64_t x = 1;
-    if (!(input = malloc(ROOM))) fail("no memory");
-    for (size_t i = 0; i < ROOM; i++) {
-        x = x * 6364136223846793005u + 1442695040888963407u;
-        input[i] = (unsigned char)(x >> 56);
-        if (i < SECRET) secret[i] = (unsigned char)(x >> 48);
-    }
 }
 
 int main(int argc, char **argv)
@@ -230,16 +144,11 @@ int main(int argc, char **argv)
     static const size_t few_lengths[] = { 1, 4, 16, 64, 240, 256, 1 << 10, 16 << 10, MIB, 0 };
     static const size_t pieces[] = { 1, 8, 16, 32, 64, 256, 1000, 4096, 65536, 0 };
     static const size_t few_pieces[] = { 1, 16, 64, 256, 1000, 65536, 0 };
-    static char *given[100];
-    word = given;
-    if (argc < 3) return fprintf(stderr, "usage: shared OURS THEIRS [--quick] [--only WORD]..\n"), 2;
-    for (int i = 3; i < argc && i < 100; i++)
-        if (!strcmp(argv[i], "--quick")) quick = 1;
-        else if (!strcmp(argv[i], "--only") && i + 1 < argc) given[words++] = argv[++i];
-        else return fprintf(stderr, "usage: shared OURS THEIRS [--quick] [--only WORD]..\n"), 2;
+    if (argc < 3 || !read_words(argc, argv, 3))
+        return fprintf(stderr, "usage: shared OURS THEIRS [--quick] [--only WORD]..\n"), 2;
     load(&libraries[0], "ours", argv[1]); /* first, since the loader gives a name that it knows no second file */
     load(&libraries[1], "c_shared", argv[2]);
-    fill_input();
+    if (!fill_input(ROOM)) fail("no memory");
     rows(ONESHOT, quick ? few_lengths : lengths);
     rows(STREAM, quick ? few_pieces : pieces);
     return 0;

@@ -13,21 +13,6 @@ need() {
     command -v "$1" > /dev/null || fail "no $1: install the package $2"
 }
 
-# proving NAME LOG COMMAND..: runs a command of rt in the current folder, whose output goes to a log, and says what it
-# proves and how long that took. It stops with what the log says.
-proving() {
-    local name=$1 log=$2 start=$SECONDS functions
-    shift 2
-    printf 'c/%s: %s: ' "$(basename "$0")" "$name" >&2
-    if ! "$@" > "$log" 2>&1; then
-        echo >&2
-        grep -E 'error|^[a-z]+ \S+::' "$log" | grep -v ': proved' | head -n 20 >&2 || true
-        fail "$name is not proved or not built: $log"
-    fi
-    functions=$(sed -nE 's/^logic=proved functions=([0-9]+) .*/functions proved: \1/p' "$log" | tail -n 1)
-    echo "${functions:-proved before}, $((SECONDS - start)) s" >&2
-}
-
 # read_target WORDS: takes --target NAME off the words, and leaves the others in `words`. `target` is then the
 # processor that is built for, `tools` begins the names of its gcc and binutils, `lib` is where its library goes, `asm`
 # where its text does, and `made` runs make over both.

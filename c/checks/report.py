@@ -22,6 +22,11 @@ class Report:
         except (Fault, subprocess.TimeoutExpired) as fault:
             self.row(name, str(fault))
 
+    def end(self):
+        """Says the counts, and answers the program's status. A run without a check is none that passed."""
+        print(f'{self.passed} passed, {self.failed} failed')
+        return 0 if self.passed and not self.failed else 1
+
 
 class Fault(Exception):
     """What is at fault, in one line."""
