@@ -42,7 +42,7 @@ use twox_hash::{XxHash3_64, XxHash3_128, XxHash32, XxHash64, xxhash3_64, xxhash3
 /// A hasher of any kind: the lists of bytes that it follows, and its value of a list.
 pub trait Stream {
     /// The value.
-    type Value;
+    type Value: Copy + PartialEq;
 
     // That the hasher was given a list, to be hashed with a seed, if there is one, and a secret. The plain hashes
     // have no secret.

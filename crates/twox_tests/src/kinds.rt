@@ -1,5 +1,6 @@
 //! A stream of each kind, asked for its value after an input in pieces.
 
+use headline::Stream;
 use std::alloc::Global;
 use std::boxed::BoxedSlice;
 use twox_hash::xxhash3::{FixedBuffer, SecretBuffer};
@@ -30,83 +31,8 @@ pub(crate) struct Values {
     pub(crate) wide: u128,
 }
 
-// Every kind of stream under one trait without contracts. A value of 64 bits stands in the low half.
-pub(crate) trait Stream {
-    fn take(&mut self, piece: &[u8]);
-
-    fn value(&self) -> u128;
-
-    // The one-shot of the same width under a secret alone.
-    fn oneshot(secret: &[u8], input: &[u8]) -> Option<u128>;
-}
-
-fn keyed_64(secret: &[u8], input: &[u8]) -> Option<u128> {
-    let value = XxHash3_64::oneshot_with_secret(secret, input).ok()?;
-    Some(u128::from(value))
-}
-
-fn keyed_128(secret: &[u8], input: &[u8]) -> Option<u128> {
-    XxHash3_128::oneshot_with_secret(secret, input).ok()
-}
-
-impl Stream for XxHash3_64<Global> {
-    fn take(&mut self, piece: &[u8]) {
-        self.write(piece);
-    }
-
-    fn value(&self) -> u128 {
-        u128::from(self.finish())
-    }
-
-    fn oneshot(secret: &[u8], input: &[u8]) -> Option<u128> {
-        keyed_64(secret, input)
-    }
-}
-
-impl Stream for XxHash3_128<Global> {
-    fn take(&mut self, piece: &[u8]) {
-        self.write(piece);
-    }
-
-    fn value(&self) -> u128 {
-        self.finish_128()
-    }
-
-    fn oneshot(secret: &[u8], input: &[u8]) -> Option<u128> {
-        keyed_128(secret, input)
-    }
-}
-
-impl<S: FixedBuffer> Stream for xxhash3_64::RawHasher<S> {
-    fn take(&mut self, piece: &[u8]) {
-        self.write(piece);
-    }
-
-    fn value(&self) -> u128 {
-        u128::from(self.finish())
-    }
-
-    fn oneshot(secret: &[u8], input: &[u8]) -> Option<u128> {
-        keyed_64(secret, input)
-    }
-}
-
-impl<S: FixedBuffer> Stream for xxhash3_128::RawHasher<S> {
-    fn take(&mut self, piece: &[u8]) {
-        self.write(piece);
-    }
-
-    fn value(&self) -> u128 {
-        self.finish_128()
-    }
-
-    fn oneshot(secret: &[u8], input: &[u8]) -> Option<u128> {
-        keyed_128(secret, input)
-    }
-}
-
 // Whether the stream was made, and has this value after the input.
-pub(crate) fn has<S: Stream + Drop>(made: Option<S>, input: Pieces<'_>, value: u128) -> bool {
+pub(crate) fn has<S: Stream + Drop>(made: Option<S>, input: Pieces<'_>, value: S::Value) -> bool {
     let Some(mut stream) = made else {
         return false;
     };
@@ -114,7 +40,7 @@ pub(crate) fn has<S: Stream + Drop>(made: Option<S>, input: Pieces<'_>, value: u
     for piece in input.tail.chunks(input.size.max(1)) {
         stream.take(piece);
     }
-    stream.value() == value
+    stream.answer() == value
 }
 
 // Raw streams over a buffer, where there is one.
@@ -140,19 +66,17 @@ fn seeded(alloc: Global, seed: u64) -> Option<SecretBuffer<Own>> {
 
 // Whether each kind of stream has the value of its width: of no seed, of a seed, of a secret alone, and of both.
 pub(crate) fn default_have(alloc: Global, input: Pieces<'_>, values: Values) -> bool {
-    let (narrow, wide) = (u128::from(values.narrow), values.wide);
-    has(XxHash3_64::new(alloc).ok(), input, narrow)
-        && has(XxHash3_128::default(alloc).ok(), input, wide)
-        && has(raw(default(alloc)), input, narrow)
-        && has(raw_wide(default(alloc)), input, wide)
+    has(XxHash3_64::new(alloc).ok(), input, values.narrow)
+        && has(XxHash3_128::default(alloc).ok(), input, values.wide)
+        && has(raw(default(alloc)), input, values.narrow)
+        && has(raw_wide(default(alloc)), input, values.wide)
 }
 
 pub(crate) fn seeded_have(alloc: Global, seed: u64, input: Pieces<'_>, values: Values) -> bool {
-    let (narrow, wide) = (u128::from(values.narrow), values.wide);
-    has(XxHash3_64::with_seed(alloc, seed).ok(), input, narrow)
-        && has(XxHash3_128::with_seed(alloc, seed).ok(), input, wide)
-        && has(raw(seeded(alloc, seed)), input, narrow)
-        && has(raw_wide(seeded(alloc, seed)), input, wide)
+    has(XxHash3_64::with_seed(alloc, seed).ok(), input, values.narrow)
+        && has(XxHash3_128::with_seed(alloc, seed).ok(), input, values.wide)
+        && has(raw(seeded(alloc, seed)), input, values.narrow)
+        && has(raw_wide(seeded(alloc, seed)), input, values.wide)
 }
 
 fn own(alloc: Global, secret: &[u8]) -> Option<Own> {
@@ -172,7 +96,6 @@ pub(crate) fn keyed_boxed_wide(alloc: Global, secret: &[u8]) -> Option<XxHash3_1
 }
 
 pub(crate) fn keyed_have_64(alloc: Global, secret: &[u8], input: Pieces<'_>, value: u64) -> bool {
-    let value = u128::from(value);
     has(keyed_boxed(alloc, secret), input, value) && has(raw(keyed(alloc, secret)), input, value)
 }
 
@@ -204,7 +127,6 @@ pub(crate) fn beside_have_64(
     input: Pieces<'_>,
     value: u64,
 ) -> bool {
-    let value = u128::from(value);
     has(boxed_beside(alloc, seed, secret), input, value)
         && has(raw(beside(alloc, seed, secret)), input, value)
 }

@@ -2,11 +2,12 @@
 //! one-shots', which other tests hold against it.
 
 use crate::kinds::{
-    Pieces, Stream, Values, beside_are_the_oneshot, beside_have_64, boxed_wide_beside,
+    Pieces, Values, beside_are_the_oneshot, beside_have_64, boxed_wide_beside,
     default_have, has, in_pieces, keyed, keyed_boxed, keyed_boxed_wide, keyed_have_64,
     keyed_have_128, raw, raw_wide, seeded_have,
 };
 use crate::rows::{SEED, first, gen_10240, rows, seeded_rows};
+use headline::Stream;
 use std::alloc::Global;
 use twox_hash::xxhash3::{DEFAULT_SECRET_RAW, SecretBuffer};
 use twox_hash::{XxHash3_64, XxHash3_128};
@@ -172,24 +173,30 @@ fn secrets_of_zeros_beside_a_seed(rt: HostRuntime) {
     assert!(rt; beside_have_64(rt.alloc(), 0, ZEROS, in_pieces(&[], 1), value));
 }
 
-// Whether a stream under this secret that grows byte by byte is the one-shot after each.
-fn grows<S: Stream + Drop>(made: Option<S>, bytes: &[u8; 10240], secret: &[u8]) -> bool {
+// Whether a stream that grows byte by byte has these values, one before each byte.
+fn grows<S: Stream + Drop>(made: Option<S>, bytes: &[u8; 10240], values: &[S::Value]) -> bool {
     let Some(mut stream) = made else {
         return false;
     };
     let mut agree = true;
-    for n in 0..601 {
-        agree &= S::oneshot(secret, first(bytes, n)) == Some(stream.value());
-        stream.take(&[bytes[n]]);
+    for (byte, value) in bytes.iter().zip(values) {
+        agree &= stream.answer() == *value;
+        stream.take(&[*byte]);
     }
     agree
 }
 
 fn all_grow(alloc: Global, bytes: &[u8; 10240], secret: &[u8]) -> bool {
-    grows(raw(keyed(alloc, secret)), bytes, secret)
-        && grows(raw_wide(keyed(alloc, secret)), bytes, secret)
-        && grows(keyed_boxed(alloc, secret), bytes, secret)
-        && grows(keyed_boxed_wide(alloc, secret), bytes, secret)
+    let (mut narrow, mut wide) = ([0; 601], [0; 601]);
+    for n in 0..601 {
+        let input = first(bytes, n);
+        narrow[n] = XxHash3_64::oneshot_with_secret(secret, input).unwrap_or(0);
+        wide[n] = XxHash3_128::oneshot_with_secret(secret, input).unwrap_or(0);
+    }
+    grows(raw(keyed(alloc, secret)), bytes, &narrow)
+        && grows(raw_wide(keyed(alloc, secret)), bytes, &wide)
+        && grows(keyed_boxed(alloc, secret), bytes, &narrow)
+        && grows(keyed_boxed_wide(alloc, secret), bytes, &wide)
 }
 
 #[test]
@@ -213,18 +220,18 @@ fn seeded_array() -> Option<SecretBuffer<[u8; 192]>> {
 }
 
 // Whether the stream was made, and has this value after the bytes, one a piece.
-fn has_bytewise<S: Stream + Drop>(made: Option<S>, input: &[u8], value: u128) -> bool {
+fn has_bytewise<S: Stream + Drop>(made: Option<S>, input: &[u8], value: S::Value) -> bool {
     let Some(mut stream) = made else {
         return false;
     };
     for piece in input.chunks(1) {
         stream.take(piece);
     }
-    stream.value() == value
+    stream.answer() == value
 }
 
 fn arrays_have(input: &[u8], value: u64, wide_value: u128) -> bool {
-    has_bytewise(raw(default_array()), input, u128::from(value))
+    has_bytewise(raw(default_array()), input, value)
         && has_bytewise(raw_wide(default_array()), input, wide_value)
 }
 
@@ -241,7 +248,7 @@ fn byte_by_byte_with_the_secret_in_an_array(rt: HostRuntime) {
 }
 
 fn seeded_array_has(input: &[u8], value: u64) -> bool {
-    has_bytewise(raw(seeded_array()), input, u128::from(value))
+    has_bytewise(raw(seeded_array()), input, value)
 }
 
 #[test]

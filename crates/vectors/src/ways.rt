@@ -2,6 +2,7 @@
 
 use crate::kernels;
 use crate::rows::{Kind, Recipe, Row, next_number};
+use headline::Stream;
 use std::alloc::{AllocError, Global};
 use std::boxed::BoxedSlice;
 use twox_hash::{XxHash3_64, XxHash3_128, XxHash32, XxHash64};
@@ -86,26 +87,24 @@ fn in_pieces(
     let seed = row.seed.unwrap_or(0);
     Ok(match row.kind {
         Kind::X32 => plain_32(seed, pieces),
-        Kind::X64 => Some(plain_64(seed, pieces)),
+        Kind::X64 => Some(u128::from(after(XxHash64::with_seed(seed), pieces))),
         Kind::X3_64 => stream_64(alloc, row, secret, pieces)?,
         Kind::X3_128 => stream_128(alloc, row, secret, pieces)?,
     })
 }
 
-fn plain_32(seed: u64, pieces: &[&[u8]]) -> Option<u128> {
-    let mut hasher = XxHash32::with_seed(u32::try_from(seed).ok()?);
+// What a hasher answers after the pieces.
+fn after<H: Stream + Drop>(hasher: H, pieces: &[&[u8]]) -> H::Value {
+    let mut hasher = hasher;
     for piece in pieces.iter() {
-        hasher.write(piece);
+        hasher.take(piece);
     }
-    Some(u128::from(hasher.finish_32()))
+    hasher.answer()
 }
 
-fn plain_64(seed: u64, pieces: &[&[u8]]) -> u128 {
-    let mut hasher = XxHash64::with_seed(seed);
-    for piece in pieces.iter() {
-        hasher.write(piece);
-    }
-    u128::from(hasher.finish())
+fn plain_32(seed: u64, pieces: &[&[u8]]) -> Option<u128> {
+    let hasher = XxHash32::with_seed(u32::try_from(seed).ok()?);
+    Some(u128::from(after(hasher, pieces)))
 }
 
 fn stream_64(
@@ -114,14 +113,10 @@ fn stream_64(
     secret: &[u8],
     pieces: &[&[u8]],
 ) -> Result<Option<u128>, AllocError> {
-    let mut hasher = match empty_stream_64(alloc, row, secret)? {
-        Some(hasher) => hasher,
-        None => return Ok(None),
-    };
-    for piece in pieces.iter() {
-        hasher.write(piece);
-    }
-    Ok(Some(u128::from(hasher.finish())))
+    Ok(match empty_stream_64(alloc, row, secret)? {
+        Some(hasher) => Some(u128::from(after(hasher, pieces))),
+        None => None,
+    })
 }
 
 // By the constructor that the row's seed and secret ask for.
@@ -146,14 +141,10 @@ fn stream_128(
     secret: &[u8],
     pieces: &[&[u8]],
 ) -> Result<Option<u128>, AllocError> {
-    let mut hasher = match empty_stream_128(alloc, row, secret)? {
-        Some(hasher) => hasher,
-        None => return Ok(None),
-    };
-    for piece in pieces.iter() {
-        hasher.write(piece);
-    }
-    Ok(Some(hasher.finish_128()))
+    Ok(match empty_stream_128(alloc, row, secret)? {
+        Some(hasher) => Some(after(hasher, pieces)),
+        None => None,
+    })
 }
 
 // By the constructor that the row's seed and secret ask for.
