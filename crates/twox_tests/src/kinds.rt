@@ -73,8 +73,11 @@ pub(crate) fn default_have(alloc: Global, input: Pieces<'_>, values: Values) -> 
 }
 
 pub(crate) fn seeded_have(alloc: Global, seed: u64, input: Pieces<'_>, values: Values) -> bool {
-    has(XxHash3_64::with_seed(alloc, seed).ok(), input, values.narrow)
-        && has(XxHash3_128::with_seed(alloc, seed).ok(), input, values.wide)
+    has(
+        XxHash3_64::with_seed(alloc, seed).ok(),
+        input,
+        values.narrow,
+    ) && has(XxHash3_128::with_seed(alloc, seed).ok(), input, values.wide)
         && has(raw(seeded(alloc, seed)), input, values.narrow)
         && has(raw_wide(seeded(alloc, seed)), input, values.wide)
 }

@@ -2,9 +2,9 @@
 //! one-shots', which other tests hold against it.
 
 use crate::kinds::{
-    Pieces, Values, beside_are_the_oneshot, beside_have_64, boxed_wide_beside,
-    default_have, has, in_pieces, keyed, keyed_boxed, keyed_boxed_wide, keyed_have_64,
-    keyed_have_128, raw, raw_wide, seeded_have,
+    Pieces, Values, beside_are_the_oneshot, beside_have_64, boxed_wide_beside, default_have, has,
+    in_pieces, keyed, keyed_boxed, keyed_boxed_wide, keyed_have_64, keyed_have_128, raw, raw_wide,
+    seeded_have,
 };
 use crate::rows::{SEED, first, gen_10240, rows, seeded_rows};
 use headline::Stream;
