@@ -61,8 +61,8 @@ where
     requires writer { W.has_failed out.old ≡ false }
     ensures { (args : Option (List (List ℕ))) × (done : Result Bool Stop) × (told : E)
         × IfSome args (AreArguments A.holds A.ends arguments.now)
-        × DoesArguments (PerformsWatched T S.Store S.File.Source R.Source W.Sink E.Sink store.now input
-        out.old out.new err.old told done)
+        × DoesArguments (PerformsWatched T S.Store S.File.Source R.Source W.Sink E.Sink store.now
+        input out.old out.new err.old told done)
         E.Sink terminals args out.old out.new err.old told done
         × TellsOn E.Sink (end_text done) told err.new
         × (result ≡ status_of done) }
@@ -99,7 +99,8 @@ where
         × IsProgram arguments program
         × DoesTask (PerformsWatched T S.Store S.File.Source R.Source W.Sink E.Sink store.now input
         out.old out.new err.old err.new result)
-        E.Sink (task_of terminals program (drop 1 arguments)) out.old out.new err.old err.new result }
+        E.Sink (task_of terminals program (drop 1 arguments))
+        out.old out.new err.old err.new result }
 {
     let program = program_of(args);
     let words = words_of(args);
