@@ -1,6 +1,5 @@
 -- What the lines of a list say.
 use Rattle.std.specs.Prelude.{ℕ, ◌≡◌, ◌<◌, Bool, true, false, List, [], ◌∷◌, ◌++◌, get_or, length}
-use Rattle.xxh_io.specs.declared.kind.Kind.{Kind}
 use Rattle.xxhsum_line.specs.Entry as line
 use Rattle.xxhsum_line.specs.Entry.{SaysNothing, is_comment}
 use Rattle.xxhsum_line.specs.declared.entry.Entry.{Entry}

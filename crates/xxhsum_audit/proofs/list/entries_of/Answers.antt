@@ -1,4 +1,4 @@
-use Rattle.std.proofs.Common.{◌≡◌, ◌+◌, ◌∷◌, ◌++◌, ◌<◌, [], List, ℕ, ap, get_or, length, map, subst, sym, take, ◌∙◌, rules, arith}
+use Rattle.std.proofs.Common.{◌∷◌, ◌++◌, ◌<◌, [], ap, get_or, length, map, subst, sym, take, ◌∙◌, arith}
 use Rattle.std.proofs.lemmas.List.{length-map, map-append, take_more}
 use Rattle.xxhsum_audit.proofs.ListFacts.{at_place, say_more}
 use Rattle.xxhsum_line.specs.Entry.{SaysNothing}

@@ -1,4 +1,4 @@
-use Rattle.std.proofs.Common.{◌≡◌, ◌∷◌, ◌++◌, [], ap, append-nil, map, subst, sym, ◌∙◌}
+use Rattle.std.proofs.Common.{◌∷◌, [], ap, append-nil, map, subst, sym, ◌∙◌}
 use Rattle.std.proofs.lemmas.List.{map-append}
 use Rattle.xxhsum_line.specs.Meaning.{Means}
 use Rattle.xxhsum_audit.specs.List.{said_by}

@@ -1,4 +1,4 @@
-use Rattle.std.proofs.Common.{◌≡◌, ◌∷◌, ◌++◌, ◌<◌, [], List, ℕ, ap, length, map, subst, sym, ◌∙◌, rules, arith}
+use Rattle.std.proofs.Common.{◌≡◌, ◌<◌, ap, length, map, subst, sym, ◌∙◌, rules}
 use Rattle.std.proofs.lemmas.List.{map-append}
 use Rattle.xxhsum_audit.proofs.PartFacts.{Stands, stands_last, stands_more, stands_whole}
 use Rattle.xxhsum_audit.specs.Parts.{ArePartsOf}
