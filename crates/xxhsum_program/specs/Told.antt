@@ -1,6 +1,5 @@
 -- What was told on standard error.
-use Rattle.std.specs.Prelude.{◌≡◌, ℕ, List, ◌++◌}
-use Rattle.std.specs.declared.result.Result.{Result}
+use Rattle.std.specs.Prelude.{ℕ, List, ◌++◌}
 use Rattle.xxh_io.specs.Rules.{SinkRules}
 use Rattle.xxh_io.specs.Tells.{Told}
 
