@@ -1,12 +1,11 @@
 -- What the program does with its task, and its exit status.
-use Rattle.std.specs.Prelude.{◌≡◌, ℕ, Bool, true, false, List, [], Option, Some, None, codes, drop}
+use Rattle.std.specs.Prelude.{◌≡◌, ℕ, Bool, true, false, List, [], codes}
 use Rattle.std.specs.declared.result.Result.{Result}
 use Rattle.std.specs.declared.result.Result.TheVariants.{Ok, Err}
 use Rattle.xxh_io.specs.declared.from_write.FromWrite.{FromWrite}
 use Rattle.xxh_io.specs.Rules.{SourceRules, SinkRules}
 use Rattle.xxhsum_line.specs.declared.printed.Shape.{Shape}
 use Rattle.xxhsum_words.specs.declared.options.Options.{Options}
-use Rattle.xxhsum_program.specs.declared.process.Terminals.{Terminals}
 use Rattle.xxhsum_program.specs.declared.stop.Stop.{Stop}
 use Rattle.xxhsum_program.specs.declared.stop.Stop.TheVariants.{WriteFailed, OutOfMemory}
 use Rattle.xxhsum_program.specs.CheckList.{SaysList, SaysLists}
@@ -14,7 +13,7 @@ use Rattle.xxhsum_program.specs.HashNames.{SaysInput, SaysNames}
 use Rattle.xxhsum_program.specs.declared.watched.Watched.{Watched}
 use Rattle.xxhsum_program.specs.declared.watched.WatchedFiles.{WatchedFiles}
 use Rattle.xxhsum_program.specs.Progress.{is_shown}
-use Rattle.xxhsum_program.specs.Task.{IsProgram, Reads, Task, Tells, has_none, task_of}
+use Rattle.xxhsum_program.specs.Task.{Reads, Task, Tells, has_none}
 use Rattle.xxhsum_program.specs.Told.{TellsOn}
 use Rattle.xxhsum_program.specs.Watched.{files_of, meter_of, shows_reads, source_of, watched_opening, watched_reading}
 use Rattle.xxhsum_files.specs.Rules.{StoreRules}
@@ -59,15 +58,6 @@ DoesTask performs telling (Tells text good) w_old w_new e_old e_new result =
     (result ≡ Ok good) × (w_new ≡ w_old) × TellsOn telling text e_old e_new
 DoesTask performs telling (Reads options names shows) w_old w_new e_old e_new result =
     performs options names shows
-
--- the task of the arguments is done; or there was no memory for them, and nothing is
-abbrev pub DoesArguments : {W E : Type 0} → (Options → List (List ℕ) → Bool → Type 0) → SinkRules E → Terminals
-    → Option (List (List ℕ)) → W → W → E → E → Result Bool Stop → Type 0
-DoesArguments performs telling terminals None w_old w_new e_old e_new result =
-    (result ≡ Err OutOfMemory) × (w_new ≡ w_old) × (e_new ≡ e_old)
-DoesArguments performs telling terminals (Some arguments) w_old w_new e_old e_new result =
-    (program : List ℕ) × IsProgram arguments program
-    × DoesTask performs telling (task_of terminals program (drop 1 arguments)) w_old w_new e_old e_new result
 
 -- ---- the end
 

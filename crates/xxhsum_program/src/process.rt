@@ -1,13 +1,12 @@
 //! The program over its arguments, a store of files and its ends.
 
 ghost use Rattle.std.specs.Prelude.{◌≡◌, false, Bool, List, ℕ, Option, Result, drop, map, IfSome};
-ghost use Rattle.xxhsum_program.specs.Arguments.{AreArguments};
-ghost use Rattle.xxhsum_program.specs.Run.{DoesArguments, DoesTask, PerformsAs, PerformsWatched, end_text, shape_of, status_of, stop_text};
+ghost use Rattle.xxhsum_program.specs.Run.{DoesTask, PerformsAs, PerformsWatched, end_text, shape_of, status_of, stop_text};
 ghost use Rattle.xxhsum_program.specs.Task.{IsProgram, answer_text, has_none, is_well, run_asked, shows_progress, task_of, usage_text, waits_for_terminal};
 ghost use Rattle.xxhsum_program.specs.Told.{TellsOn};
 ghost use Rattle.xxhsum_program.specs.declared.stop.Stop.{Stop};
 
-use crate::arguments::{Arguments, all_arguments, last_part};
+use crate::arguments::last_part;
 use crate::check::{check_list, check_lists};
 use crate::hash::{hash_input, hash_names};
 use crate::progress::Meter;
@@ -15,7 +14,7 @@ use crate::stop::Stop;
 use crate::tell::{tell, tell_parts};
 use crate::usage::{ABOUT, NO_BENCHMARK, OPTIONS, TITLE};
 use crate::watched::{Watched, WatchedFiles};
-use std::alloc::{AllocError, Global};
+use std::alloc::Global;
 use std::io::Write;
 use xxh_io::ends::{Sink, Source};
 use xxh_io::from_write::FromWrite;
@@ -36,48 +35,15 @@ pub struct Terminals {
     pub errors: bool,
 }
 
-/// Does what the arguments ask for, over a store of files and these ends. Progress is shown on the screen, which is
-/// standard error too. Answers the exit status: 0 where every file was digested, or is as its line says, and else 1.
+/// Does what the words behind the program's name ask for, over a store of files and these ends. Progress is shown on
+/// the screen, which is standard error too. Answers whether all went well.
 ///
 /// The caller shows that neither the input nor the output has failed.
-pub fn run<A, S, R, W, E, T>(
-    alloc: Global,
-    arguments: &A,
-    store: &S,
-    terminals: Terminals,
-    input: R,
-    out: &mut W,
-    err: &mut E,
-    screen: T,
-) -> u8
-where
-    A: Arguments,
-    S: Store,
-    R: Source + Drop,
-    W: Sink,
-    E: Sink,
-    T: Write + Copy + Drop,
-    requires reader { R.has_failed input ≡ false }
-    requires writer { W.has_failed out.old ≡ false }
-    ensures { (args : Option (List (List ℕ))) × (done : Result Bool Stop) × (told : E)
-        × IfSome args (AreArguments A.holds A.ends arguments.now)
-        × DoesArguments (PerformsWatched T S.Store S.File.Source R.Source W.Sink E.Sink store.now
-        input out.old out.new err.old told done)
-        E.Sink terminals args out.old out.new err.old told done
-        × TellsOn E.Sink (end_text done) told err.new
-        × (result ≡ status_of done) }
-{
-    match all_arguments(alloc, arguments) {
-        Ok(args) => {
-            let done = run_words(alloc, &args, store, terminals, input, out, err, screen);
-            conclude(done, err)
-        }
-        Err(AllocError) => conclude(Err(Stop::OutOfMemory), err),
-    }
-}
-
-// Does what the words behind the program's name ask for. Answers whether all went well.
-fn run_words<S, R, W, E, T>(
+///
+/// # Errors
+///
+/// [`Stop::WriteFailed`] where a write to the output fails, and [`Stop::OutOfMemory`] where memory runs out.
+pub fn run_words<S, R, W, E, T>(
     alloc: Global,
     args: &[Vec<u8>],
     store: &S,
@@ -133,8 +99,8 @@ fn run_asked(asked: Asked) -> Option<(Options, usize)>
     }
 }
 
-// The name by which the program was called.
-fn program_of(args: &[Vec<u8>]) -> &[u8]
+/// The name by which the program was called.
+pub fn program_of(args: &[Vec<u8>]) -> &[u8]
     ensures { IsProgram (map (λ argument. argument.items) args.now) result.now }
 {
     match args.split_first() {
@@ -143,8 +109,8 @@ fn program_of(args: &[Vec<u8>]) -> &[u8]
     }
 }
 
-// The words behind the program's name.
-fn words_of(args: &[Vec<u8>]) -> &[Vec<u8>]
+/// The words behind the program's name.
+pub fn words_of(args: &[Vec<u8>]) -> &[Vec<u8>]
     ensures { map (λ word. word.items) result.now
         ≡ drop 1 (map (λ argument. argument.items) args.now) }
 {
@@ -154,8 +120,8 @@ fn words_of(args: &[Vec<u8>]) -> &[Vec<u8>]
     }
 }
 
-// The names from this place on.
-fn names_from(words: &[Vec<u8>], place: usize) -> &[Vec<u8>]
+/// The names from this place on.
+pub fn names_from(words: &[Vec<u8>], place: usize) -> &[Vec<u8>]
     ensures { map (λ name. name.items) result.now
         ≡ drop place (map (λ word. word.items) words.now) }
 {

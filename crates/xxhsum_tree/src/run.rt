@@ -1,6 +1,14 @@
 //! The program over its arguments.
 
-ghost use Rattle.std.specs.Prelude.{◌≡◌, false};
+ghost use Rattle.std.specs.Prelude.{◌≡◌, false, Bool, List, ℕ, Option, Some, Result, drop, map, IfSome};
+ghost use Rattle.xxhsum_program.specs.Arguments.{AreArguments};
+ghost use Rattle.xxhsum_program.specs.Run.{PerformsWatched, end_text, status_of};
+ghost use Rattle.xxhsum_program.specs.Task.{IsProgram};
+ghost use Rattle.xxhsum_program.specs.Told.{TellsOn};
+ghost use Rattle.xxhsum_program.specs.declared.stop.Stop.{Stop};
+ghost use Rattle.xxhsum_tree.specs.Run.{DoesArguments, are_listed, is_tree, tree_asked};
+ghost use Rattle.xxhsum_words.specs.Name.{kind_of_program};
+ghost use Rattle.xxhsum_words.specs.Options.{asked_of};
 
 use crate::audit::audit_names;
 use crate::names::texts_named;
@@ -10,18 +18,19 @@ use xxh_io::ends::{Sink, Source};
 use xxhsum_audit::parts::parts_of;
 use xxhsum_files::store::Store;
 use xxhsum_line::printed::Shape;
-use xxhsum_program::arguments::{Arguments, all_arguments, last_part};
+use xxhsum_program::arguments::{Arguments, all_arguments};
 use xxhsum_program::check::check_lists;
 use xxhsum_program::hash::hash_names;
-use xxhsum_program::process;
-use xxhsum_program::process::Terminals;
+use xxhsum_program::process::{Terminals, conclude, names_from, program_of, run_words, words_of};
 use xxhsum_program::stop::Stop;
 use xxhsum_program::tell::tell;
 use xxhsum_words::name::default_kind;
 use xxhsum_words::options::{Asked, NamesFrom, Options, asked_by};
 
-/// Does what the arguments ask for, as `xxhsum_program::process::run` does, and what that does not know: lists of
-/// names, and audits. Answers the exit status: 0 where every file was digested, or is as its line says, and else 1.
+/// Does what the arguments ask for, over a store of files and these ends. Progress is shown on the screen, which is
+/// standard error too. Answers the exit status: 0 where every file was digested, or is as its line says, and else 1.
+///
+/// Where a tree is asked for, its clause is about the words that end the run and the status alone.
 ///
 /// The caller shows that neither the input nor the output has failed.
 pub fn run<A, S, R, W, E, T>(
@@ -43,31 +52,98 @@ where
     T: Write + Copy + Drop,
     requires reader { R.has_failed input ≡ false }
     requires writer { W.has_failed out.old ≡ false }
+    ensures { (args : Option (List (List ℕ))) × (done : Result Bool Stop) × (told : E)
+        × IfSome args (AreArguments A.holds A.ends arguments.now)
+        × DoesArguments (PerformsWatched T S.Store S.File.Source R.Source W.Sink E.Sink store.now
+        input out.old out.new err.old told done)
+        E.Sink terminals args out.old out.new err.old told done
+        × TellsOn E.Sink (end_text done) told err.new
+        × (result ≡ status_of done) }
 {
-    let Ok(args) = all_arguments(alloc, arguments) else {
-        return process::run(alloc, arguments, store, terminals, input, out, err, screen);
-    };
-    match tree_of(&args) {
-        Some((options, place)) => {
-            let names = &args[place.min(args.len())..];
-            process::conclude(walk(alloc, store, options, names, input, out, err), err)
+    match all_arguments(alloc, arguments) {
+        Ok(args) => {
+            let done = run_arguments(alloc, &args, store, terminals, input, out, err, screen);
+            conclude(done, err)
         }
-        None => process::run(alloc, arguments, store, terminals, input, out, err, screen),
+        Err(AllocError) => conclude(Err(Stop::OutOfMemory), err),
     }
 }
 
-// The options where the arguments ask for a tree, and which of them its names begin at.
-fn tree_of(args: &[Vec<u8>]) -> Option<(Options, usize)> {
-    let (path, words) = args.split_first()?;
-    match asked_by(default_kind(last_part(path)), words) {
+// Does what the arguments ask for. Answers whether all went well.
+fn run_arguments<S, R, W, E, T>(
+    alloc: Global,
+    args: &[Vec<u8>],
+    store: &S,
+    terminals: Terminals,
+    input: R,
+    out: &mut W,
+    err: &mut E,
+    screen: T,
+) -> Result<bool, Stop>
+where
+    S: Store,
+    R: Source + Drop,
+    W: Sink,
+    E: Sink,
+    T: Write + Copy + Drop,
+    requires reader { R.has_failed input ≡ false }
+    requires writer { W.has_failed out.old ≡ false }
+    ensures { DoesArguments (PerformsWatched T S.Store S.File.Source R.Source W.Sink E.Sink store.now
+        input out.old out.new err.old err.new result)
+        E.Sink terminals (Some (map (λ argument. argument.items) args.now))
+        out.old out.new err.old err.new result }
+{
+    match tree_of(args) {
+        Some((options, place)) => {
+            let names = names_from(words_of(args), place);
+            walk(alloc, store, options, names, input, out, err)
+        }
+        None => run_words(alloc, args, store, terminals, input, out, err, screen),
+    }
+}
+
+// The options where the arguments ask for a tree, and which of the words its names begin at.
+fn tree_of(args: &[Vec<u8>]) -> Option<(Options, usize)>
+    ensures { let arguments = map (λ argument. argument.items) args.now in (program : List ℕ)
+        × IsProgram arguments program
+        × (result ≡ tree_asked (asked_of (kind_of_program program) (drop 1 arguments))) }
+{
+    let program = program_of(args);
+    let words = words_of(args);
+    tree_asked(asked_by(default_kind(program), words))
+}
+
+fn tree_asked(asked: Asked) -> Option<(Options, usize)>
+    ensures { result ≡ tree_asked asked }
+{
+    match asked {
         Asked::Run {
             options,
             names_from,
-        } if options.audits || options.names_from != NamesFrom::Words => Some((
-            options,
-            names_from.saturating_add(1),
-        )),
-        _ => None,
+        } => {
+            if is_tree(options) {
+                Some((options, names_from))
+            } else {
+                None
+            }
+        }
+        Asked::Benchmark | Asked::Version | Asked::Help | Asked::BadUsage | Asked::NumberTooLarge =>
+            None,
+    }
+}
+
+fn is_tree(options: Options) -> bool
+    ensures { result ≡ is_tree options }
+{
+    options.audits || are_listed(options.names_from)
+}
+
+fn are_listed(names: NamesFrom) -> bool
+    ensures { result ≡ are_listed names }
+{
+    match names {
+        NamesFrom::Words => false,
+        NamesFrom::Lines | NamesFrom::Nuls => true,
     }
 }
 
