@@ -6,6 +6,7 @@
 #![tactic(auto)]
 
 ghost use Rattle.std.specs.Prelude.{◌≡◌, ◌+◌, ◌-◌, ◌*◌, ◌/◌, ◌%◌, ◌^◌, ◌<◌, ◌≤◌, ℕ, bit_and, bit_or, bit_xor};
+ghost use Rattle.symbolic_rules.specs.Product.{first_sum, second_sum, upper_word};
 
 // ---- segments
 
@@ -101,4 +102,13 @@ pub fn high_of_a_sum()
 pub fn small_remainder()
     ensures remainder { (v m : ℕ) → v < m → v % m ≡ v }
     ensures quotient { (v m : ℕ) → v < m → v / m ≡ 0 }
+{}
+
+/// A product of two words of 64 bits is made of the products of their halves, as `assembly/webassembly.py` has it made in
+/// browsers: the upper word is that of those steps, of which none is too large for 64 bits, and the lower one the
+/// product's own.
+pub fn product_by_halves()
+    ensures product { (a b : ℕ) → upper_word a b * 2 ^ 64 + a * b % 2 ^ 64 ≡ a * b }
+    ensures fits { (a b : ℕ) → a < 2 ^ 64 → b < 2 ^ 64
+        → (first_sum a b < 2 ^ 64) × (second_sum a b < 2 ^ 64) × (upper_word a b < 2 ^ 64) }
 {}
