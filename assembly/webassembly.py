@@ -27,8 +27,8 @@ TARGET = 'wasm64-unknown-unknown'
 INLINED = re.compile(r'^(define internal .*@"(?:rattle::export [^"]*|twox_core::width_128::oneshot_from_65)"\(.*) (#\d+) \{$', re.M)
 CALLS_INLINED = [('twox_core::width_128::oneshot_from_65', 'twox_core::width_128::impl_129_to_240_bytes'),
                  ('twox_core::width_64::oneshot_with_secret', 'twox_core::width_64::impl_129_to_240_bytes')]
-# The function that multiplies, and its body by halves, the steps of `product_by_halves` in crates/symbolic_rules. A number is handed on as it is in the midst: clang would
-# find the product, and make the call of it.
+# The function that multiplies, and its body by halves, the steps of `product_by_halves` in crates/symbolic_rules. A number
+# is handed on as it is in the midst: clang would find the product, and make the call of it.
 PRODUCT = re.compile(r'^(define internal noundef i128 @"twox_core::xxhash3::mixing::full_product"'
                      r'\(i64 noundef %a0, i64 noundef %a1\) .*\{\n)(?s:.*?)^}\n', re.M)
 BY_HALVES = '''start:
