@@ -88,8 +88,8 @@ where
     T: Write + Copy + Drop,
     requires reader { R.has_failed input ≡ false }
     requires writer { W.has_failed out.old ≡ false }
-    ensures { DoesArguments (PerformsWatched T S.Store S.File.Source R.Source W.Sink E.Sink store.now
-        input out.old out.new err.old err.new result)
+    ensures { DoesArguments (PerformsWatched T S.Store S.File.Source R.Source W.Sink E.Sink
+        store.now input out.old out.new err.old err.new result)
         E.Sink terminals (Some (map (λ argument. argument.items) args.now))
         out.old out.new err.old err.new result }
 {
