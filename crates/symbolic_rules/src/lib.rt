@@ -110,5 +110,6 @@ pub fn small_remainder()
 pub fn product_by_halves()
     ensures product { (a b : ℕ) → upper_word a b * 2 ^ 64 + a * b % 2 ^ 64 ≡ a * b }
     ensures fits { (a b : ℕ) → a < 2 ^ 64 → b < 2 ^ 64
-        → (first_sum a b < 2 ^ 64) × (second_sum a b < 2 ^ 64) × (upper_word a b < 2 ^ 64) }
+        → (a % 2 ^ 32 * (b % 2 ^ 32) < 2 ^ 64) × (first_sum a b < 2 ^ 64)
+        × (second_sum a b < 2 ^ 64) × (upper_word a b < 2 ^ 64) }
 {}
