@@ -2,15 +2,15 @@
 # defined. $assembly is this folder.
 assembly=$(cd "$(dirname "${BASH_SOURCE[0]}")" && pwd)
 
-# read_build WORDS: sets `update` where the word is --update, and `static_library` to the command that builds one, which
-# --of-ci changes. It runs by `annotated`, with no prefetches where the word is --plain.
+# read_build WORDS: sets `update` where the word is --update, and `prover` to the command whose verbs `lib` and `run` prove
+# and build, which --of-ci changes. It runs by `annotated`, with no prefetches where the word is --plain.
 read_build() {
-    update='' static_library=(rt lib) annotated=("$assembly/annotated")
+    update='' prover=rt annotated=("$assembly/annotated")
     case $* in
     '') ;;
     --update) update=yes ;;
     --plain) annotated+=(--plain) ;;
-    --of-ci) static_library=("$assembly/library_of_ci.py") ;;
+    --of-ci) prover=$assembly/over_ci.py ;;
     *) return 1 ;;
     esac
 }

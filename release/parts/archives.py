@@ -51,7 +51,7 @@ def debian(commit, made):
     """The Debian packages, which the archives of the library and of the programs are taken from."""
     names = []
     for architecture, target in MACHINES.values():
-        words = [commit.path('c', 'package'), '--target', target, '--provenance', f'{made}/PROVENANCE', made]
+        words = [commit.path('c', 'package'), '--target', target, '--of-ci', '--provenance', f'{made}/PROVENANCE', made]
         name, = new_files(made, lambda words=words: must(words))
         must(['dpkg-deb', '-x', os.path.join(made, name), os.path.join(commit.room, architecture)])
         names.append(name)

@@ -1,5 +1,7 @@
-"""The commit that is packed: a clone of it, its version and its time."""
+"""The commit that is packed: a clone of it, proved, its version and its time."""
+import glob
 import os
+import re
 import sys
 
 from tools import must
@@ -18,6 +20,18 @@ class Commit:
         self.version = self.read('VERSION').strip()
         self.stem = f'twox_hash-{self.version}'
         os.environ['SOURCE_DATE_EPOCH'] = seconds
+
+    def prove(self):
+        """Has `rt ci` prove the clone, which takes what an earlier run proved of the same files on this machine. Its
+        libraries stay in the clone. The wrong bodies are the gate's, so they are put away for as long."""
+        edits = glob.glob(self.path('crates', '*', 'must-fail'))
+        for folder in edits:
+            os.rename(folder, f'{folder}.away')
+        last = must(['rt', 'ci'], cwd=self.tree).splitlines()[-1]
+        if not re.match(r'[1-9]\d* passed, 0 failed', last):
+            sys.exit(f'release/make: rt ci: {last}')
+        for folder in edits:
+            os.rename(f'{folder}.away', folder)
 
     def git(self, *words):
         return must(['git', '-C', self.tree, *words])
