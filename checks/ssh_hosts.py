@@ -8,6 +8,7 @@ import subprocess
 import sys
 import time
 
+import tools
 from report import Fault, want
 
 SSHD = '/usr/sbin/sshd'
@@ -30,26 +31,9 @@ exec {program} "$@"
 
 def install_packages():
     """A server that is installed is started where systemd runs, which is for the machine's owner to do."""
-    missing = {package for name, package in PACKAGES.items() if not shutil.which(name)}
-    if 'openssh-server' in missing and os.path.isdir('/run/systemd/system'):
+    if not shutil.which(SSHD) and os.path.isdir('/run/systemd/system'):
         sys.exit('no sshd: install the package openssh-server, which starts a server')
-    for words in (['update'], ['install', '-y', '--no-install-recommends', *sorted(missing)]) if missing else ():
-        done = subprocess.run(['apt-get', '-qq', *words], stdout=subprocess.PIPE, stderr=subprocess.STDOUT, text=True,
-                              env={**os.environ, 'DEBIAN_FRONTEND': 'noninteractive'})
-        if done.returncode:
-            sys.exit(f'without {", ".join(sorted(missing))}:\n{done.stdout[-2000:]}')
-
-
-def built(crate):
-    """A program, proved and built anew, from the folder of its crate. Run with no words, as here, it may answer any status."""
-    program = os.path.join(crate, 'out', os.path.basename(crate))
-    if os.path.exists(program):
-        os.remove(program)
-    done = subprocess.run(['rt', 'run'], cwd=crate, stdin=subprocess.DEVNULL, stdout=subprocess.PIPE,
-                          stderr=subprocess.STDOUT, text=True)
-    if not os.path.exists(program):
-        sys.exit(done.stdout[-2000:] + f'\n{program} was not built')
-    return program
+    tools.install_packages(PACKAGES)
 
 
 class RoomOfSshd:

@@ -39,6 +39,19 @@ def install(packages):
             must(['apt-get', 'install', '-y', '-qq', '--no-install-recommends', *sorted(packages)], env=QUIET)
 
 
+def proved_program(name, *flags):
+    """A program of crates/, which rt proves and builds anew. Run with no words, as here, it may answer any status."""
+    crate = os.path.join(TOP, 'crates', name)
+    program = os.path.join(crate, 'out', name)
+    if os.path.exists(program):
+        os.remove(program)
+    done = subprocess.run(['rt', 'run', *flags], cwd=crate, stdin=subprocess.DEVNULL, stdout=subprocess.PIPE,
+                          stderr=subprocess.STDOUT, text=True)
+    if not os.path.exists(program):
+        sys.exit(f'{done.stdout[-2000:]}\n{name} was not built')
+    return program
+
+
 def hide_rt(room):
     """Takes rt off PATH: a folder that holds it gives way to one with links to all else in it."""
     folders = []

@@ -154,13 +154,19 @@ pub const DONE: u32 = 0;
 /// What a call takes in, which says whether its set of instructions is worth a choice.
 #[derive(Clone, Copy)]
 enum Input {
-    /// No bytes.
+    /// No bytes, or bytes that both sets take in as fast.
     None,
     /// So many.
     Of(usize),
+    /// So many, and often [`VERY_FEW`], of which a test more is felt.
+    OftenFew(usize),
     /// Maybe a whole buffer of bytes that came before.
     Kept,
 }
+
+/// So many bytes have the export's code once more, where that is in its caller: behind the choice of a set their own
+/// tests would come second.
+const VERY_FEW: usize = 16;
 
 /// Declares functions of the convention of the text: System V's, in which an answer has two registers, is Windows' no more
 /// than by this name.
@@ -250,10 +256,13 @@ macro_rules! exports {
                     return unsafe { x86_64_v3::$name($($record,)* $($slice,)* $($other),*) };
                 }
                 Input::Kept => return unknown_processor::$name($($record,)* $($slice,)* $($other),*),
-                Input::Of(length) if length > FEW => {
+                Input::OftenFew(length) if cfg!(twox_hash_lto) && length <= VERY_FEW => {
+                    return unsafe { any_processor::$name($($record,)* $($slice,)* $($other),*) };
+                }
+                Input::Of(length) | Input::OftenFew(length) if length > FEW => {
                     return this_processor::$name($($record,)* $($slice,)* $($other),*);
                 }
-                Input::Of(_) | Input::None => {}
+                _ => {}
             }
             unsafe { any_processor::$name($($record,)* $($slice,)* $($other),*) }
         })*
@@ -261,16 +270,16 @@ macro_rules! exports {
 }
 
 exports! {
-    fn xxh32(; [input]; seed: u32) -> u32, by Input::Of(input.len());
+    fn xxh32(; [input]; seed: u32) -> u32, by Input::OftenFew(input.len());
     fn xxh32_start(stream: &mut Record32;; seed: u32), by Input::None;
     fn xxh32_write(stream: &mut Record32; [input];) -> u32, by Input::Of(input.len());
     fn xxh32_finish(stream: &Record32;;) -> Answer, by Input::None;
     fn xxh32_test(stream: &Record32;;) -> u32, by Input::None;
     fn xxh32_of_word(;; word: u64, seed: u32) -> u32, by Input::None;
 
-    fn xxh64(; [input]; seed: u64) -> u64, by Input::Of(input.len());
+    fn xxh64(; [input]; seed: u64) -> u64, by Input::OftenFew(input.len());
     fn xxh64_start(stream: &mut Record64;; seed: u64), by Input::None;
-    fn xxh64_write(stream: &mut Record64; [input];) -> u32, by Input::Of(input.len());
+    fn xxh64_write(stream: &mut Record64; [input];) -> u32, by Input::None;
     fn xxh64_finish(stream: &Record64;;) -> Answer, by Input::None;
     fn xxh64_test(stream: &Record64;;) -> u32, by Input::None;
     fn xxh64_of_word(;; word: u64, seed: u64) -> u64, by Input::None;
@@ -281,10 +290,10 @@ exports! {
     fn xxh3_64_with_seed_and_secret(; [input] [secret]; seed: u64) -> Answer, by Input::Of(input.len());
     fn xxh3_64_of_word(;; word: u64, seed: u64) -> u64, by Input::None;
 
-    fn xxh3_128(; [input];) -> Wide, by Input::Of(input.len());
-    fn xxh3_128_with_seed(; [input]; seed: u64) -> Wide, by Input::Of(input.len());
-    fn xxh3_128_with_secret(; [input] [secret]; value: &mut Wide) -> u32, by Input::Of(input.len());
-    fn xxh3_128_with_seed_and_secret(; [input] [secret]; seed: u64, value: &mut Wide) -> u32, by Input::Of(input.len());
+    fn xxh3_128(; [input];) -> Wide, by Input::OftenFew(input.len());
+    fn xxh3_128_with_seed(; [input]; seed: u64) -> Wide, by Input::OftenFew(input.len());
+    fn xxh3_128_with_secret(; [input] [secret]; value: &mut Wide) -> u32, by Input::OftenFew(input.len());
+    fn xxh3_128_with_seed_and_secret(; [input] [secret]; seed: u64, value: &mut Wide) -> u32, by Input::OftenFew(input.len());
 
     fn xxh3_start(stream: &mut Stream;; seed: u64), by Input::None;
     fn xxh3_write(stream: &mut Stream; [secret] [input];) -> u32, by Input::Kept;
