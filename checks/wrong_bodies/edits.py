@@ -60,12 +60,17 @@ def parsed(text):
 def files_of(crate, room):
     """The crate's edits, each a file as `rt must-fail` takes it: what stands in must-fail/, or where `checks/all` has put it,
     and the blocks of wrong-bodies.edits, which are written to the room."""
-    folder = f"{room}/{crate.name}"
-    os.makedirs(folder)
-    for name, text in blocks_of(f"{crate.folder}/wrong-bodies.edits"):
-        kit.write(f"{folder}/{name}.edit", text)
-    found = [file for it in (f"{crate.folder}/must-fail", f"{crate.folder}/in-batches", folder) for file in glob.glob(f"{it}/*.edit")]
+    found = [file for it in ("must-fail", "in-batches") for file in glob.glob(f"{crate.folder}/{it}/*.edit")]
+    found += written(f"{crate.folder}/wrong-bodies.edits", f"{room}/{crate.name}")
     return sorted(found, key=os.path.basename)
+
+
+def written(path, folder):
+    """The blocks of a file, each as a file of the folder, which is made."""
+    os.makedirs(folder)
+    for name, text in blocks_of(path):
+        kit.write(f"{folder}/{name}.edit", text)
+    return glob.glob(f"{folder}/*.edit")
 
 
 def blocks_of(path):

@@ -1,11 +1,11 @@
-"""Tries planted edits whose verdicts are known: planted/CRATE/*.edit, each with a line `expected: refused`, `expected:
-refused by a name alone`, `expected: not refused` or `expected: bad edit`. They are tried as other edits are, those of one
-crate among one another."""
-import glob
+"""Tries planted edits whose verdicts are known: the blocks of planted/CRATE.edits, each with a line `expected: refused`,
+`expected: refused by a name alone`, `expected: not refused` or `expected: bad edit`. They are tried as other edits are,
+those of one crate among one another."""
 import os
 import re
+import tempfile
 
-from . import kit, proofs, run
+from . import edits, kit, proofs, run
 from .trial import BY_NAMES
 
 PLANTED = os.path.join(os.path.dirname(os.path.abspath(__file__)), "planted")
@@ -14,8 +14,13 @@ SAYS = {"refused": REFUSED, "refused by a name alone": BY_NAMES, "not refused": 
 
 
 def main(jobs):
-    crates = kit.crates()
-    files = {crates[name]: sorted(glob.glob(f"{PLANTED}/{name}/*.edit")) for name in sorted(os.listdir(PLANTED))}
+    crates, names = kit.crates(), sorted(file.removesuffix(".edits") for file in os.listdir(PLANTED))
+    with tempfile.TemporaryDirectory() as room:
+        return tried({crates[name]: sorted(edits.written(f"{PLANTED}/{name}.edits", f"{room}/{name}")) for name in names}, jobs)
+
+
+def tried(files, jobs):
+    """Tries the edits of each crate, says which have another verdict than they should, and answers the program's status."""
     passed = failed = in_batches = 0
     for trial in run.try_all(files, proofs.Built(files, jobs), jobs, lambda it: None):
         for edit, (refused, said) in trial.said.items():
