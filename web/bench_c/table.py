@@ -3,7 +3,7 @@
 
     web/bench_c/table.py [--rows] NAME=FILE..
 
-FILE has the rows of JSON that run.mjs prints, and NAME is the engine's. A cell has the best time of a header over ours: of
+FILE has the rows of JSON that run.mjs prints, and NAME is the engine's. A cell has the median time of a header over ours: of
 the module with vectors beside the fastest header of all, and of the one without beside the fastest header without."""
 import json
 import sys
@@ -38,7 +38,7 @@ def table(runs):
     print("|", " | ".join(["time of the header over ours", *(f"{name}, {kind}" for name in runs for kind in ("vectors", "none"))]), "|")
     print("|---" * (1 + 2 * len(runs)) + "|")
     for rows in zip(*runs.values()):
-        cells = [f"{ratio:.2f}" for row in rows for ratio in ratios(row, BEST)]
+        cells = [f"{ratio:.2f}" for row in rows for ratio in ratios(row, MEDIAN)]
         print("|", " | ".join([what(rows[0]), *cells]), "|")
 
 
