@@ -8,7 +8,7 @@ four things are other than there. All but the first are no step of a computation
 
 - The product of two words of 64 bits is made of four products of their halves, in place of a call that gives it by memory.
 - The bodies of exports, which are functions of their own, and what INLINED and CALLS_INLINED name are inlined. Elsewhere
-  they are calls for the registers that a function has to keep, and WebAssembly has none.
+  they are calls for the registers that a function has to keep, and WebAssembly has none. APART stays a function.
 - A line that hands a number on as it is stands between the loop of XXH64 and the product that follows it. Without it clang
   joins that product with the loop's last one, and engines keep four more words in the loop.
 - With --vectors each function has the feature simd128. The kit itself compiles for WebAssembly without."""
@@ -23,6 +23,9 @@ sys.path.insert(0, os.path.dirname(os.path.abspath(__file__)))
 from retarget import clang_of_kit, text_of, words_of
 
 TARGET = 'wasm64-unknown-unknown'
+# The body that wasm-opt puts into its export, since an export into which clang does writes the stack's end back. It is compiled
+# for size, and so smaller than the loop of XXH64, which is to stay a call.
+APART = 'rattle::export twox_xxh32'
 # Functions that are always inlined, and calls that are, by caller and callee: of inputs of up to 240 bytes with no secret.
 INLINED = re.compile(r'^(define internal .*@"(?:rattle::export [^"]*|twox_core::width_128::oneshot_from_65)"\(.*) (#\d+) \{$', re.M)
 CALLS_INLINED = [('twox_core::width_128::oneshot_from_65', 'twox_core::width_128::impl_129_to_240_bytes'),
@@ -85,13 +88,16 @@ def with_loop_apart(module):
 
 
 def with_functions_inlined(module):
-    """The module that says of those functions that they are inlined, where it said that they never are."""
+    """The module that says of those functions that they are inlined, where it said that they never are, but for one."""
     groups = dict(re.findall(r'^attributes (#\d+) = { (noinline|alwaysinline) nounwind ', module, re.M))
     always = {word: group for group, word in groups.items()}.get('alwaysinline')
     if not always or {groups.get(group) for _, group in INLINED.findall(module)} != {'noinline'}:
         stop('this module says otherwise which functions are inlined')
-    module, count = INLINED.subn(rf'\1 {always} {{', module)
-    if count != module.count('"wasm-export-name"=') + 1:
+
+    def inlined(head):
+        return f'{head[1]} {head[2]} optsize {{' if f'@"{APART}"(' in head[1] else f'{head[1]} {always} {{'
+    module, count = INLINED.subn(inlined, module)
+    if count != module.count('"wasm-export-name"=') + 1 or module.count(' optsize {') != 1:
         stop(f'this module has {count} functions that are to be inlined')
     return module
 

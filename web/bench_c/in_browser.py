@@ -13,13 +13,22 @@ sys.dont_write_bytecode = True
 sys.path[:0] = [os.path.join(WEB, "tests"), os.path.join(os.path.dirname(WEB), "oracle")]
 
 from browser import Chromium, Firefox, WebKit
-from page import Served
+from page import Requests, Served
+
+
+class Isolated(Requests):
+    """Says that the page shares nothing with other sites, for which a browser's clock is a fine one."""
+
+    def end_headers(self):
+        self.send_header("Cross-Origin-Opener-Policy", "same-origin")
+        self.send_header("Cross-Origin-Embedder-Policy", "require-corp")
+        super().end_headers()
 
 PAGE = """<!doctype html><title>bench</title><script type=module>
 import { measure } from "/web/bench_c/measure.js";
 globalThis.measured = async (names, rounds) => {
   const bytes = async (name) => new Uint8Array(await (await fetch(`${name}.wasm`)).arrayBuffer());
-  return [...measure(await Promise.all(names.map(async (name) => ({ name, bytes: await bytes(name) }))), rounds, 8)];
+  return [...measure(await Promise.all(names.map(async (name) => ({ name, bytes: await bytes(name) }))), rounds)];
 };
 </script>"""
 
@@ -33,9 +42,9 @@ def main(kind, rounds, *words):
             file.write(PAGE)
         browser = {"chromium": Chromium, "firefox": Firefox, "webkit": WebKit}[kind]()
         try:
-            with Served(folder) as address:
+            with Served(folder, Isolated) as address:
                 browser.go(f"{address}/bundles/bench.html")
-                browser.wait("return typeof measured === 'function'")
+                browser.wait("return typeof measured === 'function' && crossOriginIsolated")
                 for row in browser.run("return measured(...arguments)", list(modules), int(rounds)):
                     print(json.dumps(row))
         finally:

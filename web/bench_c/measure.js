@@ -1,6 +1,7 @@
 /**
  * Measures modules beside each other, in Node and in a page: calls from JavaScript over bytes that lie in a module's memory,
  * one-shots and streams in pieces. All modules take turns in each round, so that what slows the machine slows all of them.
+ * Turns are short: of turns of 8 ms on a busy machine most lose the processor once, and their median says little.
  */
 const LENGTHS = [16, 240, 1024, 65536, 1 << 20];
 const PIECES = [1000, 65536];
@@ -9,6 +10,7 @@ const TOTAL = 1 << 20;
 const PAGE_BYTES = 65536;
 const DERIVED_SECRET_LENGTH = 192;
 const WARM_MILLISECONDS = 60;
+const TURN_MILLISECONDS = 0.4;
 
 /** Drawn once, so that every module has the same bytes. */
 function drawn(length) {
@@ -97,28 +99,46 @@ class Module {
   }
 }
 
-/** Nanoseconds of one call. */
+/** Nanoseconds of one call, over so many. */
 function timed(call, times) {
   const start = performance.now();
   for (let i = 0; i < times; i += 1) call();
   return (performance.now() - start) / times * 1e6;
 }
 
-function timesFor(call, milliseconds) {
-  const end = performance.now() + WARM_MILLISECONDS;
-  while (performance.now() < end) timed(call, 50);
+/** Nanoseconds of a call in the shortest turn of so long. */
+function shortestIn(call, milliseconds) {
+  const end = performance.now() + milliseconds;
+  let shortest = Infinity;
+  while (performance.now() < end) shortest = Math.min(shortest, timed(call, 50));
+  return shortest;
+}
+
+/** Calls until the engine has compiled all for good, after which turns are no shorter. */
+function warm(call) {
+  let before = Infinity;
+  let now = shortestIn(call, WARM_MILLISECONDS);
+  for (let turn = 0; turn < 10 && now < before * 0.97; turn += 1) {
+    before = now;
+    now = Math.min(now, shortestIn(call, WARM_MILLISECONDS / 2));
+  }
+}
+
+/** How many calls a turn has. */
+function timesFor(call) {
+  warm(call);
   let times = 1;
   // Of three turns the shortest, since one during which the machine did something else would end it too early.
   const shortest = () => Math.min(timed(call, times), timed(call, times), timed(call, times)) * times;
-  while (times < 1e6 && shortest() < milliseconds * 1e6) times *= 2;
+  while (times < 1e6 && shortest() < TURN_MILLISECONDS * 1e6) times *= 2;
   return times;
 }
 
-function row(modules, kind, form, size, rounds, milliseconds) {
+function row(modules, kind, form, size, rounds) {
   const calls = modules.map((it) => it[form](kind, size));
   const answers = modules.map((it, i) => it.answer(kind, calls[i]));
   if (new Set(answers).size !== 1) throw new Error(`${kind} ${form} ${size}: ${answers.join(", ")}`);
-  const times = Math.min(...calls.map((call) => timesFor(call, milliseconds)));
+  const times = Math.min(...calls.map(timesFor));
   const taken = modules.map(() => []);
   for (let round = 0; round < rounds; round += 1) {
     for (let i = 0; i < modules.length; i += 1) {
@@ -130,15 +150,12 @@ function row(modules, kind, form, size, rounds, milliseconds) {
   return { kind, form, size, times: Object.fromEntries(modules.map(({ name }, i) => [name, of(taken[i].sort((a, b) => a - b))])) };
 }
 
-/**
- * Rows of the best and the median nanoseconds of each module, which is given as `{ name, bytes }`. A turn of a module takes
- * about so many milliseconds: many, where the clock is coarse.
- */
-export function* measure(given, rounds, milliseconds) {
+/** Rows of the best and the median nanoseconds of each module, which is given as `{ name, bytes }`. */
+export function* measure(given, rounds) {
   const modules = given.map((it) => new Module(it));
   for (const kind of KINDS) {
-    for (const length of LENGTHS) yield row(modules, kind, "oneshot", length, rounds, milliseconds);
+    for (const length of LENGTHS) yield row(modules, kind, "oneshot", length, rounds);
     if (kind === "xxh3_128") continue;
-    for (const size of PIECES) yield row(modules, kind, "stream", size, rounds, milliseconds);
+    for (const size of PIECES) yield row(modules, kind, "stream", size, rounds);
   }
 }

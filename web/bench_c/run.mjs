@@ -4,10 +4,9 @@
 import { readFile } from "node:fs/promises";
 import { measure } from "./measure.js";
 
-const MILLISECONDS = 1.5;
 const [rounds, ...words] = process.argv.slice(2);
 const modules = await Promise.all(words.map(async (word) => {
   const [name, file] = word.split("=");
   return { name, bytes: await readFile(file) };
 }));
-for (const row of measure(modules, Number(rounds), MILLISECONDS)) console.log(JSON.stringify(row));
+for (const row of measure(modules, Number(rounds))) console.log(JSON.stringify(row));

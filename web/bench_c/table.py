@@ -3,30 +3,35 @@
 
     web/bench_c/table.py [--rows] NAME=FILE..
 
-FILE has the rows of JSON that run.mjs prints, and NAME is the engine's. A cell has the best time of a header over ours: of
-the module with vectors beside the fastest header of all, and of the one without beside the fastest header without."""
+FILE has the rows of JSON that run.mjs prints, of each pass, and NAME is the engine's. A cell has the median time of a header
+over ours: of the module with vectors beside the fastest header of all, and of the one without beside the fastest header
+without. It is the median of those passes in which the header's median is within a tenth of its least: in others the machine
+did something else."""
 import json
+import statistics
 import sys
 
 KINDS = {"xxh32": "XXH32", "xxh64": "XXH64", "xxh3_64": "XXH3-64", "xxh3_128": "XXH3-128"}
 FORMS = {"oneshot": "", "stream": "pieces of "}
 BEST, MEDIAN = 0, 1
+DISTURBED = 1.1
 
 
 def has_vectors(name):
     return name.endswith(("_simd", "_neon"))
 
 
-def fastest(row, among, how):
-    return min(times[how] for name, times in row["times"].items() if among(name))
+def ratio(row, ours, among, how):
+    def fastest(times, how):
+        return min(times[name][how] for name in times if not name.startswith("ours") and among(name))
+    least = min(fastest(times, MEDIAN) for times in row["passes"])
+    return statistics.median(fastest(times, how) / times[ours][how] for times in row["passes"]
+                             if fastest(times, MEDIAN) < DISTURBED * least)
 
 
 def ratios(row, how):
     """Of the module with vectors, and of the one without."""
-    def is_header(name):
-        return not name.startswith("ours")
-    return (fastest(row, is_header, how) / row["times"]["ours_simd"][how],
-            fastest(row, lambda name: is_header(name) and not has_vectors(name), how) / row["times"]["ours"][how])
+    return ratio(row, "ours_simd", lambda _: True, how), ratio(row, "ours", lambda name: not has_vectors(name), how)
 
 
 def what(row):
@@ -38,17 +43,26 @@ def table(runs):
     print("|", " | ".join(["time of the header over ours", *(f"{name}, {kind}" for name in runs for kind in ("vectors", "none"))]), "|")
     print("|---" * (1 + 2 * len(runs)) + "|")
     for rows in zip(*runs.values()):
-        cells = [f"{ratio:.2f}" for row in rows for ratio in ratios(row, BEST)]
+        cells = [f"{ratio:.2f}" for row in rows for ratio in ratios(row, MEDIAN)]
         print("|", " | ".join([what(rows[0]), *cells]), "|")
 
 
 def as_rows(runs):
     for row in next(iter(runs.values())):
         if row["form"] == "oneshot":
-            ours = row["times"]["ours_simd"]
+            ours = statistics.median(times["ours_simd"][MEDIAN] for times in row["passes"])
             cells = [f"{name}={median:.2f}/0/{best:.2f}" for name, median, best in
                      zip(("c_fastest", "c_plain"), ratios(row, MEDIAN), ratios(row, BEST))]
-            print("wasm", "oneshot", KINDS[row["kind"]], row["size"], f"{row['size'] / ours[MEDIAN]:.2f}", 0, *cells, sep="\t")
+            print("wasm", "oneshot", KINDS[row["kind"]], row["size"], f"{row['size'] / ours:.2f}", 0, *cells, sep="\t")
+
+
+def of_passes(lines):
+    """Rows with the times of all passes."""
+    rows = {}
+    for it in map(json.loads, lines):
+        row = {key: it[key] for key in ("kind", "form", "size")}
+        rows.setdefault(tuple(row.values()), {**row, "passes": []})["passes"].append(it["times"])
+    return list(rows.values())
 
 
 def main(words):
@@ -57,7 +71,7 @@ def main(words):
         if word != "--rows":
             name, file = word.split("=")
             with open(file) as lines:
-                runs[name] = [json.loads(line) for line in lines]
+                runs[name] = of_passes(lines)
     (as_rows if "--rows" in words else table)(runs)
 
 

@@ -49,11 +49,12 @@ class Requests(serve.Handler):
 class Served:
     """The pages of the working tree, served while the `with` lasts."""
 
-    def __init__(self, bundles):
+    def __init__(self, bundles, handler=Requests):
         Requests.bundles = bundles
+        self.handler = handler
 
     def __enter__(self):
-        self.serving = serve.server(0, Requests)
+        self.serving = serve.server(0, self.handler)
         threading.Thread(target=self.serving.serve_forever, daemon=True).start()
         return f"http://127.0.0.1:{self.serving.server_address[1]}"
 
