@@ -16,11 +16,19 @@ class Report:
             print(f'passed  {name}' + (f' ({note})' if note else ''), flush=True)
 
     def attempt(self, name, check, *words):
-        """A check that answers a note, or raises Fault. One that takes too long is at fault too."""
+        """A check that answers a note, or raises what is at fault."""
         try:
             self.row(name, None, check(*words) or '')
-        except (Fault, subprocess.TimeoutExpired) as fault:
-            self.row(name, str(fault))
+        except Exception as fault:
+            known = isinstance(fault, (Fault, subprocess.TimeoutExpired))
+            self.row(name, str(fault) if known else f'{type(fault).__name__}: {fault}')
+
+    def repeat(self, line):
+        """A row of another program's report, which is counted here too."""
+        if line.startswith(('passed  ', 'FAILED  ')):
+            self.passed += line.startswith('passed  ')
+            self.failed += line.startswith('FAILED  ')
+            print(line, end='', flush=True)
 
     def end(self):
         """Says the counts, and answers the program's status. A run without a check is none that passed."""

@@ -11,7 +11,8 @@ import tempfile
 
 WEB = os.path.dirname(os.path.dirname(os.path.abspath(__file__)))
 sys.dont_write_bytecode = True
-sys.path[:0] = [os.path.join(WEB, "tests"), os.path.join(os.path.dirname(WEB), "oracle")]
+TOP = os.path.dirname(WEB)
+sys.path[:0] = [os.path.join(WEB, "tests"), os.path.join(TOP, "oracle"), os.path.join(TOP, "c", "checks")]
 
 from browser import Chromium, Firefox, WebKit
 from page import Served

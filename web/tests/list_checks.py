@@ -4,7 +4,7 @@ import subprocess
 import time
 
 from module_checks import WEB
-from report import want
+from report import Fault, want
 from values import SOME_BYTES, XXHSUM, line_of, reference
 
 ENDINGS = {"xxh32": "xxh32", "xxh64": "xxh64", "xxh3_64": "xxh3", "xxh3_128": "xxh128"}
@@ -65,7 +65,7 @@ def checked(page, rows, counts):
         if said and said["rows"] == rows and said["counts"] == counts:
             return said
         time.sleep(0.05)
-    raise AssertionError(str(said))
+    raise Fault(str(said))
 
 
 def checksum_file(page):

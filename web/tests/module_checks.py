@@ -5,7 +5,7 @@ import re
 import shutil
 import subprocess
 
-from report import want
+from report import Fault, want
 from values import long_digests
 
 HERE = os.path.dirname(os.path.abspath(__file__))
@@ -91,7 +91,7 @@ def wrong_module_is_noticed(folder, node):
                                        f'export const load = () => twox.load("file://{path}");')
     try:
         said = tests_in_node(folder, node, {"entry": f"file://{entry}"})
-    except AssertionError as found:
+    except Fault as found:
         want("rows of the reference library" in str(found), str(found))
         return
     want(False, f"a wrong module passes: {said}")
@@ -212,35 +212,35 @@ def sums_are_right():
 
 
 def check_in_node(checks, folder, nodes):
-    checks.run("the modules have their sums", sums_are_right)
-    checks.run("Node: the page reads lines as the command does", lines_read, folder)
+    checks.attempt("the modules have their sums", sums_are_right)
+    checks.attempt("Node: the page reads lines as the command does", lines_read, folder)
     for node in nodes:
-        checks.run(f"{node}: the tests of the module and its streams", tests_of_tree, folder, node)
+        checks.attempt(f"{node}: the tests of the module and its streams", tests_of_tree, folder, node)
         for module in MODULES:
-            checks.run(f"{node}: the tests of {module}", tests_of_module, folder, node, module)
-    checks.run("Node where WebAssembly has no vectors", tests_of_tree, folder, nodes[0], WITHOUT_VECTORS, False)
-    checks.run("Node: a module with a wrong bit is noticed", wrong_module_is_noticed, folder, nodes[0])
-    checks.run("Node without WebAssembly is told so", refused_in_node, folder, nodes[0])
+            checks.attempt(f"{node}: the tests of {module}", tests_of_module, folder, node, module)
+    checks.attempt("Node where WebAssembly has no vectors", tests_of_tree, folder, nodes[0], WITHOUT_VECTORS, False)
+    checks.attempt("Node: a module with a wrong bit is noticed", wrong_module_is_noticed, folder, nodes[0])
+    checks.attempt("Node without WebAssembly is told so", refused_in_node, folder, nodes[0])
 
 
 def check_package(checks, folder, nodes):
-    checks.run("the package, as npm packs it, has its files and no other", packed, folder)
+    checks.attempt("the package, as npm packs it, has its files and no other", packed, folder)
     xxhash = 'import xxhash from "twox_hash/xxhash-wasm";'
     for node in nodes:
-        checks.run(f"the package in {node}: all tests", tests_in_node, folder, node,
+        checks.attempt(f"the package in {node}: all tests", tests_in_node, folder, node,
                    {"entry": "twox_hash", "node": "twox_hash", "streams": "twox_hash/streams"}, xxhash)
-        checks.run(f"the package in {node}: the entry with the bytes inside", tests_in_node, folder, node, {"entry": "twox_hash/inline"})
-    checks.run("the examples of web/README.md", page_example, folder, nodes[0])
-    checks.run("the package's types, by tsc --strict", types, folder)
+        checks.attempt(f"the package in {node}: the entry with the bytes inside", tests_in_node, folder, node, {"entry": "twox_hash/inline"})
+    checks.attempt("the examples of web/README.md", page_example, folder, nodes[0])
+    checks.attempt("the package's types, by tsc --strict", types, folder)
 
 
 def check_in_jsc(checks):
-    checks.run("WebKit's engine (jsc): the tests of twox_hash_simd.wasm", tests_in_jsc, MODULES[1], True)
-    checks.run("WebKit's engine (jsc), without vectors: the tests of twox_hash.wasm", tests_in_jsc, MODULES[0], False)
+    checks.attempt("WebKit's engine (jsc): the tests of twox_hash_simd.wasm", tests_in_jsc, MODULES[1], True)
+    checks.attempt("WebKit's engine (jsc), without vectors: the tests of twox_hash.wasm", tests_in_jsc, MODULES[0], False)
 
 
 def check_in_browser(checks, name, folder, browser, address):
-    checks.run(f"{name}: the tests of the module and its streams", tests_in_page, browser, f"{address}/bundles/", folder)
+    checks.attempt(f"{name}: the tests of the module and its streams", tests_in_page, browser, f"{address}/bundles/", folder)
     for number, (what, (words, entry)) in enumerate(BUNDLES.items()):
-        checks.run(f"{name}: the module's tests in a bundle {what}", tests_in_bundle, browser, f"{address}/bundles/", folder,
+        checks.attempt(f"{name}: the module's tests in a bundle {what}", tests_in_bundle, browser, f"{address}/bundles/", folder,
                    f"{browser.name.lower()}{number}", words, entry)
