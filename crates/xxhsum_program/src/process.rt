@@ -1,7 +1,7 @@
 //! The program over its arguments, a store of files and its ends.
 
 ghost use Rattle.std.specs.Prelude.{◌≡◌, false, Bool, List, ℕ, Option, Result, drop, map, IfSome};
-ghost use Rattle.xxhsum_program.specs.Run.{DoesTask, PerformsAs, PerformsWatched, end_text, shape_of, status_of, stop_text};
+ghost use Rattle.xxhsum_program.specs.Run.{DoesTask, PerformsAs, PerformsWatched, end_text, status_of, stop_text, style_of};
 ghost use Rattle.xxhsum_program.specs.Task.{IsProgram, answer_text, has_none, is_well, run_asked, shows_progress, task_of, usage_text, waits_for_terminal};
 ghost use Rattle.xxhsum_program.specs.Told.{TellsOn};
 ghost use Rattle.xxhsum_program.specs.declared.stop.Stop.{Stop};
@@ -19,7 +19,7 @@ use std::io::Write;
 use xxh_io::ends::{Sink, Source};
 use xxh_io::from_write::FromWrite;
 use xxhsum_files::store::Store;
-use xxhsum_line::printed::Shape;
+use xxhsum_line::printed::{Shape, Style};
 use xxhsum_words::name::default_kind;
 use xxhsum_words::options::{Asked, Options, asked_by};
 
@@ -243,19 +243,23 @@ where
         }
         return check_lists(alloc, store, options, names, out, err);
     }
-    let shape = shape_of(options);
+    let style = style_of(options);
     if has_none(names) {
-        return hash_input(alloc, options.kind, shape, INPUT, &mut input, out, err);
+        return hash_input(alloc, options.kind, style, INPUT, &mut input, out, err);
     }
-    hash_names(alloc, store, options.kind, shape, names, out, err)
+    hash_names(alloc, store, options.kind, style, names, out, err)
 }
 
-fn shape_of(options: Options) -> Shape
-    ensures { result ≡ shape_of options }
+/// How the options want lines to be written.
+pub fn style_of(options: Options) -> Style
+    ensures { result ≡ style_of options }
 {
-    Shape {
-        is_tagged: options.is_tagged,
-        is_little: options.is_little_endian,
+    Style {
+        shape: Shape {
+            is_tagged: options.is_tagged,
+            is_little: options.is_little_endian,
+        },
+        ends_in_nul: options.ends_in_nul,
     }
 }
 

@@ -12,6 +12,7 @@ ghost use Rattle.xxhsum_program.specs.declared.outcome.Outcome.{Outcome};
 ghost use Rattle.xxhsum_program.specs.declared.stop.Stop.{Stop};
 ghost use Rattle.xxhsum_program.specs.declared.watched.Watched.{Watched};
 ghost use Rattle.xxhsum_program.specs.declared.watched.WatchedFiles.{WatchedFiles};
+ghost use Rattle.xxhsum_words.specs.declared.options.Options.{Options};
 
 use crate::progress::Meter;
 use std::io::Write;
@@ -144,12 +145,12 @@ pub fn watched_list<S: Store, W: Write + Copy + Drop, R: Source, E: Sink>()
 
 /// A law, with nothing to run: what the check of watched lists says it says of the lists.
 pub fn watched_lists<S: Store, W: Write + Copy + Drop>()
-    ensures { (files : WatchedFiles S W) (is_little is_strict : Bool)
+    ensures { (files : WatchedFiles S W) (is_little : Bool) (options : Options)
         → (names done rest : List (List ℕ)) (outcomes : List ListOutcome)
         → (result : Result Bool Stop)
         → ChecksLists ⟦<WatchedFiles<'static, S, W> as Store>⟧
         ⟦<Watched<S::File, FromWrite<W>> as Source>⟧
-        files is_little is_strict names done rest outcomes result
-        → ChecksLists S.Store S.File.Source (files_of files) is_little is_strict names done rest
+        files is_little options names done rest outcomes result
+        → ChecksLists S.Store S.File.Source (files_of files) is_little options names done rest
         outcomes result }
 {}
