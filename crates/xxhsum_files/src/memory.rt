@@ -59,6 +59,10 @@ impl<S: Source + Copy> Store for MemoryFiles<'_, S> {
         }
     }
 
+    fn size(&self, _name: &[u8]) -> Option<u64> {
+        None
+    }
+
     fn open(&self, name: &[u8]) -> Result<S, Refusal> {
         let Some(entry) = self.find(name) else {
             return Err(Refusal::new(MISSING, b"No such file or directory"));

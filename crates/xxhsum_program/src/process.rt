@@ -9,15 +9,14 @@ ghost use Rattle.xxhsum_program.specs.declared.stop.Stop.{Stop};
 use crate::arguments::last_part;
 use crate::check::{check_list, check_lists};
 use crate::hash::{hash_input, hash_names};
-use crate::progress::Meter;
+use crate::progress::{Meter, time_of};
+use crate::screen::Ticks;
 use crate::stop::Stop;
 use crate::tell::{tell, tell_parts};
 use crate::usage::{ABOUT, NO_BENCHMARK, OPTIONS, TITLE};
 use crate::watched::{Watched, WatchedFiles};
 use std::alloc::Global;
-use std::io::Write;
 use xxh_io::ends::{Sink, Source};
-use xxh_io::from_write::FromWrite;
 use xxhsum_files::store::Store;
 use xxhsum_line::printed::{Shape, Style};
 use xxhsum_words::name::default_kind;
@@ -58,7 +57,7 @@ where
     R: Source + Drop,
     W: Sink,
     E: Sink,
-    T: Write + Copy + Drop,
+    T: Sink + Ticks + Copy + Drop,
     requires reader { R.has_failed input ≡ false }
     requires writer { W.has_failed out.old ≡ false }
     ensures { let arguments = map (λ argument. argument.items) args.now in (program : List ℕ)
@@ -202,14 +201,14 @@ where
     R: Source + Drop,
     W: Sink,
     E: Sink,
-    T: Write + Copy + Drop,
+    T: Sink + Ticks + Copy + Drop,
     requires reader { R.has_failed input ≡ false }
     requires writer { W.has_failed out.old ≡ false }
     ensures { PerformsWatched T S.Store S.File.Source R.Source W.Sink E.Sink store.now input
         out.old out.new err.old err.new result options (map (λ name. name.items) names.now) shows }
 {
     let files = WatchedFiles::new(store, screen, shows);
-    let meter = Meter::new(FromWrite::new(screen), shows);
+    let meter = Meter::new(screen, shows, None, time_of(&screen, shows));
     let input = Watched::new(input, meter);
     perform(alloc, &files, options, names, input, out, err)
 }

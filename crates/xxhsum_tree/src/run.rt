@@ -13,7 +13,6 @@ ghost use Rattle.xxhsum_words.specs.Options.{asked_of};
 use crate::audit::audit_names;
 use crate::names::texts_named;
 use std::alloc::{AllocError, Global};
-use std::io::Write;
 use xxh_io::ends::{Sink, Source};
 use xxhsum_audit::parts::parts_of;
 use xxhsum_files::store::Store;
@@ -21,6 +20,7 @@ use xxhsum_program::arguments::{Arguments, all_arguments};
 use xxhsum_program::check::check_lists;
 use xxhsum_program::hash::hash_names;
 use xxhsum_program::process::{Terminals, conclude, names_from, program_of, run_words, style_of, words_of};
+use xxhsum_program::screen::Ticks;
 use xxhsum_program::stop::Stop;
 use xxhsum_program::tell::tell;
 use xxhsum_words::name::default_kind;
@@ -48,7 +48,7 @@ where
     R: Source + Drop,
     W: Sink,
     E: Sink,
-    T: Write + Copy + Drop,
+    T: Sink + Ticks + Copy + Drop,
     requires reader { R.has_failed input ≡ false }
     requires writer { W.has_failed out.old ≡ false }
     ensures { (args : Option (List (List ℕ))) × (done : Result Bool Stop) × (told : E)
@@ -84,7 +84,7 @@ where
     R: Source + Drop,
     W: Sink,
     E: Sink,
-    T: Write + Copy + Drop,
+    T: Sink + Ticks + Copy + Drop,
     requires reader { R.has_failed input ≡ false }
     requires writer { W.has_failed out.old ≡ false }
     ensures { DoesArguments (PerformsWatched T S.Store S.File.Source R.Source W.Sink E.Sink
