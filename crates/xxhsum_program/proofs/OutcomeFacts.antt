@@ -1,5 +1,5 @@
 -- Names and their outcomes, where one more comes.
-use Rattle.std.proofs.Common.{◌≡◌, ◌≢◌, ◌&&◌, ℕ, Bool, List, [], ◌∷◌, ◌++◌, refl, sym, ap, ◌∙◌, append-nil, append_assoc, Ok, Err}
+use Rattle.std.proofs.Common.{◌≡◌, ◌≢◌, ◌&&◌, ℕ, List, [], ◌∷◌, ◌++◌, refl, sym, ap, ◌∙◌, append-nil, append_assoc, Ok, Err}
 use Rattle.std.specs.declared.result.Result.{Result}
 use Rattle.xxh_io.specs.Digest.{Took}
 use Rattle.xxh_io.proofs.WriteFacts.{Refused-join, Took-join}

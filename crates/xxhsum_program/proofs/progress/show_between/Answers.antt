@@ -1,5 +1,5 @@
 use Rattle.std.proofs.Common.{sym, subst}
-use Rattle.xxhsum_program.specs.Progress.{left_text, line_text, rate_text}
+use Rattle.xxhsum_program.specs.Progress.{line_text}
 use Rattle.xxhsum_program.specs.Told.{TellsOn}
 use Rattle.xxhsum_program.proofs.ProgressFacts.{line-between}
 use Rattle.xxhsum_program.proofs.ToldFacts.{tells-more}
