@@ -169,7 +169,8 @@ def lines():
 def options():
     """The words before the names."""
     bad = ('-x', '-l', '-t', '-v', '-Q', '-C', '-q-', '-q,', '-c=1', '-é', '--', '--nope', '--tag=1', '--Tag', '--ta',
-           '--warning', '--checks', '--chec', '--little', '--ignore-missing', '--zero', '--binary', '---', '-- ', '--q')
+           '--warning', '--checks', '--chec', '--little', '--ignore-missing', '--ignore', '--zer', '--binary', '---', '-- ',
+           '--q')
     cases = [Case(f'the word {word}', (word, 'a')) for word in bad]
     silent = ('-q', '--quiet', '-w', '--warn', '--status', '--strict', '-i5', '-i', '-B64KiB', '-B', '-i5B5', '-i3H0')
     cases += [Case(f'the word {word}, which changes no digest', (word, 'a', 'gone')) for word in silent]
@@ -337,6 +338,77 @@ def tagged_lines():
     ]
 
 
+def missing_files():
+    """--ignore-missing, which 0.8.1 doesn't know. Of 0.8.3 a file that can't be opened is missing, whatever the reason."""
+    gone, missing = X64 + b'  gone\n', ('-c', '--ignore-missing')
+    unopened = b"L:1: Could not open or read 'a/b': Not a directory.\n"
+    return [
+        of_list('a missing file is ignored', gone + GOOD + gone, *missing),
+        of_list('a missing file is ignored, --ignore-missing first', gone + GOOD, '--ignore-missing', '-c'),
+        of_list('a missing file is ignored, beside a wrong line', gone + WRONG + b'  a\n' + GOOD, *missing),
+        of_list('a missing file is ignored, beside an improper line', b'junk\n' + gone + GOOD, *missing, '-w', '--strict'),
+        of_list('a missing file is ignored, quiet', gone + GOOD, *missing, '-q'),
+        of_list('a missing file is ignored, status', gone + GOOD, *missing, '--status'),
+        of_list('a broken link is ignored', X64 + b'  broken\n' + GOOD, *missing),
+        of_list('a missing folder is ignored', X64 + b'  gone/a\n' + GOOD, *missing),
+        of_list('a list of missing files alone', gone * 2, *missing),
+        of_list('a list of missing files alone, quiet', gone, *missing, '-q'),
+        of_list('a list of missing files alone, status', gone, *missing, '--status'),
+        of_list('missing files and a wrong line', gone + WRONG + b'  a\n', *missing),
+        of_list('nothing is missing', GOOD, *missing),
+        of_list('no proper line, --ignore-missing', b'junk\n', *missing, '-w'),
+        of_list('an empty list, --ignore-missing', b'', *missing),
+        of_list('a line that is too long, --ignore-missing', gone + b'x' * 40000 + b'\n' + GOOD, *missing),
+        Case('several lists, --ignore-missing', (*missing, 'L', 'good', 'wrong'), files={'L': gone}),
+        Case('a missing list, --ignore-missing', (*missing, 'gone', 'good')),
+        Case('a list from input, --ignore-missing', missing, given=gone),
+        Case('names, --ignore-missing', ('--ignore-missing', 'gone', 'a')),
+        of_list('a file below no folder is not missing', X64 + b'  a/b\n' + GOOD, *missing, wanted={
+            'out': unopened + b'a: OK\n1 listed file could not be read\n', 'err': b'', 'status': 1}),
+        of_list('a link to itself is not missing', X64 + b'  loop\n' + GOOD, *missing, wanted={
+            'out': unread(b'L:1', b'loop', b'Too many levels of symbolic links') + b'a: OK\n1 listed file could not be read\n',
+            'err': b'', 'status': 1}),
+        of_list('a folder in a list is not missing', X64 + b'  d\n' + GOOD, *missing, wanted={
+            'out': unread(b'L:1', b'd') + b'a: OK\n1 listed file could not be read\n', 'err': b'', 'status': 1}),
+        of_list('a read that fails is not missing', X64 + b'  ' + FAILING.encode() + b'\n' + GOOD, *missing, wanted={
+            'out': unread(b'L:1', FAILING.encode()) + b'a: OK\n1 listed file could not be read\n', 'err': b'', 'status': 1}),
+    ]
+
+
+def lines_with_nuls():
+    """-z, which neither original has: each line as `sha256sum -z` has its own."""
+    odd = ('back\\slash', 'line\nfeed', 'return\r')
+
+    def beside(name, option, bare, form):
+        return Case(name, shell=f'for X in "$X" sha256sum; do "$X" {option} a "b c" *slash line* return* e | sed -z "{bare}" '
+                    '>"${X##*/}.z"; done; cmp xxhsum.z sha256sum.z && cat xxhsum.z',
+                    wanted={'out': b''.join(form % word.encode() for word in ('a', 'b c', *odd, 'e')), 'err': b'', 'status': 0})
+
+    def raw(digits, *names):
+        return b''.join(digits + b'  ' + name.encode() + b'\0' for name in names)
+
+    refused_words = {'out': b'', 'err': b'Wrong parameters\n', 'status': 1}
+    return [
+        beside('lines that NULs end, as sha256sum has them', '-z', 's/^[0-9a-f]*//', b'  %s\0'),
+        beside('tagged lines that NULs end, as sha256sum has them', '-z --tag', 's/^[A-Z0-9]* //; s/[0-9a-f]*$//',
+               b'(%s) = \0'),
+        Case('-z of odd names', ('-z', *odd), wanted={'out': raw(X64, *odd), 'err': b'', 'status': 0}),
+        Case('--zero and -H3', ('--zero', '-H3', *odd), wanted={'out': raw(b'XXH3_' + X3, *odd), 'err': b'', 'status': 0}),
+        Case('-z among other letters', ('-qzH0', *odd), wanted={'out': raw(X32, *odd), 'err': b'', 'status': 0}),
+        Case('-z and -H2, little endian', ('-z', '-H2', '--little-endian', 'a'), wanted={
+            'out': raw(X128_LE, 'a'), 'err': b'', 'status': 0}),
+        Case('-z of the input', ('-z', '--tag'), given=HELLO, wanted={
+            'out': b'XXH64 (stdin) = ' + X64 + b'\0', 'err': b'', 'status': 0}),
+        Case('-z of names that NULs end', ('-z', '--files0-from', '-'), given=b'a\0line\nfeed\0', wanted={
+            'out': raw(X64, 'a', 'line\nfeed'), 'err': b'', 'status': 0}),
+        Case('-z and a missing file', ('-z', 'gone', 'a'), wanted={
+            'out': raw(X64, 'a'), 'err': b"Error: Could not open 'gone': No such file or directory. \n", 'status': 1}),
+        Case('-z with -c', ('-z', '-c', 'good'), wanted=refused_words),
+        Case('-c with --zero', ('-c', '--zero', 'good'), wanted=refused_words),
+        Case('-z with --audit', ('-z', '--audit', 'good', 'a'), wanted=refused_words),
+    ]
+
+
 def several_lists():
     """Lists by names, from standard input, and missing."""
     return [
@@ -423,13 +495,14 @@ def trees():
 
 
 CASES = (names() + kinds() + lines() + options() + input_alone() + program_names() + verdicts() + plain_lines()
-         + tagged_lines() + several_lists() + ends() + trees())
+         + tagged_lines() + missing_files() + lines_with_nuls() + several_lists() + ends() + trees())
 
 # The cases in which one of the originals does something else than ours, for the reasons that docs/XXHSUM.md gives: 0.8.1
-# knows no escapes, comments and XXH3 without a tag, and 0.8.3 has further options.
+# knows no escapes, comments and XXH3 without a tag, and has fewer options.
 OLDER_DIFFERS = {
     'a backslash in a name', 'a line feed in a name', 'a carriage return in a name', '-H3', 'every length, -H3',
     'little endian, -H3', 'tagged lines of odd names', 'XXH3 of odd names', 'input, XXH3', 'called xxh3sum', 'a comment',
     'comments alone', 'odd names', 'the prefix of later versions', 'the word --binary', 'names of a file',
-    'names of a file, by the other word', 'names of two files', 'names of the input'}
-NEWER_DIFFERS = {'called xxh32sum, a list', 'the word --ignore-missing'}
+    'names of a file, by the other word', 'names of two files', 'names of the input', 'the word --ignore-missing',
+    *(case.name for case in missing_files() if not case.wanted)}
+NEWER_DIFFERS = {'called xxh32sum, a list'}

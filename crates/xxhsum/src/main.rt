@@ -8,6 +8,7 @@ use xxh_io::from_write::FromWrite;
 use xxhsum_files::system::SystemFiles;
 use xxhsum_program::arguments::ProcessArguments;
 use xxhsum_program::process::Terminals;
+use xxhsum_program::screen::Screen;
 use xxhsum_tree::run::run;
 
 // Hands over what the process has: its arguments, files and streams.
@@ -24,6 +25,6 @@ fn main(rt: HostRuntime) -> ExitCode {
         FromRead::new(rt.stdin()),
         &mut FromWrite::new(rt.stdout()),
         &mut FromWrite::new(rt.stderr()),
-        rt.stderr(),
+        Screen::new(rt.stderr(), &rt),
     ))
 }

@@ -1,10 +1,15 @@
 -- What clauses read of a refusal.
-use Rattle.std.specs.Prelude.{ℤ, ℕ, List, take}
+use Rattle.std.specs.Prelude.{ℤ, pos, ℕ, Bool, List, take}
+use Rattle.std.specs.Ordering.{int_eq}
 use Rattle.xxhsum_files.specs.declared.refusal.Refusal.{Refusal}
 
 -- the system's number of the error
 abbrev pub refusal_code : Refusal → ℤ
 refusal_code refusal = refusal.code
+
+-- whether there is no file of the name: ENOENT
+abbrev pub is_missing : Refusal → Bool
+is_missing refusal = int_eq refusal.code (pos 2)
 
 -- the system's words for it
 abbrev pub refusal_text : Refusal → List ℕ

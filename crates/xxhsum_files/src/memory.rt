@@ -4,7 +4,7 @@ ghost use Rattle.std.specs.Prelude.{◌≡◌};
 ghost use Rattle.std.specs.Option.{option_copied};
 ghost use Rattle.xxhsum_files.specs.Memory.{entries_of, entry_named, is_directory_named, LeadsTo, RefusedFor};
 
-use crate::refusal::Refusal;
+use crate::refusal::{MISSING, Refusal};
 use crate::store::Store;
 use xxh_io::ends::Source;
 
@@ -59,9 +59,13 @@ impl<S: Source + Copy> Store for MemoryFiles<'_, S> {
         }
     }
 
+    fn size(&self, _name: &[u8]) -> Option<u64> {
+        None
+    }
+
     fn open(&self, name: &[u8]) -> Result<S, Refusal> {
         let Some(entry) = self.find(name) else {
-            return Err(Refusal::new(2, b"No such file or directory"));
+            return Err(Refusal::new(MISSING, b"No such file or directory"));
         };
         if entry.source.failed() {
             return Err(Refusal::new(5, b"Input/output error"));

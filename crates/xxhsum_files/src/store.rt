@@ -24,6 +24,10 @@ pub trait Store {
     fn is_directory(&self, name: &[u8]) -> bool
         ensures { holds_directory self.now name.now result };
 
+    /// How many bytes the file of this name has, as far as the store can say beforehand. Progress goes by it alone, so no
+    /// clause tells what it is.
+    fn size(&self, name: &[u8]) -> Option<u64>;
+
     /// Opens the file of this name for reading. Its first read may still fail, as a directory's does. An error
     /// says why there is none.
     fn open(&self, name: &[u8]) -> Result<Self::File, Refusal>

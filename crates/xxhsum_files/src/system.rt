@@ -44,6 +44,16 @@ impl<P: Files> Store for SystemFiles<'_, P> {
         }
     }
 
+    fn size(&self, name: &[u8]) -> Option<u64> {
+        let Ok(path) = str::from_utf8(name) else {
+            return None;
+        };
+        match fs::metadata(self.process, path) {
+            Ok(found) if found.is_file() => Some(found.len()),
+            _ => None,
+        }
+    }
+
     fn open(&self, name: &[u8]) -> Result<FromRead<P::File>, Refusal> {
         let Ok(path) = str::from_utf8(name) else {
             return Err(Refusal::new(NOT_A_TEXT, b"The name is not UTF-8"));

@@ -1,6 +1,8 @@
 //! The system's words for an error.
 
-ghost use Rattle.std.specs.Prelude.{◌≤◌};
+ghost use Rattle.std.specs.Prelude.{◌≡◌, ◌≤◌, pos, unwrap_or};
+ghost use Rattle.std.specs.IoError.{raw_os_error};
+ghost use Rattle.xxhsum_files.specs.Refusal.{refusal_code};
 
 use crate::refusal::Refusal;
 use std::fmt::Write;
@@ -30,8 +32,11 @@ impl Write for Words {
     }
 }
 
-// The refusal by this error. Which number it has std doesn't tell.
-pub(crate) fn words_of(error: io::Error) -> Refusal {
+// The refusal by this error, of the system's number; 0 where the error is not the system's.
+pub(crate) fn words_of(error: io::Error) -> Refusal
+    ensures { refusal_code result ≡ unwrap_or (raw_os_error error) (pos 0) }
+{
+    let code = error.raw_os_error().unwrap_or(0);
     let mut words = Words {
         text: [0; ROOM],
         len: 0,
@@ -39,7 +44,7 @@ pub(crate) fn words_of(error: io::Error) -> Refusal {
     let _ = write!(words, "{error}");
     let text = &words.text[..words.len];
     match memchr::memmem::find(text, SUFFIX) {
-        Some(len) => Refusal::new(0, &text[..len]),
-        None => Refusal::new(0, text),
+        Some(len) => Refusal::new(code, &text[..len]),
+        None => Refusal::new(code, text),
     }
 }

@@ -8,6 +8,7 @@ use Rattle.xxhsum_line.specs.Digits.{turned_if}
 use Rattle.xxhsum_line.specs.Escapes.{escaped, mark_of}
 use Rattle.xxhsum_line.specs.Tags.{tag_of}
 use Rattle.xxhsum_line.specs.declared.printed.Shape.{Shape}
+use Rattle.xxhsum_line.specs.declared.printed.Style.{Style}
 
 -- the digits of a value
 abbrev pub shown : Kind → Bool → ℕ → List ℕ
@@ -40,9 +41,21 @@ formed kind shape value name =
     then tagged_text kind shape.is_little value name
     else plain_text kind shape.is_little value name
 
+-- a name as it stands in a line that a NUL ends, or in one that a line feed ends
+abbrev pub name_shown : Bool → List ℕ → List ℕ
+name_shown is_raw name = if is_raw then name else escaped name
+
 -- a line without its line feed
 abbrev pub text_of : Kind → Shape → ℕ → List ℕ → List ℕ
 text_of kind shape value name = mark_of name ++ formed kind shape value (escaped name)
 
 abbrev pub line_of : Kind → Shape → ℕ → List ℕ → List ℕ
 line_of kind shape value name = text_of kind shape value name ++ 10 ∷ []
+
+-- a line that a NUL ends: the name stands as it is, and no backslash before it
+abbrev pub nul_line : Kind → Shape → ℕ → List ℕ → List ℕ
+nul_line kind shape value name = formed kind shape value name ++ 0 ∷ []
+
+abbrev pub styled_line : Kind → Style → ℕ → List ℕ → List ℕ
+styled_line kind style value name =
+    if style.ends_in_nul then nul_line kind style.shape value name else line_of kind style.shape value name

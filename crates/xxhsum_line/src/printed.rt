@@ -1,8 +1,7 @@
 //! The lines that are printed.
 
 ghost use Rattle.std.specs.Prelude.{◌≡◌, ◌++◌, IfOk};
-ghost use Rattle.xxhsum_line.specs.Escapes.{escaped};
-ghost use Rattle.xxhsum_line.specs.Printed.{formed, line_of, plain_text, prefix_of, shown, tagged_text};
+ghost use Rattle.xxhsum_line.specs.Printed.{formed, line_of, name_shown, plain_text, prefix_of, shown, styled_line, tagged_text};
 
 use crate::digits::{MOST_DIGITS, turn};
 use crate::escapes::{put_escaped, put_mark};
@@ -20,6 +19,36 @@ pub struct Shape {
     pub is_little: bool,
 }
 
+/// How lines are written, and what each ends with.
+#[derive(Clone, Copy, Debug, PartialEq, Eq)]
+pub struct Style {
+    /// How they are written.
+    pub shape: Shape,
+    /// With a NUL at the end in place of a line feed, and the name as it is, where no byte of it ends the line.
+    pub ends_in_nul: bool,
+}
+
+/// The line of this value of the file with this name, in this style: with its line feed as [`digest_line`] has it, or
+/// with its NUL, and then no byte of the name is escaped and no backslash stands before it. `AllocError` where memory
+/// runs out.
+pub fn styled_line(
+    alloc: Global,
+    kind: Kind,
+    style: Style,
+    value: u128,
+    name: &[u8],
+) -> Result<Vec<u8>, AllocError>
+    ensures { IfOk result (λ line. line.items ≡ styled_line kind style value name.now) }
+{
+    if !style.ends_in_nul {
+        return digest_line(alloc, kind, style.shape, value, name);
+    }
+    let mut line = Vec::new(alloc);
+    put_formed(&mut line, kind, style.shape, value, name, true)?;
+    line.extend_from_slice(b"\0")?;
+    Ok(line)
+}
+
 /// The line of this value of the file with this name, with its line feed, which is the only one in it. A name with a
 /// backslash, a line feed or a carriage return is escaped, and its line begins with a backslash. Of a value that has
 /// more digits than its kind, the lowest are shown. `AllocError` where memory runs out.
@@ -34,7 +63,7 @@ pub fn digest_line(
 {
     let mut line = Vec::new(alloc);
     put_mark(&mut line, name)?;
-    put_formed(&mut line, kind, shape, value, name)?;
+    put_formed(&mut line, kind, shape, value, name, false)?;
     line.extend_from_slice(b"\n")?;
     Ok(line)
 }
@@ -45,14 +74,26 @@ fn put_formed(
     shape: Shape,
     value: u128,
     name: &[u8],
+    is_raw: bool,
 ) -> Result<(), AllocError>
-    ensures { IfOk result
-        (λ _. line.new.items ≡ line.old.items ++ formed kind shape value (escaped name.now)) }
+    ensures { IfOk result (λ _. line.new.items
+        ≡ line.old.items ++ formed kind shape value (name_shown is_raw name.now)) }
 {
     if shape.is_tagged {
-        put_tagged(line, kind, shape.is_little, value, name)
+        put_tagged(line, kind, shape.is_little, value, name, is_raw)
     } else {
-        put_plain(line, kind, shape.is_little, value, name)
+        put_plain(line, kind, shape.is_little, value, name, is_raw)
+    }
+}
+
+// Puts the name, as it is or escaped.
+fn put_name(line: &mut Vec<u8>, name: &[u8], is_raw: bool) -> Result<(), AllocError>
+    ensures { IfOk result (λ _. line.new.items ≡ line.old.items ++ name_shown is_raw name.now) }
+{
+    if is_raw {
+        line.extend_from_slice(name)
+    } else {
+        put_escaped(line, name)
     }
 }
 
@@ -62,14 +103,15 @@ fn put_plain(
     is_little: bool,
     value: u128,
     name: &[u8],
+    is_raw: bool,
 ) -> Result<(), AllocError>
     ensures { IfOk result (λ _. line.new.items
-        ≡ line.old.items ++ plain_text kind is_little value (escaped name.now)) }
+        ≡ line.old.items ++ plain_text kind is_little value (name_shown is_raw name.now)) }
 {
     line.extend_from_slice(prefix_of(kind))?;
     put_value(line, kind, is_little, value)?;
     line.extend_from_slice(b"  ")?;
-    put_escaped(line, name)
+    put_name(line, name, is_raw)
 }
 
 fn put_tagged(
@@ -78,16 +120,17 @@ fn put_tagged(
     is_little: bool,
     value: u128,
     name: &[u8],
+    is_raw: bool,
 ) -> Result<(), AllocError>
     ensures { IfOk result (λ _. line.new.items
-        ≡ line.old.items ++ tagged_text kind is_little value (escaped name.now)) }
+        ≡ line.old.items ++ tagged_text kind is_little value (name_shown is_raw name.now)) }
 {
     line.extend_from_slice(tag_of(kind))?;
     if is_little {
         line.extend_from_slice(b"_LE")?;
     }
     line.extend_from_slice(b" (")?;
-    put_escaped(line, name)?;
+    put_name(line, name, is_raw)?;
     line.extend_from_slice(b") = ")?;
     put_value(line, kind, is_little, value)
 }

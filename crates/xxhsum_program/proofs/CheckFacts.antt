@@ -1,5 +1,5 @@
 -- Findings of lines, and how a list ends behind them.
-use Rattle.std.proofs.Common.{◌≡◌, ◌⊎◌, ℕ, true, List, [], ◌∷◌, ◌++◌, refl, sym, ap, subst, ◌∙◌, inl, inr, append-nil, append_assoc}
+use Rattle.std.proofs.Common.{◌≡◌, ◌⊎◌, ℕ, Bool, true, List, [], ◌∷◌, ◌++◌, refl, sym, ap, subst, ◌∙◌, inl, inr, append-nil, append_assoc}
 use Rattle.std.specs.List.{AllByRecursion, concat}
 use Rattle.xxh_io.specs.Pieces.{Pieces}
 use Rattle.xxh_io.specs.Rules.{SourceRules}
@@ -13,9 +13,9 @@ use Rattle.xxhsum_program.specs.ListEnd.{LongLine, FailedRead}
 use Rattle.xxhsum_program.specs.ListLines.{FailsAfter, IsLine, end_piece}
 use Rattle.xxhsum_program.proofs.EachFacts.{all-push}
 
-pub add_up-push : (report : Report) (findings : List Finding) (finding : Finding) → add_up report (findings ++ finding ∷ []) ≡ count_one (add_up report findings) finding
-add_up-push report [] finding = refl
-add_up-push report (f ∷ fs) finding = add_up-push (count_one report f) fs finding
+pub add_up-push : (ignores : Bool) (report : Report) (findings : List Finding) (finding : Finding) → add_up ignores report (findings ++ finding ∷ []) ≡ count_one ignores (add_up ignores report findings) finding
+add_up-push ignores report [] finding = refl
+add_up-push ignores report (f ∷ fs) finding = add_up-push ignores (count_one ignores report f) fs finding
 
 -- ---- the lines so far
 

@@ -7,12 +7,12 @@ use Rattle.xxh_io.specs.Digest.{Took, Refused}
 use Rattle.xxh_io.proofs.WriteFacts.{Refused-join}
 use Rattle.xxh_io.specs.declared.kind.Kind.{Kind}
 use Rattle.xxh_io.specs.Rules.{SinkRules}
-use Rattle.xxhsum_line.specs.declared.printed.Shape.{Shape}
+use Rattle.xxhsum_line.specs.declared.printed.Style.{Style}
 use Rattle.xxhsum_program.specs.declared.outcome.Outcome.{Outcome}
 use Rattle.xxhsum_program.specs.declared.outcome.Outcome.TheVariants.{Digested, IsDirectory, Unread}
 use Rattle.xxhsum_program.specs.declared.stop.Stop.{Stop}
 use Rattle.xxhsum_program.specs.declared.stop.Stop.TheVariants.{WriteFailed, OutOfMemory}
-use Rattle.xxhsum_program.specs.Lines.{PrintsLine, PrintsLines, lines_of, printed_line, told_line}
+use Rattle.xxhsum_program.specs.Lines.{PrintsLine, PrintsLines, lines_of, told_line, written_line}
 use Rattle.xxhsum_program.specs.EachHas.{EachHas}
 use Rattle.xxhsum_program.specs.HashNames.{EndsWith}
 use Rattle.xxhsum_program.specs.Told.{TellsOn}
@@ -29,21 +29,21 @@ nothing-is-refused writing old new refused =
     omega (arith, none, refused.4.2)
 
 -- a line that is refused is that of a value, for which nothing is told
-refused-has-value : {W : Type 0} (writing : SinkRules W) (kind : Kind) (shape : Shape) (name : List ℕ) (outcome : Outcome) (old new : W) → Refused writing (printed_line kind shape name outcome) old new → told_line name outcome ≡ []
-refused-has-value writing kind shape name (Digested value) old new refused = refl
-refused-has-value writing kind shape name IsDirectory old new refused = absurd (nothing-is-refused writing old new refused)
-refused-has-value writing kind shape name (Unread reason) old new refused = absurd (nothing-is-refused writing old new refused)
+refused-has-value : {W : Type 0} (writing : SinkRules W) (kind : Kind) (style : Style) (name : List ℕ) (outcome : Outcome) (old new : W) → Refused writing (written_line kind style name outcome) old new → told_line name outcome ≡ []
+refused-has-value writing kind style name (Digested value) old new refused = refl
+refused-has-value writing kind style name IsDirectory old new refused = absurd (nothing-is-refused writing old new refused)
+refused-has-value writing kind style name (Unread reason) old new refused = absurd (nothing-is-refused writing old new refused)
 
-pub stops-printing : {W E : Type 0} (comes : List ℕ → Outcome → Type 0) (writing : SinkRules W) (telling : SinkRules E) (kind : Kind) (shape : Shape) (all names after : List (List ℕ)) (outcomes : List Outcome) (name : List ℕ) (outcome : Outcome) (w_old w_mid w_new : W) (e_old e_new : E) (stop : Stop)
-    → all ≡ names ++ name ∷ after → EachHas comes names outcomes → comes name outcome → Took writing (lines_of (printed_line kind shape) names outcomes) w_old w_mid → TellsOn telling (lines_of told_line names outcomes) e_old e_new → PrintsLine {T = Unit {0}} writing (printed_line kind shape name outcome) w_mid w_new (Err stop)
-    → (done_outcomes : List Outcome) × (done rest : List (List ℕ)) × ((all ≡ done ++ rest) × EachHas comes done done_outcomes × EndsWith rest done_outcomes (Err stop)) × PrintsLines {T = Bool} writing (lines_of (printed_line kind shape) done done_outcomes) w_old w_new (Err stop) × TellsOn telling (lines_of told_line done done_outcomes) e_old e_new
-stops-printing comes writing telling kind shape all names after outcomes name outcome w_old w_mid w_new e_old e_new OutOfMemory parts each came took told prints =
-    (outcomes, names, name ∷ after, (parts, each, tt), subst (λ w. Took writing (lines_of (printed_line kind shape) names outcomes) w_old w) (sym prints) took, told)
-stops-printing comes writing telling kind shape all names after outcomes name outcome w_old w_mid w_new e_old e_new WriteFailed parts each came took told prints =
-    let line = printed_line kind shape in
+pub stops-printing : {W E : Type 0} (comes : List ℕ → Outcome → Type 0) (writing : SinkRules W) (telling : SinkRules E) (kind : Kind) (style : Style) (all names after : List (List ℕ)) (outcomes : List Outcome) (name : List ℕ) (outcome : Outcome) (w_old w_mid w_new : W) (e_old e_new : E) (stop : Stop)
+    → all ≡ names ++ name ∷ after → EachHas comes names outcomes → comes name outcome → Took writing (lines_of (written_line kind style) names outcomes) w_old w_mid → TellsOn telling (lines_of told_line names outcomes) e_old e_new → PrintsLine {T = Unit {0}} writing (written_line kind style name outcome) w_mid w_new (Err stop)
+    → (done_outcomes : List Outcome) × (done rest : List (List ℕ)) × ((all ≡ done ++ rest) × EachHas comes done done_outcomes × EndsWith rest done_outcomes (Err stop)) × PrintsLines {T = Bool} writing (lines_of (written_line kind style) done done_outcomes) w_old w_new (Err stop) × TellsOn telling (lines_of told_line done done_outcomes) e_old e_new
+stops-printing comes writing telling kind style all names after outcomes name outcome w_old w_mid w_new e_old e_new OutOfMemory parts each came took told prints =
+    (outcomes, names, name ∷ after, (parts, each, tt), subst (λ w. Took writing (lines_of (written_line kind style) names outcomes) w_old w) (sym prints) took, told)
+stops-printing comes writing telling kind style all names after outcomes name outcome w_old w_mid w_new e_old e_new WriteFailed parts each came took told prints =
+    let line = written_line kind style in
     let lines : lines_of line (names ++ name ∷ []) (outcomes ++ outcome ∷ []) ≡ lines_of line names outcomes ++ line name outcome = lines-push comes line names outcomes name outcome each in
     let silent : lines_of told_line (names ++ name ∷ []) (outcomes ++ outcome ∷ []) ≡ lines_of told_line names outcomes =
-    lines-push comes told_line names outcomes name outcome each ∙ ap (λ bytes. lines_of told_line names outcomes ++ bytes) (refused-has-value writing kind shape name outcome w_mid w_new prints) ∙ append-nil (lines_of told_line names outcomes) in (
+    lines-push comes told_line names outcomes name outcome each ∙ ap (λ bytes. lines_of told_line names outcomes ++ bytes) (refused-has-value writing kind style name outcome w_mid w_new prints) ∙ append-nil (lines_of told_line names outcomes) in (
       outcomes ++ outcome ∷ [],
       names ++ name ∷ [],
       after,

@@ -1,5 +1,5 @@
 -- Names and their outcomes, where one more comes.
-use Rattle.std.proofs.Common.{◌≡◌, ◌≢◌, ◌&&◌, ℕ, Bool, List, [], ◌∷◌, ◌++◌, refl, sym, ap, ◌∙◌, append-nil, append_assoc, Ok, Err}
+use Rattle.std.proofs.Common.{◌≡◌, ◌≢◌, ◌&&◌, ℕ, List, [], ◌∷◌, ◌++◌, refl, sym, ap, ◌∙◌, append-nil, append_assoc, Ok, Err}
 use Rattle.std.specs.declared.result.Result.{Result}
 use Rattle.xxh_io.specs.Digest.{Took}
 use Rattle.xxh_io.proofs.WriteFacts.{Refused-join, Took-join}
@@ -8,6 +8,7 @@ use Rattle.xxh_io.specs.declared.error.DigestError.TheVariants.{ReadFailed, Writ
 use Rattle.xxh_io.specs.Rules.{SourceRules, SinkRules}
 use Rattle.xxhsum_program.specs.declared.outcome.Outcome.{Outcome}
 use Rattle.xxhsum_program.specs.Outcomes.{FailsOn, HasNoValue, are_digested, is_digested, reason_of}
+use Rattle.xxhsum_words.specs.declared.options.Options.{Options}
 use Rattle.xxhsum_program.specs.CheckList.{ListOutcome, are_good, is_good_outcome}
 use Rattle.xxhsum_program.specs.declared.stop.Stop.{Stop}
 use Rattle.xxhsum_program.specs.declared.stop.Stop.TheVariants as Stopped
@@ -43,6 +44,6 @@ prints-join writing a b old mid new (Err Stopped.OutOfMemory) took prints = Took
 
 -- ---- lists
 
-pub are_good-push : (is_strict : Bool) (outcomes : List ListOutcome) (outcome : ListOutcome) → are_good is_strict (outcomes ++ outcome ∷ []) ≡ (are_good is_strict outcomes && is_good_outcome is_strict outcome)
-are_good-push is_strict [] outcome = and-true (is_good_outcome is_strict outcome)
-are_good-push is_strict (o ∷ os) outcome = ap (λ b. is_good_outcome is_strict o && b) (are_good-push is_strict os outcome) ∙ and-assoc (is_good_outcome is_strict o) (are_good is_strict os) (is_good_outcome is_strict outcome)
+pub are_good-push : (options : Options) (outcomes : List ListOutcome) (outcome : ListOutcome) → are_good options (outcomes ++ outcome ∷ []) ≡ (are_good options outcomes && is_good_outcome options outcome)
+are_good-push options [] outcome = and-true (is_good_outcome options outcome)
+are_good-push options (o ∷ os) outcome = ap (λ b. is_good_outcome options o && b) (are_good-push options os outcome) ∙ and-assoc (is_good_outcome options o) (are_good options os) (is_good_outcome options outcome)

@@ -3,7 +3,7 @@ use Rattle.std.proofs.Common.{◌≡◌, ℕ, ◌+◌, ◌<◌, Bool, true, fals
 use Rattle.std.proofs.lemmas.Bool.Decides.{nat_tests}
 use Rattle.std.specs.List.{AllByRecursion, concat}
 use Rattle.xxh_io.specs.Kind.{digits_of}
-use Rattle.std.specs.Prelude.{nat_lt}
+use Rattle.std.specs.Prelude.{nat_eq, nat_lt}
 use Rattle.xxh_io.specs.declared.kind.Kind.{Kind}
 use Rattle.xxh_io.specs.Rules.{SourceRules}
 use Rattle.xxhsum_line.specs.Printed.{line_of}
@@ -15,7 +15,8 @@ use Rattle.xxhsum_program.specs.ListEnd.{report_at}
 use Rattle.xxhsum_program.specs.Outcomes.{Comes}
 use Rattle.xxhsum_program.specs.PrintedIsGood.{FilesStay, IsName, PrintedIsGood, entries_of}
 use Rattle.xxhsum_program.specs.PrintedList.{AreListed, AreFindingsOf, Holds, Listed, printed_list}
-use Rattle.xxhsum_program.specs.Report.{is_good}
+use Rattle.xxhsum_program.specs.Report.{is_good, is_unverified, passes}
+use Rattle.xxhsum_words.specs.declared.options.Options.{Options}
 use Rattle.xxhsum_program.specs.declared.check.Report.{Report}
 use Rattle.xxhsum_program.specs.declared.entry.Found.{Found}
 use Rattle.xxhsum_program.specs.declared.entry.Found.TheVariants.{Same, Different}
@@ -92,28 +93,35 @@ abbrev proper_after : ℕ → List Finding → ℕ
 proper_after count [] = count
 proper_after count (finding ∷ findings) = proper_after (one_more count) findings
 
-adds_up : (report : Report) (findings : List Finding) → AllByRecursion IsSame findings
-    → add_up report findings ≡ record report { proper = proper_after report.proper findings }
-adds_up report [] all = refl
-adds_up report (finding ∷ findings) all =
-    rw all.0.1 (adds_up (record report { proper = one_more report.proper }) findings all.1)
+adds_up : (ignores : Bool) (report : Report) (findings : List Finding) → AllByRecursion IsSame findings
+    → add_up ignores report findings ≡ record report { proper = proper_after report.proper findings; same = proper_after report.same findings }
+adds_up ignores report [] all = refl
+adds_up ignores report (finding ∷ findings) all =
+    rw all.0.1 (adds_up ignores (record report { proper = one_more report.proper; same = one_more report.same }) findings all.1)
 
 counted : (count : ℕ) (findings : List Finding) → 0 < count + length findings → 0 < proper_after count findings
 counted count [] some = omega (arith, some)
 counted count (finding ∷ findings) some = counted (one_more count) findings (omega arith)
 
-good : (is_strict : Bool) (proper : ℕ) → 0 < proper → is_good is_strict (record { proper = proper; improper = 0; unread = 0; different = 0; is_broken = false }) ≡ true
-good true proper some = let test : nat_lt 0 proper ≡ true = grind (arith, nat_tests, some) in rw test refl
-good false proper some = let test : nat_lt 0 proper ≡ true = grind (arith, nat_tests, some) in rw test refl
+good : (is_strict : Bool) (count : ℕ) → 0 < count → is_good is_strict (record { proper = count; improper = 0; unread = 0; same = count; different = 0; is_broken = false }) ≡ true
+good true count some = let test : nat_lt 0 count ≡ true = grind (arith, nat_tests, some) in rw test refl
+good false count some = let test : nat_lt 0 count ≡ true = grind (arith, nat_tests, some) in rw test refl
+
+verified : (ignores : Bool) (count : ℕ) → 0 < count → is_unverified ignores (record { proper = count; improper = 0; unread = 0; same = count; different = 0; is_broken = false }) ≡ false
+verified true count some = let test : nat_eq count 0 ≡ false = grind (arith, nat_tests, some) in test
+verified false count some = refl
+
+passed : (options : Options) (count : ℕ) → 0 < count → passes options (record { proper = count; improper = 0; unread = 0; same = count; different = 0; is_broken = false }) ≡ true
+passed options count some = rw (good options.is_strict count some, verified options.ignores_missing count some) refl
 
 pub printed_is_good : {S F R : Type 0} (opening : StoreRules S F) (reading : SourceRules F) (list_reading : SourceRules R)
     → PrintedIsGood opening reading list_reading
-printed_is_good opening reading list_reading store kind shape names outcomes source findings end is_strict come stay are some few holds finds =
+printed_is_good opening reading list_reading store kind shape names outcomes source findings end options come stay are some few holds finds =
     let entries = entries_of kind shape names outcomes in
     let held = subst (Holds list_reading source) (printed_text kind shape names outcomes) holds in
     let found = checks_printed opening reading list_reading store shape.is_little entries source findings end (listed opening reading store kind shape names outcomes are come) few held finds in
     let same = all_same opening reading store kind shape names outcomes findings come stay found.1 in
     let some_findings : 0 < 0 + length findings = omega (arith, as_many opening reading store entries findings found.1, some) in
-    let sum : report_at end findings ≡ record { proper = proper_after 0 findings; improper = 0; unread = 0; different = 0; is_broken = false } =
-    ap (λ e. report_at e findings) found.0 ∙ adds_up no_findings findings same in
-    ap (is_good is_strict) sum ∙ good is_strict (proper_after 0 findings) (counted 0 findings some_findings)
+    let sum : report_at options.ignores_missing end findings ≡ record { proper = proper_after 0 findings; improper = 0; unread = 0; same = proper_after 0 findings; different = 0; is_broken = false } =
+    ap (λ e. report_at options.ignores_missing e findings) found.0 ∙ adds_up options.ignores_missing no_findings findings same in
+    ap (passes options) sum ∙ passed options (proper_after 0 findings) (counted 0 findings some_findings)

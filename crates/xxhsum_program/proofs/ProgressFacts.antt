@@ -1,19 +1,30 @@
 -- What is shown of a read, by the counts.
-use Rattle.std.proofs.Common.{◌≡◌, ◌≢◌, ℕ, ◌<◌, ◌≤◌, ◌/◌, Bool, true, false, ◌++◌, codes, decimal, refl, arith}
-use Rattle.xxhsum_program.specs.Progress.{cleared, count_after, progress_line, shown_text}
+use Rattle.std.proofs.Common.{◌≡◌, ◌≢◌, ℕ, ◌<◌, ◌≤◌, ◌/◌, ◌-◌, ◌++◌, Bool, true, false, Option, Some, [], ap, codes, decimal, nat_eq, nat_lt, refl, arith, if◌then◌else◌}
+use Rattle.std.proofs.lemmas.Bool.Decides.{nat_tests}
+use Rattle.xxhsum_program.specs.Progress.{cleared, count_after, left_text, line_text, progress_line, rate_of, shown_text}
 
 -- a step ends between the counts
-pub line-between : (before count : ℕ) → before / 67108864 < count / 67108864 → progress_line before count ≡ codes "\r" ++ decimal (count / 1048576) ++ codes " MiB\r"
-line-between before count less = grind arith
+pub line-between : (size : Option ℕ) (millis before count : ℕ) → before / 67108864 < count / 67108864 → progress_line size millis before count ≡ line_text size count (rate_of count millis)
+line-between size millis before count less =
+    let test : nat_lt (before / 67108864) (count / 67108864) ≡ true = grind (arith, nat_tests, less) in
+    ap (λ b. if b then line_text size count (rate_of count millis) else []) test
+
+-- the size is known, and so is a rate
+pub left-is : (size : Option ℕ) (most count rate : ℕ) → size ≡ Some most → 0 < rate → left_text size count rate ≡ codes ", " ++ decimal ((most - count) / 1024 / rate) ++ codes " s left"
+left-is size most count rate is some =
+    let test : nat_lt 0 rate ≡ true = grind (arith, nat_tests, some) in
+    rw (is, test) refl
 
 -- there is a line to take away
 pub cleared-after : (count : ℕ) → 67108864 ≤ count → cleared count ≡ codes "\r                                                                      \r"
 cleared-after count past = grind arith
 
-pub shown-end : (is_on : Bool) (before count : ℕ) → is_on ≡ true → count ≡ 0 → shown_text is_on before count ≡ cleared before
-shown-end true before count on none = rw none refl
-shown-end false before count on none = cc
+pub shown-end : (is_on : Bool) (size : Option ℕ) (millis before count : ℕ) → is_on ≡ true → count ≡ 0 → shown_text is_on size millis before count ≡ cleared before
+shown-end true size millis before count on none = rw none refl
+shown-end false size millis before count on none = cc
 
-pub shown-line : (is_on : Bool) (before count : ℕ) → is_on ≡ true → count ≢ 0 → shown_text is_on before count ≡ progress_line before (count_after before count)
-shown-line true before count on some = grind arith
-shown-line false before count on some = cc
+pub shown-line : (is_on : Bool) (size : Option ℕ) (millis before count : ℕ) → is_on ≡ true → count ≢ 0 → shown_text is_on size millis before count ≡ progress_line size millis before (count_after before count)
+shown-line true size millis before count on some =
+    let test : nat_eq count 0 ≡ false = grind (arith, nat_tests, some) in
+    ap (λ b. if b then cleared before else progress_line size millis before (count_after before count)) test
+shown-line false size millis before count on some = cc

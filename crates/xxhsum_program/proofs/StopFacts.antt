@@ -1,5 +1,5 @@
 -- The check of a list, at the lines where it stops and at its end.
-use Rattle.std.proofs.Common.{◌≡◌, ℕ, ◌+◌, Bool, false, List, [], ◌∷◌, ◌++◌, length, Option, Some, None, Ok, Err, refl, sym, subst, append-nil}
+use Rattle.std.proofs.Common.{◌≡◌, ℕ, ◌+◌, Bool, true, false, List, [], ◌∷◌, ◌++◌, length, Option, Some, None, Ok, Err, refl, sym, subst, append-nil}
 use Rattle.std.specs.declared.result.Result.{Result}
 use Rattle.xxh_io.specs.Digest.{Took, Refused}
 use Rattle.xxh_io.specs.Rules.{SourceRules, SinkRules}
@@ -15,8 +15,8 @@ use Rattle.xxhsum_program.specs.EachHas.{EachHas}
 use Rattle.xxhsum_program.specs.Findings.{Finding, Proper, count_proper}
 use Rattle.xxhsum_program.specs.Lines.{PrintsLine, PrintsLines}
 use Rattle.xxhsum_program.specs.ListEnd.{ListEnd}
-use Rattle.xxhsum_program.specs.Report.{is_good}
-use Rattle.xxhsum_program.specs.Said.{found_text, numbered, printed_finding, printed_list, printed_summary, told_break, told_finding, told_lines, told_list, told_summary}
+use Rattle.xxhsum_program.specs.Report.{passes}
+use Rattle.xxhsum_program.specs.Said.{found_text, is_silent, numbered, printed_finding, printed_list, summary_text, told_break, told_finding, told_lines, told_list, told_summary}
 use Rattle.xxhsum_program.specs.Told.{TellsOn}
 use Rattle.xxhsum_program.proofs.CheckFacts.{Stands, some-read}
 use Rattle.xxhsum_program.proofs.EachFacts.{EachHas-push}
@@ -27,14 +27,14 @@ use Rattle.xxhsum_program.proofs.ToldFacts.{tells-more, tells-nothing}
 abbrev pub LinesChecked : {R W E : Type 0} → (List ℕ → Finding → Type 0) → SourceRules R → SinkRules W → SinkRules E → Options → List ℕ → R → W → W → E → E → Result Report Stop → Type 0
 LinesChecked is_finding reading writing telling options list source w_old w_new e_old e_new result =
     (findings : List Finding) × (end : Option ListEnd) × FindsLines is_finding reading source findings end
-    × ReportsLines findings end result
+    × ReportsLines options.ignores_missing findings end result
     × PrintsLines writing (numbered (printed_finding options list) 1 findings) w_old w_new result
     × TellsOn telling (told_lines options list findings end) e_old e_new
 
 abbrev pub ListChecked : {R W E : Type 0} → (List ℕ → Finding → Type 0) → SourceRules R → SinkRules W → SinkRules E → Options → List ℕ → R → W → W → E → E → Result Bool Stop → Type 0
 ListChecked is_finding reading writing telling options list source w_old w_new e_old e_new result =
     (findings : List Finding) × (end : Option ListEnd) × FindsLines is_finding reading source findings end
-    × AnswersList options.is_strict findings end result
+    × AnswersList options findings end result
     × PrintsLines writing (printed_list options list findings end) w_old w_new result
     × TellsOn telling (told_list options list findings end) e_old e_new
 
@@ -44,9 +44,12 @@ tells-as telling a b old new same tells =
 
 -- ---- a line
 
+pub silent-prints : (options : Options) (list : List ℕ) (number : ℕ) (name : List ℕ) (found : Found) → is_silent options found ≡ true → printed_finding options list number (Proper name found) ≡ []
+silent-prints options list number name found silent = rw silent refl
+
 -- what was found of a file is said, as far as the answer says
 pub line-said : {W E : Type 0} (is_finding : Finding → Type 0) (writing : SinkRules W) (telling : SinkRules E) (options : Options) (list : List ℕ) (number : ℕ) (name shown : List ℕ) (found : Found) (r_old r_new : Report) (w_old w_new : W) (err : E) (result : Result (Unit {0}) Stop)
-    → options.is_status_only ≡ false → shown ≡ name → is_finding (Proper name found) → r_new ≡ count_proper r_old found → PrintsLine writing (found_text options.is_quiet list number shown found) w_old w_new result
+    → is_silent options found ≡ false → shown ≡ name → is_finding (Proper name found) → r_new ≡ count_proper options.ignores_missing r_old found → PrintsLine writing (found_text options.is_quiet list number shown found) w_old w_new result
     → ChecksLine is_finding writing telling options list number r_old r_new w_old w_new err err result
 line-said is_finding writing telling options list number name shown found r_old r_new w_old w_new err (Ok x) speaks same is counted prints =
     let text : found_text options.is_quiet list number shown found ≡ printed_finding options list number (Proper name found) = rw (speaks, same) refl in
@@ -109,14 +112,14 @@ check-stops is_finding reading writing telling options list source w_old w_new e
 -- the summary could not be printed
 pub check-summary-stops : {R W E : Type 0} (is_finding : List ℕ → Finding → Type 0) (reading : SourceRules R) (writing : SinkRules W) (telling : SinkRules E) (options : Options) (list : List ℕ) (source : R) (w_old w_mid w_new : W) (e_old e_mid e_new : E) (report : Report) (stop : Stop)
     → LinesChecked is_finding reading writing telling options list source w_old w_mid e_old e_mid (Ok report)
-    → PrintsLine {T = Unit {0}} writing (printed_summary options report) w_mid w_new (Err stop) → stop ≡ WriteFailed → TellsOn telling (told_summary list report) e_mid e_new
+    → PrintsLine {T = Unit {0}} writing (summary_text options list report) w_mid w_new (Err stop) → stop ≡ WriteFailed → TellsOn telling (told_summary list report) e_mid e_new
     → ListChecked is_finding reading writing telling options list source w_old w_new e_old e_new (Err stop)
 check-summary-stops is_finding reading writing telling options list source w_old w_mid w_new e_old e_mid e_new report WriteFailed (findings, Some end, finds, is, took, told) prints only tells = (
   findings,
   Some end,
   finds,
   tt,
-  Refused-join writing _ _ w_old w_mid w_new took (subst (λ r. Refused writing (printed_summary options r) w_mid w_new) is prints),
+  Refused-join writing _ _ w_old w_mid w_new took (subst (λ r. Refused writing (summary_text options list r) w_mid w_new) is prints),
   tells-more telling _ _ e_old e_mid e_new told (subst (λ r. TellsOn telling (told_summary list r) e_mid e_new) is tells),
 )
 check-summary-stops is_finding reading writing telling options list source w_old w_mid w_new e_old e_mid e_new report WriteFailed (findings, None, finds, is, took, told) prints only tells = absurd is
@@ -124,14 +127,14 @@ check-summary-stops is_finding reading writing telling options list source w_old
 
 pub check-ends : {R W E : Type 0} (is_finding : List ℕ → Finding → Type 0) (reading : SourceRules R) (writing : SinkRules W) (telling : SinkRules E) (options : Options) (list : List ℕ) (source : R) (w_old w_mid w_new : W) (e_old e_mid e_new : E) (report : Report) (good : Bool)
     → LinesChecked is_finding reading writing telling options list source w_old w_mid e_old e_mid (Ok report)
-    → Took writing (printed_summary options report) w_mid w_new → TellsOn telling (told_summary list report) e_mid e_new → good ≡ is_good options.is_strict report
+    → Took writing (summary_text options list report) w_mid w_new → TellsOn telling (told_summary list report) e_mid e_new → good ≡ passes options report
     → ListChecked is_finding reading writing telling options list source w_old w_new e_old e_new (Ok good)
 check-ends is_finding reading writing telling options list source w_old w_mid w_new e_old e_mid e_new report good (findings, Some end, finds, is, took, told) prints tells answer = (
   findings,
   Some end,
   finds,
-  (tt, subst (λ r. good ≡ is_good options.is_strict r) is answer),
-  Took-join writing _ _ w_old w_mid w_new took (subst (λ r. Took writing (printed_summary options r) w_mid w_new) is prints),
+  (tt, subst (λ r. good ≡ passes options r) is answer),
+  Took-join writing _ _ w_old w_mid w_new took (subst (λ r. Took writing (summary_text options list r) w_mid w_new) is prints),
   tells-more telling _ _ e_old e_mid e_new told (subst (λ r. TellsOn telling (told_summary list r) e_mid e_new) is tells),
 )
 check-ends is_finding reading writing telling options list source w_old w_mid w_new e_old e_mid e_new report good (findings, None, finds, is, took, told) prints tells answer = absurd is
@@ -143,6 +146,6 @@ tells-break telling list end m n r s old new numbers reports tells =
 
 -- ---- a list by its name
 
-pub answers-outcome : (is_strict : Bool) (findings : List Finding) (end : Option ListEnd) (result : Result Bool Stop) → AnswersList is_strict findings end result → AnswersOutcome is_strict (Checked findings end) result
-answers-outcome is_strict findings end (Ok good) answer = answer
-answers-outcome is_strict findings end (Err stop) answer = tt
+pub answers-outcome : (options : Options) (findings : List Finding) (end : Option ListEnd) (result : Result Bool Stop) → AnswersList options findings end result → AnswersOutcome options (Checked findings end) result
+answers-outcome options findings end (Ok good) answer = answer
+answers-outcome options findings end (Err stop) answer = tt

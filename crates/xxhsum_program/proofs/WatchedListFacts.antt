@@ -13,6 +13,7 @@ use Rattle.xxhsum_program.specs.ListEnd.{ListEnd, Whole, TooMany, LongLine, Fail
 use Rattle.xxhsum_program.specs.ListLines.{FailsAfter, end_piece}
 use Rattle.xxhsum_program.proofs.WatchedFacts.{each-other, inner-none, inner-pieces, inner-value}
 use Rattle.xxhsum_files.specs.Rules.{StoreRules}
+use Rattle.xxhsum_words.specs.declared.options.Options.{Options}
 use Rattle.xxhsum_program.specs.Watched.{files_of, source_of, watched_opening, watched_reading}
 use Rattle.xxhsum_program.specs.declared.watched.Watched.{Watched}
 use Rattle.xxhsum_program.specs.declared.watched.WatchedFiles.{WatchedFiles}
@@ -74,7 +75,7 @@ inner-outcome E opening reading files is_little name (Checked findings end) (fil
     (source_of file, opened.0, inner-finds E opening reading reading files file is_little findings end finds)
 inner-outcome E opening reading files is_little name (Unopened refusal) refused = refused
 
-pub inner-checks : {S F T : Type 0} (E : Type 0) (opening : StoreRules S F) (reading : SourceRules F) (files : WatchedFiles S T) (is_little is_strict : Bool) (names done rest : List (List ℕ)) (outcomes : List ListOutcome) (result : Result Bool Stop)
-    → ChecksLists (watched_opening {E = E} opening) (watched_reading reading) files is_little is_strict names done rest outcomes result → ChecksLists opening reading (files_of files) is_little is_strict names done rest outcomes result
-inner-checks E opening reading files is_little is_strict names done rest outcomes result (parts, each, answers) =
+pub inner-checks : {S F T : Type 0} (E : Type 0) (opening : StoreRules S F) (reading : SourceRules F) (files : WatchedFiles S T) (is_little : Bool) (options : Options) (names done rest : List (List ℕ)) (outcomes : List ListOutcome) (result : Result Bool Stop)
+    → ChecksLists (watched_opening {E = E} opening) (watched_reading reading) files is_little options names done rest outcomes result → ChecksLists opening reading (files_of files) is_little options names done rest outcomes result
+inner-checks E opening reading files is_little options names done rest outcomes result (parts, each, answers) =
     (parts, each-other _ _ done outcomes (λ name outcome is. inner-outcome E opening reading files is_little name outcome is) each, answers)

@@ -17,7 +17,7 @@ use Rattle.xxhsum_program.specs.Findings.{Finding, IsFinding, count_one}
 use Rattle.xxhsum_program.specs.Lines.{PrintsUnlessFailed, lines_of}
 use Rattle.xxhsum_program.specs.ListEnd.{ListEnd, Whole, TooMany, LongLine, FailedRead, report_at}
 use Rattle.xxhsum_program.specs.ListLines.{BeginsTooLong, FailsAfter, IsLastLine, IsLine, IsUnended, end_piece}
-use Rattle.xxhsum_program.specs.Report.{is_good}
+use Rattle.xxhsum_program.specs.Report.{passes}
 use Rattle.xxhsum_program.specs.Said.{printed_finding, printed_list, told_finding, told_list, told_refusal}
 use Rattle.xxhsum_program.specs.Told.{TellsOn}
 
@@ -78,7 +78,7 @@ FindsLines is_finding reading source findings end =
 abbrev pub ChecksLine : {W E : Type 0} → (Finding → Type 0) → SinkRules W → SinkRules E → Options → List ℕ → ℕ → Report
     → Report → W → W → E → E → Result (Unit {0}) Stop → Type 0
 ChecksLine is_finding writing telling options list number r_old r_new w_old w_new e_old e_new (Ok _) =
-    (finding : Finding) × is_finding finding × (r_new ≡ count_one r_old finding)
+    (finding : Finding) × is_finding finding × (r_new ≡ count_one options.ignores_missing r_old finding)
     × Took writing (printed_finding options list number finding) w_old w_new
     × TellsOn telling (told_finding options list number finding) e_old e_new
 ChecksLine is_finding writing telling options list number r_old r_new w_old w_new e_old e_new (Err WriteFailed) =
@@ -89,9 +89,9 @@ ChecksLine is_finding writing telling options list number r_old r_new w_old w_ne
     (w_new ≡ w_old) × (e_new ≡ e_old)
 
 -- whether the list is good, once its end is known
-abbrev pub is_good_list : Bool → List Finding → Option ListEnd → Bool
-is_good_list is_strict findings None = false
-is_good_list is_strict findings (Some end) = is_good is_strict (report_at end findings)
+abbrev pub is_good_list : Options → List Finding → Option ListEnd → Bool
+is_good_list options findings None = false
+is_good_list options findings (Some end) = passes options (report_at options.ignores_missing end findings)
 
 -- the check has come to the end
 abbrev pub HasEnded : Option ListEnd → Type 0
@@ -99,15 +99,15 @@ HasEnded None = ⊥
 HasEnded (Some end) = Unit {0}
 
 -- An answer is that of the whole list. Only a write that failed or want of memory keeps the check from it.
-abbrev pub AnswersList : Bool → List Finding → Option ListEnd → Result Bool Stop → Type 0
-AnswersList is_strict findings end (Ok good) = HasEnded end × (good ≡ is_good_list is_strict findings end)
-AnswersList is_strict findings end (Err stop) = Unit {0}
+abbrev pub AnswersList : Options → List Finding → Option ListEnd → Result Bool Stop → Type 0
+AnswersList options findings end (Ok good) = HasEnded end × (good ≡ is_good_list options findings end)
+AnswersList options findings end (Err stop) = Unit {0}
 
 -- a report is that of the whole list
-abbrev pub ReportsLines : List Finding → Option ListEnd → Result Report Stop → Type 0
-ReportsLines findings None (Ok report) = ⊥
-ReportsLines findings (Some end) (Ok report) = report ≡ report_at end findings
-ReportsLines findings end (Err stop) = end ≡ None
+abbrev pub ReportsLines : Bool → List Finding → Option ListEnd → Result Report Stop → Type 0
+ReportsLines ignores findings None (Ok report) = ⊥
+ReportsLines ignores findings (Some end) (Ok report) = report ≡ report_at ignores end findings
+ReportsLines ignores findings end (Err stop) = end ≡ None
 
 -- ---- lists by their names
 
@@ -145,31 +145,31 @@ AreDoneButLast outcomes =
     AreAllDone outcomes
     ⊎ ((before : List ListOutcome) × (last : ListOutcome) × (outcomes ≡ before ++ last ∷ []) × AreAllDone before)
 
-abbrev pub is_good_outcome : Bool → ListOutcome → Bool
-is_good_outcome is_strict (Checked findings end) = is_good_list is_strict findings end
-is_good_outcome is_strict (Unopened refusal) = false
+abbrev pub is_good_outcome : Options → ListOutcome → Bool
+is_good_outcome options (Checked findings end) = is_good_list options findings end
+is_good_outcome options (Unopened refusal) = false
 
-abbrev pub are_good : Bool → List ListOutcome → Bool
-are_good is_strict [] = true
-are_good is_strict (outcome ∷ outcomes) = is_good_outcome is_strict outcome && are_good is_strict outcomes
+abbrev pub are_good : Options → List ListOutcome → Bool
+are_good options [] = true
+are_good options (outcome ∷ outcomes) = is_good_outcome options outcome && are_good options outcomes
 
 -- an answer is that of this list; without one its check has stopped
-abbrev pub AnswersOutcome : Bool → ListOutcome → Result Bool Stop → Type 0
-AnswersOutcome is_strict outcome (Ok good) = IsDone outcome × (good ≡ is_good_outcome is_strict outcome)
-AnswersOutcome is_strict outcome (Err stop) = Unit {0}
+abbrev pub AnswersOutcome : Options → ListOutcome → Result Bool Stop → Type 0
+AnswersOutcome options outcome (Ok good) = IsDone outcome × (good ≡ is_good_outcome options outcome)
+AnswersOutcome options outcome (Err stop) = Unit {0}
 
 -- an answer is that of all lists; without one the run has stopped at the last of those that have an outcome
-abbrev pub AnswersLists : Bool → List (List ℕ) → List ListOutcome → Result Bool Stop → Type 0
-AnswersLists is_strict rest outcomes (Ok all) =
-    (rest ≡ []) × AreAllDone outcomes × (all ≡ are_good is_strict outcomes)
-AnswersLists is_strict rest outcomes (Err stop) = AreDoneButLast outcomes
+abbrev pub AnswersLists : Options → List (List ℕ) → List ListOutcome → Result Bool Stop → Type 0
+AnswersLists options rest outcomes (Ok all) =
+    (rest ≡ []) × AreAllDone outcomes × (all ≡ are_good options outcomes)
+AnswersLists options rest outcomes (Err stop) = AreDoneButLast outcomes
 
 -- the lists that are done, each with its outcome, and then the rest
-abbrev pub ChecksLists : {S F : Type 0} → StoreRules S F → SourceRules F → S → Bool → Bool → List (List ℕ)
+abbrev pub ChecksLists : {S F : Type 0} → StoreRules S F → SourceRules F → S → Bool → Options → List (List ℕ)
     → List (List ℕ) → List (List ℕ) → List ListOutcome → Result Bool Stop → Type 0
-ChecksLists opening reading store is_little is_strict names done rest outcomes result =
+ChecksLists opening reading store is_little options names done rest outcomes result =
     (names ≡ done ++ rest) × EachHas (IsListOutcome opening reading store is_little) done outcomes
-    × AnswersLists is_strict rest outcomes result
+    × AnswersLists options rest outcomes result
 
 -- ---- what is found, and what is said of it
 
@@ -179,7 +179,7 @@ abbrev pub SaysList : {S F R W E : Type 0} → StoreRules S F → SourceRules F 
 SaysList opening reading list_reading writing telling store options name source w_old w_new e_old e_new result =
     (findings : List Finding) × (end : Option ListEnd)
     × FindsLines (IsFinding opening reading store options.is_little_endian) list_reading source findings end
-    × AnswersList options.is_strict findings end result
+    × AnswersList options findings end result
     × PrintsUnlessFailed writing (printed_list options name findings end) w_old w_new result
     × TellsOn telling (told_list options name findings end) e_old e_new
 
@@ -188,6 +188,6 @@ abbrev pub SaysLists : {S F W E : Type 0} → StoreRules S F → SourceRules F �
     → List (List ℕ) → W → W → E → E → Result Bool Stop → Type 0
 SaysLists opening reading writing telling store options names w_old w_new e_old e_new result =
     (outcomes : List ListOutcome) × (done rest : List (List ℕ))
-    × ChecksLists opening reading store options.is_little_endian options.is_strict names done rest outcomes result
+    × ChecksLists opening reading store options.is_little_endian options names done rest outcomes result
     × PrintsUnlessFailed writing (lines_of (printed_outcome options) done outcomes) w_old w_new result
     × TellsOn telling (lines_of (told_outcome options) done outcomes) e_old e_new

@@ -1,5 +1,5 @@
 -- What is found of the lines of a list, and the report that it adds up to.
-use Rattle.std.specs.Prelude.{◌≡◌, ℕ, ◌+◌, ◌-◌, ◌^◌, Bool, true, false, List, [], ◌∷◌, min}
+use Rattle.std.specs.Prelude.{◌≡◌, ℕ, ◌+◌, ◌-◌, ◌^◌, Bool, true, false, ◌&&◌, List, [], ◌∷◌, min, if◌then◌else◌}
 use Rattle.xxhsum_line.specs.Entry.{Says, SaysNothing, is_comment}
 use Rattle.xxh_io.specs.declared.kind.Kind.{Kind}
 use Rattle.xxh_io.specs.Rules.{SourceRules}
@@ -7,6 +7,7 @@ use Rattle.xxhsum_program.specs.declared.check.Report.{Report}
 use Rattle.xxhsum_program.specs.declared.entry.Found.{Found}
 use Rattle.xxhsum_program.specs.declared.entry.Found.TheVariants.{Same, Different, Unread}
 use Rattle.xxhsum_program.specs.Found.{IsFound}
+use Rattle.xxhsum_program.specs.Outcomes.{has_no_file}
 use Rattle.xxhsum_files.specs.Rules.{StoreRules}
 
 -- a line is a comment, or malformed, or names a file that was found like this
@@ -27,32 +28,33 @@ IsFinding opening reading store is_little line (Proper name found) =
 abbrev pub one_more : ℕ → ℕ
 one_more count = min (count + 1) (2 ^ 64 - 1)
 
--- a proper line is counted by how its file was found
-abbrev pub count_found : Report → Found → Report
-count_found report Same = report
-count_found report Different = record report { different = one_more report.different }
-count_found report (Unread reason) = record report { unread = one_more report.unread }
+-- a proper line is counted by how its file was found; one that isn't there is neither read nor unread where it is ignored
+abbrev pub count_found : Bool → Report → Found → Report
+count_found ignores report Same = record report { same = one_more report.same }
+count_found ignores report Different = record report { different = one_more report.different }
+count_found ignores report (Unread reason) =
+    if ignores && has_no_file reason then report else record report { unread = one_more report.unread }
 
-abbrev pub count_proper : Report → Found → Report
-count_proper report found = count_found (record report { proper = one_more report.proper }) found
+abbrev pub count_proper : Bool → Report → Found → Report
+count_proper ignores report found = count_found ignores (record report { proper = one_more report.proper }) found
 
 -- a comment is counted as nothing
-abbrev pub count_one : Report → Finding → Report
-count_one report Ignored = report
-count_one report Improper = record report { improper = one_more report.improper }
-count_one report (Proper name found) = count_proper report found
+abbrev pub count_one : Bool → Report → Finding → Report
+count_one ignores report Ignored = report
+count_one ignores report Improper = record report { improper = one_more report.improper }
+count_one ignores report (Proper name found) = count_proper ignores report found
 
 -- ---- a report of all
 
 abbrev pub no_findings : Report
-no_findings = record { proper = 0; improper = 0; unread = 0; different = 0; is_broken = false }
+no_findings = record { proper = 0; improper = 0; unread = 0; same = 0; different = 0; is_broken = false }
 
-abbrev pub add_up : Report → List Finding → Report
-add_up report [] = report
-add_up report (finding ∷ findings) = add_up (count_one report finding) findings
+abbrev pub add_up : Bool → Report → List Finding → Report
+add_up ignores report [] = report
+add_up ignores report (finding ∷ findings) = add_up ignores (count_one ignores report finding) findings
 
-abbrev pub report_of : List Finding → Report
-report_of findings = add_up no_findings findings
+abbrev pub report_of : Bool → List Finding → Report
+report_of ignores findings = add_up ignores no_findings findings
 
 -- the list breaks off behind what was found
 abbrev pub with_broken_end : Report → Report

@@ -1,10 +1,10 @@
 -- How the file of a line is, beside what the line says.
-use Rattle.std.specs.Prelude.{◌≢◌, ℕ, List}
+use Rattle.std.specs.Prelude.{◌≢◌, ℕ, Bool, false, ◌&&◌, List}
 use Rattle.xxh_io.specs.declared.kind.Kind.{Kind}
 use Rattle.xxh_io.specs.Rules.{SourceRules}
 use Rattle.xxhsum_program.specs.declared.entry.Found.{Found}
 use Rattle.xxhsum_program.specs.declared.entry.Found.TheVariants.{Same, Different, Unread}
-use Rattle.xxhsum_program.specs.Outcomes.{HasNoValue, IsValueOf}
+use Rattle.xxhsum_program.specs.Outcomes.{HasNoValue, IsValueOf, has_no_file}
 use Rattle.xxhsum_files.specs.Rules.{StoreRules}
 
 -- the file of this name has this value of this kind, or another one, or none
@@ -15,3 +15,13 @@ IsFound opening reading store kind value name Different =
     (other : ℕ) × IsValueOf opening reading store kind name other × (other ≢ value)
 IsFound opening reading store kind value name (Unread reason) =
     HasNoValue opening reading store name reason
+
+-- whether there is no such file
+abbrev pub is_gone : Found → Bool
+is_gone Same = false
+is_gone Different = false
+is_gone (Unread reason) = has_no_file reason
+
+-- a file that isn't there is passed over where that is asked for, and no other is
+abbrev pub is_passed_over : Bool → Found → Bool
+is_passed_over ignores found = ignores && is_gone found

@@ -9,12 +9,12 @@ use Rattle.xxh_io.specs.Digest.{ReadsTo}
 use Rattle.xxh_io.specs.Rules.{SourceRules, SinkRules}
 use Rattle.xxh_program.specs.Kind.{value_of}
 use Rattle.xxh_program.specs.States.{most_reads}
-use Rattle.xxhsum_line.specs.declared.printed.Shape.{Shape}
+use Rattle.xxhsum_line.specs.declared.printed.Style.{Style}
 use Rattle.xxhsum_program.specs.declared.outcome.Outcome.{Outcome}
 use Rattle.xxhsum_program.specs.declared.stop.Stop.{Stop}
 use Rattle.xxhsum_program.specs.EachHas.{EachHas}
 use Rattle.xxhsum_program.specs.Outcomes.{Comes, are_digested}
-use Rattle.xxhsum_program.specs.Lines.{PrintsLine, PrintsLines, lines_of, printed_input, printed_line, told_input, told_line}
+use Rattle.xxhsum_program.specs.Lines.{PrintsLine, PrintsLines, lines_of, printed_input, told_input, told_line, written_line}
 use Rattle.xxhsum_program.specs.Told.{TellsOn}
 use Rattle.xxhsum_files.specs.Rules.{StoreRules}
 
@@ -37,19 +37,19 @@ HashesNames opening reading store kind names done rest outcomes result =
 -- Each of the names has its outcome. Standard output has the lines of those with a value, and standard error those of
 -- the others.
 abbrev pub SaysNames : {S F W E : Type 0} → StoreRules S F → SourceRules F → SinkRules W → SinkRules E → S → Kind
-    → Shape → List (List ℕ) → W → W → E → E → Result Bool Stop → Type 0
-SaysNames opening reading writing telling store kind shape names w_old w_new e_old e_new result =
+    → Style → List (List ℕ) → W → W → E → E → Result Bool Stop → Type 0
+SaysNames opening reading writing telling store kind style names w_old w_new e_old e_new result =
     (outcomes : List Outcome) × (done rest : List (List ℕ))
     × HashesNames opening reading store kind names done rest outcomes result
-    × PrintsLines writing (lines_of (printed_line kind shape) done outcomes) w_old w_new result
+    × PrintsLines writing (lines_of (written_line kind style) done outcomes) w_old w_new result
     × TellsOn telling (lines_of told_line done outcomes) e_old e_new
 
 -- A source was read to its end, or not. Standard output has the line of its value, or standard error why there is none;
 -- the answer is whether there is one.
-abbrev pub SaysInput : {R W E : Type 0} → SourceRules R → SinkRules W → SinkRules E → Kind → Shape → List ℕ → R → R → W
+abbrev pub SaysInput : {R W E : Type 0} → SourceRules R → SinkRules W → SinkRules E → Kind → Style → List ℕ → R → R → W
     → W → E → E → Result Bool Stop → Type 0
-SaysInput reading writing telling kind shape name r_old r_new w_old w_new e_old e_new result =
+SaysInput reading writing telling kind style name r_old r_new w_old w_new e_old e_new result =
     (pieces : List (List ℕ)) × (read : Result ℕ DigestError) × ReadsTo reading most_reads pieces r_old r_new read
     × IfOk result (λ all. all ≡ is_ok read)
-    × PrintsLine writing (printed_input kind shape name (value_of kind 0 (concat pieces)) read) w_old w_new result
+    × PrintsLine writing (printed_input kind style name (value_of kind 0 (concat pieces)) read) w_old w_new result
     × TellsOn telling (told_input read) e_old e_new

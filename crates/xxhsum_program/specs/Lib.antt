@@ -16,6 +16,7 @@ pub mod Progress
 pub mod Report
 pub mod Run
 pub mod Said
+pub mod Screen
 pub mod Task
 pub mod Told
 pub mod Watched

@@ -8,7 +8,8 @@ use Rattle.xxh_io.specs.declared.kind.Kind.{Kind}
 use Rattle.xxh_io.specs.Digest.{Took, Refused}
 use Rattle.xxh_io.specs.Rules.{SinkRules}
 use Rattle.xxhsum_line.specs.declared.printed.Shape.{Shape}
-use Rattle.xxhsum_line.specs.Printed.{line_of}
+use Rattle.xxhsum_line.specs.declared.printed.Style.{Style}
+use Rattle.xxhsum_line.specs.Printed.{line_of, styled_line}
 use Rattle.xxhsum_program.specs.declared.outcome.Outcome.{Outcome}
 use Rattle.xxhsum_program.specs.declared.outcome.Outcome.TheVariants.{Digested, IsDirectory, Unread}
 use Rattle.xxhsum_program.specs.declared.outcome.Reason.{Reason}
@@ -22,6 +23,12 @@ abbrev pub printed_line : Kind → Shape → List ℕ → Outcome → List ℕ
 printed_line kind shape name (Digested value) = line_of kind shape value name
 printed_line kind shape name IsDirectory = []
 printed_line kind shape name (Unread reason) = []
+
+-- the same in any style, which is that of a line feed or of a NUL
+abbrev pub written_line : Kind → Style → List ℕ → Outcome → List ℕ
+written_line kind style name (Digested value) = styled_line kind style value name
+written_line kind style name IsDirectory = []
+written_line kind style name (Unread reason) = []
 
 -- what could not be done with a file
 abbrev pub step_text : Reason → List ℕ
@@ -64,9 +71,9 @@ PrintsUnlessFailed writing lines old new result =
 -- ---- standard input
 
 -- its line on standard output: that of its value
-abbrev pub printed_input : Kind → Shape → List ℕ → ℕ → Result ℕ DigestError → List ℕ
-printed_input kind shape name value (Ok _) = line_of kind shape value name
-printed_input kind shape name value (Err e) = []
+abbrev pub printed_input : Kind → Style → List ℕ → ℕ → Result ℕ DigestError → List ℕ
+printed_input kind style name value (Ok _) = styled_line kind style value name
+printed_input kind style name value (Err e) = []
 
 -- its line on standard error: why it has no value
 abbrev pub told_input : Result ℕ DigestError → List ℕ

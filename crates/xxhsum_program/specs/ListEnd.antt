@@ -1,5 +1,5 @@
 -- How the lines of a list end, and the report of a list that ends so.
-use Rattle.std.specs.Prelude.{List}
+use Rattle.std.specs.Prelude.{Bool, List}
 use Rattle.xxhsum_program.specs.declared.check.Report.{Report}
 use Rattle.xxhsum_program.specs.Findings.{Finding, report_of, with_broken_end}
 
@@ -11,8 +11,8 @@ pub data ListEnd : Type 0 where
   FailedRead : ListEnd
 
 -- what the findings add up to: with a broken end where the list breaks off behind them
-abbrev pub report_at : ListEnd → List Finding → Report
-report_at Whole findings = report_of findings
-report_at TooMany findings = report_of findings
-report_at LongLine findings = with_broken_end (report_of findings)
-report_at FailedRead findings = with_broken_end (report_of findings)
+abbrev pub report_at : Bool → ListEnd → List Finding → Report
+report_at ignores Whole findings = report_of ignores findings
+report_at ignores TooMany findings = report_of ignores findings
+report_at ignores LongLine findings = with_broken_end (report_of ignores findings)
+report_at ignores FailedRead findings = with_broken_end (report_of ignores findings)

@@ -10,7 +10,7 @@ use Rattle.xxh_io.specs.Digest.{ReadsTo}
 use Rattle.xxh_io.specs.Rules.{SourceRules}
 use Rattle.xxh_program.specs.Kind.{value_of}
 use Rattle.xxh_program.specs.States.{most_reads}
-use Rattle.xxhsum_files.specs.Refusal.{refusal_text}
+use Rattle.xxhsum_files.specs.Refusal.{is_missing, refusal_text}
 use Rattle.xxhsum_files.specs.Rules.{StoreRules}
 use Rattle.xxhsum_program.specs.declared.outcome.Outcome.{Outcome}
 use Rattle.xxhsum_program.specs.declared.outcome.Outcome.TheVariants.{Digested, IsDirectory, Unread}
@@ -56,6 +56,12 @@ abbrev pub reason_text : Reason → List ℕ
 reason_text (Why.Unopened refusal) = refusal_text refusal
 reason_text Why.ReadFailed = codes "a failure occurred reading the input file"
 reason_text Why.TooLong = codes "the input file is too long"
+
+-- whether the reason is that there is no file of the name
+abbrev pub has_no_file : Reason → Bool
+has_no_file (Why.Unopened refusal) = is_missing refusal
+has_no_file Why.ReadFailed = false
+has_no_file Why.TooLong = false
 
 -- whether a name has a value
 abbrev pub is_digested : Outcome → Bool

@@ -1,10 +1,11 @@
 -- What a hashing run prints, and the check of it over the same files.
-use Rattle.std.specs.Prelude.{◌≡◌, ℕ, ◌-◌, ◌<◌, ◌≤◌, ◌^◌, Bool, true, List, Some, [], ◌∷◌, length}
+use Rattle.std.specs.Prelude.{◌≡◌, ℕ, ◌-◌, ◌<◌, ◌≤◌, ◌^◌, true, List, Some, [], ◌∷◌, length}
 use Rattle.std.specs.List.{AllByRecursion}
 use Rattle.xxh_io.specs.declared.kind.Kind.{Kind}
 use Rattle.xxh_io.specs.Rules.{SourceRules}
 use Rattle.xxhsum_line.specs.Parts.{Lacks}
 use Rattle.xxhsum_line.specs.declared.printed.Shape.{Shape}
+use Rattle.xxhsum_words.specs.declared.options.Options.{Options}
 use Rattle.xxhsum_program.specs.CheckList.{FindsLines, is_good_list}
 use Rattle.xxhsum_program.specs.EachHas.{EachHas}
 use Rattle.xxhsum_program.specs.Findings.{Finding, IsFinding}
@@ -38,11 +39,11 @@ abbrev pub IsName : List ℕ → Type 0
 IsName name = Lacks 0 name × (length name ≤ 16359)
 
 -- The names have their outcomes, of which one is a value; and the files stay as they are. Then a list that holds the lines
--- which are printed is good where its check comes to an end, strict or not.
+-- which are printed is good where its check comes to an end, by all options.
 abbrev pub PrintedIsGood : {S F R : Type 0} → StoreRules S F → SourceRules F → SourceRules R → Type 0
 PrintedIsGood {S} {F} {R} opening reading list_reading =
     (store : S) (kind : Kind) (shape : Shape) (names : List (List ℕ)) (outcomes : List Outcome) (source : R)
-    → (findings : List Finding) (end : ListEnd) (is_strict : Bool)
+    → (findings : List Finding) (end : ListEnd) (options : Options)
     → EachHas (Comes opening reading store kind) names outcomes
     → FilesStay opening reading store kind
     → AllByRecursion IsName names
@@ -51,4 +52,4 @@ PrintedIsGood {S} {F} {R} opening reading list_reading =
     → Holds list_reading source (lines_of (printed_line kind shape) names outcomes)
     → FindsLines (IsFinding opening reading store shape.is_little) list_reading source
     findings (Some end)
-    → is_good_list is_strict findings (Some end) ≡ true
+    → is_good_list options findings (Some end) ≡ true

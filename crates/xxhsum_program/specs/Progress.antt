@@ -1,5 +1,6 @@
 -- What is shown of the reading of a long file.
-use Rattle.std.specs.Prelude.{◌≡◌, ℕ, ◌+◌, ◌-◌, ◌^◌, ◌/◌, Bool, true, false, List, [], ◌++◌, codes, decimal, if◌then◌else◌, min, nat_eq, nat_lt}
+use Rattle.std.specs.Prelude.{◌≡◌, ℕ, ◌+◌, ◌-◌, ◌*◌, ◌^◌, ◌/◌, Bool, true, false, List, [], ◌∷◌, ◌++◌, Option, Some, None, codes, decimal, if◌then◌else◌, max, min, nat_eq, nat_lt}
+use Rattle.std.specs.List.{concat}
 use Rattle.xxhsum_program.specs.declared.progress.Meter.{Meter}
 use Rattle.xxhsum_program.specs.Told.{TellsOn}
 use Rattle.xxh_io.specs.Rules.{SinkRules}
@@ -16,14 +17,41 @@ is_shown meter = meter.is_on
 abbrev pub bytes_read : {E : Type 0} → Meter E → ℕ
 bytes_read meter = meter.count
 
+-- how many bytes it expects, where that is known
+abbrev pub bytes_expected : {E : Type 0} → Meter E → Option ℕ
+bytes_expected meter = meter.size
+
+-- when the reading began, in milliseconds
+abbrev pub begun : {E : Type 0} → Meter E → ℕ
+begun meter = meter.started
+
 -- the count after a read, which stays at the largest number of 64 bits
 abbrev pub count_after : ℕ → ℕ → ℕ
 count_after before count = min (before + count) (2 ^ 64 - 1)
 
--- the line of a count, in MiB, where a multiple of 64 MiB comes behind the count before
-abbrev pub progress_line : ℕ → ℕ → List ℕ
-progress_line before count =
-    if nat_lt (before / 67108864) (count / 67108864) then codes "\r" ++ decimal (count / 1048576) ++ codes " MiB\r" else []
+-- how many KiB a second were read, of so many bytes in so many milliseconds
+abbrev pub rate_of : ℕ → ℕ → ℕ
+rate_of count millis = count / 1024 * 1000 / max millis 1
+
+-- a count in MiB and a rate in MiB a second, on a cleared line
+abbrev pub rate_text : ℕ → ℕ → List ℕ
+rate_text count rate =
+    concat (codes "\r                                                                      \r"
+    ∷ decimal (count / 1048576) ∷ codes " MiB, " ∷ decimal (rate / 1024) ∷ codes " MiB/s" ∷ [])
+
+-- how many seconds the rest lasts at this rate, where the size is known
+abbrev pub left_text : Option ℕ → ℕ → ℕ → List ℕ
+left_text None count rate = []
+left_text (Some size) count rate =
+    if nat_lt 0 rate then codes ", " ++ decimal ((size - count) / 1024 / rate) ++ codes " s left" else []
+
+abbrev pub line_text : Option ℕ → ℕ → ℕ → List ℕ
+line_text size count rate = (rate_text count rate ++ left_text size count rate) ++ codes "\r"
+
+-- the line of a count where a multiple of 64 MiB comes behind the count before
+abbrev pub progress_line : Option ℕ → ℕ → ℕ → ℕ → List ℕ
+progress_line size millis before count =
+    if nat_lt (before / 67108864) (count / 67108864) then line_text size count (rate_of count millis) else []
 
 -- what takes the line away, where this count had one: 70 spaces
 abbrev pub cleared : ℕ → List ℕ
@@ -33,15 +61,20 @@ cleared count =
     else codes "\r                                                                      \r"
 
 -- what is shown of a read of so many bytes: its line, or, at the end, what takes the last line away
-abbrev pub shown_text : Bool → ℕ → ℕ → List ℕ
-shown_text false before count = []
-shown_text true before count =
-    if nat_eq count 0 then cleared before else progress_line before (count_after before count)
+abbrev pub shown_text : Bool → Option ℕ → ℕ → ℕ → ℕ → List ℕ
+shown_text false size millis before count = []
+shown_text true size millis before count =
+    if nat_eq count 0 then cleared before else progress_line size millis before (count_after before count)
 
--- a read of so many bytes was counted and shown; without a place to show it nothing was written
-abbrev pub Shows : {E : Type 0} → SinkRules E → ℕ → Meter E → Meter E → Type 0
-Shows telling count old new =
-    (is_shown new ≡ is_shown old)
+-- a read of so many bytes was counted, and shown by this time; without a place to show it nothing was written
+abbrev pub Shows : {E : Type 0} → SinkRules E → ℕ → ℕ → Meter E → Meter E → Type 0
+Shows telling count now old new =
+    (is_shown new ≡ is_shown old) × (bytes_expected new ≡ bytes_expected old) × (begun new ≡ begun old)
     × (bytes_read new ≡ count_after (bytes_read old) count)
     × (is_shown old ≡ false → end_of new ≡ end_of old)
-    × TellsOn telling (shown_text (is_shown old) (bytes_read old) count) (end_of old) (end_of new)
+    × TellsOn telling (shown_text (is_shown old) (bytes_expected old) (now - begun old) (bytes_read old) count)
+    (end_of old) (end_of new)
+
+-- the same by some time
+abbrev pub ShowsSometime : {E : Type 0} → SinkRules E → ℕ → Meter E → Meter E → Type 0
+ShowsSometime telling count old new = (now : ℕ) × Shows telling count now old new

@@ -2,9 +2,8 @@
 use Rattle.std.specs.Prelude.{◌≡◌, ℕ, Bool, true, false, List, [], codes}
 use Rattle.std.specs.declared.result.Result.{Result}
 use Rattle.std.specs.declared.result.Result.TheVariants.{Ok, Err}
-use Rattle.xxh_io.specs.declared.from_write.FromWrite.{FromWrite}
 use Rattle.xxh_io.specs.Rules.{SourceRules, SinkRules}
-use Rattle.xxhsum_line.specs.declared.printed.Shape.{Shape}
+use Rattle.xxhsum_line.specs.declared.printed.Style.{Style}
 use Rattle.xxhsum_words.specs.declared.options.Options.{Options}
 use Rattle.xxhsum_program.specs.declared.stop.Stop.{Stop}
 use Rattle.xxhsum_program.specs.declared.stop.Stop.TheVariants.{WriteFailed, OutOfMemory}
@@ -18,8 +17,11 @@ use Rattle.xxhsum_program.specs.Told.{TellsOn}
 use Rattle.xxhsum_program.specs.Watched.{files_of, meter_of, shows_reads, source_of, watched_opening, watched_reading}
 use Rattle.xxhsum_files.specs.Rules.{StoreRules}
 
-abbrev pub shape_of : Options → Shape
-shape_of options = record { is_tagged = options.is_tagged; is_little = options.is_little_endian }
+abbrev pub style_of : Options → Style
+style_of options = record {
+  shape = record { is_tagged = options.is_tagged; is_little = options.is_little_endian };
+  ends_in_nul = options.ends_in_nul;
+}
 
 -- what standard input is called
 abbrev pub input_name : List ℕ
@@ -34,20 +36,20 @@ PerformsAs opening reading input_reading writing telling store options names sou
     SaysLists opening reading writing telling store options names w_old w_new e_old e_new result
 PerformsAs {S} {F} {R} opening reading input_reading writing telling store options names source w_old w_new e_old e_new
     result false true =
-    (end : R) × SaysInput input_reading writing telling options.kind (shape_of options) input_name source end w_old w_new
+    (end : R) × SaysInput input_reading writing telling options.kind (style_of options) input_name source end w_old w_new
     e_old e_new result
 PerformsAs opening reading input_reading writing telling store options names source w_old w_new e_old e_new result false
     false =
-    SaysNames opening reading writing telling store options.kind (shape_of options) names w_old w_new e_old e_new result
+    SaysNames opening reading writing telling store options.kind (style_of options) names w_old w_new e_old e_new result
 
--- the same over files and an input that are watched, whose reads are shown on a writer T or not
+-- the same over files and an input that are watched, whose reads are shown on a screen T or not
 unfoldable pub PerformsWatched : {S F R W E : Type 0} → (T : Type 0) → StoreRules S F → SourceRules F → SourceRules R
     → SinkRules W → SinkRules E → S → R → W → W → E → E → Result Bool Stop → Options → List (List ℕ) → Bool → Type 0
 PerformsWatched {S} {F} {R} T opening reading input_reading writing telling store input w_old w_new e_old e_new result
     options names shows =
-    (files : WatchedFiles S T) × (source : Watched R (FromWrite T)) × (files_of files ≡ store)
+    (files : WatchedFiles S T) × (source : Watched R T) × (files_of files ≡ store)
     × (shows_reads files ≡ shows) × (source_of source ≡ input) × (is_shown (meter_of source) ≡ shows)
-    × PerformsAs {F = Watched F (FromWrite T)} (watched_opening opening) (watched_reading reading)
+    × PerformsAs {F = Watched F T} (watched_opening opening) (watched_reading reading)
     (watched_reading input_reading) writing telling files options names source w_old w_new e_old e_new result
     options.checks (has_none names)
 

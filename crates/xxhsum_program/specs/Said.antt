@@ -11,7 +11,9 @@ use Rattle.xxhsum_program.specs.declared.entry.Found.{Found}
 use Rattle.xxhsum_program.specs.declared.entry.Found.TheVariants.{Same, Different, Unread}
 use Rattle.xxhsum_program.specs.Findings.{Finding, Ignored, Improper, Proper, report_of}
 use Rattle.xxhsum_program.specs.ListEnd.{ListEnd, Whole, TooMany, LongLine, FailedRead, report_at}
+use Rattle.xxhsum_program.specs.Found.{is_passed_over}
 use Rattle.xxhsum_program.specs.Outcomes.{reason_text}
+use Rattle.xxhsum_program.specs.Report.{is_unverified}
 
 -- ---- a line
 
@@ -36,12 +38,16 @@ found_text is_quiet list number name Same = if is_quiet then [] else named_text 
 found_text is_quiet list number name Different = named_text name (codes ": FAILED\n")
 found_text is_quiet list number name (Unread reason) = unread_text list number name (reason_text reason)
 
+-- nothing is said of how a file is under `--status`, and of one that is passed over
+abbrev pub is_silent : Options → Found → Bool
+is_silent options found = options.is_status_only || is_passed_over options.ignores_missing found
+
 -- what is printed of a line
 abbrev pub printed_finding : Options → List ℕ → ℕ → Finding → List ℕ
 printed_finding options list number Ignored = []
 printed_finding options list number Improper = []
 printed_finding options list number (Proper name found) =
-    if options.is_status_only then [] else found_text options.is_quiet list number name found
+    if is_silent options found then [] else found_text options.is_quiet list number name found
 
 -- what is told of a line
 abbrev pub told_finding : Options → List ℕ → ℕ → Finding → List ℕ
@@ -72,6 +78,15 @@ printed_summary options report =
     (codes " computed checksums did NOT match\n")
     ∷ [])
 
+-- that no file of the list was verified, where those that aren't there are passed over: whatever else is asked for
+abbrev pub unverified_text : Options → List ℕ → Report → List ℕ
+unverified_text options list report =
+    if is_unverified options.ignores_missing report then list ++ codes ": no file was verified\n" else []
+
+-- all that is printed behind the lines
+abbrev pub summary_text : Options → List ℕ → Report → List ℕ
+summary_text options list report = printed_summary options report ++ unverified_text options list report
+
 -- whether the list is one at all
 abbrev pub told_summary : List ℕ → Report → List ℕ
 told_summary list report =
@@ -90,29 +105,31 @@ told_break list number report FailedRead =
 
 -- ---- a list, as far as its check has come: to the end of its lines, or to the summary behind them
 
-abbrev pub printed_end : Options → List Finding → Option ListEnd → List ℕ
-printed_end options findings None = []
-printed_end options findings (Some end) = printed_summary options (report_at end findings)
+abbrev pub printed_end : Options → List ℕ → List Finding → Option ListEnd → List ℕ
+printed_end options list findings None = []
+printed_end options list findings (Some end) =
+    summary_text options list (report_at options.ignores_missing end findings)
 
-abbrev pub told_stop : List ℕ → List Finding → Option ListEnd → List ℕ
-told_stop list findings None = []
-told_stop list findings (Some end) = told_break list (length findings + 1) (report_of findings) end
+abbrev pub told_stop : Options → List ℕ → List Finding → Option ListEnd → List ℕ
+told_stop options list findings None = []
+told_stop options list findings (Some end) =
+    told_break list (length findings + 1) (report_of options.ignores_missing findings) end
 
-abbrev pub told_end : List ℕ → List Finding → Option ListEnd → List ℕ
-told_end list findings None = []
-told_end list findings (Some end) = told_summary list (report_at end findings)
+abbrev pub told_end : Options → List ℕ → List Finding → Option ListEnd → List ℕ
+told_end options list findings None = []
+told_end options list findings (Some end) = told_summary list (report_at options.ignores_missing end findings)
 
 -- what is told before the summary
 abbrev pub told_lines : Options → List ℕ → List Finding → Option ListEnd → List ℕ
 told_lines options list findings end =
-    numbered (told_finding options list) 1 findings ++ told_stop list findings end
+    numbered (told_finding options list) 1 findings ++ told_stop options list findings end
 
 abbrev pub printed_list : Options → List ℕ → List Finding → Option ListEnd → List ℕ
 printed_list options list findings end =
-    numbered (printed_finding options list) 1 findings ++ printed_end options findings end
+    numbered (printed_finding options list) 1 findings ++ printed_end options list findings end
 
 abbrev pub told_list : Options → List ℕ → List Finding → Option ListEnd → List ℕ
-told_list options list findings end = told_lines options list findings end ++ told_end list findings end
+told_list options list findings end = told_lines options list findings end ++ told_end options list findings end
 
 -- a list that can't be opened
 abbrev pub told_refusal : List ℕ → Refusal → List ℕ

@@ -7,7 +7,7 @@ use Rattle.xxh_io.specs.Rules.{SourceRules, SinkRules}
 use Rattle.xxhsum_program.specs.declared.progress.Meter.{Meter}
 use Rattle.xxhsum_program.specs.declared.watched.Watched.{Watched}
 use Rattle.xxhsum_program.specs.declared.watched.WatchedFiles.{WatchedFiles}
-use Rattle.xxhsum_program.specs.Progress.{Shows, bytes_read, is_shown}
+use Rattle.xxhsum_program.specs.Progress.{ShowsSometime, bytes_read, is_shown}
 use Rattle.xxhsum_files.specs.Rules.{StoreRules}
 
 -- what gives the bytes
@@ -28,8 +28,8 @@ shows_reads files = files.is_on
 
 -- a read was shown as that of so many bytes, and one that failed as that of none
 abbrev pub ShowsRead : {E : Type 0} → SinkRules E → Meter E → Meter E → Result ℕ Failed → Type 0
-ShowsRead telling old new (Ok count) = Shows telling count old new
-ShowsRead telling old new (Err e) = Shows telling 0 old new
+ShowsRead telling old new (Ok count) = ShowsSometime telling count old new
+ShowsRead telling old new (Err e) = ShowsSometime telling 0 old new
 
 -- the meter of a file that is not read yet
 abbrev pub IsFresh : {S W E : Type 0} → WatchedFiles S W → Meter E → Type 0

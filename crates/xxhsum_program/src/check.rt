@@ -5,8 +5,8 @@ ghost use Rattle.xxhsum_program.specs.CheckList.{AnswersList, AnswersOutcome, Ch
 ghost use Rattle.xxhsum_program.specs.Findings.{Finding, Improper, IsFinding, count_one, count_proper, no_findings, with_broken_end};
 ghost use Rattle.xxhsum_program.specs.Lines.{PrintsLine, PrintsLines};
 ghost use Rattle.xxhsum_program.specs.ListEnd.{FailedRead, ListEnd};
-ghost use Rattle.xxhsum_program.specs.Report.{is_good};
-ghost use Rattle.xxhsum_program.specs.Said.{count_text, found_text, named_text, numbered, printed_finding, printed_list, printed_summary, told_break, told_finding, told_lines, told_list, told_of_line, told_summary, unread_text};
+ghost use Rattle.xxhsum_program.specs.Report.{is_good, is_unverified, passes};
+ghost use Rattle.xxhsum_program.specs.Said.{count_text, found_text, is_silent, named_text, numbered, printed_finding, printed_list, printed_summary, summary_text, told_break, told_finding, told_lines, told_list, told_of_line, told_summary, unread_text, unverified_text};
 ghost use Rattle.xxhsum_program.specs.Told.{TellsOn};
 
 use crate::entry::{Found, compare};
@@ -30,8 +30,11 @@ pub struct Report {
     pub proper: u64,
     /// Other lines that are no comments.
     pub improper: u64,
-    /// Proper lines whose file could not be opened, or not be read to its end.
+    /// Proper lines whose file could not be opened, or not be read to its end. Where files that aren't there are passed
+    /// over, those aren't counted.
     pub unread: u64,
+    /// Proper lines whose file has their value.
+    pub same: u64,
     /// Proper lines whose file has another value.
     pub different: u64,
     /// The list ends with a line that is too long, or a read of it failed.
@@ -47,20 +50,25 @@ impl Report {
             proper: 0,
             improper: 0,
             unread: 0,
+            same: 0,
             different: 0,
             is_broken: false,
         }
     }
 
-    // Counts a proper line by how its file is.
-    fn count(&mut self, found: &Found)
-        ensures { self.new ≡ count_proper self.old found.now }
+    // Counts a proper line by how its file is, and one that is passed over neither as read nor as unread.
+    fn count(&mut self, found: &Found, ignores_missing: bool)
+        ensures { self.new ≡ count_proper ignores_missing self.old found.now }
     {
         self.proper = self.proper.saturating_add(1);
         match found {
-            Found::Same => {}
+            Found::Same => self.same = self.same.saturating_add(1),
             Found::Different => self.different = self.different.saturating_add(1),
-            Found::Unread(_) => self.unread = self.unread.saturating_add(1),
+            Found::Unread(reason) => {
+                if !(ignores_missing && reason.is_missing()) {
+                    self.unread = self.unread.saturating_add(1);
+                }
+            }
         }
     }
 
@@ -85,6 +93,20 @@ impl Report {
             && (!is_strict || self.improper == 0)
             && !self.is_broken
     }
+
+    // Whether no file has its value, where those that aren't there are passed over.
+    fn is_unverified(&self, ignores_missing: bool) -> bool
+        ensures { result ≡ is_unverified ignores_missing self.now }
+    {
+        ignores_missing && self.same == 0
+    }
+
+    // Whether the list is good by these options: under `--ignore-missing` a file of it has to have its value.
+    fn passes(&self, options: Options) -> bool
+        ensures { result ≡ passes options self.now }
+    {
+        self.is_good(options.is_strict) && !self.is_unverified(options.ignores_missing)
+    }
 }
 
 // A list that is checked.
@@ -108,7 +130,7 @@ impl<S: Store> ListCheck<'_, S> {
         ensures checks { (findings : List Finding) × (end : Option ListEnd)
             × FindsLines (IsFinding S.Store S.File.Source self.now.store.now
             self.now.options.is_little_endian) R.Source source findings end
-            × AnswersList self.now.options.is_strict findings end result
+            × AnswersList self.now.options findings end result
             × PrintsLines W.Sink (printed_list self.now.options self.now.name.now findings end)
             out.old out.new result
             × TellsOn E.Sink (told_list self.now.options self.now.name.now findings end)
@@ -117,7 +139,7 @@ impl<S: Store> ListCheck<'_, S> {
     {
         let report = self.check_lines(source, out, err)?;
         self.sum_up(&report, out, err)?;
-        Ok(report.is_good(self.options.is_strict))
+        Ok(report.passes(self.options))
     }
 
     // Checks the lines of a source, up to its end or the first that is too long, or as many as a number can count.
@@ -131,7 +153,7 @@ impl<S: Store> ListCheck<'_, S> {
         ensures checks { (findings : List Finding) × (end : Option ListEnd)
             × FindsLines (IsFinding S.Store S.File.Source self.now.store.now
             self.now.options.is_little_endian) R.Source source findings end
-            × ReportsLines findings end result
+            × ReportsLines self.now.options.ignores_missing findings end result
             × PrintsLines W.Sink
             (numbered (printed_finding self.now.options self.now.name.now) 1 findings)
             out.old out.new result
@@ -188,8 +210,8 @@ impl<S: Store> ListCheck<'_, S> {
             }
         };
         let found = compare(self.store, &entry, buf);
-        report.count(&found);
-        if self.options.is_status_only {
+        report.count(&found, self.options.ignores_missing);
+        if is_silent(self.options, &found) {
             return Ok(());
         }
         self.say_found(number, &entry.name, &found, out)
@@ -197,7 +219,7 @@ impl<S: Store> ListCheck<'_, S> {
 
     // Counts a line that is malformed, and tells it where that is asked for.
     fn count_improper<E: Sink>(&self, number: u64, report: &mut Report, err: &mut E)
-        ensures counts { report.new ≡ count_one report.old Improper }
+        ensures counts { report.new ≡ count_one self.now.options.ignores_missing report.old Improper }
         ensures tells { TellsOn E.Sink
             (told_finding self.now.options self.now.name.now number Improper) err.old err.new }
     {
@@ -252,8 +274,41 @@ impl<S: Store> ListCheck<'_, S> {
         );
     }
 
-    // Says how many lines are not as they should be, or that there is no list.
+    // Says what is to be said at a list's end.
     fn sum_up<W: Sink, E: Sink>(
+        &self,
+        report: &Report,
+        out: &mut W,
+        err: &mut E,
+    ) -> Result<(), Stop>
+        requires { W.has_failed out.old ≡ false }
+        ensures prints { PrintsLine W.Sink
+            (summary_text self.now.options self.now.name.now report.now) out.old out.new result }
+        ensures works { IfOk result (λ _. W.has_failed out.new ≡ false) }
+        ensures only { IfErr result (λ stop. stop ≡ Stop.WriteFailed) }
+        ensures tells { TellsOn E.Sink (told_summary self.now.name.now report.now) err.old err.new }
+    {
+        self.say_counts(report, out, err)?;
+        self.say_unverified(report, out)
+    }
+
+    // Says that no file of the list has its value, where those that aren't there are passed over.
+    fn say_unverified<W: Sink>(&self, report: &Report, out: &mut W) -> Result<(), Stop>
+        requires { W.has_failed out.old ≡ false }
+        ensures prints { PrintsLine W.Sink
+            (unverified_text self.now.options self.now.name.now report.now) out.old out.new result }
+        ensures works { IfOk result (λ _. W.has_failed out.new ≡ false) }
+        ensures only { IfErr result (λ stop. stop ≡ Stop.WriteFailed) }
+    {
+        if report.is_unverified(self.options.ignores_missing) {
+            print(self.name, out)?;
+            return print(b": no file was verified\n", out);
+        }
+        Ok(())
+    }
+
+    // Says how many lines are not as they should be, or that there is no list.
+    fn say_counts<W: Sink, E: Sink>(
         &self,
         report: &Report,
         out: &mut W,
@@ -298,6 +353,13 @@ impl<S: Store> ListCheck<'_, S> {
             out,
         )
     }
+}
+
+// Whether nothing is said of how a file is.
+fn is_silent(options: Options, found: &Found) -> bool
+    ensures { result ≡ is_silent options found.now }
+{
+    options.is_status_only || (options.ignores_missing && found.is_missing())
 }
 
 // Says a word of the file of this name, which stands as lists have it.
@@ -375,7 +437,8 @@ fn word_for<'a>(count: u64, one: &'a [u8], more: &'a [u8]) -> &'a [u8]
 /// Checks the lines of a list, which is told by this name: says for each proper line how its file is, and at the end
 /// how many lines are not as they should be. Answers whether the list is good, by what is found of each of its lines,
 /// up to its end, or to a line that is too long or a read of the list that fails. A file that can't be read is said to
-/// be so, and the next line is checked.
+/// be so, and the next line is checked. Under `--ignore-missing` nothing is said of a file that isn't there, and it isn't
+/// counted; a list of which no file has its value is then told and isn't good.
 ///
 /// # Errors
 ///
@@ -417,7 +480,7 @@ fn check_named<S: Store, W: Sink, E: Sink>(
     requires { W.has_failed out.old ≡ false }
     ensures checks { (outcome : ListOutcome)
         × IsListOutcome S.Store S.File.Source store.now options.is_little_endian name.now outcome
-        × AnswersOutcome options.is_strict outcome result
+        × AnswersOutcome options outcome result
         × PrintsLines W.Sink (printed_outcome options name.now outcome) out.old out.new result
         × TellsOn E.Sink (told_outcome options name.now outcome) err.old err.new }
     ensures works { IfOk result (λ _. W.has_failed out.new ≡ false) }

@@ -1,7 +1,7 @@
 //! One line of a list, beside the file that it names.
 
-ghost use Rattle.std.specs.Prelude.{◌<◌, length};
-ghost use Rattle.xxhsum_program.specs.Found.{IsFound};
+ghost use Rattle.std.specs.Prelude.{◌≡◌, ◌<◌, length};
+ghost use Rattle.xxhsum_program.specs.Found.{IsFound, is_gone};
 
 use crate::outcome::{Reason, value_named};
 use xxhsum_files::store::Store;
@@ -16,6 +16,18 @@ pub(crate) enum Found {
     Different,
     /// It has none: it could not be opened, or not be read to its end.
     Unread(Reason),
+}
+
+impl Found {
+    // Whether there is no such file.
+    pub(crate) fn is_missing(&self) -> bool
+        ensures { result ≡ is_gone self.now }
+    {
+        match self {
+            Found::Same | Found::Different => false,
+            Found::Unread(reason) => reason.is_missing(),
+        }
+    }
 }
 
 // Hashes the file that the line names, with reads that are offered the whole buffer.

@@ -2,7 +2,7 @@
 
 ghost use Rattle.std.specs.Prelude.{◌≡◌, false, map, IfOk};
 ghost use Rattle.xxhsum_program.specs.HashNames.{SaysInput, SaysNames};
-ghost use Rattle.xxhsum_program.specs.Lines.{PrintsLine, printed_line, told_line};
+ghost use Rattle.xxhsum_program.specs.Lines.{PrintsLine, told_line, written_line};
 ghost use Rattle.xxhsum_program.specs.Told.{TellsOn};
 
 use crate::outcome::{MAX_READS, OFFERED, Outcome, Reason, outcome_of};
@@ -14,7 +14,7 @@ use xxh_io::ends::{Sink, Source};
 use xxh_io::kind::Kind;
 use xxh_program::program::value_of_source;
 use xxhsum_files::store::Store;
-use xxhsum_line::printed::{Shape, digest_line};
+use xxhsum_line::printed::{Style, styled_line};
 
 /// Writes the digest line of each named file, in order, and tells of the names that have none, because they are
 /// directories, can't be opened or can't be read to their end. Answers whether all have one.
@@ -29,7 +29,7 @@ pub fn hash_names<S: Store, W: Sink, E: Sink>(
     alloc: Global,
     store: &S,
     kind: Kind,
-    shape: Shape,
+    style: Style,
     names: &[Vec<u8>],
     out: &mut W,
     err: &mut E,
@@ -38,14 +38,14 @@ pub fn hash_names<S: Store, W: Sink, E: Sink>(
 
     // There is one outcome a name, in their order; standard output has the lines of those that have a value, and
     // standard error those of the others.
-    ensures { SaysNames S.Store S.File.Source W.Sink E.Sink store.now kind shape
+    ensures { SaysNames S.Store S.File.Source W.Sink E.Sink store.now kind style
         (map (λ name. name.items) names.now) out.old out.new err.old err.new result }
 {
     let mut buf = [0; OFFERED];
     let mut all = true;
     for name in names {
         let outcome = outcome_of(store, kind, name, &mut buf);
-        print_outcome(alloc, kind, shape, name, &outcome, out)?;
+        print_outcome(alloc, kind, style, name, &outcome, out)?;
         tell_outcome(name, &outcome, err);
         all = all && outcome.is_digested();
     }
@@ -63,7 +63,7 @@ pub fn hash_names<S: Store, W: Sink, E: Sink>(
 pub fn hash_input<R: Source, W: Sink, E: Sink>(
     alloc: Global,
     kind: Kind,
-    shape: Shape,
+    style: Style,
     name: &[u8],
     input: &mut R,
     out: &mut W,
@@ -71,12 +71,12 @@ pub fn hash_input<R: Source, W: Sink, E: Sink>(
 ) -> Result<bool, Stop>
     requires reader { R.has_failed input.old ≡ false }
     requires writer { W.has_failed out.old ≡ false }
-    ensures { SaysInput R.Source W.Sink E.Sink kind shape name.now input.old input.new
+    ensures { SaysInput R.Source W.Sink E.Sink kind style name.now input.old input.new
         out.old out.new err.old err.new result }
 {
     match value_of_source(kind, 0, MAX_READS, input, &mut [0; OFFERED]) {
         Ok(value) => {
-            let line = digest_line(alloc, kind, shape, value, name)?;
+            let line = styled_line(alloc, kind, style, value, name)?;
             print(&line, out)?;
             Ok(true)
         }
@@ -91,19 +91,19 @@ pub fn hash_input<R: Source, W: Sink, E: Sink>(
 fn print_outcome<W: Sink>(
     alloc: Global,
     kind: Kind,
-    shape: Shape,
+    style: Style,
     name: &[u8],
     outcome: &Outcome,
     out: &mut W,
 ) -> Result<(), Stop>
     requires { W.has_failed out.old ≡ false }
-    ensures prints { PrintsLine W.Sink (printed_line kind shape name.now outcome.now)
+    ensures prints { PrintsLine W.Sink (written_line kind style name.now outcome.now)
         out.old out.new result }
     ensures works { IfOk result (λ _. W.has_failed out.new ≡ false) }
 {
     match outcome {
         Outcome::Digested { value } => {
-            let line = digest_line(alloc, kind, shape, *value, name)?;
+            let line = styled_line(alloc, kind, style, *value, name)?;
             print(&line, out)
         }
         Outcome::IsDirectory | Outcome::Unread { .. } => Ok(()),

@@ -12,6 +12,7 @@ pub mod printed_lists;
 pub mod process;
 pub mod progress;
 pub mod say;
+pub mod screen;
 pub mod stop;
 pub mod tell;
 mod usage;

@@ -54,7 +54,17 @@ impl Outcome {
 
 impl Reason {
     ghost use Rattle.xxhsum_program.specs.Lines.{step_text};
-    ghost use Rattle.xxhsum_program.specs.Outcomes.{reason_text};
+    ghost use Rattle.xxhsum_program.specs.Outcomes.{has_no_file, reason_text};
+
+    // Whether there is no file of the name.
+    pub(crate) fn is_missing(&self) -> bool
+        ensures { result ≡ has_no_file self.now }
+    {
+        match self {
+            Reason::Unopened { refusal } => refusal.is_missing(),
+            Reason::ReadFailed | Reason::TooLong => false,
+        }
+    }
 
     // It in words: the system's where the file can't be opened.
     pub(crate) fn text(&self) -> &[u8]

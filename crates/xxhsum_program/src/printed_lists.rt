@@ -26,7 +26,7 @@ pub fn laws_of_printed_lists<S: Store, R: Source + Drop>()
 
 /// A law, with nothing to run: what a hashing run prints of names, some of them with a value, is a good list while the
 /// files stay as they are. Whatever directories and files that could not be read stood among the names, each check of
-/// the list that comes to an end says so, strict or not. The names have no NUL and at most 16,359 bytes.
+/// the list that comes to an end says so, by all options. The names have no NUL and at most 16,359 bytes.
 pub fn printed_is_good<S: Store, R: Source + Drop>()
     ensures { PrintedIsGood S.Store S.File.Source R.Source }
 {}

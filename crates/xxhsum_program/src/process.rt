@@ -1,7 +1,7 @@
 //! The program over its arguments, a store of files and its ends.
 
 ghost use Rattle.std.specs.Prelude.{◌≡◌, false, Bool, List, ℕ, Option, Result, drop, map, IfSome};
-ghost use Rattle.xxhsum_program.specs.Run.{DoesTask, PerformsAs, PerformsWatched, end_text, shape_of, status_of, stop_text};
+ghost use Rattle.xxhsum_program.specs.Run.{DoesTask, PerformsAs, PerformsWatched, end_text, status_of, stop_text, style_of};
 ghost use Rattle.xxhsum_program.specs.Task.{IsProgram, answer_text, has_none, is_well, run_asked, shows_progress, task_of, usage_text, waits_for_terminal};
 ghost use Rattle.xxhsum_program.specs.Told.{TellsOn};
 ghost use Rattle.xxhsum_program.specs.declared.stop.Stop.{Stop};
@@ -9,17 +9,16 @@ ghost use Rattle.xxhsum_program.specs.declared.stop.Stop.{Stop};
 use crate::arguments::last_part;
 use crate::check::{check_list, check_lists};
 use crate::hash::{hash_input, hash_names};
-use crate::progress::Meter;
+use crate::progress::{Meter, time_of};
+use crate::screen::Ticks;
 use crate::stop::Stop;
 use crate::tell::{tell, tell_parts};
 use crate::usage::{ABOUT, NO_BENCHMARK, OPTIONS, TITLE};
 use crate::watched::{Watched, WatchedFiles};
 use std::alloc::Global;
-use std::io::Write;
 use xxh_io::ends::{Sink, Source};
-use xxh_io::from_write::FromWrite;
 use xxhsum_files::store::Store;
-use xxhsum_line::printed::Shape;
+use xxhsum_line::printed::{Shape, Style};
 use xxhsum_words::name::default_kind;
 use xxhsum_words::options::{Asked, Options, asked_by};
 
@@ -58,7 +57,7 @@ where
     R: Source + Drop,
     W: Sink,
     E: Sink,
-    T: Write + Copy + Drop,
+    T: Sink + Ticks + Copy + Drop,
     requires reader { R.has_failed input ≡ false }
     requires writer { W.has_failed out.old ≡ false }
     ensures { let arguments = map (λ argument. argument.items) args.now in (program : List ℕ)
@@ -202,14 +201,14 @@ where
     R: Source + Drop,
     W: Sink,
     E: Sink,
-    T: Write + Copy + Drop,
+    T: Sink + Ticks + Copy + Drop,
     requires reader { R.has_failed input ≡ false }
     requires writer { W.has_failed out.old ≡ false }
     ensures { PerformsWatched T S.Store S.File.Source R.Source W.Sink E.Sink store.now input
         out.old out.new err.old err.new result options (map (λ name. name.items) names.now) shows }
 {
     let files = WatchedFiles::new(store, screen, shows);
-    let meter = Meter::new(FromWrite::new(screen), shows);
+    let meter = Meter::new(screen, shows, None, time_of(&screen, shows));
     let input = Watched::new(input, meter);
     perform(alloc, &files, options, names, input, out, err)
 }
@@ -243,19 +242,23 @@ where
         }
         return check_lists(alloc, store, options, names, out, err);
     }
-    let shape = shape_of(options);
+    let style = style_of(options);
     if has_none(names) {
-        return hash_input(alloc, options.kind, shape, INPUT, &mut input, out, err);
+        return hash_input(alloc, options.kind, style, INPUT, &mut input, out, err);
     }
-    hash_names(alloc, store, options.kind, shape, names, out, err)
+    hash_names(alloc, store, options.kind, style, names, out, err)
 }
 
-fn shape_of(options: Options) -> Shape
-    ensures { result ≡ shape_of options }
+/// How the options want lines to be written.
+pub fn style_of(options: Options) -> Style
+    ensures { result ≡ style_of options }
 {
-    Shape {
-        is_tagged: options.is_tagged,
-        is_little: options.is_little_endian,
+    Style {
+        shape: Shape {
+            is_tagged: options.is_tagged,
+            is_little: options.is_little_endian,
+        },
+        ends_in_nul: options.ends_in_nul,
     }
 }
 

@@ -1,9 +1,10 @@
 //! How much of a long file was read so far, on standard error where that is a terminal.
 
-ghost use Rattle.std.specs.Prelude.{◌≡◌};
-ghost use Rattle.xxhsum_program.specs.Progress.{Shows, bytes_read, end_of, is_shown, progress_line, cleared};
+ghost use Rattle.std.specs.Prelude.{◌≡◌, ◌<◌};
+ghost use Rattle.xxhsum_program.specs.Progress.{Shows, ShowsSometime, begun, bytes_expected, bytes_read, cleared, end_of, is_shown, left_text, progress_line, rate_of, rate_text};
 ghost use Rattle.xxhsum_program.specs.Told.{TellsOn};
 
+use crate::screen::Ticks;
 use crate::tell::{tell, tell_parts};
 use itoa::Buffer;
 use xxh_io::ends::Sink;
@@ -13,29 +14,39 @@ const STEP: u64 = 67108864;
 
 const MIB: u64 = 1048576;
 
+const KIB: u64 = 1024;
+
 // An empty line, with the cursor at its beginning.
 const CLEARED: &[u8] =
     b"\r                                                                      \r";
 
-/// Counts what is read of a file, and shows it on an end at each 64 MiB, or nowhere.
+/// Counts what is read of a file, and shows it on an end at each 64 MiB, with how fast it is read and, where its size is
+/// known, how long that will last; or nowhere.
 #[derive(Drop)]
 pub struct Meter<E> {
     end: E,
     is_on: bool,
     count: u64,
+    size: Option<u64>,
+    // When the reading began, in milliseconds.
+    started: u64,
 }
 
 impl<E: Sink> Meter<E> {
-    /// Nothing is read yet.
-    pub fn new(end: E, is_on: bool) -> Meter<E>
+    /// Nothing is read yet of so many bytes, if that is known, and the clock stands at so many milliseconds.
+    pub fn new(end: E, is_on: bool, size: Option<u64>, started: u64) -> Meter<E>
         ensures end { end_of result ≡ end }
         ensures shown { is_shown result ≡ is_on }
         ensures unread { bytes_read result ≡ 0 }
+        ensures size { bytes_expected result ≡ size }
+        ensures started { begun result ≡ started }
     {
         Meter {
             end,
             is_on,
             count: 0,
+            size,
+            started,
         }
     }
 
@@ -47,13 +58,16 @@ impl<E: Sink> Meter<E> {
             end,
             is_on: _,
             count: _,
+            size: _,
+            started: _,
         } = self;
         end
     }
 
-    /// Counts a read of so many bytes. One of none takes the line away, where there is one.
-    pub fn show(&mut self, count: usize)
-        ensures { Shows E.Sink count self.old self.new }
+    /// Counts a read of so many bytes, behind which the clock stands at so many milliseconds. One of none takes the line
+    /// away, where there is one.
+    pub fn show_at(&mut self, count: usize, now: u64)
+        ensures { Shows E.Sink count now self.old self.new }
     {
         let before = self.count;
         self.count = before.saturating_add(count as u64);
@@ -61,20 +75,70 @@ impl<E: Sink> Meter<E> {
             if count == 0 {
                 clear_after(before, &mut self.end);
             } else {
-                show_between(before, self.count, &mut self.end);
+                let millis = now.saturating_sub(self.started);
+                show_between(before, self.count, self.size, millis, &mut self.end);
             }
         }
     }
 }
 
+impl<E: Sink + Ticks> Meter<E> {
+    /// Counts a read of so many bytes, by the time that its end tells. One of none takes the line away.
+    pub fn show(&mut self, count: usize)
+        ensures { ShowsSometime E.Sink count self.old self.new }
+    {
+        let now = time_of(&self.end, self.is_on);
+        self.show_at(count, now);
+    }
+}
+
+/// The time, which is asked for only where progress is shown.
+pub(crate) fn time_of<E: Ticks>(end: &E, is_on: bool) -> u64 {
+    if is_on { end.now() } else { 0 }
+}
+
+// How many KiB a second were read, of so many bytes in so many milliseconds.
+fn rate_of(count: u64, millis: u64) -> u64
+    ensures { result ≡ rate_of count millis }
+{
+    count / KIB * 1000 / millis.max(1)
+}
+
 // Shows the second count where a step ends between both.
-fn show_between<E: Sink>(before: u64, count: u64, end: &mut E)
-    ensures { TellsOn E.Sink (progress_line before count) end.old end.new }
+fn show_between<E: Sink>(before: u64, count: u64, size: Option<u64>, millis: u64, end: &mut E)
+    ensures { TellsOn E.Sink (progress_line size millis before count) end.old end.new }
 {
     if before / STEP < count / STEP {
+        let rate = rate_of(count, millis);
+        show_rate(count, rate, end);
+        show_left(size, count, rate, end);
+        tell(b"\r", end);
+    }
+}
+
+// Shows how much was read, and how fast.
+fn show_rate<E: Sink>(count: u64, rate: u64, end: &mut E)
+    ensures { TellsOn E.Sink (rate_text count rate) end.old end.new }
+{
+    let mut digits = Buffer::new();
+    let mut rate_digits = Buffer::new();
+    let number = digits.format(count / MIB).as_bytes();
+    let speed = rate_digits.format(rate / KIB).as_bytes();
+    tell_parts(&[CLEARED, number, b" MiB, ", speed, b" MiB/s"], end);
+}
+
+// Shows how many seconds the rest will last, where the size is known.
+fn show_left<E: Sink>(size: Option<u64>, count: u64, rate: u64, end: &mut E)
+    ensures { TellsOn E.Sink (left_text size count rate) end.old end.new }
+{
+    let Some(size) = size else {
+        return;
+    };
+    if rate > 0 {
         let mut digits = Buffer::new();
-        let number = digits.format(count / MIB).as_bytes();
-        tell_parts(&[b"\r", number, b" MiB\r"], end);
+        let seconds = size.saturating_sub(count) / KIB / rate;
+        let number = digits.format(seconds).as_bytes();
+        tell_parts(&[b", ", number, b" s left"], end);
     }
 }
 

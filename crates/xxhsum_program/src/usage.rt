@@ -12,10 +12,17 @@ Without a file, or with -, standard input is read.
 
   -H#                 the digest: 0 or 32, 1 or 64 (as without it), 2 or 128, 3 (XXH3 of 64 bits)
   -c, --check         the files are lists of digests, whose files are compared
+  --audit             the first file is a list, and the files behind it are put beside its lines
+  --files-from, --filelist
+                      the files are lists of names, a name a line
+  --files0-from       the same, each name ended by a NUL
   --tag               lines as BSD's programs write them
   --little-endian     digests with their lowest byte first
+  -z, --zero          lines end with a NUL, and names stand as they are; not with -c or --audit
+  --binary            nothing: files are read as they are
   -q, --quiet         no progress; with -c: no line for a file that is as it should be
   --status            no progress; with -c: no lines, the exit status alone
+  --ignore-missing    with -c: nothing is said or counted of a file that isn't there
   --strict            with -c: a line that is none makes the list a bad one
   -w, --warn          with -c: each such line is told
   -h, --help          this text

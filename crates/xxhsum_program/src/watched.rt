@@ -12,11 +12,11 @@ ghost use Rattle.xxhsum_program.specs.declared.outcome.Outcome.{Outcome};
 ghost use Rattle.xxhsum_program.specs.declared.stop.Stop.{Stop};
 ghost use Rattle.xxhsum_program.specs.declared.watched.Watched.{Watched};
 ghost use Rattle.xxhsum_program.specs.declared.watched.WatchedFiles.{WatchedFiles};
+ghost use Rattle.xxhsum_words.specs.declared.options.Options.{Options};
 
-use crate::progress::Meter;
-use std::io::Write;
+use crate::progress::{Meter, time_of};
+use crate::screen::Ticks;
 use xxh_io::ends::{Failed, Sink, Source};
-use xxh_io::from_write::FromWrite;
 use xxhsum_files::refusal::Refusal;
 use xxhsum_files::store::Store;
 
@@ -37,7 +37,7 @@ impl<R: Source, E: Sink> Watched<R, E> {
     }
 }
 
-impl<R: Source, E: Sink> Source for Watched<R, E> {
+impl<R: Source, E: Sink + Ticks> Source for Watched<R, E> {
     ghost has_failed = { λ watched. R.has_failed (source_of watched) };
 
     ghost gives = { λ old piece new. R.gives (source_of old) piece (source_of new) };
@@ -67,7 +67,7 @@ impl<R: Source, E: Sink> Source for Watched<R, E> {
     }
 }
 
-/// The files of a store, each watched by a meter of its own on one writer.
+/// The files of a store, each watched by a meter of its own on one screen.
 #[derive(Clone, Copy)]
 pub struct WatchedFiles<'a, S, W> {
     files: &'a S,
@@ -75,7 +75,7 @@ pub struct WatchedFiles<'a, S, W> {
     is_on: bool,
 }
 
-impl<'a, S: Store, W: Write + Copy + Drop> WatchedFiles<'a, S, W> {
+impl<'a, S: Store, W: Sink + Ticks + Copy + Drop> WatchedFiles<'a, S, W> {
     /// The files of this store. Where it is off, nothing is shown.
     pub fn new(files: &'a S, screen: W, is_on: bool) -> WatchedFiles<'a, S, W>
         ensures files { files_of result ≡ files.now }
@@ -89,8 +89,23 @@ impl<'a, S: Store, W: Write + Copy + Drop> WatchedFiles<'a, S, W> {
     }
 }
 
-impl<S: Store, W: Write + Copy + Drop> Store for WatchedFiles<'_, S, W> {
-    type File = Watched<S::File, FromWrite<W>>;
+impl<S: Store, W: Sink + Ticks + Copy + Drop> WatchedFiles<'_, S, W> {
+    // The meter of the file of this name, of which nothing is read yet.
+    fn meter_of(&self, name: &[u8]) -> Meter<W>
+        ensures { IsFresh self.now result }
+    {
+        let size = if self.is_on {
+            self.files.size(name)
+        } else {
+            None
+        };
+        let started = time_of(&self.screen, self.is_on);
+        Meter::new(self.screen, self.is_on, size, started)
+    }
+}
+
+impl<S: Store, W: Sink + Ticks + Copy + Drop> Store for WatchedFiles<'_, S, W> {
+    type File = Watched<S::File, W>;
 
     ghost opens = { λ files name file. S.opens (files_of files) name (source_of file)
         × IsFresh files (meter_of file) };
@@ -103,53 +118,54 @@ impl<S: Store, W: Write + Copy + Drop> Store for WatchedFiles<'_, S, W> {
         self.files.is_directory(name)
     }
 
-    fn open(&self, name: &[u8]) -> Result<Watched<S::File, FromWrite<W>>, Refusal> {
+    fn size(&self, name: &[u8]) -> Option<u64> {
+        self.files.size(name)
+    }
+
+    fn open(&self, name: &[u8]) -> Result<Watched<S::File, W>, Refusal> {
         match self.files.open(name) {
-            Ok(file) => {
-                let meter = Meter::new(FromWrite::new(self.screen), self.is_on);
-                Ok(Watched::new(file, meter))
-            }
+            Ok(file) => { Ok(Watched::new(file, self.meter_of(name))) }
             Err(refusal) => Err(refusal),
         }
     }
 }
 
 /// A law, with nothing to run: what a watched source gives its source gives.
-pub fn watched_pieces<R: Source, E: Sink>()
+pub fn watched_pieces<R: Source, E: Sink + Ticks>()
     ensures { (old new : Watched R E) (pieces : List (List ℕ))
         → Pieces ⟦<Watched<R, E> as Source>⟧.gives old pieces new
         → Pieces R.gives (source_of old) pieces (source_of new) }
 {}
 
 /// A law, with nothing to run: what a hashing run over watched files says it says of the files.
-pub fn watched_names<S: Store, W: Write + Copy + Drop>()
+pub fn watched_names<S: Store, W: Sink + Ticks + Copy + Drop>()
     ensures { (files : WatchedFiles S W) (kind : Kind) (names done rest : List (List ℕ))
         → (outcomes : List Outcome) → (result : Result Bool Stop)
         → HashesNames ⟦<WatchedFiles<'static, S, W> as Store>⟧
-        ⟦<Watched<S::File, FromWrite<W>> as Source>⟧ files kind names done rest outcomes result
+        ⟦<Watched<S::File, W> as Source>⟧ files kind names done rest outcomes result
         → HashesNames S.Store S.File.Source (files_of files) kind names done rest outcomes result }
 {}
 
 /// A law, with nothing to run: what the check of a watched list over watched files finds is found of the list and the
 /// files.
-pub fn watched_list<S: Store, W: Write + Copy + Drop, R: Source, E: Sink>()
+pub fn watched_list<S: Store, W: Sink + Ticks + Copy + Drop, R: Source, E: Sink + Ticks>()
     ensures { (files : WatchedFiles S W) (list : Watched R E) (is_little : Bool)
         → (findings : List Finding) (end : Option ListEnd)
         → FindsLines (IsFinding ⟦<WatchedFiles<'static, S, W> as Store>⟧
-        ⟦<Watched<S::File, FromWrite<W>> as Source>⟧ files is_little)
+        ⟦<Watched<S::File, W> as Source>⟧ files is_little)
         ⟦<Watched<R, E> as Source>⟧ list findings end
         → FindsLines (IsFinding S.Store S.File.Source (files_of files) is_little)
         R.Source (source_of list) findings end }
 {}
 
 /// A law, with nothing to run: what the check of watched lists says it says of the lists.
-pub fn watched_lists<S: Store, W: Write + Copy + Drop>()
-    ensures { (files : WatchedFiles S W) (is_little is_strict : Bool)
+pub fn watched_lists<S: Store, W: Sink + Ticks + Copy + Drop>()
+    ensures { (files : WatchedFiles S W) (is_little : Bool) (options : Options)
         → (names done rest : List (List ℕ)) (outcomes : List ListOutcome)
         → (result : Result Bool Stop)
         → ChecksLists ⟦<WatchedFiles<'static, S, W> as Store>⟧
-        ⟦<Watched<S::File, FromWrite<W>> as Source>⟧
-        files is_little is_strict names done rest outcomes result
-        → ChecksLists S.Store S.File.Source (files_of files) is_little is_strict names done rest
+        ⟦<Watched<S::File, W> as Source>⟧
+        files is_little options names done rest outcomes result
+        → ChecksLists S.Store S.File.Source (files_of files) is_little options names done rest
         outcomes result }
 {}

@@ -6,15 +6,18 @@ use xxh_io::kind::Kind;
 use xxh_io::script_sink::ScriptSink;
 use xxh_io::script_source::ScriptSource;
 use xxhsum_files::memory::{MemoryEntry, MemoryFiles};
-use xxhsum_line::printed::Shape;
+use xxhsum_line::printed::{Shape, Style};
 use xxhsum_program::check::{check_list, check_lists};
 use xxhsum_program::hash::{hash_input, hash_names};
 use xxhsum_program::stop::Stop;
 use xxhsum_words::options::{Asked, asked_by};
 
-const PLAIN: Shape = Shape {
-    is_tagged: false,
-    is_little: false,
+const PLAIN: Style = Style {
+    shape: Shape {
+        is_tagged: false,
+        is_little: false,
+    },
+    ends_in_nul: false,
 };
 
 const LIST: &[u8] =
@@ -111,9 +114,12 @@ fn a_failed_write_alone_stops_the_run(rt: HostRuntime) -> Result<(), AllocError>
 
 #[test]
 fn standard_input_has_its_line(rt: HostRuntime) {
-    let shape = Shape {
-        is_tagged: true,
-        is_little: false,
+    let style = Style {
+        shape: Shape {
+            is_tagged: true,
+            is_little: false,
+        },
+        ends_in_nul: false,
     };
     for (read_fails, printed, told) in [
         (0, b"XXH32 (stdin) = fb0077f9\n".as_slice(), b"".as_slice()),
@@ -129,7 +135,7 @@ fn standard_input_has_its_line(rt: HostRuntime) {
         let all = hash_input(
             rt.alloc(),
             Kind::X32,
-            shape,
+            style,
             b"stdin",
             &mut input,
             &mut out,

@@ -1,5 +1,5 @@
 //! What is shown of the reading of long files. The lines have the numbers that a reader of such a terminal would work
-//! out: a line at each 64 MiB, of so many MiB.
+//! out: a line at each 64 MiB, of so many MiB, MiB a second, and seconds for the rest.
 
 use crate::entry::entry;
 use crate::files::leads_to;
@@ -7,37 +7,42 @@ use xxh_io::script_sink::ScriptSink;
 use xxh_io::script_source::ScriptSource;
 use xxhsum_files::memory::MemoryFiles;
 use xxhsum_program::progress::Meter;
+use xxhsum_program::screen::Screen;
 use xxhsum_program::watched::WatchedFiles;
 
 const MIB: usize = 1048576;
 
-// Counts of reads, whether they are shown, and what is shown of them.
-const READS: &[(&[usize], bool, &str)] = &[
+// Counts of reads with the milliseconds at which they end, where the reading begins at 500; the size; whether they are
+// shown; and what is shown of them.
+const READS: &[(&[(usize, u64)], Option<u64>, bool, &str)] = &[
     (
-        &[63 * MIB, 1048575, 1, 0],
+        &[(63 * MIB, 600), (1048575, 700), (1, 756), (0, 800)],
+        None,
         true,
-        "\r64 MiB\r\r                                                                      \r",
+        "\r                                                                      \r64 MiB, 250 MiB/s\r\r                                                                      \r",
     ),
-    (&[63 * MIB, 1048575, 0], true, ""),
+    (&[(63 * MIB, 600), (1048575, 700), (0, 800)], None, true, ""),
     (
-        &[200 * MIB, 1, 56 * MIB, 0],
+        &[(200 * MIB, 1500), (1, 1501), (56 * MIB, 2500), (0, 2600)],
+        Some(1073741824),
         true,
-        "\r200 MiB\r\r256 MiB\r\r                                                                      \r",
+        "\r                                                                      \r200 MiB, 200 MiB/s, 4 s left\r\r                                                                      \r256 MiB, 128 MiB/s, 5 s left\r\r                                                                      \r",
     ),
-    (&[64 * MIB, 64 * MIB, 0], false, ""),
+    (&[(64 * MIB, 600), (64 * MIB, 700), (0, 800)], None, false, ""),
     (
-        &[usize::MAX, MIB, 0],
+        &[(usize::MAX, 500), (MIB, 501), (0, 502)],
+        Some(5),
         true,
-        "\r17592186044415 MiB\r\r                                                                      \r",
+        "\r                                                                      \r17592186044415 MiB, 17592186044415999 MiB/s, 0 s left\r\r                                                                      \r",
     ),
 ];
 
 #[test]
 fn long_reads_are_shown(rt: HostRuntime) {
-    for (reads, is_on, want) in READS {
-        let mut meter = Meter::new(ScriptSink::<300>::new(300, 0), *is_on);
-        for count in *reads {
-            meter.show(*count);
+    for (reads, size, is_on, want) in READS {
+        let mut meter = Meter::new(ScriptSink::<300>::new(300, 0), *is_on, *size, 500);
+        for (count, now) in *reads {
+            meter.show_at(*count, *now);
         }
         let end = meter.into_end();
         assert!(rt; end.bytes() == want.as_bytes(), "{want}");
@@ -54,7 +59,7 @@ fn watched_files_give_what_they_have(rt: HostRuntime) {
     let files = MemoryFiles::new(&entries);
     assert!(rt;
         leads_to(
-            &WatchedFiles::new(&files, rt.stderr(), true),
+            &WatchedFiles::new(&files, Screen::new(rt.stderr(), &rt), true),
             &[
                 (b"a", b"hel", false),
                 (b"d", b"fails", true),

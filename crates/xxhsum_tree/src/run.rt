@@ -13,15 +13,14 @@ ghost use Rattle.xxhsum_words.specs.Options.{asked_of};
 use crate::audit::audit_names;
 use crate::names::texts_named;
 use std::alloc::{AllocError, Global};
-use std::io::Write;
 use xxh_io::ends::{Sink, Source};
 use xxhsum_audit::parts::parts_of;
 use xxhsum_files::store::Store;
-use xxhsum_line::printed::Shape;
 use xxhsum_program::arguments::{Arguments, all_arguments};
 use xxhsum_program::check::check_lists;
 use xxhsum_program::hash::hash_names;
-use xxhsum_program::process::{Terminals, conclude, names_from, program_of, run_words, words_of};
+use xxhsum_program::process::{Terminals, conclude, names_from, program_of, run_words, style_of, words_of};
+use xxhsum_program::screen::Ticks;
 use xxhsum_program::stop::Stop;
 use xxhsum_program::tell::tell;
 use xxhsum_words::name::default_kind;
@@ -49,7 +48,7 @@ where
     R: Source + Drop,
     W: Sink,
     E: Sink,
-    T: Write + Copy + Drop,
+    T: Sink + Ticks + Copy + Drop,
     requires reader { R.has_failed input ≡ false }
     requires writer { W.has_failed out.old ≡ false }
     ensures { (args : Option (List (List ℕ))) × (done : Result Bool Stop) × (told : E)
@@ -85,7 +84,7 @@ where
     R: Source + Drop,
     W: Sink,
     E: Sink,
-    T: Write + Copy + Drop,
+    T: Sink + Ticks + Copy + Drop,
     requires reader { R.has_failed input ≡ false }
     requires writer { W.has_failed out.old ≡ false }
     ensures { DoesArguments (PerformsWatched T S.Store S.File.Source R.Source W.Sink E.Sink
@@ -203,11 +202,7 @@ fn walk_names<S: Store, R: Source + Drop, W: Sink, E: Sink>(
     if options.checks {
         return check_lists(alloc, store, options, &names, out, err);
     }
-    let shape = Shape {
-        is_tagged: options.is_tagged,
-        is_little: options.is_little_endian,
-    };
-    hash_names(alloc, store, options.kind, shape, &names, out, err)
+    hash_names(alloc, store, options.kind, style_of(options), &names, out, err)
 }
 
 // The names that stand in lists of names. `None` where one of these can't be read, which is told.

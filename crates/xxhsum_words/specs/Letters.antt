@@ -58,10 +58,11 @@ letter_of options letter after =
     else if letter == 72 then kind_step options after
     -- i, B
     else if letter == 105 || letter == 66 then skipped_number options after
-    -- c, q, w
+    -- c, q, w, z
     else if letter == 99 then alone (record options { checks = true })
     else if letter == 113 then alone (record options { is_quiet = true })
     else if letter == 119 then alone (record options { warns = true })
+    else if letter == 122 then alone (record options { ends_in_nul = true })
     else Err BadUsage
 
 -- the letters that belong to this one are passed over

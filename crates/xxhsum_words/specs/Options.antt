@@ -1,5 +1,5 @@
 -- What the words of the command line ask for.
-use Rattle.std.specs.Prelude.{ℕ, ◌+◌, List, [], ◌∷◌, drop, true, false, bytes_eq, ◌||◌, codes, if◌then◌else◌}
+use Rattle.std.specs.Prelude.{ℕ, ◌+◌, List, [], ◌∷◌, drop, true, false, bytes_eq, ◌&&◌, ◌||◌, codes, if◌then◌else◌}
 use Rattle.xxh_io.specs.declared.kind.Kind.{Kind}
 use Rattle.xxhsum_words.specs.declared.options.Asked.{Asked}
 use Rattle.xxhsum_words.specs.declared.options.Asked.TheVariants.{Run, Benchmark, Version, Help, BadUsage}
@@ -19,8 +19,10 @@ no_options kind = record {
   is_status_only = false;
   is_strict = false;
   warns = false;
+  ignores_missing = false;
   is_tagged = false;
   is_little_endian = false;
+  ends_in_nul = false;
   audits = false;
   names_from = Words;
   takes_terminal = false;
@@ -35,15 +37,23 @@ long_end name =
     else if bytes_eq name (codes "bench-all") then Settles Benchmark
     else Settles BadUsage
 
--- what `--` and this name do, where it is of whole trees; files are read as they are, so `--binary` does nothing
+-- what `--` and this name do, where it is of missing files or of how lines end; files are read as they are, so `--binary`
+-- does nothing
+abbrev pub further_step : Options → List ℕ → Step
+further_step options name =
+    if bytes_eq name (codes "ignore-missing") then Takes (record options { ignores_missing = true })
+    else if bytes_eq name (codes "zero") then Takes (record options { ends_in_nul = true })
+    else if bytes_eq name (codes "binary") then Takes options
+    else long_end name
+
+-- what `--` and this name do, where it is of whole trees
 abbrev pub tree_step : Options → List ℕ → Step
 tree_step options name =
     if bytes_eq name (codes "audit") then Takes (record options { audits = true })
     else if bytes_eq name (codes "files-from") || bytes_eq name (codes "filelist")
     then Takes (record options { names_from = Lines })
     else if bytes_eq name (codes "files0-from") then Takes (record options { names_from = Nuls })
-    else if bytes_eq name (codes "binary") then Takes options
-    else long_end name
+    else further_step options name
 
 -- what `--` and this name do
 abbrev pub long_step : Options → List ℕ → Step
@@ -66,16 +76,21 @@ word_step options word =
     else if begins_with (codes "-") word then letters_step 0 options (drop 1 word)
     else EndsBefore
 
+-- the run by these options, of the names from this word on; `-z` is refused beside `-c` and `--audit`
+abbrev pub run_from : Options → ℕ → Asked
+run_from options at =
+    if options.ends_in_nul && (options.checks || options.audits) then BadUsage else Run options at
+
 -- a word that is no option ends them
 abbrev pub after_word : Step → ℕ → Options → (Options → Asked) → Asked
 after_word (Takes next) at options go_on = go_on next
-after_word EndsBefore at options go_on = Run options at
-after_word EndsAfter at options go_on = Run options (at + 1)
+after_word EndsBefore at options go_on = run_from options at
+after_word EndsAfter at options go_on = run_from options (at + 1)
 after_word (Settles asked) at options go_on = asked
 
 -- what the words ask for that stand after this many others, which made these options
 abbrev pub asked_after : ℕ → Options → List (List ℕ) → Asked
-asked_after at options [] = Run options at
+asked_after at options [] = run_from options at
 asked_after at options (word ∷ words) =
     after_word (word_step options word) at options (λ next. asked_after (at + 1) next words)
 

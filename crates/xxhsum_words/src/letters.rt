@@ -45,6 +45,7 @@ fn letter_at(letter: u8, after: &[u8], mut options: Options) -> Result<Letter, A
         b'c' => options.checks = true,
         b'q' => options.is_quiet = true,
         b'w' => options.warns = true,
+        b'z' => options.ends_in_nul = true,
         _ => return Err(Asked::BadUsage),
     }
     Ok(Letter { options, taken: 0 })

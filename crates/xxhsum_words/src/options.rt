@@ -1,7 +1,7 @@
 //! The words of the command line.
 
 ghost use Rattle.std.specs.Prelude.{◌≡◌, bytes_eq, map};
-ghost use Rattle.xxhsum_words.specs.Options.{asked_of, long_end, long_step, tree_step, word_step};
+ghost use Rattle.xxhsum_words.specs.Options.{asked_of, further_step, long_end, long_step, run_from, tree_step, word_step};
 
 use crate::letters::letters;
 use xxh_io::kind::Kind;
@@ -32,10 +32,14 @@ pub struct Options {
     pub is_strict: bool,
     /// `-w`, `--warn`: each line that is no checksum line is told.
     pub warns: bool,
+    /// `--ignore-missing`: a comparison passes over a file that isn't there.
+    pub ignores_missing: bool,
     /// `--tag`: lines are printed as BSD has them.
     pub is_tagged: bool,
     /// `--little-endian`: digests are printed, and read, with their lowest byte first.
     pub is_little_endian: bool,
+    /// `-z`, `--zero`: each printed line ends with a NUL, and its name isn't escaped.
+    pub ends_in_nul: bool,
     /// `--audit`: the first word is a list, whose lines are put beside the names.
     pub audits: bool,
     /// Where the names come from.
@@ -55,7 +59,7 @@ pub enum Asked {
     Version,
     /// The help.
     Help,
-    /// Words that ask for nothing: they have an unknown option.
+    /// Words that ask for nothing: they have an unknown option, or `-z` beside `-c` or `--audit`.
     BadUsage,
     /// Words in which an option has a number that is too large.
     NumberTooLarge,
@@ -85,8 +89,10 @@ pub fn asked_by(kind: Kind, words: &[Vec<u8>]) -> Asked
         is_status_only: false,
         is_strict: false,
         warns: false,
+        ignores_missing: false,
         is_tagged: false,
         is_little_endian: false,
+        ends_in_nul: false,
         audits: false,
         names_from: NamesFrom::Words,
         takes_terminal: false,
@@ -94,20 +100,25 @@ pub fn asked_by(kind: Kind, words: &[Vec<u8>]) -> Asked
     for (at, word) in words.iter().enumerate() {
         match word_step(word.as_slice(), options) {
             Step::Takes(next) => options = next,
-            Step::EndsBefore => return Asked::Run {
-                options,
-                names_from: at,
-            },
-            Step::EndsAfter => return Asked::Run {
-                options,
-                names_from: at + 1,
-            },
+            Step::EndsBefore => return run_from(options, at),
+            Step::EndsAfter => return run_from(options, at + 1),
             Step::Settles(asked) => return asked,
         }
     }
+    run_from(options, words.len())
+}
+
+// The run by these options, of the names from this word on. What is compared or audited is no list, so its lines end with
+// no NUL.
+fn run_from(options: Options, names_from: usize) -> Asked
+    ensures { result ≡ run_from options names_from }
+{
+    if options.ends_in_nul && (options.checks || options.audits) {
+        return Asked::BadUsage;
+    }
     Asked::Run {
         options,
-        names_from: words.len(),
+        names_from,
     }
 }
 
@@ -162,6 +173,20 @@ fn tree_step(name: &[u8], mut options: Options) -> Step
         options.names_from = NamesFrom::Lines;
     } else if is(name, "files0-from") {
         options.names_from = NamesFrom::Nuls;
+    } else {
+        return further_step(name, options);
+    }
+    Step::Takes(options)
+}
+
+// What `--` and this name do, where it is of missing files or of how lines end.
+fn further_step(name: &[u8], mut options: Options) -> Step
+    ensures { result ≡ further_step options name.now }
+{
+    if is(name, "ignore-missing") {
+        options.ignores_missing = true;
+    } else if is(name, "zero") {
+        options.ends_in_nul = true;
     } else if !is(name, "binary") {
         return long_end(name);
     }

@@ -36,7 +36,7 @@ loop-name-preserved g c =
       outcomes = so_far.outcomes ++ outcome ∷ [];
       each = EachHas-push _ names so_far.outcomes name outcome so_far.each checked.1;
       finished = all-push IsDone so_far.outcomes outcome so_far.finished checked.2.0;
-      all = rw (are_good-push options.is_strict so_far.outcomes outcome, sym so_far.all, sym checked.2.1)
+      all = rw (are_good-push options so_far.outcomes outcome, sym so_far.all, sym checked.2.1)
           (elim c.if-all.branch [
             | then-all w ↦ rw (w.all-is, w.if-all.true) refl
             | else-all w ↦ rw (w.all-is, w.if-all.false) refl

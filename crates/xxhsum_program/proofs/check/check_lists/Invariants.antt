@@ -12,7 +12,7 @@ invariant-loop-name g l = record {
   outcomes : List ListOutcome;
   each : EachHas (IsListOutcome g.S.Store g.S.File.Source l.fn.store l.fn.options.is_little_endian) (map (λ name. name.items) (take l.name-index l.names)) outcomes;
   finished : AreAllDone outcomes;
-  all : l.all ≡ are_good l.fn.options.is_strict outcomes;
+  all : l.all ≡ are_good l.fn.options outcomes;
   prints : Took g.W.Sink (lines_of (printed_outcome l.fn.options) (map (λ name. name.items) (take l.name-index l.names)) outcomes) l.initial.out l.out;
   tells : TellsOn g.E.Sink (lines_of (told_outcome l.fn.options) (map (λ name. name.items) (take l.name-index l.names)) outcomes) l.initial.err l.err;
   works : g.W.Sink.has_failed l.out ≡ false;

@@ -20,4 +20,4 @@ returns-in_err-sum_up-clause-checks g c =
 pub returns-clause-checks : goal.returns-clause-checks
 returns-clause-checks g c =
     let is_finding = IsFinding g.S.Store g.S.File.Source c.args.self.now.store.now c.args.self.now.options.is_little_endian in
-    check-ends is_finding g.R.Source g.W.Sink g.E.Sink c.args.self.now.options c.args.self.now.name.now c.args.source c.args.out.now c.check_lines.new.out c.sum_up.new.out c.args.err.now c.check_lines.new.err c.sum_up.new.err c.in_ok-report.report c.is_good.result c.in_ok-report.ensures.checks c.in_ok-sum_up.ensures.prints c.sum_up.ensures.tells c.is_good.ensures
+    check-ends is_finding g.R.Source g.W.Sink g.E.Sink c.args.self.now.options c.args.self.now.name.now c.args.source c.args.out.now c.check_lines.new.out c.sum_up.new.out c.args.err.now c.check_lines.new.err c.sum_up.new.err c.in_ok-report.report c.passes.result c.in_ok-report.ensures.checks c.in_ok-sum_up.ensures.prints c.sum_up.ensures.tells c.passes.ensures

@@ -41,7 +41,7 @@ loop-number-preserved g c =
       read = so_far.read ++ line_of state ∷ [];
       findings = so_far.findings ++ finding ∷ [];
       each = EachHas-push _ so_far.read so_far.findings (line_of state) finding so_far.each (rw c.line.ensures at checked.1);
-      report = checked.2 ∙ ap (λ r. count_one r finding) so_far.report ∙ sym (add_up-push no_findings so_far.findings finding);
+      report = checked.2 ∙ ap (λ r. count_one options.ignores_missing r finding) so_far.report ∙ sym (add_up-push options.ignores_missing no_findings so_far.findings finding);
       lines = omega (arith, length_push so_far.read (line_of state), so_far.lines);
       count = omega (arith, length_push so_far.findings finding, so_far.count);
       stands = stands-line g.R.Source c.args.source c.loop-number.lines state so_far.read so_far.stands c.in-Line.ensures.next c.in-Line.ensures.ended;
@@ -71,7 +71,7 @@ returns-in-Failed-clause-checks g c =
       (so_far.read, so_far.each, breaks-failed g.R.Source c.args.source c.loop-number.lines c.next.new.self so_far.read so_far.stands c.in-Failed.ensures.next c.in-Failed.ensures.ended),
       c.with_broken_end.ensures ∙ ap with_broken_end so_far.report,
       so_far.prints,
-      tells-more g.E.Sink _ _ c.args.err.now c.loop-number.err c.tell_of_failure.new.err so_far.tells (tells-break g.E.Sink c.args.self.now.name.now FailedRead c.loop-number.number (length so_far.findings + 1) c.loop-number.report (report_of so_far.findings) c.loop-number.err c.tell_of_failure.new.err count so_far.report c.tell_of_failure.ensures),
+      tells-more g.E.Sink _ _ c.args.err.now c.loop-number.err c.tell_of_failure.new.err so_far.tells (tells-break g.E.Sink c.args.self.now.name.now FailedRead c.loop-number.number (length so_far.findings + 1) c.loop-number.report (report_of c.args.self.now.options.ignores_missing so_far.findings) c.loop-number.err c.tell_of_failure.new.err count so_far.report c.tell_of_failure.ensures),
     )
 
 pub returns-in-TooLong-clause-checks : goal.returns-in-TooLong-clause-checks
@@ -83,7 +83,7 @@ returns-in-TooLong-clause-checks g c =
       (so_far.read, so_far.each, breaks-too-long g.R.Source c.args.source c.loop-number.lines c.next.new.self so_far.read so_far.stands c.in-TooLong.ensures.next c.in-TooLong.ensures.ended),
       c.with_broken_end-in-TooLong.ensures ∙ ap with_broken_end so_far.report,
       so_far.prints,
-      tells-more g.E.Sink _ _ c.args.err.now c.loop-number.err c.tell_of_line.new.err so_far.tells (tells-break g.E.Sink c.args.self.now.name.now LongLine c.loop-number.number (length so_far.findings + 1) c.loop-number.report (report_of so_far.findings) c.loop-number.err c.tell_of_line.new.err count so_far.report c.tell_of_line.ensures),
+      tells-more g.E.Sink _ _ c.args.err.now c.loop-number.err c.tell_of_line.new.err so_far.tells (tells-break g.E.Sink c.args.self.now.name.now LongLine c.loop-number.number (length so_far.findings + 1) c.loop-number.report (report_of c.args.self.now.options.ignores_missing so_far.findings) c.loop-number.err c.tell_of_line.new.err count so_far.report c.tell_of_line.ensures),
     )
 
 pub returns-clause-checks : goal.returns-clause-checks

@@ -13,7 +13,7 @@ invariant-loop-number g l = record {
   read : List (List ℕ);
   findings : List Finding;
   each : EachHas (IsFinding g.S.Store g.S.File.Source l.fn.self.store.now l.fn.self.options.is_little_endian) read findings;
-  report : l.report ≡ report_of findings;
+  report : l.report ≡ report_of l.fn.self.options.ignores_missing findings;
   lines : length read + 1 ≡ l.number;
   count : l.number ≡ 1 + length findings;
   stands : Stands g.R.Source l.fn.source l.lines read;

@@ -1,0 +1,65 @@
+//! Where progress is shown, and the clock that it goes by.
+
+ghost use Rattle.std.specs.Io.KnownBytes.{Appends, Keeps};
+ghost use Rattle.xxhsum_program.specs.Screen.{has_screen_failed, shown_on};
+
+use std::io::Write;
+use std::rt::Clock;
+use xxh_io::ends::{Failed, Sink};
+
+/// What tells the time.
+pub trait Ticks {
+    /// How many milliseconds have gone by since some start, and 0 where the clock can't be read. No clause says which.
+    fn now(&self) -> u64;
+}
+
+/// A writer, as a terminal is, with the clock of a process.
+#[derive(Clone, Copy)]
+pub struct Screen<'a, W, P> {
+    writer: W,
+    has_failed: bool,
+    process: &'a P,
+}
+
+impl<'a, W: Write + Copy, P: Clock> Screen<'a, W, P> {
+    /// One on which nothing was shown yet.
+    pub fn new(writer: W, process: &'a P) -> Screen<'a, W, P> {
+        Screen {
+            writer,
+            has_failed: false,
+            process,
+        }
+    }
+}
+
+impl<W: Write + Copy, P: Clock> Ticks for Screen<'_, W, P> {
+    fn now(&self) -> u64 {
+        match self.process.monotonic() {
+            Ok(time) => u64::try_from(time.as_millis()).unwrap_or(u64::MAX),
+            Err(_) => 0,
+        }
+    }
+}
+
+impl<W: Write + Copy, P: Clock> Sink for Screen<'_, W, P> {
+    ghost has_failed = { has_screen_failed };
+
+    ghost takes = { λ s piece t.
+        Appends (W.contents (shown_on s)) (W.contents (shown_on t)) piece };
+
+    ghost refuses = { λ s t. Keeps (W.contents (shown_on s)) (W.contents (shown_on t)) };
+
+    fn failed(&self) -> bool {
+        self.has_failed
+    }
+
+    fn write(&mut self, bytes: &[u8]) -> Result<usize, Failed> {
+        match self.writer.write(bytes) {
+            Ok(count) if count > 0 => Ok(count),
+            _ => {
+                self.has_failed = true;
+                Err(Failed)
+            }
+        }
+    }
+}
