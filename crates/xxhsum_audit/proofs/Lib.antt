@@ -5,6 +5,7 @@ pub mod UniqueFacts
 pub mod MergeFacts
 pub mod SideFacts
 pub mod DigestFacts
+pub mod TwiceFacts
 pub mod AuditFacts
 pub mod CountFacts
 pub mod PartFacts

@@ -1,7 +1,7 @@
 //! All that a source gives.
 
-ghost use Rattle.std.specs.Prelude.{◌≡◌, false, IfOk};
-ghost use Rattle.xxhsum_audit.specs.Read.{GivesAll};
+ghost use Rattle.std.specs.Prelude.{◌≡◌, false, MatchResult};
+ghost use Rattle.xxhsum_audit.specs.Read.{GivesAll, LacksAll};
 
 use std::alloc::{AllocError, Global};
 use xxh_io::ends::{Failed, Source};
@@ -19,12 +19,20 @@ pub enum ReadError {
 }
 
 impl From<AllocError> for ReadError {
+    ghost use Rattle.xxhsum_audit.specs.declared.read.ReadError.TheVariants.{OutOfMemory};
+
+    ghost from_gives = { λ _ error. error ≡ OutOfMemory };
+
     fn from(_error: AllocError) -> ReadError {
         ReadError::OutOfMemory
     }
 }
 
 impl From<Failed> for ReadError {
+    ghost use Rattle.xxhsum_audit.specs.declared.read.ReadError.TheVariants.{ReadFailed};
+
+    ghost from_gives = { λ _ error. error ≡ ReadFailed };
+
     fn from(_error: Failed) -> ReadError {
         ReadError::ReadFailed
     }
@@ -37,7 +45,9 @@ impl From<Failed> for ReadError {
 /// [`ReadError::ReadFailed`] where a read fails, and [`ReadError::OutOfMemory`] where memory runs out.
 pub fn read_all<R: Source>(alloc: Global, source: &mut R) -> Result<Vec<u8>, ReadError>
     requires { R.has_failed source.old ≡ false }
-    ensures { IfOk result (λ bytes. GivesAll R.gives source.old source.new bytes.items) }
+    ensures { MatchResult result
+        (λ bytes. GivesAll R.gives source.old source.new bytes.items)
+        (LacksAll R.Source source.old source.new) }
 {
     let mut bytes = Vec::new(alloc);
     let mut buf = [0; OFFERED];

@@ -1,0 +1,7 @@
+mod FindFacts
+mod NameFacts
+mod ReportFacts
+mod RowFacts
+mod ToldFacts
+mod TwiceFacts
+mod WalkFacts

@@ -1,1 +1,9 @@
+pub mod Audits
+pub mod Digests
+pub mod Finds
+pub mod Names
+pub mod Report
+pub mod Rows
 pub mod Run
+pub mod Said
+pub mod Texts

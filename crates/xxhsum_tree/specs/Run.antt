@@ -1,13 +1,17 @@
 -- What the program does with its arguments, which may ask for a tree.
-use Rattle.std.specs.Prelude.{◌≡◌, ℕ, Bool, true, false, ◌||◌, List, Option, Some, None, drop, if◌then◌else◌}
+use Rattle.std.specs.Prelude.{◌≡◌, ℕ, Bool, true, false, ◌||◌, List, [], ◌∷◌, Option, Some, None, codes, drop, if◌then◌else◌, MatchBool}
 use Rattle.std.specs.declared.result.Result.{Result}
 use Rattle.std.specs.declared.result.Result.TheVariants.{Err}
-use Rattle.xxh_io.specs.Rules.{SinkRules}
+use Rattle.xxh_io.specs.Rules.{SinkRules, SourceRules}
+use Rattle.xxhsum_files.specs.Rules.{StoreRules}
 use Rattle.xxhsum_program.specs.declared.process.Terminals.{Terminals}
 use Rattle.xxhsum_program.specs.declared.stop.Stop.{Stop}
 use Rattle.xxhsum_program.specs.declared.stop.Stop.TheVariants.{OutOfMemory}
-use Rattle.xxhsum_program.specs.Run.{DoesTask}
+use Rattle.xxhsum_program.specs.Run.{DoesTask, PerformsAs}
 use Rattle.xxhsum_program.specs.Task.{IsProgram, task_of}
+use Rattle.xxhsum_tree.specs.Audits.{Audits}
+use Rattle.xxhsum_tree.specs.Finds.{GoesOn, OnlyTells}
+use Rattle.xxhsum_tree.specs.Names.{ListNames, ListNone, end_of}
 use Rattle.xxhsum_words.specs.Name.{kind_of_program}
 use Rattle.xxhsum_words.specs.Options.{asked_of}
 use Rattle.xxhsum_words.specs.declared.options.Asked.{Asked}
@@ -35,18 +39,52 @@ tree_asked Help = None
 tree_asked BadUsage = None
 tree_asked NumberTooLarge = None
 
--- Where no tree is asked for, this holds. What is done with a tree isn't said here.
-abbrev pub Unless : Option (Options × ℕ) → Type 0 → Type 0
-Unless None holds = holds
-Unless (Some tree) holds = Unit {0}
+-- Without an audit, the names that stand in lists are digested, or taken for lists and checked.
+abbrev pub WalksNames : {S F R W E : Type 0} → StoreRules S F → SourceRules F → SourceRules R → SinkRules W → SinkRules E
+    → S → R → W → W → E → E → Result Bool Stop → Options → List (List ℕ) → Type 0
+WalksNames opening reading input_reading writing telling store input w_old w_new e_old e_new result options lists =
+    GoesOn telling (ListNames opening reading input_reading store input (end_of options.names_from) lists)
+    (ListNone opening reading input_reading store input lists)
+    (λ names. PerformsAs opening reading input_reading writing telling store options names input w_old w_new e_old e_new
+    result options.checks false)
+    w_old w_new e_old e_new result
 
--- the task of the arguments is done; or there was no memory for them, and nothing is
-abbrev pub DoesArguments : {W E : Type 0} → (Options → List (List ℕ) → Bool → Type 0) → SinkRules E → Terminals
-    → Option (List (List ℕ)) → W → W → E → E → Result Bool Stop → Type 0
-DoesArguments performs telling terminals None w_old w_new e_old e_new result =
+-- With one, the first word is the list, and those behind it are the names, or lists of them.
+abbrev pub AuditsWords : {S F R W E : Type 0} → StoreRules S F → SourceRules F → SourceRules R → SinkRules W → SinkRules E
+    → S → R → W → W → E → E → Result Bool Stop → Options → List (List ℕ) → Bool → Type 0
+AuditsWords opening reading input_reading writing telling store input w_old w_new e_old e_new result options [] listed =
+    OnlyTells telling (codes "Error: --audit needs a list.\n") w_old w_new e_old e_new result
+AuditsWords opening reading input_reading writing telling store input w_old w_new e_old e_new result options (list ∷ names)
+    false =
+    Audits opening reading writing telling store options list names w_old w_new e_old e_new result
+AuditsWords opening reading input_reading writing telling store input w_old w_new e_old e_new result options (list ∷ lists)
+    true =
+    GoesOn telling (ListNames opening reading input_reading store input (end_of options.names_from) lists)
+    (ListNone opening reading input_reading store input lists)
+    (λ names. Audits opening reading writing telling store options list names w_old w_new e_old e_new result)
+    w_old w_new e_old e_new result
+
+-- what a run over a tree does with its options and the words behind them
+unfoldable pub Walks : {S F R W E : Type 0} → StoreRules S F → SourceRules F → SourceRules R → SinkRules W → SinkRules E
+    → S → R → W → W → E → E → Result Bool Stop → Options → List (List ℕ) → Type 0
+Walks opening reading input_reading writing telling store input w_old w_new e_old e_new result options words =
+    MatchBool options.audits
+    (AuditsWords opening reading input_reading writing telling store input w_old w_new e_old e_new result options words
+    (are_listed options.names_from))
+    (WalksNames opening reading input_reading writing telling store input w_old w_new e_old e_new result options words)
+
+-- a run over a tree, of these words; or another
+abbrev pub DoesAsked : Option (Options × ℕ) → List (List ℕ) → (Options → List (List ℕ) → Type 0) → Type 0 → Type 0
+DoesAsked None words walks does = does
+DoesAsked (Some tree) words walks does = walks tree.0 (drop tree.1 words)
+
+-- the task of the arguments is done, which may be a run over a tree; or there was no memory for them, and nothing is
+abbrev pub DoesArguments : {W E : Type 0} → (Options → List (List ℕ) → Bool → Type 0) → (Options → List (List ℕ) → Type 0)
+    → SinkRules E → Terminals → Option (List (List ℕ)) → W → W → E → E → Result Bool Stop → Type 0
+DoesArguments performs walks telling terminals None w_old w_new e_old e_new result =
     (result ≡ Err OutOfMemory) × (w_new ≡ w_old) × (e_new ≡ e_old)
-DoesArguments performs telling terminals (Some arguments) w_old w_new e_old e_new result =
+DoesArguments performs walks telling terminals (Some arguments) w_old w_new e_old e_new result =
     (program : List ℕ) × IsProgram arguments program
-    × Unless (tree_asked (asked_of (kind_of_program program) (drop 1 arguments)))
+    × DoesAsked (tree_asked (asked_of (kind_of_program program) (drop 1 arguments))) (drop 1 arguments) walks
     ((called : List ℕ) × IsProgram arguments called
     × DoesTask performs telling (task_of terminals called (drop 1 arguments)) w_old w_new e_old e_new result)

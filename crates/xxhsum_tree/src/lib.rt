@@ -3,5 +3,9 @@
 #![tactic(auto)]
 
 pub mod audit;
+mod digests;
 pub mod names;
+mod report;
 pub mod run;
+mod said;
+pub mod texts;

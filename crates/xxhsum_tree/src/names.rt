@@ -1,105 +1,89 @@
-//! The texts of lists, and the names that stand in lists of names.
+//! The names that stand in lists of names.
 
-ghost use Rattle.std.specs.Prelude.{◌≡◌, false};
+ghost use Rattle.std.specs.Prelude.{◌≡◌, ◌∷◌, ◌++◌, [], false, map, IfOk};
+ghost use Rattle.xxhsum_tree.specs.Finds.{Finds};
+ghost use Rattle.xxhsum_tree.specs.Names.{AddsNames, AreNamesIn, ListNames, ListNone, end_of};
 
-use std::alloc::Global;
+use crate::texts::texts_named;
+use std::alloc::{AllocError, Global};
 use xxh_io::ends::{Sink, Source};
-use xxhsum_audit::read::{ReadError, read_all};
+use xxhsum_audit::parts::parts_of;
 use xxhsum_files::store::Store;
 use xxhsum_program::stop::Stop;
-use xxhsum_program::tell::tell_parts;
+use xxhsum_words::options::NamesFrom;
 
-/// All bytes of the file of this name. `None` where it can't be opened or read, which is told.
+/// The names that stand in the lists of these names, or in the input where there are none: those of the first list and
+/// then those of the next, in their order there. `None` where a list can't be opened or read, which is told.
 ///
 /// # Errors
 ///
 /// [`Stop::OutOfMemory`] where there is no memory for them.
-pub fn text_named<S: Store, E: Sink>(
+pub fn names_listed<S: Store, R: Source + Drop, E: Sink>(
     alloc: Global,
     store: &S,
-    name: &[u8],
-    err: &mut E,
-) -> Result<Option<Vec<u8>>, Stop> {
-    match store.open(name) {
-        Ok(file) => text_of(alloc, name, file, err),
-        Err(refusal) => {
-            tell_parts(
-                &[
-                    b"Error: Could not open '",
-                    name,
-                    b"': ",
-                    refusal.text(),
-                    b".\n",
-                ],
-                err,
-            );
-            Ok(None)
-        }
-    }
-}
-
-/// All bytes of a source that is told by this name. `None` where it can't be read, which is told.
-///
-/// # Errors
-///
-/// [`Stop::OutOfMemory`] where there is no memory for them.
-pub fn text_of<R: Source + Drop, E: Sink>(
-    alloc: Global,
-    name: &[u8],
-    source: R,
-    err: &mut E,
-) -> Result<Option<Vec<u8>>, Stop>
-    requires { R.has_failed source ≡ false }
-{
-    let mut source = source;
-    match read_all(alloc, &mut source) {
-        Ok(text) => Ok(Some(text)),
-        Err(ReadError::OutOfMemory) => Err(Stop::OutOfMemory),
-        Err(ReadError::ReadFailed) => {
-            tell_parts(
-                &[
-                    b"Error: Could not read '",
-                    name,
-                    b"': a failure occurred reading the list.\n",
-                ],
-                err,
-            );
-            Ok(None)
-        }
-    }
-}
-
-/// The texts of the files of these names, or of the input where there are none. `None` where one can't be read.
-///
-/// # Errors
-///
-/// [`Stop::OutOfMemory`] where there is no memory for them.
-pub fn texts_named<S: Store, R: Source + Drop, E: Sink>(
-    alloc: Global,
-    store: &S,
-    names: &[Vec<u8>],
+    names_from: NamesFrom,
+    lists: &[Vec<u8>],
     input: R,
     err: &mut E,
 ) -> Result<Option<Vec<Vec<u8>>>, Stop>
     requires { R.has_failed input ≡ false }
+    ensures { let given = map (λ list. list.items) lists.now in Finds result E.Sink
+        (λ names. ListNames S.Store S.File.Source R.Source store.now input (end_of names_from) given
+        (map (λ name. name.items) names.items))
+        (ListNone S.Store S.File.Source R.Source store.now input given) err.old err.new }
 {
-    let mut texts = Vec::new(alloc);
-    if names.is_empty() {
-        let Some(text) = text_of(alloc, b"stdin", input, err)? else {
-            return Ok(None);
-        };
-        if texts.push(text).is_err() {
-            return Err(Stop::OutOfMemory);
-        }
-        return Ok(Some(texts));
+    let Some(texts) = texts_named(alloc, store, lists, input, err)? else {
+        return Ok(None);
+    };
+    let names = names_in(alloc, end_of(names_from), &texts)?;
+    Ok(Some(names))
+}
+
+// The byte that ends each name of a list.
+fn end_of(names_from: NamesFrom) -> u8
+    ensures { result ≡ end_of names_from }
+{
+    match names_from {
+        NamesFrom::Nuls => 0,
+        NamesFrom::Words | NamesFrom::Lines => b'\n',
     }
-    for name in names {
-        let Some(text) = text_named(alloc, store, name, err)? else {
-            return Ok(None);
-        };
-        if texts.push(text).is_err() {
-            return Err(Stop::OutOfMemory);
-        }
+}
+
+// The names of all texts.
+fn names_in(alloc: Global, end: u8, texts: &[Vec<u8>]) -> Result<Vec<Vec<u8>>, AllocError>
+    ensures { IfOk result (λ names. AreNamesIn end (map (λ text. text.items) texts.now)
+        (map (λ name. name.items) names.items)) }
+{
+    let mut names = Vec::new(alloc);
+    for text in texts {
+        add_names(alloc, end, text, &mut names)?;
     }
-    Ok(Some(texts))
+    Ok(names)
+}
+
+// Puts the names of a text behind these.
+fn add_names(
+    alloc: Global,
+    end: u8,
+    text: &[u8],
+    names: &mut Vec<Vec<u8>>,
+) -> Result<(), AllocError>
+    ensures { IfOk result (λ _. AddsNames end text.now (map (λ name. name.items) names.old.items)
+        (map (λ name. name.items) names.new.items)) }
+{
+    let parts = parts_of(alloc, end, text)?;
+    for part in &parts {
+        add_name(alloc, part, names)?;
+    }
+    Ok(())
+}
+
+fn add_name(alloc: Global, name: &[u8], names: &mut Vec<Vec<u8>>) -> Result<(), AllocError>
+    ensures { IfOk result (λ _. map (λ name. name.items) names.new.items
+        ≡ map (λ name. name.items) names.old.items ++ name.now ∷ []) }
+{
+    let mut owned = Vec::new(alloc);
+    owned.extend_from_slice(name)?;
+    names.push(owned)?;
+    Ok(())
 }

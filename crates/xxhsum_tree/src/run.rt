@@ -6,15 +6,14 @@ ghost use Rattle.xxhsum_program.specs.Run.{PerformsWatched, end_text, status_of}
 ghost use Rattle.xxhsum_program.specs.Task.{IsProgram};
 ghost use Rattle.xxhsum_program.specs.Told.{TellsOn};
 ghost use Rattle.xxhsum_program.specs.declared.stop.Stop.{Stop};
-ghost use Rattle.xxhsum_tree.specs.Run.{DoesArguments, are_listed, is_tree, tree_asked};
+ghost use Rattle.xxhsum_tree.specs.Run.{AuditsWords, DoesArguments, Walks, WalksNames, are_listed, is_tree, tree_asked};
 ghost use Rattle.xxhsum_words.specs.Name.{kind_of_program};
 ghost use Rattle.xxhsum_words.specs.Options.{asked_of};
 
 use crate::audit::audit_names;
-use crate::names::texts_named;
+use crate::names::names_listed;
 use std::alloc::{AllocError, Global};
 use xxh_io::ends::{Sink, Source};
-use xxhsum_audit::parts::parts_of;
 use xxhsum_files::store::Store;
 use xxhsum_program::arguments::{Arguments, all_arguments};
 use xxhsum_program::check::check_lists;
@@ -28,8 +27,6 @@ use xxhsum_words::options::{Asked, NamesFrom, Options, asked_by};
 
 /// Does what the arguments ask for, over a store of files and these ends. Progress is shown on the screen, which is
 /// standard error too. Answers the exit status: 0 where every file was digested, or is as its line says, and else 1.
-///
-/// Where a tree is asked for, its clause is about the words that end the run and the status alone.
 ///
 /// The caller shows that neither the input nor the output has failed.
 pub fn run<A, S, R, W, E, T>(
@@ -55,6 +52,8 @@ where
         × IfSome args (AreArguments A.holds A.ends arguments.now)
         × DoesArguments (PerformsWatched T S.Store S.File.Source R.Source W.Sink E.Sink store.now
         input out.old out.new err.old told done)
+        (Walks S.Store S.File.Source R.Source W.Sink E.Sink store.now input out.old out.new
+        err.old told done)
         E.Sink terminals args out.old out.new err.old told done
         × TellsOn E.Sink (end_text done) told err.new
         × (result ≡ status_of done) }
@@ -89,12 +88,16 @@ where
     requires writer { W.has_failed out.old ≡ false }
     ensures { DoesArguments (PerformsWatched T S.Store S.File.Source R.Source W.Sink E.Sink
         store.now input out.old out.new err.old err.new result)
+        (Walks S.Store S.File.Source R.Source W.Sink E.Sink store.now input out.old out.new
+        err.old err.new result)
         E.Sink terminals (Some (map (λ argument. argument.items) args.now))
         out.old out.new err.old err.new result }
 {
     match tree_of(args) {
-        Some((options, place)) => {
-            let names = names_from(words_of(args), place);
+        Some(tree) => {
+            let (options, place) = tree;
+            let words = words_of(args);
+            let names = names_from(words, place);
             walk(alloc, store, options, names, input, out, err)
         }
         None => run_words(alloc, args, store, terminals, input, out, err, screen),
@@ -151,39 +154,53 @@ fn walk<S: Store, R: Source + Drop, W: Sink, E: Sink>(
     alloc: Global,
     store: &S,
     options: Options,
-    names: &[Vec<u8>],
+    words: &[Vec<u8>],
     input: R,
     out: &mut W,
     err: &mut E,
 ) -> Result<bool, Stop>
     requires reader { R.has_failed input ≡ false }
     requires writer { W.has_failed out.old ≡ false }
+    ensures { Walks S.Store S.File.Source R.Source W.Sink E.Sink store.now input out.old out.new
+        err.old err.new result options (map (λ word. word.items) words.now) }
 {
-    if !options.audits {
-        return walk_names(alloc, store, options, names, input, out, err);
+    if options.audits {
+        return walk_audit(alloc, store, options, words, input, out, err);
     }
-    let Some((list, rest)) = names.split_first() else {
+    walk_names(alloc, store, options, words, input, out, err)
+}
+
+// Audits names against the list that the first word names.
+fn walk_audit<S: Store, R: Source + Drop, W: Sink, E: Sink>(
+    alloc: Global,
+    store: &S,
+    options: Options,
+    words: &[Vec<u8>],
+    input: R,
+    out: &mut W,
+    err: &mut E,
+) -> Result<bool, Stop>
+    requires reader { R.has_failed input ≡ false }
+    requires writer { W.has_failed out.old ≡ false }
+    ensures { AuditsWords S.Store S.File.Source R.Source W.Sink E.Sink store.now input
+        out.old out.new err.old err.new result options (map (λ word. word.items) words.now)
+        (are_listed options.names_from) }
+{
+    let Some((list, rest)) = words.split_first() else {
         tell(b"Error: --audit needs a list.\n", err);
         return Ok(false);
     };
-    if options.names_from == NamesFrom::Words {
+    if !are_listed(options.names_from) {
         return audit_names(alloc, store, options, list, rest, out, err);
     }
-    let Some(given) = names_listed(alloc, store, options, rest, input, err)? else {
+    let Some(names) = names_listed(alloc, store, options.names_from, rest, input, err)? else {
         return Ok(false);
     };
-    audit_names(alloc, store, options, list, &given, out, err)
-}
-
-// The byte that ends each name of a list of names.
-fn end_of(options: Options) -> u8 {
-    match options.names_from {
-        NamesFrom::Nuls => 0,
-        NamesFrom::Words | NamesFrom::Lines => b'\n',
-    }
+    audit_names(alloc, store, options, list, &names, out, err)
 }
 
 // Digests or checks the names that stand in lists of names.
+#[tactic(auto, unfolding(xxhsum_program::specs::Run::PerformsAs))]
 fn walk_names<S: Store, R: Source + Drop, W: Sink, E: Sink>(
     alloc: Global,
     store: &S,
@@ -195,43 +212,14 @@ fn walk_names<S: Store, R: Source + Drop, W: Sink, E: Sink>(
 ) -> Result<bool, Stop>
     requires reader { R.has_failed input ≡ false }
     requires writer { W.has_failed out.old ≡ false }
+    ensures { WalksNames S.Store S.File.Source R.Source W.Sink E.Sink store.now input
+        out.old out.new err.old err.new result options (map (λ list. list.items) lists.now) }
 {
-    let Some(names) = names_listed(alloc, store, options, lists, input, err)? else {
+    let Some(names) = names_listed(alloc, store, options.names_from, lists, input, err)? else {
         return Ok(false);
     };
     if options.checks {
         return check_lists(alloc, store, options, &names, out, err);
     }
     hash_names(alloc, store, options.kind, style_of(options), &names, out, err)
-}
-
-// The names that stand in lists of names. `None` where one of these can't be read, which is told.
-fn names_listed<S: Store, R: Source + Drop, E: Sink>(
-    alloc: Global,
-    store: &S,
-    options: Options,
-    lists: &[Vec<u8>],
-    input: R,
-    err: &mut E,
-) -> Result<Option<Vec<Vec<u8>>>, Stop>
-    requires { R.has_failed input ≡ false }
-{
-    let Some(texts) = texts_named(alloc, store, lists, input, err)? else {
-        return Ok(None);
-    };
-    let mut names = Vec::new(alloc);
-    for text in &texts {
-        let parts = parts_of(alloc, end_of(options), text)?;
-        for name in &parts {
-            push_name(alloc, &mut names, name)?;
-        }
-    }
-    Ok(Some(names))
-}
-
-fn push_name(alloc: Global, names: &mut Vec<Vec<u8>>, name: &[u8]) -> Result<(), AllocError> {
-    let mut owned = Vec::new(alloc);
-    owned.extend_from_slice(name)?;
-    names.push(owned)?;
-    Ok(())
 }

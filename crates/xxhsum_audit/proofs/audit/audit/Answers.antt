@@ -1,4 +1,4 @@
-use Rattle.xxhsum_audit.proofs.AuditFacts.{is_twice, twice_of}
+use Rattle.xxhsum_audit.proofs.TwiceFacts.{is_twice, twice_of}
 use Rattle.xxhsum_audit.proofs.audit.audit.Goals as goal
 
 pub returns-in-Some : goal.returns-in-Some

@@ -1,5 +1,5 @@
 use Rattle.std.proofs.Common.{◌∷◌, ◌++◌, ◌<◌, [], ap, get_or, length, map, subst, sym, take, ◌∙◌, arith}
-use Rattle.std.proofs.lemmas.List.{length-map, map-append, take_more}
+use Rattle.std.proofs.lemmas.List.{length-map, map-append, take-map, take_more}
 use Rattle.xxhsum_audit.proofs.ListFacts.{at_place, say_more}
 use Rattle.xxhsum_line.specs.Entry.{SaysNothing}
 use Rattle.xxhsum_audit.specs.List.{SayAll, TakesLine, said_by}
@@ -27,4 +27,8 @@ returns-then-not-branch c =
     let nothing = subst (λ r. TakesLine b line.now (map said_by c.loop-index.entries.items) (map said_by c.take_line.new.entries.items) r)
     c.if-not-branch.true c.in_ok-take_line.ensures in
     let there : k < length (map (λ l. l.now) c.args.lines.now) = omega (arith, length-map c.args.lines.now (λ l. l.now)) in
-    (there, subst (λ t. SaysNothing b t) (sym (at_place c.args.lines.now k (record { ref_ptr = (0, 0); now = [] }) c.loop-index-test.true)) nothing)
+    let before = subst (λ ls. SayAll b ls (map said_by c.loop-index.entries.items)) (sym (take-map (λ l. l.now) k c.args.lines.now)) c.loop-index.invariant in (
+      there,
+      subst (λ t. SaysNothing b t) (sym (at_place c.args.lines.now k (record { ref_ptr = (0, 0); now = [] }) c.loop-index-test.true)) nothing,
+      (map said_by c.loop-index.entries.items, before),
+    )

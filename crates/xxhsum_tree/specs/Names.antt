@@ -1,0 +1,38 @@
+-- The names that stand in lists of names.
+use Rattle.std.specs.Prelude.{◌≡◌, ℕ, List, [], ◌∷◌, ◌++◌}
+use Rattle.xxh_io.specs.Rules.{SourceRules}
+use Rattle.xxhsum_audit.specs.Parts.{ArePartsOf}
+use Rattle.xxhsum_files.specs.Rules.{StoreRules}
+use Rattle.xxhsum_program.specs.Task.{has_none}
+use Rattle.xxhsum_tree.specs.Texts.{GiveTexts, LackText}
+use Rattle.xxhsum_words.specs.declared.options.NamesFrom.{NamesFrom}
+use Rattle.xxhsum_words.specs.declared.options.NamesFrom.TheVariants.{Words, Lines, Nuls}
+
+-- the byte that ends each name of a list
+abbrev pub end_of : NamesFrom → ℕ
+end_of Words = 10
+end_of Lines = 10
+end_of Nuls = 0
+
+-- the names of a text stand behind these
+abbrev pub AddsNames : ℕ → List ℕ → List (List ℕ) → List (List ℕ) → Type 0
+AddsNames end text old new = (more : List (List ℕ)) × (new ≡ old ++ more) × ArePartsOf end text more
+
+-- the names of all texts, in order
+abbrev pub AreNamesIn : ℕ → List (List ℕ) → List (List ℕ) → Type 0
+AreNamesIn end [] names = names ≡ []
+AreNamesIn end (text ∷ texts) names =
+    (front rest : List (List ℕ)) × (names ≡ front ++ rest) × ArePartsOf end text front × AreNamesIn end texts rest
+
+-- the names that stand in lists, or in the input where there is no list
+abbrev pub ListNames : {S F R : Type 0} → StoreRules S F → SourceRules F → SourceRules R → S → R → ℕ → List (List ℕ)
+    → List (List ℕ) → Type 0
+ListNames opening reading input_reading store input end lists names =
+    (texts : List (List ℕ)) × GiveTexts opening reading input_reading store input lists texts (has_none lists)
+    × AreNamesIn end texts names
+
+-- one of the lists has no text: what is told of it
+abbrev pub ListNone : {S F R : Type 0} → StoreRules S F → SourceRules F → SourceRules R → S → R → List (List ℕ) → List ℕ
+    → Type 0
+ListNone opening reading input_reading store input lists told =
+    LackText opening reading input_reading store input lists told (has_none lists)

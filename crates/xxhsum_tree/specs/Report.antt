@@ -1,0 +1,47 @@
+-- What is printed of an audit.
+use Rattle.std.specs.Prelude.{◌≡◌, ℕ, Bool, true, ◌&&◌, List, [], ◌∷◌, ◌++◌, codes, decimal, if◌then◌else◌}
+use Rattle.std.specs.List.{count_by, flat_map}
+use Rattle.std.specs.declared.result.Result.{Result}
+use Rattle.std.specs.declared.result.Result.TheVariants.{Ok, Err}
+use Rattle.xxh_io.specs.Digest.{Refused, Took}
+use Rattle.xxh_io.specs.Rules.{SinkRules}
+use Rattle.xxhsum_audit.specs.declared.outcome.Class.{Class}
+use Rattle.xxhsum_audit.specs.declared.outcome.Class.TheVariants as Of
+use Rattle.xxhsum_audit.specs.Merge.{Found, is_of_class}
+use Rattle.xxhsum_audit.specs.Text.{text_of}
+use Rattle.xxhsum_program.specs.declared.stop.Stop.{Stop}
+use Rattle.xxhsum_program.specs.declared.stop.Stop.TheVariants.{OutOfMemory, WriteFailed}
+use Rattle.xxhsum_words.specs.declared.options.Options.{Options}
+
+-- the line of one: where it is quiet, none of what is the same
+abbrev pub shown_text : Bool → Found → List ℕ
+shown_text is_quiet found = if is_quiet && is_of_class Of.Same found then [] else text_of found
+
+abbrev pub shown_lines : Bool → List Found → List ℕ
+shown_lines is_quiet found = flat_map (shown_text is_quiet) found
+
+-- how many there are of a class
+abbrev pub class_text : Class → List Found → List ℕ → List ℕ
+class_text class found word = decimal (count_by (is_of_class class) found) ++ word
+
+abbrev pub counts_text : List Found → List ℕ
+counts_text found =
+    class_text Of.Same found (codes " same, ") ++ class_text Of.Changed found (codes " changed, ")
+    ++ class_text Of.Moved found (codes " moved, ") ++ class_text Of.New found (codes " new, ")
+    ++ class_text Of.Missing found (codes " missing\n")
+
+-- the lines, and how many there are of each class; nothing where only the status is asked for
+abbrev pub report_text : Options → List Found → List ℕ
+report_text options found =
+    if options.is_status_only then [] else shown_lines options.is_quiet found ++ counts_text found
+
+abbrev pub are_same : List Found → Bool
+are_same [] = true
+are_same (one ∷ found) = is_of_class Of.Same one && are_same found
+
+-- all of it was printed; where a write failed, a beginning; where there was no memory, the lines of the first
+abbrev pub PrintsReport : {W T : Type 0} → SinkRules W → Options → List Found → W → W → Result T Stop → Type 0
+PrintsReport writing options found old new (Ok _) = Took writing (report_text options found) old new
+PrintsReport writing options found old new (Err WriteFailed) = Refused writing (report_text options found) old new
+PrintsReport writing options found old new (Err OutOfMemory) =
+    (done rest : List Found) × (found ≡ done ++ rest) × Took writing (shown_lines options.is_quiet done) old new

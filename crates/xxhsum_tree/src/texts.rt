@@ -1,0 +1,161 @@
+//! The texts of lists.
+
+ghost use Rattle.std.specs.Prelude.{◌≡◌, ◌∷◌, ◌++◌, [], false, List, ℕ, IfOk, map};
+ghost use Rattle.xxhsum_program.specs.EachHas.{EachHas};
+ghost use Rattle.xxhsum_program.specs.Run.{input_name};
+ghost use Rattle.xxhsum_program.specs.Task.{has_none};
+ghost use Rattle.xxhsum_tree.specs.Finds.{Finds};
+ghost use Rattle.xxhsum_tree.specs.Texts.{Breaks, GiveTexts, GivesText, HasNoText, HasText, LackText, LacksOne, unread_text};
+
+use std::alloc::{AllocError, Global};
+use xxh_io::ends::{Sink, Source};
+use xxhsum_audit::read::{ReadError, read_all};
+use xxhsum_files::store::Store;
+use xxhsum_program::stop::Stop;
+use xxhsum_program::tell::tell_parts;
+
+// What standard input is called.
+const INPUT: &[u8] = b"stdin";
+
+/// All bytes of the file of this name. `None` where it can't be opened or read, which is told.
+///
+/// # Errors
+///
+/// [`Stop::OutOfMemory`] where there is no memory for them.
+pub fn text_named<S: Store, E: Sink>(
+    alloc: Global,
+    store: &S,
+    name: &[u8],
+    err: &mut E,
+) -> Result<Option<Vec<u8>>, Stop>
+    ensures { Finds result E.Sink
+        (λ text. GivesText S.Store S.File.Source store.now name.now text.items)
+        (HasNoText S.Store S.File.Source store.now name.now) err.old err.new }
+{
+    match store.open(name) {
+        Ok(file) => text_of(alloc, name, file, err),
+        Err(refusal) => {
+            let parts: [&[u8]; 5] = [
+                b"Error: Could not open '",
+                name,
+                b"': ",
+                refusal.text(),
+                b".\n",
+            ];
+            tell_parts(&parts, err);
+            Ok(None)
+        }
+    }
+}
+
+/// All bytes of a source that is told by this name. `None` where it can't be read, which is told.
+///
+/// # Errors
+///
+/// [`Stop::OutOfMemory`] where there is no memory for them.
+pub fn text_of<R: Source + Drop, E: Sink>(
+    alloc: Global,
+    name: &[u8],
+    source: R,
+    err: &mut E,
+) -> Result<Option<Vec<u8>>, Stop>
+    requires { R.has_failed source ≡ false }
+    ensures { Finds result E.Sink (λ text. HasText R.Source source text.items)
+        (λ told. Breaks R.Source source × (told ≡ unread_text name.now)) err.old err.new }
+{
+    let mut source = source;
+    match read_all(alloc, &mut source) {
+        Ok(text) => Ok(Some(text)),
+        Err(ReadError::OutOfMemory) => Err(Stop::OutOfMemory),
+        Err(ReadError::ReadFailed) => {
+            let parts: [&[u8]; 3] = [
+                b"Error: Could not read '",
+                name,
+                b"': a failure occurred reading the list.\n",
+            ];
+            tell_parts(&parts, err);
+            Ok(None)
+        }
+    }
+}
+
+/// The texts of the files of these names, or of the input where there are none. `None` where one can't be read, which
+/// is told.
+///
+/// # Errors
+///
+/// [`Stop::OutOfMemory`] where there is no memory for them.
+pub fn texts_named<S: Store, R: Source + Drop, E: Sink>(
+    alloc: Global,
+    store: &S,
+    names: &[Vec<u8>],
+    input: R,
+    err: &mut E,
+) -> Result<Option<Vec<Vec<u8>>>, Stop>
+    requires { R.has_failed input ≡ false }
+    ensures { let given = map (λ name. name.items) names.now in Finds result E.Sink
+        (λ texts. GiveTexts S.Store S.File.Source R.Source store.now input given
+        (map (λ text. text.items) texts.items) (has_none given))
+        (λ told. LackText S.Store S.File.Source R.Source store.now input given told (has_none given))
+        err.old err.new }
+{
+    if has_none(names) {
+        return text_of_input(alloc, input, err);
+    }
+    texts_of_files(alloc, store, names, err)
+}
+
+fn has_none(names: &[Vec<u8>]) -> bool
+    ensures { result ≡ has_none (map (λ name. name.items) names.now) }
+{
+    names.is_empty()
+}
+
+// The text of the input, alone.
+fn text_of_input<R: Source + Drop, E: Sink>(
+    alloc: Global,
+    input: R,
+    err: &mut E,
+) -> Result<Option<Vec<Vec<u8>>>, Stop>
+    requires { R.has_failed input ≡ false }
+    ensures { Finds result E.Sink
+        (λ texts. (text : List ℕ) × HasText R.Source input text
+        × (map (λ text. text.items) texts.items ≡ text ∷ []))
+        (λ told. Breaks R.Source input × (told ≡ unread_text input_name)) err.old err.new }
+{
+    let Some(text) = text_of(alloc, INPUT, input, err)? else {
+        return Ok(None);
+    };
+    let mut texts = Vec::new(alloc);
+    add_text(&mut texts, text)?;
+    Ok(Some(texts))
+}
+
+// The texts of the files of these names.
+fn texts_of_files<S: Store, E: Sink>(
+    alloc: Global,
+    store: &S,
+    names: &[Vec<u8>],
+    err: &mut E,
+) -> Result<Option<Vec<Vec<u8>>>, Stop>
+    ensures { let given = map (λ name. name.items) names.now in Finds result E.Sink
+        (λ texts. EachHas (GivesText S.Store S.File.Source store.now) given
+        (map (λ text. text.items) texts.items))
+        (LacksOne S.Store S.File.Source store.now given) err.old err.new }
+{
+    let mut texts = Vec::new(alloc);
+    for name in names {
+        let Some(text) = text_named(alloc, store, name, err)? else {
+            return Ok(None);
+        };
+        add_text(&mut texts, text)?;
+    }
+    Ok(Some(texts))
+}
+
+fn add_text(texts: &mut Vec<Vec<u8>>, text: Vec<u8>) -> Result<(), AllocError>
+    ensures { IfOk result (λ _. texts.new.items ≡ texts.old.items ++ text ∷ []) }
+{
+    texts.push(text)?;
+    Ok(())
+}
