@@ -28,7 +28,12 @@ const READS: &[(&[(usize, u64)], Option<u64>, bool, &str)] = &[
         true,
         "\r                                                                      \r200 MiB, 200 MiB/s, 4 s left\r\r                                                                      \r256 MiB, 128 MiB/s, 5 s left\r\r                                                                      \r",
     ),
-    (&[(64 * MIB, 600), (64 * MIB, 700), (0, 800)], None, false, ""),
+    (
+        &[(64 * MIB, 600), (64 * MIB, 700), (0, 800)],
+        None,
+        false,
+        "",
+    ),
     (
         &[(usize::MAX, 500), (MIB, 501), (0, 502)],
         Some(5),

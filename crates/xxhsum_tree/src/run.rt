@@ -18,7 +18,9 @@ use xxhsum_files::store::Store;
 use xxhsum_program::arguments::{Arguments, all_arguments};
 use xxhsum_program::check::check_lists;
 use xxhsum_program::hash::hash_names;
-use xxhsum_program::process::{Terminals, conclude, names_from, program_of, run_words, style_of, words_of};
+use xxhsum_program::process::{
+    Terminals, conclude, names_from, program_of, run_words, style_of, words_of,
+};
 use xxhsum_program::screen::Ticks;
 use xxhsum_program::stop::Stop;
 use xxhsum_program::tell::tell;
@@ -221,5 +223,13 @@ fn walk_names<S: Store, R: Source + Drop, W: Sink, E: Sink>(
     if options.checks {
         return check_lists(alloc, store, options, &names, out, err);
     }
-    hash_names(alloc, store, options.kind, style_of(options), &names, out, err)
+    hash_names(
+        alloc,
+        store,
+        options.kind,
+        style_of(options),
+        &names,
+        out,
+        err,
+    )
 }
