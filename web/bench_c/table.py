@@ -34,17 +34,20 @@ def ratios(row, how):
     return ratio(row, "ours_simd", lambda _: True, how), ratio(row, "ours", lambda name: not has_vectors(name), how)
 
 
-def what(row):
+def size_of(row):
     size = "1 MiB" if row["size"] == 1 << 20 else f"{row['size'] >> 10} KiB" if row["size"] >= 1024 else f"{row['size']:,} bytes"
-    return f"{KINDS[row['kind']]}, {FORMS[row['form']]}{size}"
+    return FORMS[row["form"]] + size
 
 
 def table(runs):
-    print("|", " | ".join(["time of the header over ours", *(f"{name}, {kind}" for name in runs for kind in ("vectors", "none"))]), "|")
-    print("|---" * (1 + 2 * len(runs)) + "|")
-    for rows in zip(*runs.values()):
-        cells = [f"{ratio:.2f}" for row in rows for ratio in ratios(row, MEDIAN)]
-        print("|", " | ".join([what(rows[0]), *cells]), "|")
+    """A row a hash and engine, with a column for each size: with vectors, and without."""
+    sizes = list(dict.fromkeys(size_of(row) for rows in runs.values() for row in rows))
+    print("|", " | ".join(["with vectors, without", *sizes]), "|")
+    print("|---" * (1 + len(sizes)) + "|")
+    for kind, shown in KINDS.items():
+        for name, rows in runs.items():
+            cells = {size_of(row): "{:.2f}, {:.2f}".format(*ratios(row, MEDIAN)) for row in rows if row["kind"] == kind}
+            print("|", " | ".join([f"{shown}, {name}", *(cells.get(size, "") for size in sizes)]), "|")
 
 
 def as_rows(runs):
