@@ -1,5 +1,5 @@
 -- What is found, or told not to be there, and what comes of it.
-use Rattle.std.proofs.Common.{◌≡◌, ◌⊎◌, ℕ, Bool, List, [], ◌∷◌, ◌++◌, Option, Some, None, Ok, Err, ap, inl, inr, sym, subst, ◌∙◌}
+use Rattle.std.proofs.Common.{◌≡◌, ℕ, Bool, List, [], ◌∷◌, ◌++◌, Option, Some, None, Ok, Err, ap, inr, subst, ◌∙◌}
 use Rattle.std.specs.declared.result.Result.{Result}
 use Rattle.std.specs.Result.{IsErrAnd}
 use Rattle.xxh_io.specs.Rules.{SinkRules}
@@ -7,7 +7,7 @@ use Rattle.xxhsum_program.specs.EachHas.{EachHas}
 use Rattle.xxhsum_program.specs.Told.{TellsOn}
 use Rattle.xxhsum_program.specs.declared.stop.Stop.{Stop}
 use Rattle.xxhsum_program.specs.declared.stop.Stop.TheVariants.{OutOfMemory}
-use Rattle.xxhsum_tree.specs.Finds.{Finds, GoesOn, HasNoRoom}
+use Rattle.xxhsum_tree.specs.Finds.{Finds, GoesOn}
 
 -- what is found is something else too, and so is what is told
 pub finds-as : {T E : Type 0} (telling : SinkRules E) (is_found other : T → Type 0) (is_why other_why : List ℕ → Type 0) (old new : E) → ((x : T) → is_found x → other x) → ((text : List ℕ) → is_why text → other_why text)

@@ -1,5 +1,5 @@
 -- The names of texts, where those of one more come.
-use Rattle.std.proofs.Common.{◌≡◌, ℕ, List, [], ◌∷◌, ◌++◌, append-nil, append_assoc, refl, sym, ap, ◌∙◌}
+use Rattle.std.proofs.Common.{ℕ, List, [], ◌∷◌, ◌++◌, append-nil, append_assoc, refl, sym, ap, ◌∙◌}
 use Rattle.xxhsum_tree.specs.Names.{AddsNames, AreNamesIn}
 
 pub names-more : (end : ℕ) (texts : List (List ℕ)) (text : List ℕ) (old new : List (List ℕ)) → AreNamesIn end texts old → AddsNames end text old new → AreNamesIn end (texts ++ text ∷ []) new

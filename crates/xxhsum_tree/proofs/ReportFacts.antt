@@ -1,5 +1,5 @@
 -- What is printed of an audit, where a line of it is not.
-use Rattle.std.proofs.Common.{◌≡◌, ◌+◌, ◌<◌, Bool, drop, false, get_or, length, List, map, take, take-append-drop, [], ◌∷◌, ◌++◌, ℕ, append-nil, append_assoc, refl, sym, ap, subst, ◌∙◌, Ok, Err, if◌then◌else◌}
+use Rattle.std.proofs.Common.{◌≡◌, ◌+◌, ◌<◌, Bool, drop, false, get_or, length, List, map, take, take-append-drop, [], ◌∷◌, ◌++◌, ℕ, append-nil, append_assoc, sym, ap, subst, ◌∙◌, Ok, Err, if◌then◌else◌}
 use Rattle.std.proofs.lemmas.List.{drop_more, map-append}
 use Rattle.std.proofs.lemmas.List.Concat.{flat_map-append}
 use Rattle.std.specs.declared.result.Result.{Result}

@@ -1,4 +1,4 @@
-use Rattle.std.proofs.Common.{codes, inl, subst, sym, ◌∙◌}
+use Rattle.std.proofs.Common.{codes, inl, subst, ◌∙◌}
 use Rattle.xxhsum_audit.specs.Item.{items_of}
 use Rattle.xxhsum_audit.specs.Order.{clash_in}
 use Rattle.xxhsum_tree.specs.Audits.{AuditsSides, TellsTwice}

@@ -1,9 +1,8 @@
-use Rattle.std.proofs.Common.{rules, ◌+◌, ◌∷◌, ◌++◌, ◌&&◌, [], ◌≡◌, ap, drop, map, refl, subst, sym, take, take-append-drop, ◌∙◌}
+use Rattle.std.proofs.Common.{rules, ◌∷◌, ◌++◌, ◌&&◌, [], ◌≡◌, ap, drop, refl, subst, sym, take, take-append-drop, ◌∙◌}
 use Rattle.std.proofs.lemmas.List.{map-append, map_more}
-use Rattle.xxhsum_audit.specs.Item.{items_of}
 use Rattle.xxhsum_audit.specs.Merge.{found_of, founds_of}
 use Rattle.xxhsum_program.specs.Told.{TellsOn}
-use Rattle.xxhsum_tree.specs.Rows.{AreRows, are_read, is_read, kept_in, kept_of, seen_in, seen_of, told_in, told_of}
+use Rattle.xxhsum_tree.specs.Rows.{AreRows, is_read, kept_of, seen_of, told_of}
 use Rattle.xxhsum_tree.proofs.RowFacts.{fails-rows, flat-push, read-more, rows-more}
 use Rattle.xxhsum_tree.proofs.ToldFacts.{tells-more, tells-no-more, tells-nothing}
 use Rattle.xxhsum_tree.proofs.digests.digests_of.Goals as goal

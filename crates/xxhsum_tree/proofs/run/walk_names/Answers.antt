@@ -1,4 +1,4 @@
-use Rattle.std.proofs.Common.{inl, map, subst, ◌∙◌}
+use Rattle.std.proofs.Common.{inl, map, subst}
 use Rattle.xxhsum_program.specs.CheckList.{SaysLists}
 use Rattle.xxhsum_program.specs.HashNames.{SaysNames}
 use Rattle.xxhsum_program.specs.Run.{shape_of}

@@ -1,5 +1,5 @@
 use Rattle.std.proofs.Common.{inl, inr, refl}
-use Rattle.xxhsum_tree.specs.Texts.{GivesText, HasNoText, HasText, Breaks, unopened_text}
+use Rattle.xxhsum_tree.specs.Texts.{unopened_text}
 use Rattle.xxhsum_tree.proofs.FindFacts.{finds-as}
 use Rattle.xxhsum_tree.proofs.texts.text_named.Goals as goal
 
