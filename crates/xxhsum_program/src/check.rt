@@ -219,7 +219,8 @@ impl<S: Store> ListCheck<'_, S> {
 
     // Counts a line that is malformed, and tells it where that is asked for.
     fn count_improper<E: Sink>(&self, number: u64, report: &mut Report, err: &mut E)
-        ensures counts { report.new ≡ count_one self.now.options.ignores_missing report.old Improper }
+        ensures counts { report.new
+            ≡ count_one self.now.options.ignores_missing report.old Improper }
         ensures tells { TellsOn E.Sink
             (told_finding self.now.options self.now.name.now number Improper) err.old err.new }
     {
