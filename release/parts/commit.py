@@ -27,7 +27,9 @@ class Commit:
         edits = glob.glob(self.path('crates', '*', 'must-fail'))
         for folder in edits:
             os.rename(folder, f'{folder}.away')
-        last = must(['rt', 'ci'], cwd=self.tree).splitlines()[-1]
+        # rt has nobody run the tests, who can't read what lies in a room of release/check.
+        elsewhere = {name: value for name, value in os.environ.items() if name != 'TMPDIR'}
+        last = must(['rt', 'ci'], cwd=self.tree, env=elsewhere).splitlines()[-1]
         if not re.match(r'[1-9]\d* passed, 0 failed', last):
             sys.exit(f'release/make: rt ci: {last}')
         for folder in edits:
