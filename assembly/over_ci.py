@@ -26,7 +26,10 @@ def main(verb, *words):
     if '--' in words:
         flags, arguments = words[:words.index('--')], words[words.index('--') + 1:]
     flags = [*kit.one_job(), *flags]
-    return crate.build_static(flags) if verb == 'lib' else crate.run(flags, list(arguments))
+    if verb == 'lib':
+        return crate.build_static(flags)
+    crate.held = []  # rt's locks, which it lets go of before it runs the program
+    return crate.run(flags, list(arguments))
 
 
 if __name__ == '__main__':
