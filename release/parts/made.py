@@ -26,7 +26,7 @@ def twice(room, folder, log):
     """The files in the folder are those of a second run, byte for byte."""
     said = make(os.path.join(room, 'first'), folder, log)
     other = os.path.join(room, 'a second folder')
-    make(os.path.join(room, 'the second'), other, log)
+    make(os.path.join(room, 'second'), other, log)
     one, two = (sums_of(path) for path in (folder, other))
     shutil.rmtree(other)
     differ = sorted(name for name in set(one) | set(two) if one.get(name) != two.get(name))
