@@ -19,5 +19,12 @@ export interface Reading {
 /** The hash of a file or another blob, which is read in pieces. */
 export function hashBlob<K extends Kind>(kind: K, blob: Blob, options?: Key & Reading): Promise<ValueOf<K>>;
 
-/** Has streams take a blob. One that has another size by now than is given fails with a `NotReadableError`. */
-export function takeBlob(streams: Iterable<Stream>, blob: Blob, options?: Reading & { size?: number }): Promise<void>;
+export interface Taking extends Reading {
+  /** What the blob had when it was chosen: one that has another size by now fails with a `NotReadableError`. */
+  size?: number;
+  /** Reads the pieces of a blob that has several, as on another thread. */
+  read?: (blob: Blob, from: number, to: number) => Promise<ArrayBuffer>;
+}
+
+/** Has streams take a blob, which is read once. */
+export function takeBlob(streams: Iterable<Stream>, blob: Blob, options?: Taking): Promise<void>;

@@ -3,7 +3,7 @@
 import { Stream, updateAll } from "./twox_hash.js";
 
 const PIECE_BYTES = 8 * 1024 * 1024;
-const READS_AHEAD = 2;
+const READS_AHEAD = 4;
 
 /**
  * Passes bytes or text on as they are, and answers the hash of what has passed:
@@ -55,12 +55,13 @@ export async function hashBlob(kind, blob, { progress, signal, ...key } = {}) {
 
 /**
  * Has streams take a blob, which is read once, under the same options but for seed and secret. `size` is what the blob
- * had when it was chosen: one that has another by now fails with a `NotReadableError`.
+ * had when it was chosen: one that has another by now fails with a `NotReadableError`. `read` reads the pieces of one that
+ * has several, as on another thread; left out, this thread does.
  */
-export async function takeBlob(streams, blob, { progress, signal, size = blob.size } = {}) {
+export async function takeBlob(streams, blob, { progress, signal, size = blob.size, read = readHere } = {}) {
   let done = 0;
   signal?.throwIfAborted();
-  for await (const piece of piecesOf(blob, size)) {
+  for await (const piece of piecesOf(blob, size, size > PIECE_BYTES ? read : readHere)) {
     signal?.throwIfAborted();
     updateAll(streams, piece);
     done += piece.byteLength;
@@ -69,12 +70,12 @@ export async function takeBlob(streams, blob, { progress, signal, size = blob.si
 }
 
 /** The blob's bytes in pieces, of which the next ones are read while one is hashed. */
-async function* piecesOf(blob, size) {
+async function* piecesOf(blob, size, read) {
   const reads = [];
   let at = 0;
   const readOn = () => {
     if (at >= size) return;
-    const next = read(blob, at, Math.min(at + PIECE_BYTES, size));
+    const next = readWhole(read, blob, at, Math.min(at + PIECE_BYTES, size));
     next.catch(() => {}); // a failure is met where the piece is awaited, if it still is
     reads.push(next);
     at += PIECE_BYTES;
@@ -88,8 +89,12 @@ async function* piecesOf(blob, size) {
   if (blob.size !== size) throw changed();
 }
 
-async function read(blob, from, to) {
-  const bytes = await blob.slice(from, to).arrayBuffer();
+function readHere(blob, from, to) {
+  return blob.slice(from, to).arrayBuffer();
+}
+
+async function readWhole(read, blob, from, to) {
+  const bytes = await read(blob, from, to);
   if (bytes.byteLength !== to - from) throw changed();
   return bytes;
 }

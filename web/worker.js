@@ -9,10 +9,14 @@
  * side, one piece of each in turn. Once, before all else, it says `ready`, with the module that runs, or `unsupported`.
  * The size is what the blob had when it was chosen: one that has another size by now fails.
  */
+import { Reader } from "./reader.js";
 import { takeBlob } from "./streams.js";
 import { Stream, hasVectors, load, toHex } from "./twox_hash.js";
 
 const MILLISECONDS_BETWEEN_REPORTS = 80;
+
+const reader = new Reader();
+const read = (...piece) => reader.read(...piece);
 
 /** What stops a job, by its number. */
 const stops = new Map();
@@ -34,7 +38,7 @@ async function run({ job, blob, size, seed, secret }) {
   try {
     streams = streamsFor(seed, secret);
     const start = performance.now();
-    await takeBlob(Object.values(streams), blob, { size, signal: stop.signal, progress: reportsOf(job) });
+    await takeBlob(Object.values(streams), blob, { size, read, signal: stop.signal, progress: reportsOf(job) });
     const milliseconds = performance.now() - start;
     postMessage({ type: "done", job, milliseconds, digests: digestsOf(streams) });
   } catch (error) {

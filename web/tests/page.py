@@ -20,16 +20,20 @@ return { words: item.querySelector(".state").textContent, failed: item.classList
 
 
 class Requests(serve.Handler):
-    """Notes what is asked for, hands out bundles, and can hand out a worker in which something is missing."""
+    """Notes what is asked for, hands out bundles, and can hand out a worker in which something is missing, or withhold a
+    file."""
 
     asked = []
     before_worker = b""
+    withheld = None
     bundles = None
 
     def do_GET(self):
         Requests.asked.append(self.path)
         name = self.path.removeprefix("/bundles/")
-        if self.path == "/web/worker.js" and Requests.before_worker:
+        if self.path == Requests.withheld:
+            self.send_error(404)
+        elif self.path == "/web/worker.js" and Requests.before_worker:
             self.send_file(os.path.join(WEB, "worker.js"), Requests.before_worker)
         elif name != self.path:
             self.send_file(os.path.join(Requests.bundles, name))

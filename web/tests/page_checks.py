@@ -35,6 +35,7 @@ def large_file(page):
     path = page.file("hundred.bin", b"".join(bytes([i]) + block for i in range(100)))
     page.set_key()
     page.choose(path)
+    want("/web/reader_worker.js" in Requests.asked, "no other thread reads")
     want(page.digests("hundred.bin") == reference(path), page.card("hundred.bin"))
     want(page.browser.run("return document.getElementById('status').textContent") == "hundred.bin: done", "nothing is said")
     return page.card("hundred.bin")["words"]
@@ -230,7 +231,7 @@ KEEPING = ("/web/offline.js", "/web/page_files.json")
 def no_network(page):
     kept(page)
     before = len(Requests.asked)
-    page.choose(page.file("quiet.bin", b"1" * 100000))
+    page.choose(page.file("quiet.bin", b"1" * 20 * MIB))
     page.digests("quiet.bin")
     asked = [path for path in Requests.asked[before:] if path not in KEEPING]
     want(not asked, asked)
@@ -295,17 +296,17 @@ def schemes(page):
 
 
 class Lacking:
-    """The page's worker with a line before it while the `with` lasts, which takes something away."""
+    """The page while the `with` lasts with a line before its worker, which takes something away, or without a file."""
 
-    def __init__(self, page, line):
-        self.page, self.line = page, line
+    def __init__(self, page, line=b"", withheld=None):
+        self.page, self.line, self.withheld = page, line, withheld
 
     def __enter__(self):
-        Requests.before_worker = self.line
+        Requests.before_worker, Requests.withheld = self.line, self.withheld
         self.page.open()
 
     def __exit__(self, *_):
-        Requests.before_worker = b""
+        Requests.before_worker, Requests.withheld = b"", None
 
 
 def which_module(page):
@@ -318,6 +319,15 @@ def which_module(page):
         page.browser.type("#text", "some bytes")
         want(page.digests("Text") == SOME_BYTES, page.card("Text"))
     want(plain.startswith("The plain module runs here"), plain)
+
+
+def reads_by_itself(page):
+    """A file of several pieces where the thread that hashes has none to read for it, and where that one can't be loaded."""
+    path = page.file("pieces.bin", bytes(i % 251 for i in range(MIB)), 20 * MIB)
+    for lack in {"line": b"delete globalThis.Worker;\n"}, {"withheld": "/web/reader_worker.js"}:
+        with Lacking(page, **lack):
+            page.choose(path)
+            want(page.digests("pieces.bin") == reference(path), (lack, page.card("pieces.bin")))
 
 
 def no_webassembly(page):
@@ -348,6 +358,7 @@ PAGE_CHECKS = {
     "each link leads to a page": links,
     "light and dark": schemes,
     "which module runs is said, and either hashes": which_module,
+    "where no other thread reads, the one that hashes does": reads_by_itself,
     "a browser without WebAssembly is told so": no_webassembly,
     "without a network, once it was loaded": offline,
     "one folder on another host": one_folder,
@@ -357,7 +368,8 @@ PAGE_CHECKS = {
 IN_EACH_BROWSER = ["every control has a name", "typed text is hashed, with the seed", "files of all ranges of lengths, as xxhsum",
                    "seeds and secrets", "stopped there is no digest, and started again the right ones", "a dropped file",
                    "the page stays alive", "hash again, with another seed", "clear",
-                   "which module runs is said, and either hashes", "a browser without WebAssembly is told so",
+                   "which module runs is said, and either hashes", "where no other thread reads, the one that hashes does",
+                   "a browser without WebAssembly is told so",
                    "without a network, once it was loaded", "one folder on another host"]
 
 

@@ -1,0 +1,12 @@
+// SPDX-License-Identifier: MIT
+/** The thread of reader.js: it is sent { number, blob, from, to }, and answers { number, bytes } or the error's name and message. */
+import { readPiece } from "./reader.js";
+
+onmessage = async ({ data: { number, blob, from, to } }) => {
+  try {
+    const bytes = await readPiece(blob, from, to);
+    postMessage({ number, bytes }, [bytes]);
+  } catch ({ name, message }) {
+    postMessage({ number, name, message });
+  }
+};
