@@ -24,14 +24,15 @@ def make(room, folder, log):
 
 def twice(room, folder, log):
     """The files in the folder are those of a second run, byte for byte."""
-    said = make(os.path.join(room, 'first'), folder, log)
     other = os.path.join(room, 'a second folder')
-    make(os.path.join(room, 'second'), other, log)
+    said, again = (make(os.path.join(room, name), into, log).split(': ', 1)[1]
+                   for name, into in (('first', folder), ('second', other)))
+    want(said == again, f'first {said}, then {again}')  # as where a commit was made meanwhile
     one, two = (sums_of(path) for path in (folder, other))
     shutil.rmtree(other)
     differ = sorted(name for name in set(one) | set(two) if one.get(name) != two.get(name))
     want(not differ, f'other bytes: {", ".join(differ)}')
-    return said.split(': ', 1)[1]
+    return said
 
 
 def sums_of(folder):
