@@ -43,8 +43,6 @@ SHARED = [
     ("streams in pieces of 1 to 64 bytes", ("stream",), 1, 64),
     ("streams in pieces of 256 bytes to 64 KiB", ("stream",), 256, 65536),
 ]
-WASM = {"c_wasm64": "64-bit addresses", "c_wasm32": "32-bit addresses", "c_plain": "without vectors",
-        "c_fastest": "the fastest of all"}
 
 
 def markdown(head, rows):
@@ -104,16 +102,6 @@ def dispatch():
         rows = [it.split("\t") for it in lines if not it.startswith("#")]
     at = [f"{' and '.join(it[1:]).strip()} at {int(it[0]):,} bytes" for it in (rows[0], rows[2], rows[-2])]
     return ["Debian has AVX-512 code behind the names `.._dispatch`. Of 64 and 128 bits the same ratio is " + ", ".join(at) + ".", ""]
-
-
-def wasm(rows):
-    """The header built for WebAssembly: as `web/bench` has it, or as it was before there were vectors."""
-    peers = {it: WASM[it] for it in WASM if it in rows[0].peers}
-    said = "over the module that the page has; none has vectors." if "c_wasm64" in peers else \
-        "release 0.8.1, over the module with vectors, in Node, on 2026-11-27 at a load of 4 to 13; [web/README.md](../web/README.md#speed) has 0.8.3, whose own vectors are faster, and browsers."
-    lines = [[name, *(ranged([it.peers[peer].median for it in rows if it.name == name]) for peer in peers)]
-             for name in dict.fromkeys(it.name for it in rows)]
-    return [f"The reference library's header built by clang for WebAssembly, {said}", "", *markdown(["hash", *peers.values()], lines)]
 
 
 def programs(rows):
@@ -177,7 +165,7 @@ def picture(rows, names):
 def page(said, parts):
     text = f"""# Speed beside the peers
 
-A peer's time over ours: 1 is level, more is faster. A cell is the median over hashes and sizes, and the range. Each row stands beside its **best peer**: the reference library's header by gcc (`c_gcc`) or by clang (`c_clang`), Debian's shared library (`c_shared`), or the Rust crate `xxhash-rust`. All {sum(map(len, parts.values()))} rows stand in [bench/data/measured.tsv](../bench/data/measured.tsv).
+A peer's time over ours: 1 is level, more is faster. A cell is the median over hashes and sizes, and the range. Each row stands beside its **best peer**: the reference library's header by gcc (`c_gcc`) or by clang (`c_clang`), Debian's shared library (`c_shared`), or the Rust crate `xxhash-rust`. All {sum(map(len, parts.values()))} rows stand in [bench/data/measured.tsv](../bench/data/measured.tsv). The modules for browsers and Node have a table of their own, in [web/README.md](../web/README.md#speed).
 
 #SUMMARY
 ![throughput over the length](speed.svg)
@@ -194,9 +182,8 @@ The time of Debian's `libxxhash.so.0` over that of ours at x86-64-v3, both in on
 
 #SHARED
 #DISPATCH
-## WebAssembly and programs
+## Programs
 
-#WASM
 `xxh` beside Debian's `xxhsum`, which takes AVX-512 where the processor has it: wall time of the whole program, 1 GiB in the page cache.
 
 #PROGRAMS
@@ -216,7 +203,7 @@ Instructions of the reference's header, by gcc 12 -O3, over ours for one call, c
 - Each peer is called through a pointer to one function of the same signature, and compares the length with the room of 64 MiB, as ours does. Debian's library is one call further away, and built for plain x86-64.
 """
     drawn = {"SUMMARY": summary(parts, best), "TWOX_HASH": twox_hash(parts), "LOWEST": lowest(parts), "SHARED": shared(parts["c"]),
-             "DISPATCH": dispatch(), "WASM": wasm(parts["wasm"]), "PROGRAMS": programs(parts["program"]), "XXHSUM": xxhsum(),
+             "DISPATCH": dispatch(), "PROGRAMS": programs(parts["program"]), "XXHSUM": xxhsum(),
              "ARM": arm(), "SAID": [f"- {it}" for it in said]}
     return "\n".join(line for it in text.rstrip("\n").split("\n") for line in drawn.get(it[1:], [it])) + "\n"
 

@@ -71,8 +71,7 @@ def main(room, data, file_size, before, after):
     rows = [it for name in ("x86-64-v2", "x86-64-v3") for it in rows_of(room, name, name)]
     said = origin(before, after, rows[0].peers)
     rows += rows_of(room, "shared", "c")
-    _, web = measured.read(os.path.join(room, "web.tsv"))
-    measured.write(said, [*rows, *web, *programs(room, int(file_size))], os.path.join(data, "measured.tsv"))
+    measured.write(said, [*rows, *programs(room, int(file_size))], os.path.join(data, "measured.tsv"))
 
 
 main(*sys.argv[1:])

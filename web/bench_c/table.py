@@ -1,7 +1,7 @@
 #!/usr/bin/env python3
-"""Draws what was measured, as a table of web/README.md or as rows that bench/measured.py describes:
+"""Draws what was measured, as the table of web/README.md:
 
-    web/bench_c/table.py [--rows] NAME=FILE..
+    web/bench_c/table.py NAME=FILE..
 
 FILE has the rows of JSON that run.mjs prints, of each pass, and NAME is the engine's. A cell has the median time of a header
 over ours: of the module with vectors beside the fastest header of all, and of the one without beside the fastest header
@@ -13,7 +13,7 @@ import sys
 
 KINDS = {"xxh32": "XXH32", "xxh64": "XXH64", "xxh3_64": "XXH3-64", "xxh3_128": "XXH3-128"}
 FORMS = {"oneshot": "", "stream": "pieces of "}
-BEST, MEDIAN = 0, 1
+MEDIAN = 1  # of a module's times in a pass, behind the best
 DISTURBED = 1.1
 
 
@@ -21,17 +21,16 @@ def has_vectors(name):
     return name.endswith(("_simd", "_neon"))
 
 
-def ratio(row, ours, among, how):
-    def fastest(times, how):
-        return min(times[name][how] for name in times if not name.startswith("ours") and among(name))
-    least = min(fastest(times, MEDIAN) for times in row["passes"])
-    return statistics.median(fastest(times, how) / times[ours][how] for times in row["passes"]
-                             if fastest(times, MEDIAN) < DISTURBED * least)
+def ratio(row, ours, among):
+    def fastest(times):
+        return min(times[name][MEDIAN] for name in times if not name.startswith("ours") and among(name))
+    least = min(fastest(times) for times in row["passes"])
+    return statistics.median(fastest(times) / times[ours][MEDIAN] for times in row["passes"] if fastest(times) < DISTURBED * least)
 
 
-def ratios(row, how):
+def ratios(row):
     """Of the module with vectors, and of the one without."""
-    return ratio(row, "ours_simd", lambda _: True, how), ratio(row, "ours", lambda name: not has_vectors(name), how)
+    return ratio(row, "ours_simd", lambda _: True), ratio(row, "ours", lambda name: not has_vectors(name))
 
 
 def size_of(row):
@@ -46,17 +45,8 @@ def table(runs):
     print("|---" * (1 + len(sizes)) + "|")
     for kind, shown in KINDS.items():
         for name, rows in runs.items():
-            cells = {size_of(row): "{:.2f}, {:.2f}".format(*ratios(row, MEDIAN)) for row in rows if row["kind"] == kind}
+            cells = {size_of(row): "{:.2f}, {:.2f}".format(*ratios(row)) for row in rows if row["kind"] == kind}
             print("|", " | ".join([f"{shown}, {name}", *(cells.get(size, "") for size in sizes)]), "|")
-
-
-def as_rows(runs):
-    for row in next(iter(runs.values())):
-        if row["form"] == "oneshot":
-            ours = statistics.median(times["ours_simd"][MEDIAN] for times in row["passes"])
-            cells = [f"{name}={median:.2f}/0/{best:.2f}" for name, median, best in
-                     zip(("c_fastest", "c_plain"), ratios(row, MEDIAN), ratios(row, BEST))]
-            print("wasm", "oneshot", KINDS[row["kind"]], row["size"], f"{row['size'] / ours:.2f}", 0, *cells, sep="\t")
 
 
 def of_passes(lines):
@@ -71,11 +61,10 @@ def of_passes(lines):
 def main(words):
     runs = {}
     for word in words:
-        if word != "--rows":
-            name, file = word.split("=")
-            with open(file) as lines:
-                runs[name] = of_passes(lines)
-    (as_rows if "--rows" in words else table)(runs)
+        name, file = word.split("=")
+        with open(file) as lines:
+            runs[name] = of_passes(lines)
+    table(runs)
 
 
 if __name__ == "__main__":
