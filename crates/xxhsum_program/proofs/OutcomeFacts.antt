@@ -28,12 +28,6 @@ pub are_digested-push : (outcomes : List Outcome) (outcome : Outcome) → are_di
 are_digested-push [] outcome = and-true (is_digested outcome)
 are_digested-push (o ∷ os) outcome = ap (λ b. is_digested o && b) (are_digested-push os outcome) ∙ and-assoc (is_digested o) (are_digested os) (is_digested outcome)
 
--- what ends a reading too early is no write
-pub has-no-value : {S F : Type 0} (opening : StoreRules S F) (reading : SourceRules F) (store : S) (name : List ℕ) (e : DigestError) → e ≢ WriteFailed → FailsOn opening reading store name e → HasNoValue opening reading store name (reason_of e)
-has-no-value opening reading store name ReadFailed never on = on
-has-no-value opening reading store name WriteFailed never on = absurd (never refl)
-has-no-value opening reading store name TooLong never on = on
-
 -- ---- what is printed of them
 
 pub prints-join : {W T : Type 0} (writing : SinkRules W) (a b : List ℕ) (old mid new : W) (result : Result T Stop) → Took writing a old mid → PrintsLines writing b mid new result → PrintsLines writing (a ++ b) old new result
