@@ -1,13 +1,11 @@
 -- Names and their outcomes, where one more comes.
-use Rattle.std.proofs.Common.{◌≡◌, ◌≢◌, ◌&&◌, ℕ, List, [], ◌∷◌, ◌++◌, refl, sym, ap, ◌∙◌, append-nil, append_assoc, Ok, Err}
+use Rattle.std.proofs.Common.{◌≡◌, ◌&&◌, ℕ, List, [], ◌∷◌, ◌++◌, sym, ap, ◌∙◌, append-nil, append_assoc, Ok, Err}
 use Rattle.std.specs.declared.result.Result.{Result}
 use Rattle.xxh_io.specs.Digest.{Took}
 use Rattle.xxh_io.proofs.WriteFacts.{Refused-join, Took-join}
-use Rattle.xxh_io.specs.declared.error.DigestError.{DigestError}
-use Rattle.xxh_io.specs.declared.error.DigestError.TheVariants.{ReadFailed, WriteFailed, TooLong}
-use Rattle.xxh_io.specs.Rules.{SourceRules, SinkRules}
+use Rattle.xxh_io.specs.Rules.{SinkRules}
 use Rattle.xxhsum_program.specs.declared.outcome.Outcome.{Outcome}
-use Rattle.xxhsum_program.specs.Outcomes.{FailsOn, HasNoValue, are_digested, is_digested, reason_of}
+use Rattle.xxhsum_program.specs.Outcomes.{are_digested, is_digested}
 use Rattle.xxhsum_words.specs.declared.options.Options.{Options}
 use Rattle.xxhsum_program.specs.CheckList.{ListOutcome, are_good, is_good_outcome}
 use Rattle.xxhsum_program.specs.declared.stop.Stop.{Stop}
@@ -15,7 +13,6 @@ use Rattle.xxhsum_program.specs.declared.stop.Stop.TheVariants as Stopped
 use Rattle.xxhsum_program.specs.Lines.{PrintsLines, lines_of}
 use Rattle.xxhsum_program.specs.EachHas.{EachHas}
 use Rattle.xxhsum_program.proofs.EachFacts.{and-assoc, and-true}
-use Rattle.xxhsum_files.specs.Rules.{StoreRules}
 
 pub lines-push : {T : Type 0} (comes : List ℕ → T → Type 0) (line : List ℕ → T → List ℕ) (names : List (List ℕ)) (outcomes : List T) (name : List ℕ) (outcome : T) → EachHas comes names outcomes → lines_of line (names ++ name ∷ []) (outcomes ++ outcome ∷ []) ≡ lines_of line names outcomes ++ line name outcome
 lines-push comes line [] [] name outcome each = append-nil (line name outcome)

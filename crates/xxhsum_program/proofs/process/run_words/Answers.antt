@@ -6,7 +6,7 @@ use Rattle.xxhsum_words.specs.declared.options.Asked.{Asked}
 use Rattle.xxhsum_words.specs.declared.options.Asked.TheVariants.{BadUsage}
 use Rattle.xxhsum_words.specs.declared.options.Options.{Options}
 use Rattle.xxhsum_program.specs.declared.process.Terminals.{Terminals}
-use Rattle.xxhsum_program.specs.Task.{Reads, Tells, answer_text, is_well, run_asked, shows_progress, task_from, task_of, waits_for_terminal}
+use Rattle.xxhsum_program.specs.Task.{Tells, answer_text, is_well, run_asked, task_from, task_of, waits_for_terminal}
 use Rattle.xxhsum_program.proofs.process.run_words.Goals as goal
 
 -- What the words ask for is the task.
