@@ -58,11 +58,8 @@ def parsed(text):
 
 
 def files_of(crate, room):
-    """The crate's edits, each a file as `rt must-fail` takes it: what stands in must-fail/, or where `checks/all` has put it,
-    and the blocks of wrong-bodies.edits, which are written to the room."""
-    found = [file for it in ("must-fail", "in-batches") for file in glob.glob(f"{crate.folder}/{it}/*.edit")]
-    found += written(f"{crate.folder}/wrong-bodies.edits", f"{room}/{crate.name}")
-    return sorted(found, key=os.path.basename)
+    """The blocks of the crate's wrong-bodies.edits, each written to the room as a file that `rt must-fail` takes."""
+    return sorted(written(f"{crate.folder}/wrong-bodies.edits", f"{room}/{crate.name}"), key=os.path.basename)
 
 
 def written(path, folder):

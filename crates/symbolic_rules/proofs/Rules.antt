@@ -1,8 +1,8 @@
 -- The rules of oracle/symbolic, from std's lemmas on naturals.
 use Rattle.std.proofs.Common.{◌≡◌, ℕ, ◌+◌, ◌-◌, ◌*◌, ◌/◌, ◌%◌, ◌^◌, ◌<◌, ◌≤◌, bit_and, bit_or, bit_xor, min, sym, ap, ◌∙◌, arith}
-use Rattle.std.proofs.lemmas.Nat.{and_comm, and-not, field_of, le_or_r, or_disjoint, or_lt, pow_pos, pow-add, shr_split, xor_comm}
+use Rattle.std.proofs.lemmas.Nat.{and_comm, and-not, field_of, le_or_r, mul-mod, or_disjoint, or_lt, pow_pos, pow-add, shr_split, xor_comm}
 use Rattle.std.proofs.lemmas.Nat.Bits.{bit_at_and, bit_at_or, bit_at_xor, bit_at-lt, bit_at-zero, same_from_bits}
-use Rattle.std.proofs.Math.Nat.{mul_assoc, mul_comm, mul-mul-mul_comm, mul-add, add-mul-div_right, add-mul-mod_self_right, add-mod-mod}
+use Rattle.std.proofs.Math.Nat.{mul_assoc, mul_comm, mul-mul-mul_comm, mul-add, add-mul-div_right, add-mul-mod_self_right, add-mod, add-mod-mod}
 use Rattle.std.specs.Int.{bit_at}
 use Rattle.std.specs.Int.Bits.{xor_assoc, xor_self, xor_zero_r}
 
@@ -38,6 +38,12 @@ narrowed_twice v j w fits =
     ∙ omega (arith, shr_split v j) in
     sym (add-mul-mod_self_right (v % 2 ^ j) (v / 2 ^ j * 2 ^ d) (2 ^ w)) ∙ ap (λ (x : ℕ). x % 2 ^ w) whole
 
+pub narrowed_sum : (a b w : ℕ) → (a + b) % 2 ^ w ≡ (a % 2 ^ w + b % 2 ^ w) % 2 ^ w
+narrowed_sum a b w = add-mod a b (2 ^ w)
+
+pub narrowed_product : (a b w : ℕ) → (a * b) % 2 ^ w ≡ (a % 2 ^ w * (b % 2 ^ w)) % 2 ^ w
+narrowed_product a b w = mul-mod a b (2 ^ w)
+
 high_of_a_whole_sum : (r y k : ℕ) → (y * 2 ^ k + r) / 2 ^ k ≡ y + r / 2 ^ k
 high_of_a_whole_sum r y k = ap (λ (x : ℕ). x / 2 ^ k) (omega arith) ∙ add-mul-div_right r y (pow_pos k) ∙ omega arith
 
@@ -52,6 +58,8 @@ high_of_a_sum r y k w fits =
     upper ∙ sym (add-mod-mod y (r / 2 ^ k) (2 ^ j)) ∙ ap (λ (x : ℕ). (y + x) % 2 ^ j) (sym field)
 
 -- ---- bits
+
+pub ruleset xor_laws = (xor_comm, xor_assoc, xor_self, xor_zero_r)
 
 and_self : (a : ℕ) → bit_and a a ≡ a
 and_self a = same_from_bits _ _ (λ i. bit_at_and a a i ∙ omega arith)

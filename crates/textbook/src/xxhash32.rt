@@ -36,6 +36,7 @@ fn round(a: u32, word: u32) -> u32
 }
 
 // What an accumulator becomes by every whole stripe, each of which gives it the word at byte `at`.
+#[tactic(auto, using(twox_plain::proofs::UnitFacts::after_units_next), unfolding(twox_plain::specs::Units::after_units))]
 fn accumulator_after(a: u32, m: &[u8], at: usize) -> u32
     requires { at + 4 ≤ 16 }
     ensures { result ≡
@@ -72,6 +73,7 @@ fn take_byte(x: u32, byte: u8) -> u32
 }
 
 // What x becomes by the words, then the bytes of the n bytes from byte i on.
+#[tactic(auto, using(twox_plain::proofs::UnitFacts::after_units_next), unfolding(twox_plain::specs::Units::after_units, twox_plain::specs::Xxh32::after_words))]
 fn after_words(m: &[u8], i: usize, x: u32, n: usize) -> u32
     requires { i + n ≤ length m.now }
     ensures { result ≡ after_words m.now i x n }
@@ -83,6 +85,7 @@ fn after_words(m: &[u8], i: usize, x: u32, n: usize) -> u32
     value
 }
 
+#[tactic(auto, using(twox_plain::proofs::UnitFacts::after_units_next), unfolding(twox_plain::specs::Xxh32::after_tail, twox_plain::specs::Units::after_units))]
 fn after_tail(m: &[u8], i: usize, x: u32, n: usize) -> u32
     requires { i + n ≤ length m.now }
     ensures { result ≡ after_tail m.now i x n }
@@ -103,6 +106,7 @@ fn avalanche(x: u32) -> u32
 }
 
 // The four accumulators of the record after every whole stripe, as one value.
+#[tactic(auto, unfolding(twox_plain::specs::Core32::core_after_stripes))]
 fn convergence_after(core: &Core, m: &[u8]) -> u32
     ensures { let c = core_after_stripes core.now m.now (length m.now / 16)
         in result ≡ convergence c.v1 c.v2 c.v3 c.v4 }

@@ -52,6 +52,7 @@ fn round(a: u64, word: u64) -> u64
 }
 
 // What an accumulator becomes by every whole stripe, each of which gives it the word at byte `at`.
+#[tactic(auto, using(twox_plain::proofs::UnitFacts::after_units_next), unfolding(twox_plain::specs::Units::after_units))]
 fn accumulator_after(a: u64, m: &[u8], at: usize) -> u64
     requires { at + 8 ≤ 32 }
     ensures { result ≡
@@ -102,6 +103,7 @@ fn take_byte(x: u64, byte: u8) -> u64
 }
 
 // What x becomes by the eight-byte words, then the four-byte word, then the bytes of the n bytes from byte i on.
+#[tactic(auto, using(twox_plain::proofs::UnitFacts::after_units_next), unfolding(twox_plain::specs::Xxh64::after_eights, twox_plain::specs::Units::after_units))]
 fn after_eights(m: &[u8], i: usize, x: u64, n: usize) -> u64
     requires { i + n ≤ length m.now }
     ensures { result ≡ after_eights m.now i x n }
@@ -126,6 +128,7 @@ fn after_words(m: &[u8], i: usize, x: u64, n: usize) -> u64
     }
 }
 
+#[tactic(auto, using(twox_plain::proofs::UnitFacts::after_units_next), unfolding(twox_plain::specs::Xxh64::after_tail, twox_plain::specs::Units::after_units))]
 fn after_tail(m: &[u8], i: usize, x: u64, n: usize) -> u64
     requires { i + n ≤ length m.now }
     ensures { result ≡ after_tail m.now i x n }
@@ -146,6 +149,7 @@ fn avalanche(x: u64) -> u64
 }
 
 // The four accumulators of the record after every whole stripe, as one value.
+#[tactic(auto, unfolding(twox_plain::specs::Core64::core_after_stripes))]
 fn convergence_after(core: &Core, m: &[u8]) -> u64
     ensures { let c = core_after_stripes core.now m.now (length m.now / 32)
         in result ≡ convergence c.v1 c.v2 c.v3 c.v4 }

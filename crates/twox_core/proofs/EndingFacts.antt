@@ -147,3 +147,5 @@ pub stream_both : (s m : List ℕ) → 64 ≤ length m
 unfolding finalize_128
 stream_both s m long =
     ap₂ (λ (x y : ℕ). x * 2 ^ 64 + y) (high_of s m _ _ (counted (length m)) (stripe_ended s m long) refl) (stream_low s m long)
+
+pub ruleset merge_laws = merge_accumulators-stripe

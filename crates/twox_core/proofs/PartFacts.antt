@@ -71,3 +71,5 @@ pairs_at-pair m ps i n c j d e low at =
 -- the two chunks cs of the last 32 bytes c
 pub last-pair : (m c : List ℕ) (cs : List (List ℕ)) (k : ℕ) → 32 ≤ length m → c ≡ drop (length m - 32) m → cs ≡ first_chunks 16 k c → k ≡ 2 → cs ≡ pair_at m (length m - 32)
 last-pair m c cs k enough e chunks count = chunks ∙ ap₂ (first_chunks 16) count e ∙ pair_at-part m (length m - 32)
+
+pub ruleset part_laws = (chunks_at-part, pairs_at-eight)

@@ -23,6 +23,7 @@ use twox_hash::xxhash3_64::Finalize64;
 use twox_hash::xxhash3_128::Finalize128;
 
 /// The state of no bytes yet, over whatever secret.
+#[tactic(auto, using(crate::proofs::StreamFacts::follows_fresh))]
 #[inline(always)]
 pub fn start() -> CoreState
     ensures { (s : List ℕ) → Follows s result [] }
@@ -94,6 +95,7 @@ fn write_far<V: Vector>(core: &mut CoreState, v: V, secret: Secret<'_>, input: &
 }
 
 // What `finalize` makes of the bytes taken.
+#[tactic(auto, using(std::proofs::lemmas::Bool::Decides::nat_tests), unfolding(twox_core::specs::Finish::state_finish))]
 #[inline(always)]
 fn finish<V: Vector, F: Finalize>(
     core: &CoreState,

@@ -67,6 +67,7 @@ impl Hasher<Global> {
     /// # Errors
     ///
     /// The secret has fewer than 136 bytes.
+    #[tactic(auto, using(twox_core::proofs::OneshotLaws::tells_others_64))]
     #[inline]
     pub fn oneshot_with_secret(secret: &[u8], input: &[u8]) -> Result<u64, OneshotWithSecretError>
         ensures refused { IsErr result ↔ (length secret.now < 136) }

@@ -39,3 +39,5 @@ item_bytes-items_of_bytes (b ∷ bs) small =
 pub bytes_of_data-bytes_data : (n : ℕ) (bytes : List ℕ) → length bytes ≡ n → IsBytes bytes → bytes_of_data n (bytes_data bytes) ≡ Some bytes
 bytes_of_data-bytes_data n bytes size small =
     rw (item_count-items_of_bytes bytes, eq-eqb (length bytes) n size) (item_bytes-items_of_bytes bytes small)
+
+pub ruleset data_there_and_back = bytes_of_data-bytes_data

@@ -38,6 +38,7 @@ pub(crate) fn u64_member(value: &Value, name: &str) -> Option<u64>
 }
 
 /// The array of exactly N whole numbers below 256.
+#[tactic(auto, using(crate::proofs::ByteItems::bytes_of_other_length, crate::proofs::ByteItems::one_more, crate::proofs::ByteItems::all_read))]
 pub(crate) fn byte_array<const N: usize>(value: &Value) -> Option<[u8; N]>
     ensures { result ≡ bytes_of_data N (view value.now) }
 {
@@ -63,6 +64,7 @@ fn byte_values(alloc: Global, bytes: &[u8]) -> Result<Vec<Value>, AllocError>
 }
 
 /// The array of these bytes as numbers.
+#[tactic(auto, using(crate::proofs::ByteTexts::data_there_and_back))]
 pub(crate) fn byte_array_value(alloc: Global, bytes: &[u8]) -> Result<Value, AllocError>
     ensures value { IfOk result (λ value. view value ≡ bytes_data bytes.now) }
     ensures reads_back { bytes_of_data (length bytes.now) (bytes_data bytes.now) ≡ Some bytes.now }

@@ -173,6 +173,7 @@ fn start(stream: &mut Stream, secret: &[u8], seed: Option<u64>) -> u32
 /// - `NOT_A_STREAM`: the record's parts don't agree with each other and with the secret.
 ///
 /// Where it refuses, the record stays as it was.
+#[tactic(auto, using(crate::proofs::StreamFacts::follows_counted))]
 #[unsafe(no_mangle)]
 pub extern "C" fn twox_xxh3_update(stream: &mut Stream, secret: &[u8], input: &[u8]) -> u32
     ensures done { result ≡ DONE ↔ ((136 ≤ length secret.now) × Fits secret.now stream.old.core) }
@@ -198,6 +199,7 @@ pub extern "C" fn twox_xxh3_update(stream: &mut Stream, secret: &[u8], input: &[
 /// - `NOT_A_STREAM`: the record's parts don't agree with each other and with the secret.
 ///
 /// Where it refuses, nothing is written.
+#[tactic(auto, using(crate::proofs::StreamFacts::follows_counted))]
 #[unsafe(no_mangle)]
 pub extern "C" fn twox_xxh3_64_digest(stream: &Stream, secret: &[u8], value: &mut u64) -> u32
     ensures done { result ≡ DONE ↔ ((136 ≤ length secret.now) × Fits secret.now stream.now.core) }
@@ -221,6 +223,7 @@ pub extern "C" fn twox_xxh3_64_digest(stream: &Stream, secret: &[u8], value: &mu
 /// - `NOT_A_STREAM`: the record's parts don't agree with each other and with the secret.
 ///
 /// Where it refuses, nothing is written.
+#[tactic(auto, using(crate::proofs::StreamFacts::follows_counted))]
 #[unsafe(no_mangle)]
 pub extern "C" fn twox_xxh3_128_digest(stream: &Stream, secret: &[u8], value: &mut Wide) -> u32
     ensures done { result ≡ DONE ↔ ((136 ≤ length secret.now) × Fits secret.now stream.now.core) }

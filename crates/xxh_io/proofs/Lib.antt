@@ -1,11 +1,8 @@
-pub mod BlockPlace
-pub mod BufferedFacts
 pub mod HexPlace
 pub mod HexValue
 pub mod HexVectors
 pub mod MemoryFacts
 pub mod MemoryPieces
-pub mod NumberFacts
 pub mod PieceFacts
 pub mod ProcessFacts
 pub mod WriteFacts

@@ -127,9 +127,6 @@ added_at_end b m d some ends =
     let bytes : block_bytes b (m ++ d) c ≡ drop (c * b) m ++ d = block_bytes-last b (m ++ d) c last ∙ drop-append-le (c * b) m d (div-mul-le_self (length m) b) in
     rw (one, same, bytes) refl
 
-pub last_none : (b : ℕ) (m : List ℕ) → length m % b ≡ 0 → last_lines b m ≡ []
-last_none b m none = rw none refl
-
 pub last_short : (b : ℕ) (m : List ℕ) → 0 < b → 0 < length m % b → last_lines b m ≡ offset_line (min (length m / b * b) (2 ^ 64 - 1)) (xxh3_128 0 default_secret (drop (length m / b * b) m))
 last_short b m some short =
     let c = length m / b in
@@ -141,11 +138,6 @@ last_short b m some short =
 -- the offset of the next block
 pub next_offset : (b k offset n : ℕ) → offset ≡ min (k * b) (2 ^ 64 - 1) → n ≡ k + 1 → min (offset + b) (2 ^ 64 - 1) ≡ min (n * b) (2 ^ 64 - 1)
 next_offset b k offset n is next = rw (is, next) (omega (arith, add-mul k 1 b))
-
--- the lines of a piece that comes in three parts
-pub added-three : (b : ℕ) (m done front after : List ℕ) → 0 < b → added_lines b m (done ++ (front ++ after)) ≡ added_lines b m done ++ added_lines b (m ++ done) front ++ added_lines b (m ++ (done ++ front)) after
-added-three b m done front after some =
-    ap (added_lines b m) (sym (append_assoc done front after)) ∙ added-append b m (done ++ front) after some ∙ ap (λ lines. lines ++ added_lines b (m ++ (done ++ front)) after) (added-append b m done front some)
 
 -- ---- which blocks have a line
 

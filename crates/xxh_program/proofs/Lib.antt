@@ -1,4 +1,2 @@
-pub mod BlockEndFacts
 pub mod BlockFacts
-pub mod FedFacts
 pub mod ValueFacts

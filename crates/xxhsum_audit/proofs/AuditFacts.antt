@@ -1,77 +1,71 @@
 -- What holds of an audit.
-use Rattle.std.proofs.Common.{◌≡◌, ℕ, List, [], ◌∷◌, ◌++◌, refl, sym, ap, subst, ◌∙◌, inl, inr}
+use Rattle.std.proofs.Common.{◌≡◌, ℕ, List, [], ◌∷◌, ◌++◌, refl, sym, ap, subst, ◌∙◌, inl, inr, append_assoc}
 use Rattle.std.proofs.lemmas.List.Concat.{flat_map-append}
-use Rattle.std.proofs.lemmas.List.Sorted.{IsPermutation-append_right, IsPermutation-cons, IsPermutation-middle, IsPermutation-refl, IsPermutation-sym, IsPermutation-trans}
+use Rattle.std.proofs.lemmas.List.Sorted.{IsPermutation-append_comm, IsPermutation-append_left, IsPermutation-append_right, IsPermutation-refl, IsPermutation-sym, IsPermutation-trans}
+use Rattle.std.specs.List.{flat_map}
 use Rattle.std.specs.List.Sorted.{IsPermutation}
 use Rattle.xxhsum_audit.proofs.AmongFacts.{among_either, among_flat_map, among_permutation, among_same}
-use Rattle.xxhsum_audit.proofs.DigestFacts.{FitsDigest, FitsName, all_fit_digest, all_fit_name, by_digests, climbs}
-use Rattle.xxhsum_audit.proofs.MergeFacts.{lines_in_merged, names_in_merged}
-use Rattle.xxhsum_audit.proofs.SideFacts.{by_names}
+use Rattle.xxhsum_audit.proofs.DigestFacts.{FitsDigest, FitsName, all_apart, all_fit_digest, all_fit_name, climbs}
+use Rattle.xxhsum_audit.proofs.MergeFacts.{covers}
+use Rattle.xxhsum_audit.proofs.SideFacts.{IsSide, by_names, side_of_lines, side_of_names}
 use Rattle.xxhsum_audit.proofs.TwiceFacts.{not_twice, rises}
 use Rattle.xxhsum_audit.proofs.UniqueFacts.{one_order}
 use Rattle.xxhsum_audit.specs.declared.order.By.TheVariants.{Name, Digest}
-use Rattle.xxhsum_audit.specs.Audit.{HasMoves, missing_in, missing_one, new_in, new_one, settled_in}
+use Rattle.xxhsum_audit.specs.Audit.{HasMoves, missing_in, missing_one, new_in, new_one, settled_in, settled_one}
 use Rattle.xxhsum_audit.specs.Item.{IsAmong, Item, LacksName, name_of}
 use Rattle.xxhsum_audit.specs.Laws.{HasNoneTwice, IsOneReport, IsRight, LeavesNoMove, TellsEachLineOnce, TellsEachNameOnce, TellsRight}
 use Rattle.xxhsum_audit.specs.Merge.{Changed, Found, Missing, Moved, New, Same, line_in, lines_in, merged, name_in, names_in}
 
 -- ---- each line and each name once
 
-split_lines : (f : List Found) → IsPermutation (lines_in f) (lines_in (settled_in f) ++ missing_in f)
-split_lines [] = IsPermutation-refl []
-split_lines (Same l n ∷ f) = IsPermutation-cons l (lines_in f) _ (split_lines f)
-split_lines (Changed l n ∷ f) = IsPermutation-cons l (lines_in f) _ (split_lines f)
-split_lines (Moved l n ∷ f) = IsPermutation-cons l (lines_in f) _ (split_lines f)
-split_lines (New n ∷ f) = split_lines f
-split_lines (Missing l ∷ f) =
-    IsPermutation-trans (l ∷ lines_in f) (l ∷ (lines_in (settled_in f) ++ missing_in f)) _
-    (IsPermutation-cons l (lines_in f) (lines_in (settled_in f) ++ missing_in f) (split_lines f))
-    (IsPermutation-sym _ _ (IsPermutation-middle (lines_in (settled_in f)) l (missing_in f)))
+interchange : (a b c d : List Item) → IsPermutation ((a ++ b) ++ (c ++ d)) ((a ++ c) ++ (b ++ d))
+interchange a b c d =
+    let before : a ++ ((b ++ c) ++ d) ≡ (a ++ b) ++ (c ++ d) = ap (λ x. a ++ x) (append_assoc b c d) ∙ sym (append_assoc a b (c ++ d)) in
+    let after : a ++ ((c ++ b) ++ d) ≡ (a ++ c) ++ (b ++ d) = ap (λ x. a ++ x) (append_assoc c b d) ∙ sym (append_assoc a c (b ++ d)) in
+    subst (λ x. IsPermutation x ((a ++ c) ++ (b ++ d))) before
+    (subst (λ x. IsPermutation (a ++ ((b ++ c) ++ d)) x) after
+    (IsPermutation-append_right a _ _ (IsPermutation-append_left d (b ++ c) (c ++ b) (IsPermutation-append_comm b c))))
 
-split_names : (f : List Found) → IsPermutation (names_in f) (names_in (settled_in f) ++ new_in f)
-split_names [] = IsPermutation-refl []
-split_names (Same l n ∷ f) = IsPermutation-cons n (names_in f) _ (split_names f)
-split_names (Changed l n ∷ f) = IsPermutation-cons n (names_in f) _ (split_names f)
-split_names (Moved l n ∷ f) = IsPermutation-cons n (names_in f) _ (split_names f)
-split_names (Missing l ∷ f) = split_names f
-split_names (New n ∷ f) =
-    IsPermutation-trans (n ∷ names_in f) (n ∷ (names_in (settled_in f) ++ new_in f)) _
-    (IsPermutation-cons n (names_in f) (names_in (settled_in f) ++ new_in f) (split_names f))
-    (IsPermutation-sym _ _ (IsPermutation-middle (names_in (settled_in f)) n (new_in f)))
+split : (of alone : Found → List Item) → IsSide of alone → (f : List Found)
+    → IsPermutation (flat_map of f) (flat_map of (settled_in f) ++ flat_map alone f)
+split of alone side [] = IsPermutation-refl []
+split of alone side (x ∷ f) =
+    let here = flat_map of (settled_one x) in
+    let rest = flat_map of (settled_in f) in
+    let first = IsPermutation-append_right (of x) (flat_map of f) (rest ++ flat_map alone f) (split of alone side f) in
+    let moved = subst (λ y. IsPermutation (y ++ (rest ++ flat_map alone f)) ((here ++ rest) ++ (alone x ++ flat_map alone f)))
+    (sym (side x).0) (interchange here (alone x) rest (flat_map alone f)) in
+    subst (λ y. IsPermutation (of x ++ flat_map of f) (y ++ (alone x ++ flat_map alone f)))
+    (sym (flat_map-append of (settled_one x) (settled_in f)))
+    (IsPermutation-trans (of x ++ flat_map of f) (of x ++ (rest ++ flat_map alone f)) ((here ++ rest) ++ (alone x ++ flat_map alone f)) first moved)
 
-moves_keep_lines : (first found : List Found) → HasMoves first found → IsPermutation (lines_in first) (lines_in found)
-moves_keep_lines first found moves =
-    let kept = lines_in (settled_in first) in
-    let whole : lines_in found ≡ kept ++ moves.gone =
-    ap lines_in moves.is ∙ flat_map-append line_in (settled_in first) (merged Digest moves.gone moves.come)
-    ∙ ap (λ x. kept ++ x) (lines_in_merged Digest moves.gone moves.come) in
-    subst (λ x. IsPermutation (lines_in first) x) (sym whole)
-    (IsPermutation-trans (lines_in first) (kept ++ missing_in first) (kept ++ moves.gone) (split_lines first)
-    (IsPermutation-append_right kept (missing_in first) moves.gone moves.gone_in_order.0))
-
-moves_keep_names : (first found : List Found) → HasMoves first found → IsPermutation (names_in first) (names_in found)
-moves_keep_names first found moves =
-    let kept = names_in (settled_in first) in
-    let whole : names_in found ≡ kept ++ moves.come =
-    ap names_in moves.is ∙ flat_map-append name_in (settled_in first) (merged Digest moves.gone moves.come)
-    ∙ ap (λ x. kept ++ x) (names_in_merged Digest moves.gone moves.come) in
-    subst (λ x. IsPermutation (names_in first) x) (sym whole)
-    (IsPermutation-trans (names_in first) (kept ++ new_in first) (kept ++ moves.come) (split_names first)
-    (IsPermutation-append_right kept (new_in first) moves.come moves.come_in_order.0))
+-- a side keeps its items where those that stand alone are put side by side again
+keeps : (of alone : Found → List Item) → IsSide of alone → (first found : List Found) (moves : HasMoves first found) (items : List Item)
+    → IsPermutation (flat_map alone first) items → flat_map of (merged Digest moves.gone moves.come) ≡ items
+    → IsPermutation (flat_map of first) (flat_map of found)
+keeps of alone side first found moves items moved same =
+    let kept = flat_map of (settled_in first) in
+    let whole : flat_map of found ≡ kept ++ items =
+    ap (flat_map of) moves.is ∙ flat_map-append of (settled_in first) (merged Digest moves.gone moves.come) ∙ ap (λ x. kept ++ x) same in
+    subst (λ x. IsPermutation (flat_map of first) x) (sym whole)
+    (IsPermutation-trans (flat_map of first) (kept ++ flat_map alone first) (kept ++ items) (split of alone side first)
+    (IsPermutation-append_right kept (flat_map alone first) items moved))
 
 pub tells_each_line_once : TellsEachLineOnce
 tells_each_line_once lines names found audit =
     let first = merged Name audit.ordered_lines audit.ordered_names in
-    let all = lines_in_merged Name audit.ordered_lines audit.ordered_names in
-    IsPermutation-trans lines (lines_in first) (lines_in found)
-    (subst (λ x. IsPermutation lines x) (sym all) audit.lines_in_order.0) (moves_keep_lines first found audit.moves)
+    let all = (covers Name audit.ordered_lines audit.ordered_names).lines in
+    let moves = audit.moves in
+    IsPermutation-trans lines (lines_in first) (lines_in found) (subst (λ x. IsPermutation lines x) (sym all) audit.lines_in_order.0)
+    (keeps line_in missing_one side_of_lines first found moves moves.gone moves.gone_in_order.0 (covers Digest moves.gone moves.come).lines)
 
 pub tells_each_name_once : TellsEachNameOnce
 tells_each_name_once lines names found audit =
     let first = merged Name audit.ordered_lines audit.ordered_names in
-    let all = names_in_merged Name audit.ordered_lines audit.ordered_names in
-    IsPermutation-trans names (names_in first) (names_in found)
-    (subst (λ x. IsPermutation names x) (sym all) audit.names_in_order.0) (moves_keep_names first found audit.moves)
+    let all = (covers Name audit.ordered_lines audit.ordered_names).names in
+    let moves = audit.moves in
+    IsPermutation-trans names (names_in first) (names_in found) (subst (λ x. IsPermutation names x) (sym all) audit.names_in_order.0)
+    (keeps name_in new_one side_of_names first found moves moves.come moves.come_in_order.0 (covers Digest moves.gone moves.come).names)
 
 -- ---- none twice
 
@@ -121,13 +115,13 @@ record IsGone (lines names : List Item) (gone come : List Item) : Type 0 where
 line_among : (gone come : List Item) (one : Found) (l : Item) → IsAmong (merged Digest gone come) one → IsAmong (line_in one) l
     → IsAmong gone l
 line_among gone come one l h k =
-    among_same (lines_in (merged Digest gone come)) gone l (lines_in_merged Digest gone come)
+    among_same (lines_in (merged Digest gone come)) gone l (covers Digest gone come).lines
     (among_flat_map line_in (merged Digest gone come) one l h k)
 
 name_among : (gone come : List Item) (one : Found) (n : Item) → IsAmong (merged Digest gone come) one → IsAmong (name_in one) n
     → IsAmong come n
 name_among gone come one n h k =
-    among_same (names_in (merged Digest gone come)) come n (names_in_merged Digest gone come)
+    among_same (names_in (merged Digest gone come)) come n (covers Digest gone come).names
     (among_flat_map name_in (merged Digest gone come) one n h k)
 
 right_by_digest : (lines names gone come : List Item) → IsGone lines names gone come → (one : Found)
@@ -172,32 +166,26 @@ tells_right lines names found audit one h =
 
 -- ---- no partner is left
 
-none_missing : (f : List Found) → missing_in (settled_in f) ≡ []
-none_missing [] = refl
-none_missing (Same l n ∷ f) = none_missing f
-none_missing (Changed l n ∷ f) = none_missing f
-none_missing (Moved l n ∷ f) = none_missing f
-none_missing (New n ∷ f) = none_missing f
-none_missing (Missing l ∷ f) = none_missing f
+none_alone : (of alone : Found → List Item) → IsSide of alone → (f : List Found) → flat_map alone (settled_in f) ≡ []
+none_alone of alone side [] = refl
+none_alone of alone side (x ∷ f) =
+    flat_map-append alone (settled_one x) (settled_in f) ∙ ap (λ y. y ++ flat_map alone (settled_in f)) (side x).1 ∙ none_alone of alone side f
 
-none_new : (f : List Found) → new_in (settled_in f) ≡ []
-none_new [] = refl
-none_new (Same l n ∷ f) = none_new f
-none_new (Changed l n ∷ f) = none_new f
-none_new (Moved l n ∷ f) = none_new f
-none_new (New n ∷ f) = none_new f
-none_new (Missing l ∷ f) = none_new f
+-- what stands alone is of the second putting side by side
+rest_alone : (of alone : Found → List Item) → IsSide of alone → (first found : List Found) (moves : HasMoves first found)
+    → flat_map alone found ≡ flat_map alone (merged Digest moves.gone moves.come)
+rest_alone of alone side first found moves =
+    let rest = merged Digest moves.gone moves.come in
+    ap (flat_map alone) moves.is ∙ flat_map-append alone (settled_in first) rest ∙ ap (λ x. x ++ flat_map alone rest) (none_alone of alone side first)
 
 pub leaves_no_move : LeavesNoMove
 leaves_no_move lines names found audit line name h k same =
     let first = merged Name audit.ordered_lines audit.ordered_names in
     let moves = audit.moves in
     let rest = merged Digest moves.gone moves.come in
-    let missing : missing_in found ≡ missing_in rest =
-    ap missing_in moves.is ∙ flat_map-append missing_one (settled_in first) rest ∙ ap (λ x. x ++ missing_in rest) (none_missing first) in
-    let new : new_in found ≡ new_in rest =
-    ap new_in moves.is ∙ flat_map-append new_one (settled_in first) rest ∙ ap (λ x. x ++ new_in rest) (none_new first) in
-    (by_digests moves.gone moves.come).apart (climbs moves.gone moves.gone_in_order.1) (climbs moves.come moves.come_in_order.1)
+    let missing = rest_alone line_in missing_one side_of_lines first found moves in
+    let new = rest_alone name_in new_one side_of_names first found moves in
+    all_apart moves.gone moves.come (climbs moves.gone moves.gone_in_order.1) (climbs moves.come moves.come_in_order.1)
     line name (among_same (missing_in found) (missing_in rest) line missing h)
     (among_same (new_in found) (new_in rest) name new k) same
 

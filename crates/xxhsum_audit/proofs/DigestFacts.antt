@@ -1,24 +1,16 @@
 -- Pairs by name and by digest are right, and by digest no partner is left.
-use Rattle.std.proofs.Common.{◌≡◌, true, false, List, [], ◌∷◌, map, refl, sym, ap, subst, ◌∙◌, inl, inr}
+use Rattle.std.proofs.Common.{◌≡◌, false, List, [], ◌∷◌, map, refl, sym, subst, inl, inr}
 use Rattle.std.specs.declared.cmp.Ordering.{Ordering}
 use Rattle.std.specs.declared.cmp.Ordering.TheVariants.{Less, Equal, Greater}
-use Rattle.std.specs.Ordering.{is_eq, is_lt, ordering_then}
-use Rattle.xxhsum_audit.proofs.MergeFacts.{by_turns, lines_in_news, names_in_news, pair_by_name}
-use Rattle.xxhsum_audit.proofs.OrderFacts.{back, digests_exact, digests_tied, digests_total, items_same, less_upto, names_exact}
-use Rattle.xxhsum_audit.proofs.SideFacts.{missing_are_lines, new_are_names, none_missing}
+use Rattle.std.specs.Ordering.{is_lt, ordering_then}
+use Rattle.xxhsum_audit.proofs.MergeFacts.{Covers, by_turns, pair_by_name}
+use Rattle.xxhsum_audit.proofs.OrderFacts.{back, digests_exact, digests_tied, digests_total, eq_false, eq_true, items_same, less_upto, names_exact}
+use Rattle.xxhsum_audit.proofs.SideFacts.{missing_line, new_name, none_missing}
 use Rattle.xxhsum_audit.specs.declared.order.By.TheVariants.{Name, Digest}
 use Rattle.xxhsum_audit.specs.Audit.{missing_in, new_in}
 use Rattle.xxhsum_audit.specs.Item.{HasSameDigest, IsAmong, Item, name_of}
-use Rattle.xxhsum_audit.specs.Merge.{Changed, Found, Missing, Moved, New, Same, lines_in, merged, names_in, paired}
+use Rattle.xxhsum_audit.specs.Merge.{Changed, Found, Missing, Moved, New, Same, merged, paired}
 use Rattle.xxhsum_audit.specs.Order.{Ascends, compare_digests, compare_names}
-
-eq_true : (o : Ordering) → is_eq o ≡ true → o ≡ Equal
-eq_true Less e = let no : ⊥ = cc in absurd no
-eq_true Equal e = refl
-eq_true Greater e = let no : ⊥ = cc in absurd no
-
-eq_false : (o : Ordering) → is_eq o ≡ false → o ≡ Equal → ⊥
-eq_false o e same = let no : true ≡ false = sym (ap is_eq same) ∙ e in let none : ⊥ = cc in none
 
 -- what a pair by name says is right
 abbrev pub FitsName : Found → Type 0
@@ -60,18 +52,18 @@ pair_fits_name l n e =
 pub all_fit_name : (ls ns : List Item) (one : Found) → IsAmong (merged Name ls ns) one → FitsName one
 all_fit_name = by_turns Name (λ ls ns f. (one : Found) → IsAmong f one → FitsName one)
     news_fit_name
-    (λ l ls f ih. first_or_behind FitsName (Missing l) f tt ih)
-    (λ l n ls ns f e ih. first_or_behind FitsName (Missing l) f tt ih)
-    (λ l n ls ns f e ih. first_or_behind FitsName (paired Name l n) f (pair_fits_name l n e) ih)
-    (λ l n ls ns f e ih. first_or_behind FitsName (New n) f tt ih)
+    (λ l ls f _ ih. first_or_behind FitsName (Missing l) f tt ih)
+    (λ l n ls ns f e _ ih. first_or_behind FitsName (Missing l) f tt ih)
+    (λ l n ls ns f e _ ih. first_or_behind FitsName (paired Name l n) f (pair_fits_name l n e) ih)
+    (λ l n ls ns f e _ ih. first_or_behind FitsName (New n) f tt ih)
 
 pub all_fit_digest : (ls ns : List Item) (one : Found) → IsAmong (merged Digest ls ns) one → FitsDigest one
 all_fit_digest = by_turns Digest (λ ls ns f. (one : Found) → IsAmong f one → FitsDigest one)
     news_fit_digest
-    (λ l ls f ih. first_or_behind FitsDigest (Missing l) f tt ih)
-    (λ l n ls ns f e ih. first_or_behind FitsDigest (Missing l) f tt ih)
-    (λ l n ls ns f e ih. first_or_behind FitsDigest (Moved l n) f (digests_exact l n e) ih)
-    (λ l n ls ns f e ih. first_or_behind FitsDigest (New n) f tt ih)
+    (λ l ls f _ ih. first_or_behind FitsDigest (Missing l) f tt ih)
+    (λ l n ls ns f e _ ih. first_or_behind FitsDigest (Missing l) f tt ih)
+    (λ l n ls ns f e _ ih. first_or_behind FitsDigest (Moved l n) f (digests_exact l n e) ih)
+    (λ l n ls ns f e _ ih. first_or_behind FitsDigest (New n) f tt ih)
 
 -- ---- no partner is left
 
@@ -90,17 +82,9 @@ climbs [] up = tt
 climbs (x ∷ xs) up =
     (λ y h. not_less_first (compare_digests y x) (compare_names y x) (up.0 y h), climbs xs up.1)
 
-pub record ByDigests (ls ns : List Item) (f : List Found) : Type 0 where
-  pub lines : lines_in f ≡ ls
-  pub names : names_in f ≡ ns
-  pub apart : Climbs ls → Climbs ns → (l n : Item) → IsAmong (missing_in f) l → IsAmong (new_in f) n
-      → HasSameDigest l n → ⊥
-
-missing_line : (ls ns : List Item) (f : List Found) → ByDigests ls ns f → (l : Item) → IsAmong (missing_in f) l → IsAmong ls l
-missing_line ls ns f known l h = subst (λ x. IsAmong x l) known.lines (missing_are_lines f l h)
-
-new_name : (ls ns : List Item) (f : List Found) → ByDigests ls ns f → (n : Item) → IsAmong (new_in f) n → IsAmong ns n
-new_name ls ns f known n h = subst (λ x. IsAmong x n) known.names (new_are_names f n h)
+abbrev pub AreApart : List Item → List Item → List Found → Type 0
+AreApart ls ns f =
+    Climbs ls → Climbs ns → (l n : Item) → IsAmong (missing_in f) l → IsAmong (new_in f) n → HasSameDigest l n → ⊥
 
 -- a digest less than the first of digests that climb is none of them
 below : (a b : Item) (bs : List Item) → compare_digests a b ≡ Less → Climbs (b ∷ bs) → (x : Item) → IsAmong (b ∷ bs) x
@@ -114,54 +98,29 @@ not_same a b less same = let tied = digests_tied a b same in let no : ⊥ = cc i
 turned : (a b : Item) → HasSameDigest a b → HasSameDigest b a
 turned a b same = (sym same.0, sym same.1)
 
-news : (ns : List Item) → ByDigests [] ns (map New ns)
-news ns = record {
-  lines = lines_in_news ns;
-  names = names_in_news ns;
-  apart = λ up up' l n h k same. none_missing ns l h;
-}
+less : (l n : Item) (ls ns : List Item) (f : List Found) → compare_digests l n ≡ Less → Covers ls (n ∷ ns) f → AreApart ls (n ∷ ns) f
+    → AreApart (l ∷ ls) (n ∷ ns) (Missing l ∷ f)
+less l n ls ns f e all ih = λ up up' x y h k same.
+    elim h [
+      | inl this ↦ not_same l y (below l n ns e up' y (new_name (n ∷ ns) f all.names y k))
+          (subst (λ z. HasSameDigest z y) (sym this) same)
+      | inr there ↦ ih up.1 up' x y there k same
+    ]
 
-past : (l : Item) (ls : List Item) (f : List Found) → ByDigests ls [] f → ByDigests (l ∷ ls) [] (Missing l ∷ f)
-past l ls f ih = record {
-  lines = ap (λ x. l ∷ x) ih.lines;
-  names = ih.names;
-  apart = λ up up' x n h k same. new_name ls [] f ih n k;
-}
+greater : (l n : Item) (ls ns : List Item) (f : List Found) → compare_digests l n ≡ Greater → Covers (l ∷ ls) ns f → AreApart (l ∷ ls) ns f
+    → AreApart (l ∷ ls) (n ∷ ns) (New n ∷ f)
+greater l n ls ns f e all ih = λ up up' x y h k same.
+    elim k [
+      | inl this ↦ not_same n x
+          (below n l ls (back compare_digests digests_total l n e) up x (missing_line (l ∷ ls) f all.lines x h))
+          (turned x n (subst (λ z. HasSameDigest x z) (sym this) same))
+      | inr there ↦ ih up up'.1 x y h there same
+    ]
 
-less : (l n : Item) (ls ns : List Item) (f : List Found) → compare_digests l n ≡ Less → ByDigests ls (n ∷ ns) f
-    → ByDigests (l ∷ ls) (n ∷ ns) (Missing l ∷ f)
-less l n ls ns f e ih = record {
-  lines = ap (λ x. l ∷ x) ih.lines;
-  names = ih.names;
-  apart = λ up up' x y h k same.
-      elim h [
-        | inl this ↦ not_same l y (below l n ns e up' y (new_name ls (n ∷ ns) f ih y k))
-            (subst (λ z. HasSameDigest z y) (sym this) same)
-        | inr there ↦ ih.apart up.1 up' x y there k same
-      ];
-}
-
-equal : (l n : Item) (ls ns : List Item) (f : List Found) → compare_digests l n ≡ Equal → ByDigests ls ns f
-    → ByDigests (l ∷ ls) (n ∷ ns) (paired Digest l n ∷ f)
-equal l n ls ns f e ih = record {
-  lines = ap (λ x. l ∷ x) ih.lines;
-  names = ap (λ x. n ∷ x) ih.names;
-  apart = λ up up' x y h k same. ih.apart up.1 up'.1 x y h k same;
-}
-
-greater : (l n : Item) (ls ns : List Item) (f : List Found) → compare_digests l n ≡ Greater → ByDigests (l ∷ ls) ns f
-    → ByDigests (l ∷ ls) (n ∷ ns) (New n ∷ f)
-greater l n ls ns f e ih = record {
-  lines = ih.lines;
-  names = ap (λ x. n ∷ x) ih.names;
-  apart = λ up up' x y h k same.
-      elim k [
-        | inl this ↦ not_same n x
-            (below n l ls (back compare_digests digests_total l n e) up x (missing_line (l ∷ ls) ns f ih x h))
-            (turned x n (subst (λ z. HasSameDigest x z) (sym this) same))
-        | inr there ↦ ih.apart up up'.1 x y h there same
-      ];
-}
-
-pub by_digests : (ls ns : List Item) → ByDigests ls ns (merged Digest ls ns)
-by_digests = by_turns Digest ByDigests news past less equal greater
+pub all_apart : (ls ns : List Item) → AreApart ls ns (merged Digest ls ns)
+all_apart = by_turns Digest AreApart
+    (λ ns up up' l n h k same. none_missing ns l h)
+    (λ l ls f all ih up up' x n h k same. new_name [] f all.names n k)
+    less
+    (λ l n ls ns f e all ih up up' x y h k same. ih up.1 up'.1 x y h k same)
+    greater

@@ -1,6 +1,5 @@
 pub mod OrderFacts
 pub mod AmongFacts
-pub mod SortFacts
 pub mod UniqueFacts
 pub mod MergeFacts
 pub mod SideFacts
@@ -9,4 +8,3 @@ pub mod TwiceFacts
 pub mod AuditFacts
 pub mod CountFacts
 pub mod PartFacts
-pub mod ListFacts

@@ -1,44 +1,15 @@
 -- What is found of lines and names side by side, by induction.
-use Rattle.std.proofs.Common.{◌≡◌, ℕ, Bool, true, false, List, [], ◌∷◌, ◌++◌, map, drop, length, refl, sym, ap, subst, ◌∙◌, append_assoc, arith}
+use Rattle.std.proofs.Common.{◌≡◌, Bool, true, false, List, [], ◌∷◌, ◌++◌, map, drop, length, refl, sym, ap, subst, ◌∙◌, arith}
 use Rattle.std.proofs.lemmas.Bool.{cond-true, cond-false}
-use Rattle.std.proofs.lemmas.List.{drop-map, map-append}
 use Rattle.std.specs.declared.cmp.Ordering.{Ordering}
 use Rattle.std.specs.declared.cmp.Ordering.TheVariants.{Less, Equal, Greater}
 use Rattle.std.specs.Ordering.{is_eq}
 use Rattle.xxhsum_audit.specs.declared.order.By.{By}
 use Rattle.xxhsum_audit.specs.declared.order.By.TheVariants.{Name, Digest}
 use Rattle.xxhsum_audit.specs.declared.entry.Entry.{Entry}
-use Rattle.xxhsum_audit.specs.declared.outcome.Outcome.{Outcome}
 use Rattle.xxhsum_audit.specs.Item.{Item, item_of, items_of}
-use Rattle.xxhsum_audit.specs.Merge.{Changed, Found, IsNext, Missing, New, Same, against, found_of, founds_of, in_turn, line_in, lines_in, merged, name_in, names_in, paired}
+use Rattle.xxhsum_audit.specs.Merge.{Changed, Found, IsNext, Missing, New, Same, against, in_turn, line_in, lines_in, merged, name_in, names_in, paired}
 use Rattle.xxhsum_audit.specs.Order.{compare_by, compare_digests}
-
-module _ (by : By) (P : List Item → List Item → List Found → Type 0)
-    (news : (ns : List Item) → P [] ns (map New ns))
-    (past : (l : Item) (ls : List Item) (f : List Found) → P ls [] f → P (l ∷ ls) [] (Missing l ∷ f))
-    (less : (l n : Item) (ls ns : List Item) (f : List Found) → compare_by by l n ≡ Less → P ls (n ∷ ns) f
-    → P (l ∷ ls) (n ∷ ns) (Missing l ∷ f))
-    (equal : (l n : Item) (ls ns : List Item) (f : List Found) → compare_by by l n ≡ Equal → P ls ns f
-    → P (l ∷ ls) (n ∷ ns) (paired by l n ∷ f))
-    (greater : (l n : Item) (ls ns : List Item) (f : List Found) → compare_by by l n ≡ Greater → P (l ∷ ls) ns f
-    → P (l ∷ ls) (n ∷ ns) (New n ∷ f)) where
-  turn : (l n : Item) (ls ns : List Item) (a b c : List Found) (o : Ordering) → compare_by by l n ≡ o → P ls (n ∷ ns) a
-      → P ls ns b → P (l ∷ ls) ns c → P (l ∷ ls) (n ∷ ns) (in_turn o by l n a b c)
-  turn l n ls ns a b c Less e p q r = less l n ls ns a e p
-  turn l n ls ns a b c Equal e p q r = equal l n ls ns b e q
-  turn l n ls ns a b c Greater e p q r = greater l n ls ns c e r
-
-  row : (l : Item) (ls : List Item) (behind : List Item → List Found) → ((ns : List Item) → P ls ns (behind ns))
-      → (ns : List Item) → P (l ∷ ls) ns (against by l behind ns)
-  row l ls behind ih [] = past l ls (behind []) (ih [])
-  row l ls behind ih (n ∷ ns) =
-      turn l n ls ns (behind (n ∷ ns)) (behind ns) (against by l behind ns) (compare_by by l n) refl (ih (n ∷ ns)) (ih ns)
-      (row l ls behind ih ns)
-
-  pub by_turns : (ls ns : List Item) → P ls ns (merged by ls ns)
-  unfolding merged
-  by_turns [] ns = news ns
-  by_turns (l ∷ ls) ns = row l ls (merged by ls) (by_turns ls) ns
 
 -- ---- what a pair says
 
@@ -52,39 +23,79 @@ pub pair_by_name : (P : Found → Type 0) (l n : Item) → (is_eq (compare_diges
     → (is_eq (compare_digests l n) ≡ false → P (Changed l n)) → P (paired Name l n)
 pair_by_name P l n same changed = paired_cases P l n (is_eq (compare_digests l n)) refl same changed
 
-pub line_in_paired : (by : By) (l n : Item) → line_in (paired by l n) ≡ l ∷ []
+line_in_paired : (by : By) (l n : Item) → line_in (paired by l n) ≡ l ∷ []
 line_in_paired Name l n = pair_by_name (λ f. line_in f ≡ l ∷ []) l n (λ e. refl) (λ e. refl)
 line_in_paired Digest l n = refl
 
-pub name_in_paired : (by : By) (l n : Item) → name_in (paired by l n) ≡ n ∷ []
+name_in_paired : (by : By) (l n : Item) → name_in (paired by l n) ≡ n ∷ []
 name_in_paired Name l n = pair_by_name (λ f. name_in f ≡ n ∷ []) l n (λ e. refl) (λ e. refl)
 name_in_paired Digest l n = refl
 
 -- ---- each line and each name once
 
-pub lines_in_news : (ns : List Item) → lines_in (map New ns) ≡ []
+-- what is found speaks of these lines and names
+pub record Covers (ls ns : List Item) (f : List Found) : Type 0 where
+  pub lines : lines_in f ≡ ls
+  pub names : names_in f ≡ ns
+
+lines_in_news : (ns : List Item) → lines_in (map New ns) ≡ []
 lines_in_news [] = refl
 lines_in_news (n ∷ ns) = lines_in_news ns
 
-pub names_in_news : (ns : List Item) → names_in (map New ns) ≡ ns
+names_in_news : (ns : List Item) → names_in (map New ns) ≡ ns
 names_in_news [] = refl
 names_in_news (n ∷ ns) = ap (λ l. n ∷ l) (names_in_news ns)
 
-pub lines_in_merged : (by : By) (ls ns : List Item) → lines_in (merged by ls ns) ≡ ls
-lines_in_merged by = by_turns by (λ ls ns f. lines_in f ≡ ls)
-    lines_in_news
-    (λ l ls f ih. ap (λ x. l ∷ x) ih)
-    (λ l n ls ns f e ih. ap (λ x. l ∷ x) ih)
-    (λ l n ls ns f e ih. ap (λ x. x ++ lines_in f) (line_in_paired by l n) ∙ ap (λ x. l ∷ x) ih)
-    (λ l n ls ns f e ih. ih)
+covers_missing : (l : Item) (ls ns : List Item) (f : List Found) → Covers ls ns f → Covers (l ∷ ls) ns (Missing l ∷ f)
+covers_missing l ls ns f all = record { lines = ap (λ x. l ∷ x) all.lines; names = all.names }
 
-pub names_in_merged : (by : By) (ls ns : List Item) → names_in (merged by ls ns) ≡ ns
-names_in_merged by = by_turns by (λ ls ns f. names_in f ≡ ns)
-    names_in_news
-    (λ l ls f ih. ih)
-    (λ l n ls ns f e ih. ih)
-    (λ l n ls ns f e ih. ap (λ x. x ++ names_in f) (name_in_paired by l n) ∙ ap (λ x. n ∷ x) ih)
-    (λ l n ls ns f e ih. ap (λ x. n ∷ x) ih)
+covers_new : (n : Item) (ls ns : List Item) (f : List Found) → Covers ls ns f → Covers ls (n ∷ ns) (New n ∷ f)
+covers_new n ls ns f all = record { lines = all.lines; names = ap (λ x. n ∷ x) all.names }
+
+covers_pair : (by : By) (l n : Item) (ls ns : List Item) (f : List Found) → Covers ls ns f → Covers (l ∷ ls) (n ∷ ns) (paired by l n ∷ f)
+covers_pair by l n ls ns f all = record {
+  lines = ap (λ x. x ++ lines_in f) (line_in_paired by l n) ∙ ap (λ x. l ∷ x) all.lines;
+  names = ap (λ x. x ++ names_in f) (name_in_paired by l n) ∙ ap (λ x. n ∷ x) all.names;
+}
+
+-- ---- by turns
+
+abbrev Both : (List Item → List Item → List Found → Type 0) → List Item → List Item → List Found → Type 0
+Both P ls ns f = Covers ls ns f × P ls ns f
+
+module _ (by : By) (P : List Item → List Item → List Found → Type 0)
+    (news : (ns : List Item) → P [] ns (map New ns))
+    (past : (l : Item) (ls : List Item) (f : List Found) → Covers ls [] f → P ls [] f → P (l ∷ ls) [] (Missing l ∷ f))
+    (less : (l n : Item) (ls ns : List Item) (f : List Found) → compare_by by l n ≡ Less → Covers ls (n ∷ ns) f → P ls (n ∷ ns) f
+    → P (l ∷ ls) (n ∷ ns) (Missing l ∷ f))
+    (equal : (l n : Item) (ls ns : List Item) (f : List Found) → compare_by by l n ≡ Equal → Covers ls ns f → P ls ns f
+    → P (l ∷ ls) (n ∷ ns) (paired by l n ∷ f))
+    (greater : (l n : Item) (ls ns : List Item) (f : List Found) → compare_by by l n ≡ Greater → Covers (l ∷ ls) ns f → P (l ∷ ls) ns f
+    → P (l ∷ ls) (n ∷ ns) (New n ∷ f)) where
+  turn : (l n : Item) (ls ns : List Item) (a b c : List Found) (o : Ordering) → compare_by by l n ≡ o → Both P ls (n ∷ ns) a
+      → Both P ls ns b → Both P (l ∷ ls) ns c → Both P (l ∷ ls) (n ∷ ns) (in_turn o by l n a b c)
+  turn l n ls ns a b c Less e p q r = (covers_missing l ls (n ∷ ns) a p.0, less l n ls ns a e p.0 p.1)
+  turn l n ls ns a b c Equal e p q r = (covers_pair by l n ls ns b q.0, equal l n ls ns b e q.0 q.1)
+  turn l n ls ns a b c Greater e p q r = (covers_new n (l ∷ ls) ns c r.0, greater l n ls ns c e r.0 r.1)
+
+  row : (l : Item) (ls : List Item) (behind : List Item → List Found) → ((ns : List Item) → Both P ls ns (behind ns))
+      → (ns : List Item) → Both P (l ∷ ls) ns (against by l behind ns)
+  row l ls behind ih [] = let all = ih [] in (covers_missing l ls [] (behind []) all.0, past l ls (behind []) all.0 all.1)
+  row l ls behind ih (n ∷ ns) =
+      turn l n ls ns (behind (n ∷ ns)) (behind ns) (against by l behind ns) (compare_by by l n) refl (ih (n ∷ ns)) (ih ns)
+      (row l ls behind ih ns)
+
+  both : (ls ns : List Item) → Both P ls ns (merged by ls ns)
+  unfolding merged
+  both [] ns = (record { lines = lines_in_news ns; names = names_in_news ns }, news ns)
+  both (l ∷ ls) ns = row l ls (merged by ls) (both ls) ns
+
+  pub by_turns : (ls ns : List Item) → P ls ns (merged by ls ns)
+  by_turns ls ns = (both ls ns).1
+
+pub covers : (by : By) (ls ns : List Item) → Covers ls ns (merged by ls ns)
+covers by ls ns =
+    (both by (λ _ _ _. Unit {0}) (λ _. tt) (λ _ _ _ _ _. tt) (λ _ _ _ _ _ _ _ _. tt) (λ _ _ _ _ _ _ _ _. tt) (λ _ _ _ _ _ _ _ _. tt) ls ns).0
 
 -- ---- what is found first
 
@@ -176,19 +187,3 @@ pub equal_of : (by : By) (l n : Entry) (ls ls' ns ns' : List Entry) (f : Found) 
 equal_of by l n ls ls' ns ns' f e e' o is equal pair =
     both_as (λ x y. IsNext by x y f) ls (l ∷ ls') ns (n ∷ ns') e e'
     (paired_first by (item_of l) (item_of n) (items_of ls') (items_of ns') f (sym is ∙ equal) pair)
-
--- a turn of the loop
-pub turn_more : (by : By) (done : List Outcome) (one : Outcome) (ls ns : List Entry) (i j : ℕ)
-    → i ≡ length (line_in (found_of one)) → j ≡ length (name_in (found_of one))
-    → IsNext by (items_of ls) (items_of ns) (found_of one)
-    → founds_of (done ++ one ∷ []) ++ merged by (items_of (drop i ls)) (items_of (drop j ns))
-    ≡ founds_of done ++ merged by (items_of ls) (items_of ns)
-turn_more by done one ls ns i j e e' next =
-    let rest : merged by (items_of (drop i ls)) (items_of (drop j ns))
-    ≡ merged by (drop (length (line_in (found_of one))) (items_of ls)) (drop (length (name_in (found_of one))) (items_of ns)) =
-    ap (λ x. merged by x (items_of (drop j ns))) (sym (drop-map item_of i ls) ∙ ap (λ k. drop k (items_of ls)) e)
-    ∙ ap (λ x. merged by (drop (length (line_in (found_of one))) (items_of ls)) x) (sym (drop-map item_of j ns) ∙ ap (λ k. drop k (items_of ns)) e') in
-    ap (λ x. x ++ merged by (items_of (drop i ls)) (items_of (drop j ns))) (map-append found_of done (one ∷ []))
-    ∙ append_assoc (founds_of done) (found_of one ∷ []) (merged by (items_of (drop i ls)) (items_of (drop j ns)))
-    ∙ ap (λ x. founds_of done ++ found_of one ∷ x) rest
-    ∙ ap (λ x. founds_of done ++ x) (sym next.is)

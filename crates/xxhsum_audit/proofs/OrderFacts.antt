@@ -1,28 +1,24 @@
 -- The orders are total, and tell all items apart.
-use Rattle.std.proofs.Common.{◌≡◌, ℕ, false, nat_eq, refl, sym, ap, subst, ◌∙◌, if◌then◌else◌}
+use Rattle.std.proofs.Common.{◌≡◌, ℕ, true, false, nat_eq, refl, sym, ap, subst, ◌∙◌, if◌then◌else◌}
 use Rattle.std.proofs.lemmas.Cmp.{nat_cmp_total, nat_list_cmp_total, on_total, then_total, tied_itself, alike_right}
 use Rattle.std.proofs.lemmas.Map.Lookups.{exact_bytes, exact_unsigned}
 use Rattle.std.specs.Cmp.{IsTotalOrder}
 use Rattle.std.specs.Cmp.Lexicographic.{slice_cmp}
 use Rattle.std.specs.declared.cmp.Ordering.{Ordering}
 use Rattle.std.specs.declared.cmp.Ordering.TheVariants.{Less, Equal, Greater}
-use Rattle.std.specs.Ordering.{is_lt, nat_cmp, ordering_reverse, ordering_then}
+use Rattle.std.specs.Ordering.{is_eq, is_lt, nat_cmp, ordering_reverse, ordering_then}
 use Rattle.xxh_io.specs.declared.kind.Kind.{Kind}
 use Rattle.xxh_io.specs.declared.kind.Kind.TheVariants.{X32, X64, X3_64, X3_128}
 use Rattle.xxhsum_audit.specs.declared.order.By.{By}
 use Rattle.xxhsum_audit.specs.declared.order.By.TheVariants.{Name, Digest}
 use Rattle.xxhsum_audit.specs.Item.{HasSameDigest, Item, Says, kind_of, name_of, value_of}
-use Rattle.xxhsum_audit.specs.Order.{compare_all, compare_by, compare_digests, compare_names, rank_of}
+use Rattle.xxhsum_audit.specs.Order.{compare_all, compare_digests, compare_names, rank_of}
 
 pub names_total : IsTotalOrder compare_names
 names_total = on_total name_of nat_list_cmp_total
 
 pub digests_total : IsTotalOrder compare_digests
 digests_total = then_total (on_total (λ (item : Item). rank_of (kind_of item)) nat_cmp_total) (on_total value_of nat_cmp_total)
-
-pub by_total : (by : By) → IsTotalOrder (compare_by by)
-by_total Name = names_total
-by_total Digest = digests_total
 
 pub all_total : (by : By) → IsTotalOrder (compare_all by)
 all_total Name = then_total names_total digests_total
@@ -82,11 +78,6 @@ digests_tied (Says n k v) (Says n' k' v') d =
 
 -- ---- steps of a total order
 
-pub not_less_cases : (o : Ordering) → is_lt o ≡ false → (o ≡ Less → ⊥)
-not_less_cases Less e h = let no : ⊥ = cc in no
-not_less_cases Equal e h = let no : ⊥ = cc in no
-not_less_cases Greater e h = let no : ⊥ = cc in no
-
 step : {K : Type 0} (R : K → K → Ordering) (order : IsTotalOrder R) (x y z : K) → R x y ≡ Less → (o : Ordering) → R z y ≡ o
     → is_lt o ≡ false → R x z ≡ Less
 step R order x y z less Less e low = let no : ⊥ = cc in absurd no
@@ -101,3 +92,13 @@ less_upto R order x y z less low = step R order x y z less (R z y) refl low
 
 pub back : {K : Type 0} (R : K → K → Ordering) (order : IsTotalOrder R) (x y : K) → R x y ≡ Greater → R y x ≡ Less
 back R order x y e = order.antisymm y x ∙ ap ordering_reverse e
+
+-- ---- what a test says
+
+pub eq_true : (o : Ordering) → is_eq o ≡ true → o ≡ Equal
+eq_true Less e = let no : ⊥ = cc in absurd no
+eq_true Equal e = refl
+eq_true Greater e = let no : ⊥ = cc in absurd no
+
+pub eq_false : (o : Ordering) → is_eq o ≡ false → o ≡ Equal → ⊥
+eq_false o e same = let no : true ≡ false = sym (ap is_eq same) ∙ e in let none : ⊥ = cc in none

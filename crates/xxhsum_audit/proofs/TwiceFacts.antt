@@ -12,7 +12,7 @@ use Rattle.std.specs.List.Sorted.{IsPermutation}
 use Rattle.std.specs.declared.cmp.Ordering.{Ordering}
 use Rattle.std.specs.declared.cmp.Ordering.TheVariants.{Less, Equal, Greater}
 use Rattle.std.specs.Ordering.{is_eq, is_lt, nat_cmp, ordering_then}
-use Rattle.xxhsum_audit.proofs.OrderFacts.{back, names_exact, names_total}
+use Rattle.xxhsum_audit.proofs.OrderFacts.{back, eq_false, eq_true, names_exact, names_total}
 use Rattle.xxhsum_audit.proofs.SideFacts.{Rises}
 use Rattle.xxhsum_audit.specs.declared.order.By.TheVariants.{Name}
 use Rattle.xxhsum_audit.specs.Audit.{IsTwice}
@@ -21,13 +21,10 @@ use Rattle.xxhsum_audit.specs.Order.{Ascends, clash_in, compare_digests, compare
 
 -- ---- names that are in order, and of which no two neighbours are equal, rise
 
-not_equal : (o : Ordering) → is_eq o ≡ false → o ≡ Equal → ⊥
-not_equal o e same = let no : true ≡ false = sym (ap is_eq same) ∙ e in let none : ⊥ = cc in none
-
 lesser : (a b : Item) (o p : Ordering) → compare_names a b ≡ o → is_eq o ≡ false → is_lt (ordering_then (compare_names b a) p) ≡ false
     → compare_names a b ≡ Less
 lesser a b Less p e other low = e
-lesser a b Equal p e other low = absurd (not_equal Equal other refl)
+lesser a b Equal p e other low = absurd (eq_false Equal other refl)
 lesser a b Greater p e other low =
     let less = back compare_names names_total a b e in
     let yes : true ≡ is_lt (ordering_then (compare_names b a) p) = ap (λ o. is_lt (ordering_then o p)) (sym less) in
@@ -67,15 +64,10 @@ clash_cases x xs name true e some =
 clash_cases x xs name false e some =
     inr (sym (cond-false (shares_name x xs) (Some (name_of x)) (clash_in xs) e) ∙ some)
 
-is_equal : (o : Ordering) → is_eq o ≡ true → o ≡ Equal
-is_equal Less e = let no : ⊥ = cc in absurd no
-is_equal Equal e = refl
-is_equal Greater e = let no : ⊥ = cc in absurd no
-
 twice_here : (x : Item) (xs : List Item) (name : List ℕ) → shares_name x xs ≡ true → name_of x ≡ name → IsTwice (x ∷ xs) name
 twice_here x [] name e is = let no : ⊥ = cc in absurd no
 twice_here x (n ∷ ns) name e is =
-    (x, n, ns, IsPermutation-refl (x ∷ n ∷ ns), is, sym (names_exact x n (is_equal (compare_names x n) e)) ∙ is)
+    (x, n, ns, IsPermutation-refl (x ∷ n ∷ ns), is, sym (names_exact x n (eq_true (compare_names x n) e)) ∙ is)
 
 twice_past : (x : Item) (xs : List Item) (name : List ℕ) → IsTwice xs name → IsTwice (x ∷ xs) name
 twice_past x xs name twice =
@@ -167,11 +159,3 @@ not_twice items ordered name moved up twice =
     let same = sum_by-IsPermutation (named name) items ordered moved in
     let most = at_most_one name ordered up in
     omega (arith, two, same, most)
-
-pub once_counts : (items : List Item) (name : List ℕ) → Ascends Name items → clash_in items ≡ None → sum_by (named name) items ≤ 1
-once_counts items name up none = at_most_one name items (rises items up none)
-
--- items of one name count alike
-pub named_alike : (name : List ℕ) (a b : Item) → name_of a ≡ name_of b → named name a ≡ named name b
-unfolding named
-named_alike name a b e = ap (λ n. one_if (is_eq (slice_cmp nat_cmp name n))) e

@@ -42,9 +42,6 @@ before_before : (x y : List ℕ) (rest : Option (List ℕ)) → before x (before
 before_before x y None = refl
 before_before x y (Some r) = ap Some (sym (append_assoc x y r))
 
-pub meant_none : (rest : List ℕ) (c : ℕ) → meant_by c ≡ None → meant_behind true (c ∷ rest) ≡ None
-meant_none rest c e = ap (option_and_then (λ b. before (b ∷ []) (meant_behind false rest))) e
-
 pub meant_letter : (name rest : List ℕ) (c b : ℕ) → meant_by c ≡ Some b
     → before name (meant_behind true (c ∷ rest)) ≡ before (name ++ b ∷ []) (meant_behind false rest)
 meant_letter name rest c b e =

@@ -1,5 +1,3 @@
-pub mod NumberFacts
-pub mod TurnFacts
 pub mod LackFacts
 pub mod EscapeFacts
 pub mod PartFacts

@@ -31,39 +31,20 @@ lacks_up_to_space b (c ∷ l) low h =
     let differs : c ≢ b = λ e. grind (arith, nat_tests) in
     (differs, lacks_up_to_space b l low parts.1)
 
-tag_is_above_space : (kind : Kind) (is_little : Bool) → above_space (full_tag kind is_little) ≡ true
-tag_is_above_space X32 true = refl
-tag_is_above_space X32 false = refl
-tag_is_above_space X64 true = refl
-tag_is_above_space X64 false = refl
-tag_is_above_space X3_64 true = refl
-tag_is_above_space X3_64 false = refl
-tag_is_above_space X3_128 true = refl
-tag_is_above_space X3_128 false = refl
+-- a tag is above the space, and names its kind and the order of bytes
+tag_says : (kind : Kind) (is_little : Bool)
+    → (above_space (full_tag kind is_little) ≡ true) × (kind_of_tag (full_tag kind is_little) ≡ kind) × (is_little_tag (full_tag kind is_little) ≡ is_little)
+tag_says X32 true = (refl, refl, refl)
+tag_says X32 false = (refl, refl, refl)
+tag_says X64 true = (refl, refl, refl)
+tag_says X64 false = (refl, refl, refl)
+tag_says X3_64 true = (refl, refl, refl)
+tag_says X3_64 false = (refl, refl, refl)
+tag_says X3_128 true = (refl, refl, refl)
+tag_says X3_128 false = (refl, refl, refl)
 
 tag_lacks : (b : ℕ) (kind : Kind) (is_little : Bool) → b ≤ 32 → Lacks b (full_tag kind is_little)
-tag_lacks b kind is_little low = lacks_up_to_space b (full_tag kind is_little) low (tag_is_above_space kind is_little)
-
--- a tag names its kind, and the order of bytes
-tag_names_kind : (kind : Kind) (is_little : Bool) → kind_of_tag (full_tag kind is_little) ≡ kind
-tag_names_kind X32 true = refl
-tag_names_kind X32 false = refl
-tag_names_kind X64 true = refl
-tag_names_kind X64 false = refl
-tag_names_kind X3_64 true = refl
-tag_names_kind X3_64 false = refl
-tag_names_kind X3_128 true = refl
-tag_names_kind X3_128 false = refl
-
-tag_names_order : (kind : Kind) (is_little : Bool) → is_little_tag (full_tag kind is_little) ≡ is_little
-tag_names_order X32 true = refl
-tag_names_order X32 false = refl
-tag_names_order X64 true = refl
-tag_names_order X64 false = refl
-tag_names_order X3_64 true = refl
-tag_names_order X3_64 false = refl
-tag_names_order X3_128 true = refl
-tag_names_order X3_128 false = refl
+tag_lacks b kind is_little low = lacks_up_to_space b (full_tag kind is_little) low (tag_says kind is_little).0
 
 prefix_lacks : (b : ℕ) (kind : Kind) → b ≤ 32 → Lacks b (prefix_of kind)
 prefix_lacks b X32 low = tt
@@ -231,13 +212,13 @@ tagged_says kind is_little value name fits =
     let digits = shown kind is_little value in
     let below : 32 < 48 = omega arith in
     let means : value_meant kind (is_little_tag tag) digits ≡ Some value =
-    ap (λ b. value_meant kind b digits) (tag_names_order kind is_little)
+    ap (λ b. value_meant kind b digits) (tag_says kind is_little).2
     ∙ ap (value_shown kind is_little) (shown_bare kind is_little value) ∙ value_shown-shown kind is_little value fits in
     inr (
       tag,
       digits,
       (refl, tag_lacks 32 kind is_little (omega arith), lacks_shown 32 kind is_little value (inl below)),
-      tag_names_kind kind is_little,
+      (tag_says kind is_little).1,
       means,
     )
 

@@ -1,6 +1,6 @@
 mod CheckFacts
-mod EachFacts
-mod HashFacts
+pub mod EachFacts
+pub mod HashFacts
 mod LineEndFacts
 mod LineFacts
 mod OutcomeFacts
@@ -9,7 +9,6 @@ mod PrintedListFacts
 mod ProgressFacts
 mod SaidFacts
 mod StopFacts
-mod TaskFacts
-mod ToldFacts
+pub mod ToldFacts
 mod WatchedFacts
 mod WatchedListFacts

@@ -1,13 +1,11 @@
 -- Names and their outcomes, where one more comes.
-use Rattle.std.proofs.Common.{◌≡◌, ◌≢◌, ◌&&◌, ℕ, List, [], ◌∷◌, ◌++◌, refl, sym, ap, ◌∙◌, append-nil, append_assoc, Ok, Err}
+use Rattle.std.proofs.Common.{◌≡◌, ◌&&◌, ℕ, List, [], ◌∷◌, ◌++◌, sym, ap, ◌∙◌, append-nil, append_assoc, Ok, Err}
 use Rattle.std.specs.declared.result.Result.{Result}
 use Rattle.xxh_io.specs.Digest.{Took}
 use Rattle.xxh_io.proofs.WriteFacts.{Refused-join, Took-join}
-use Rattle.xxh_io.specs.declared.error.DigestError.{DigestError}
-use Rattle.xxh_io.specs.declared.error.DigestError.TheVariants.{ReadFailed, WriteFailed, TooLong}
-use Rattle.xxh_io.specs.Rules.{SourceRules, SinkRules}
+use Rattle.xxh_io.specs.Rules.{SinkRules}
 use Rattle.xxhsum_program.specs.declared.outcome.Outcome.{Outcome}
-use Rattle.xxhsum_program.specs.Outcomes.{FailsOn, HasNoValue, are_digested, is_digested, reason_of}
+use Rattle.xxhsum_program.specs.Outcomes.{are_digested, is_digested}
 use Rattle.xxhsum_words.specs.declared.options.Options.{Options}
 use Rattle.xxhsum_program.specs.CheckList.{ListOutcome, are_good, is_good_outcome}
 use Rattle.xxhsum_program.specs.declared.stop.Stop.{Stop}
@@ -15,7 +13,6 @@ use Rattle.xxhsum_program.specs.declared.stop.Stop.TheVariants as Stopped
 use Rattle.xxhsum_program.specs.Lines.{PrintsLines, lines_of}
 use Rattle.xxhsum_program.specs.EachHas.{EachHas}
 use Rattle.xxhsum_program.proofs.EachFacts.{and-assoc, and-true}
-use Rattle.xxhsum_files.specs.Rules.{StoreRules}
 
 pub lines-push : {T : Type 0} (comes : List ℕ → T → Type 0) (line : List ℕ → T → List ℕ) (names : List (List ℕ)) (outcomes : List T) (name : List ℕ) (outcome : T) → EachHas comes names outcomes → lines_of line (names ++ name ∷ []) (outcomes ++ outcome ∷ []) ≡ lines_of line names outcomes ++ line name outcome
 lines-push comes line [] [] name outcome each = append-nil (line name outcome)
@@ -27,12 +24,6 @@ lines-push comes line (n ∷ ns) (o ∷ os) name outcome each =
 pub are_digested-push : (outcomes : List Outcome) (outcome : Outcome) → are_digested (outcomes ++ outcome ∷ []) ≡ (are_digested outcomes && is_digested outcome)
 are_digested-push [] outcome = and-true (is_digested outcome)
 are_digested-push (o ∷ os) outcome = ap (λ b. is_digested o && b) (are_digested-push os outcome) ∙ and-assoc (is_digested o) (are_digested os) (is_digested outcome)
-
--- what ends a reading too early is no write
-pub has-no-value : {S F : Type 0} (opening : StoreRules S F) (reading : SourceRules F) (store : S) (name : List ℕ) (e : DigestError) → e ≢ WriteFailed → FailsOn opening reading store name e → HasNoValue opening reading store name (reason_of e)
-has-no-value opening reading store name ReadFailed never on = on
-has-no-value opening reading store name WriteFailed never on = absurd (never refl)
-has-no-value opening reading store name TooLong never on = on
 
 -- ---- what is printed of them
 

@@ -36,7 +36,3 @@ tells-nothing telling old = λ initial before told.
 pub tells-more : {E : Type 0} (telling : SinkRules E) (a b : List ℕ) (old mid new : E) → TellsOn telling a old mid → TellsOn telling b mid new → TellsOn telling (a ++ b) old new
 tells-more telling a b old mid new first second = λ initial before told.
     subst (λ bytes. Told telling bytes initial new) (append_assoc before a b) (second initial (before ++ a) (first initial before told))
-
--- from an end that has not failed
-pub tells-first : {E : Type 0} (telling : SinkRules E) (bytes : List ℕ) (old new : E) → telling.has_failed old ≡ false → TellsOn telling bytes old new → Told telling bytes old new
-tells-first telling bytes old new works tells = tells old [] (Ok tt, ([], refl, refl), tt, works)

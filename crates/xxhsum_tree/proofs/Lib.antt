@@ -1,7 +1,4 @@
 mod FindFacts
-mod NameFacts
 mod ReportFacts
 mod RowFacts
-mod ToldFacts
-mod TwiceFacts
 mod WalkFacts

@@ -7,6 +7,7 @@ use Rattle.std.proofs.lemmas.List.Concat.{flat_map-append}
 use Rattle.std.specs.List.{flat_map}
 use Rattle.xxhsum_audit.specs.declared.order.By.TheVariants.{Name}
 use Rattle.xxhsum_audit.specs.Audit.{IsAudit}
+use Rattle.xxhsum_program.proofs.EachFacts.{and-assoc, and-true}
 use Rattle.xxhsum_program.specs.declared.stop.Stop.{Stop}
 use Rattle.xxhsum_tree.specs.Audits.{AnswersAudit, AuditsSides}
 use Rattle.xxhsum_tree.specs.Report.{PrintsReport, are_same}
@@ -36,17 +37,9 @@ rows-more opening reading store kind (s ∷ sides) rows side row are is = (
   rows-more opening reading store kind sides are.1 side row are.4 is,
 )
 
-and-assoc : (a b c : Bool) → ((a && b) && c) ≡ (a && (b && c))
-and-assoc true b c = refl
-and-assoc false b c = refl
-
-pub and-true : (a : Bool) → (a && true) ≡ a
-and-true true = refl
-and-true false = refl
-
 pub read-more : (rows : List Row) (row : Row) → are_read (rows ++ row ∷ []) ≡ (are_read rows && is_read row)
 read-more [] row = and-true (is_read row)
-read-more (r ∷ rows) row = ap (λ x. is_read r && x) (read-more rows row) ∙ sym (and-assoc (is_read r) (are_read rows) (is_read row))
+read-more (r ∷ rows) row = ap (λ x. is_read r && x) (read-more rows row) ∙ and-assoc (is_read r) (are_read rows) (is_read row)
 
 -- what one more row comes to stands behind
 pub flat-push : {A : Type 0} (f : Row → List A) (rows : List Row) (row : Row) → flat_map f (rows ++ row ∷ []) ≡ flat_map f rows ++ f row

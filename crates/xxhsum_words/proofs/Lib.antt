@@ -1,4 +1,3 @@
-pub mod LetterFacts
 pub mod ListFacts
 pub mod NameFacts
 pub mod NumberFacts

@@ -24,6 +24,7 @@ pub fn default_kind(program: &[u8]) -> Kind
 }
 
 // Whether the text stands somewhere in the name.
+#[tactic(auto, using(crate::proofs::NameFacts::laws_of_parts))]
 fn has_part(text: &[u8], name: &[u8]) -> bool
     ensures { result ≡ has_part text.now name.now }
 {

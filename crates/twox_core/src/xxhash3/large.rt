@@ -129,6 +129,7 @@ impl<V: Vector> Algorithm<V> {
     /// from the secret's start on, then the last 64 bytes, and the accumulators are merged.
     ///
     /// The caller shows that the block isn't empty and that the secret has places for its stripes.
+    #[tactic(auto, using(crate::proofs::EndingFacts::merge_laws), unfolding(crate::specs::Ending::finalize_64))]
     #[inline(always)]
     pub fn finalize_64(
         &self,
@@ -150,6 +151,7 @@ impl<V: Vector> Algorithm<V> {
 
     /// The value of 128 bits, likewise: its low half is the value of 64 bits, and the high half merges the
     /// same accumulators under other bytes of the secret.
+    #[tactic(auto, using(crate::proofs::EndingFacts::merge_laws), unfolding(crate::specs::Ending::finalize_128, crate::specs::Ending::finalize_64, crate::specs::Ending::finalize_high))]
     #[inline(always)]
     pub fn finalize_128(
         &self,
@@ -173,6 +175,7 @@ impl<V: Vector> Algorithm<V> {
     }
 
     // The accumulators with the last block's stripes but its last, and then the last 64 bytes.
+    #[tactic(auto, unfolding(crate::specs::Ending::final_accumulators))]
     #[inline(always)]
     fn last_round(
         &self,

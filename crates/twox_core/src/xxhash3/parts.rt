@@ -32,6 +32,7 @@ pub(crate) fn array_at<const N: usize>(bytes: &[u8], from: usize) -> &[u8; N]
 }
 
 // The eight chunks of 16 bytes from byte `from` on.
+#[tactic(auto, using(crate::proofs::PartFacts::part_laws))]
 #[inline(always)]
 pub(crate) fn chunks_at(bytes: &[u8], from: usize) -> &[[u8; 16]]
     requires { from + 128 ≤ length bytes.now }
@@ -43,6 +44,7 @@ pub(crate) fn chunks_at(bytes: &[u8], from: usize) -> &[[u8; 16]]
 }
 
 // The four pairs of chunks of 16 bytes from byte `from` on.
+#[tactic(auto, using(crate::proofs::PartFacts::part_laws))]
 #[inline(always)]
 pub(crate) fn pairs_at(bytes: &[u8], from: usize) -> &[[[u8; 16]; 2]]
     requires { from + 128 ≤ length bytes.now }
@@ -99,6 +101,7 @@ pub fn pairs_of_u64_bytes(bytes: &[u8]) -> &[[[u8; 16]; 2]]
 
 /// All whole stripes of 64 bytes but a last one that ends the block, and the 1 to 64 bytes after them. Of
 /// an empty block both are empty.
+#[tactic(auto, using(twox_words::proofs::WordFacts::first_chunks_take))]
 #[inline(always)]
 pub fn stripes_with_tail(block: &[u8]) -> (&[[u8; 64]], &[u8])
     ensures stripes { result.0.now ≡ first_chunks 64 ((length block.now - 1) / 64) block.now }

@@ -64,6 +64,7 @@ fn products_of_block(block: &[u8; BYTES_IN_BLOCK]) -> [u32; WORDS_IN_BLOCK]
 
 // The word at byte `i + 4`, taken out of the eight bytes before its end, which is one load too. LLVM then doesn't see the
 // words of a stripe as a vector: on 64-bit ARM it would make a vector of the accumulators, which is slower.
+#[tactic(auto, using(crate::proofs::UpperWords::upper_word))]
 #[inline(always)]
 fn upper_word_at(bytes: &[u8], i: usize) -> u32
     requires { i + 8 ≤ length bytes.now }
@@ -105,6 +106,7 @@ fn avalanche(mut value: u32) -> u32
 
 impl Core {
     // The accumulators before the first stripe.
+    #[tactic(auto, unfolding(crate::specs::Core32::core_of_stripes, crate::specs::Xxh32::accumulator, crate::specs::Units::after_units))]
     #[inline(always)]
     pub(super) fn new(seed: u32) -> Core
         ensures { (m : List ℕ) → result ≡ core_of_stripes seed m 0 }
@@ -118,6 +120,7 @@ impl Core {
     }
 
     // Takes a stripe.
+    #[tactic(auto, unfolding(crate::specs::Core32::core_after_stripes, crate::specs::Units::after_units))]
     #[inline(always)]
     pub(super) fn write(&mut self, stripe: &[u8; BYTES_IN_STRIPE])
         ensures { self.new ≡ core_after_stripes self.old stripe.now 1 }
@@ -218,6 +221,7 @@ fn after_tail(value: u32, rest: &[u8]) -> u32
 
 // The value from the seed, the counted length, the accumulators and the bytes that fill no stripe. Of the length
 // the low 32 bits enter.
+#[tactic(auto, using(std::proofs::lemmas::Bool::Decides::nat_tests), unfolding(crate::specs::Record32::value_of))]
 #[inline(always)]
 pub(super) fn finish_with(seed: u32, len: u64, core: &Core, rest: &[u8]) -> u32
     ensures { result ≡ value_of seed len core.now rest.now }
@@ -244,6 +248,7 @@ pub(super) fn impl_oneshot(seed: u32, input: &[u8]) -> u32
 }
 
 // The value of fewer bytes than a stripe, in a function of its own, so that short inputs pay for no accumulators.
+#[tactic(auto, using(crate::proofs::Message32::short_message))]
 #[inline(always)]
 pub(super) fn impl_short(seed: u32, input: &[u8]) -> u32
     requires { length input.now < 16 }

@@ -176,6 +176,7 @@ impl StateInMemory {
     /// The hash of the bytes so far.
     ///
     /// The caller shows that less than a stripe waits.
+    #[tactic(auto, using(crate::proofs::Message32::finish_value_of_message))]
     #[inline(always)]
     pub fn finish(&self) -> u32
         requires { self.now.buffer_usage < 16 }

@@ -90,6 +90,7 @@ fn avalanche(mut value: u64) -> u64
 
 impl Core {
     // The accumulators before the first stripe.
+    #[tactic(auto, unfolding(crate::specs::Core64::core_of_stripes, crate::specs::Xxh64::accumulator, crate::specs::Units::after_units))]
     #[inline(always)]
     pub(super) fn new(seed: u64) -> Core
         ensures { (m : List ℕ) → result ≡ core_of_stripes seed m 0 }
@@ -103,6 +104,7 @@ impl Core {
     }
 
     // Takes a stripe.
+    #[tactic(auto, unfolding(crate::specs::Core64::core_after_stripes, crate::specs::Units::after_units))]
     #[inline(always)]
     pub(super) fn write(&mut self, stripe: &[u8; BYTES_IN_STRIPE])
         ensures { self.new ≡ core_after_stripes self.old stripe.now 1 }
@@ -166,6 +168,7 @@ fn after_tail(value: u64, rest: &[u8]) -> u64
 }
 
 // The value from the seed, the counted length, the accumulators and the bytes that fill no stripe.
+#[tactic(auto, using(std::proofs::lemmas::Bool::Decides::nat_tests), unfolding(crate::specs::Record64::value_of))]
 #[inline(always)]
 pub(super) fn finish_with(seed: u64, len: u64, core: &Core, rest: &[u8]) -> u64
     ensures { result ≡ value_of seed len core.now rest.now }
@@ -190,6 +193,7 @@ pub(super) fn impl_oneshot(seed: u64, input: &[u8]) -> u64
 }
 
 // The value of fewer bytes than a stripe, in a function of its own, so that short inputs pay for no accumulators.
+#[tactic(auto, using(crate::proofs::Message64::short_message))]
 #[inline(always)]
 fn impl_short(seed: u64, input: &[u8]) -> u64
     requires { length input.now < 32 }

@@ -124,6 +124,7 @@ impl StateInMemory {
     /// The hash of the bytes so far.
     ///
     /// The caller shows that less than a stripe waits.
+    #[tactic(auto, using(crate::proofs::Message64::finish_value_of_message))]
     #[inline(always)]
     pub fn finish(&self) -> u64
         requires { self.now.buffer_usage < 32 }

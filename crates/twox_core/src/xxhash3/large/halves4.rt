@@ -15,6 +15,7 @@ use std::simd::{u32x4, u64x2, u64x4};
 pub struct Impl;
 
 impl Vector for Impl {
+    #[tactic(auto, unfolding(crate::specs::Long::scramble_one))]
     #[inline(always)]
     fn round_scramble(&self, acc: &mut [u64; 8], secret_end: &[u8; 64]) {
         let [a, b, c, d, e, f, g, h] = *acc;
@@ -23,6 +24,7 @@ impl Vector for Impl {
         *acc = [a, b, c, d, e, f, g, h];
     }
 
+    #[tactic(auto, unfolding(crate::specs::Long::accumulate_one))]
     #[inline(always)]
     fn accumulate(&self, acc: &mut [u64; 8], stripe: &[u8; 64], secret: &[u8; 64]) {
         let [a, b, c, d, e, f, g, h] = *acc;
@@ -73,6 +75,7 @@ fn products(words: [u64; 4]) -> [u64; 4]
 }
 
 // The halves of two words, the lower one first.
+#[tactic(auto, using(crate::proofs::HalvesFacts::split_two))]
 #[inline]
 fn halves_of(words: [u64; 2]) -> [u32; 4]
     ensures { result ≡ slice_index words 0 % 2 ^ 32 ∷ slice_index words 0 / 2 ^ 32

@@ -14,6 +14,7 @@ use std::simd::u64x2;
 pub struct Impl;
 
 impl Vector for Impl {
+    #[tactic(auto, unfolding(crate::specs::Long::scramble_one))]
     #[inline(always)]
     fn round_scramble(&self, acc: &mut [u64; 8], secret_end: &[u8; 64]) {
         let [a, b, c, d, e, f, g, h] = *acc;
@@ -24,6 +25,7 @@ impl Vector for Impl {
         *acc = [a, b, c, d, e, f, g, h];
     }
 
+    #[tactic(auto, unfolding(crate::specs::Long::accumulate_one))]
     #[inline(always)]
     fn accumulate(&self, acc: &mut [u64; 8], stripe: &[u8; 64], secret: &[u8; 64]) {
         let [a, b, c, d, e, f, g, h] = *acc;

@@ -14,6 +14,7 @@ use std::simd::{u32x8, u64x4};
 pub struct Impl;
 
 impl Vector for Impl {
+    #[tactic(auto, unfolding(crate::specs::Long::scramble_one))]
     #[inline(always)]
     fn round_scramble(&self, acc: &mut [u64; 8], secret_end: &[u8; 64]) {
         let [a, b, c, d, e, f, g, h] = *acc;
@@ -22,6 +23,7 @@ impl Vector for Impl {
         *acc = [a, b, c, d, e, f, g, h];
     }
 
+    #[tactic(auto, unfolding(crate::specs::Long::accumulate_one))]
     #[inline(always)]
     fn accumulate(&self, acc: &mut [u64; 8], stripe: &[u8; 64], secret: &[u8; 64]) {
         let [a, b, c, d, e, f, g, h] = *acc;
@@ -88,6 +90,7 @@ fn times_prime(words: [u64; 4]) -> [u64; 4]
 }
 
 // The halves of each word, the lower one first.
+#[tactic(auto, using(crate::proofs::HalvesFacts::split_four))]
 #[inline]
 fn halves_of(words: [u64; 4]) -> u32x8
     ensures { result ≡ slice_index words 0 % 2 ^ 32 ∷ slice_index words 0 / 2 ^ 32
@@ -100,6 +103,7 @@ fn halves_of(words: [u64; 4]) -> u32x8
 }
 
 // The words of these halves.
+#[tactic(auto, using(crate::proofs::HalvesFacts::join_eight))]
 #[inline]
 fn joined(halves: [u32; 8]) -> [u64; 4]
     ensures { result ≡ (slice_index halves 0 + 2 ^ 32 * slice_index halves 1)

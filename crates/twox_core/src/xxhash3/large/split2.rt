@@ -13,6 +13,7 @@ use std::simd::u64x2;
 pub struct Impl;
 
 impl Vector for Impl {
+    #[tactic(auto, unfolding(crate::specs::Long::scramble_one))]
     #[inline(always)]
     fn round_scramble(&self, acc: &mut [u64; 8], secret_end: &[u8; 64]) {
         let [a, b, c, d, e, f, g, h] = *acc;
@@ -23,6 +24,7 @@ impl Vector for Impl {
         *acc = [a, b, c, d, e, f, g, h];
     }
 
+    #[tactic(auto, unfolding(crate::specs::Long::accumulate_one))]
     #[inline(always)]
     fn accumulate(&self, acc: &mut [u64; 8], stripe: &[u8; 64], secret: &[u8; 64]) {
         let [a, b, c, d, e, f, g, h] = *acc;
@@ -47,6 +49,7 @@ fn scramble_two(acc: [u64; 2], keys: [u64; 2]) -> [u64; 2]
 }
 
 /// Each lane times the factor, modulo 2^64, from two products of 32 bits by 32 bits.
+#[tactic(auto, using(crate::proofs::KernelFacts::split_product))]
 #[inline]
 pub fn mul_u32_u64(lanes: [u64; 2], factor: u32) -> [u64; 2]
     ensures { result ≡ slice_index lanes 0 * factor % 2 ^ 64

@@ -6,6 +6,7 @@ ghost use Rattle.twox_core.specs.Steps.{word64};
 use std::simd::{u8x32, u64x4};
 
 // Word `i`, read whole, so that the compiler can load several words at once.
+#[tactic(auto, using(twox_words::proofs::WordFacts::first_chunks_at), unfolding(twox_words::specs::Word::word_at))]
 #[inline(always)]
 pub(super) fn word(bytes: &[u8; 64], i: usize) -> u64
     requires { i < 8 }

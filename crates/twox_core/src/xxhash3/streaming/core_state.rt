@@ -111,6 +111,7 @@ impl CoreState {
     }
 
     /// Takes a piece of a few bytes that the buffer has room for, with no call, over whatever secret.
+    #[tactic(auto, using(std::proofs::lemmas::Bool::Decides::nat_tests), unfolding(crate::specs::AfterWrite::state_after_write))]
     #[inline(always)]
     pub fn keep_few(&mut self, input: &[u8])
         requires room { self.old.buffer_usage + length input.now ≤ 512 }
@@ -125,6 +126,7 @@ impl CoreState {
     // Fills the buffered bytes up to whole stripes, takes these, and goes on with the rest where it lies. A call
     // of its own, so that small pieces pay no frame, and one for many bytes, so that others keep no register for
     // the call that takes their stripes.
+    #[tactic(auto, unfolding(crate::specs::AfterWrite::after_long_piece))]
     #[inline(never)]
     fn write_through<V: Vector, const MANY: bool>(&mut self, v: V, input: &[u8], secret: Secret<'_>)
         requires place { self.old.taken.stripes.current_stripe < stripes_of (secret_bytes secret) }

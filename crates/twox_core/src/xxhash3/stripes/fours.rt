@@ -63,6 +63,7 @@ impl StripeAccumulator {
     }
 
     // Takes a stripe that doesn't end the block.
+    #[tactic(auto, using(std::proofs::lemmas::Bool::Decides::nat_tests), unfolding(crate::specs::Stripes::after_stripe))]
     #[inline(always)]
     fn process_within<V: Vector>(&mut self, v: V, stripe: &[u8; 64], secret: Secret<'_>)
         requires { current_stripe_of self.old + 1 < stripes_of (secret_bytes secret) }

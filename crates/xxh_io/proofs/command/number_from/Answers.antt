@@ -1,10 +1,32 @@
-use Rattle.std.proofs.Common.{◌≢◌, ◌+◌, ◌<◌, slice_index, lit<, sym, ap, ◌∙◌, arith}
+use Rattle.std.proofs.Common.{◌≡◌, ℕ, ◌<◌, List, length, true, nat_lt, arith, refl, ◌≢◌, ◌+◌, slice_index, lit<, sym, ap, ◌∙◌}
+use Rattle.std.proofs.lemmas.Bool.{and_parts, cond-false, false_from_ne_true}
 use Rattle.std.proofs.lemmas.Bool.Decides.{nat_tests}
-use Rattle.std.proofs.lemmas.Str.Parse.{parse_plain}
+use Rattle.std.proofs.lemmas.Str.Parse.{IsNumeralModel, numerals_by_value, tells_all_ascii_digits, parse_plain}
+use Rattle.std.specs.Str.{all_ascii_digits}
 use Rattle.std.specs.Str.Parse.{digits_value}
-use Rattle.std.specs.declared.result.Result.TheVariants.{Ok}
-use Rattle.xxh_io.proofs.NumberFacts.{numerals, number_named_ok, number_named_err}
+use Rattle.std.specs.declared.result.Result.TheVariants.{Ok, Err}
+use Rattle.xxh_io.specs.declared.fault.Fault.{Fault}
+use Rattle.xxh_io.specs.Command.{number_named}
 use Rattle.xxh_io.proofs.command.number_from.Goals as goal
+
+-- A word is a number just where it is all digits, has one, and writes a number below the limit.
+
+-- the digits and their value, in the words of `parse`
+numerals : IsNumeralModel (λ ds. all_ascii_digits ds ≡ true) (digits_value 10)
+numerals = numerals_by_value _ tells_all_ascii_digits
+
+number_named_ok : (fault : Fault) (limit : ℕ) (word : List ℕ) → all_ascii_digits word ≡ true → 0 < length word → digits_value 10 word < limit → number_named fault limit word ≡ Ok (digits_value 10 word)
+number_named_ok fault limit word digits some below =
+    let test1 : nat_lt 0 (length word) ≡ true = grind (arith, nat_tests) in
+    let test2 : nat_lt (digits_value 10 word) limit ≡ true = grind (arith, nat_tests) in
+    rw (test1, digits, test2) refl
+
+number_named_err : (fault : Fault) (limit : ℕ) (word : List ℕ) → ((all_ascii_digits word ≡ true) × (0 < length word) × (digits_value 10 word < limit) → ⊥) → number_named fault limit word ≡ Err fault
+number_named_err fault limit word no_number =
+    cond-false _ _ _ (false_from_ne_true _ (λ passes.
+    let first = and_parts (nat_lt 0 (length word)) _ passes in
+    let second = and_parts (all_ascii_digits word) (nat_lt (digits_value 10 word) limit) first.1 in
+    no_number (second.0, grind (arith, nat_tests, first.0), grind (arith, nat_tests, second.1))))
 
 pub returns-in-Ok : goal.returns-in-Ok
 returns-in-Ok c =

@@ -1,7 +1,20 @@
-use Rattle.std.proofs.Common.{◌∙◌, ap}
-use Rattle.xxh_io.specs.Hex.{hex_digits}
-use Rattle.xxh_io.proofs.BlockPlace.{line_after_writes}
+use Rattle.std.proofs.Common.{◌≡◌, ℕ, List, ◌++◌, length, take, drop, set, replicate, refl, ◌∙◌, ap}
+use borrow.Rule.Slice.PartMut.{put_mid}
+use Rattle.xxh_io.specs.Hex.{hex_digits, hex_line, offset_line}
 use Rattle.xxh_io.proofs.line_buffer.offset_line.Goals as goal
+
+-- The line of a block in a buffer of line feeds, after both numbers and the space are written.
+
+-- the buffer after the offset and the space
+abbrev after_space : List ℕ → List ℕ
+after_space front = set (front ++ replicate 34 10) 16 32
+
+line_at : (offset value : ℕ) (back : List ℕ) → back ≡ hex_digits (length (take 32 (drop 17 (after_space (hex_digits 16 offset))))) value → put_mid 17 32 (after_space (hex_digits 16 offset)) back ≡ offset_line offset value
+unfolding offset_line hex_line
+line_at offset value back e = rw e refl
+
+line_after_writes : (offset value : ℕ) (front back : List ℕ) → front ≡ hex_digits 16 offset → back ≡ hex_digits (length (take 32 (drop 17 (after_space front)))) value → put_mid 17 32 (after_space front) back ≡ offset_line offset value
+line_after_writes offset value front back e = rw e (line_at offset value back)
 
 pub returns : goal.returns
 returns c =

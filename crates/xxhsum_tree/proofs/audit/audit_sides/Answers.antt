@@ -4,16 +4,16 @@ use Rattle.xxhsum_audit.specs.Merge.{founds_of, merged}
 use Rattle.xxhsum_audit.specs.declared.order.By.TheVariants.{Name}
 use Rattle.xxhsum_program.specs.declared.stop.Stop.TheVariants.{OutOfMemory}
 use Rattle.xxhsum_tree.specs.Report.{PrintsReport, are_same}
-use Rattle.xxhsum_tree.proofs.FindFacts.{is-err}
+use Rattle.xxhsum_program.proofs.HashFacts.{is-err}
 use Rattle.xxhsum_tree.proofs.ReportFacts.{report-stops, stop-answers}
 use Rattle.xxhsum_tree.proofs.RowFacts.{answers-all, answers-not-same, says-audit}
-use Rattle.xxhsum_tree.proofs.ToldFacts.{tells-nothing}
+use Rattle.xxhsum_program.proofs.ToldFacts.{tells-nothing}
 use Rattle.xxhsum_tree.proofs.audit.audit_sides.Goals as goal
 
 pub returns-in_err-sides : goal.returns-in_err-sides
 returns-in_err-sides g c =
     let sides = merged Name (items_of c.args.lines.now) (items_of c.args.asked.now) in
-    inr ([], ([], sides, refl, refl, tells-nothing g.E.Sink c.args.err.now c.args.err.now refl), refl, is-err c.from_residual.result OutOfMemory c.from_residual.ensures.1)
+    inr ([], ([], sides, refl, refl, tells-nothing g.E.Sink c.args.err.now), refl, is-err c.from_residual.result OutOfMemory c.from_residual.ensures.1)
 
 pub returns-in_err-print_report : goal.returns-in_err-print_report
 returns-in_err-print_report g c =

@@ -6,7 +6,8 @@ use Rattle.xxhsum_program.specs.Outcomes.{Comes}
 use Rattle.xxhsum_program.specs.Told.{TellsOn}
 use Rattle.xxhsum_program.specs.declared.outcome.Outcome.TheVariants.{Digested}
 use Rattle.xxhsum_tree.specs.declared.digests.Digests.{Digests}
-use Rattle.xxhsum_tree.proofs.RowFacts.{and-true, fails-name}
+use Rattle.xxhsum_program.proofs.EachFacts.{and-true}
+use Rattle.xxhsum_tree.proofs.RowFacts.{fails-name}
 use Rattle.xxhsum_tree.proofs.digests.add_name.Goals as goal
 
 pub returns-in_err-push-in-Digested : goal.returns-in_err-push-in-Digested

@@ -5,8 +5,9 @@ use Rattle.xxhsum_audit.specs.Merge.{found_of}
 use Rattle.xxhsum_tree.specs.Digests.{AddsRow}
 use Rattle.xxhsum_tree.specs.Rows.{Come, Gone, IsRow}
 use Rattle.xxhsum_tree.specs.declared.digests.Digests.{Digests}
-use Rattle.xxhsum_tree.proofs.RowFacts.{and-true, met-row}
-use Rattle.xxhsum_tree.proofs.ToldFacts.{tells-nothing}
+use Rattle.xxhsum_program.proofs.EachFacts.{and-true}
+use Rattle.xxhsum_tree.proofs.RowFacts.{met-row}
+use Rattle.xxhsum_program.proofs.ToldFacts.{tells-nothing}
 use Rattle.xxhsum_tree.proofs.digests.add_side.Goals as goal
 
 pub returns-in_ok-push-in-Missing : goal.returns-in_ok-push-in-Missing
@@ -21,7 +22,7 @@ returns-in_ok-push-in-Missing g c =
         sym (append-nil (items_of old.names.items)),
         sym (and-true old.are_all),
       ),
-      tells-nothing g.E.Sink c.args.err.now c.args.err.now refl,
+      tells-nothing g.E.Sink c.args.err.now,
     )
 
 pub returns-in_ok-add_name-in-New : goal.returns-in_ok-add_name-in-New

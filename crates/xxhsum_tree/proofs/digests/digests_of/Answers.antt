@@ -1,10 +1,10 @@
-use Rattle.std.proofs.Common.{rules, ◌∷◌, ◌++◌, ◌&&◌, [], ◌≡◌, ap, drop, refl, subst, sym, take, take-append-drop, ◌∙◌}
+use Rattle.std.proofs.Common.{rules, ◌∷◌, ◌++◌, ◌&&◌, [], ◌≡◌, ap, drop, refl, subst, sym, take, take-append-drop, append-nil, ◌∙◌}
 use Rattle.std.proofs.lemmas.List.{map-append, map_more}
 use Rattle.xxhsum_audit.specs.Merge.{found_of, founds_of}
 use Rattle.xxhsum_program.specs.Told.{TellsOn}
+use Rattle.xxhsum_program.proofs.ToldFacts.{tells-more, tells-nothing}
 use Rattle.xxhsum_tree.specs.Rows.{AreRows, is_read, kept_of, seen_of, told_of}
 use Rattle.xxhsum_tree.proofs.RowFacts.{fails-rows, flat-push, read-more, rows-more}
-use Rattle.xxhsum_tree.proofs.ToldFacts.{tells-more, tells-no-more, tells-nothing}
 use Rattle.xxhsum_tree.proofs.digests.digests_of.Goals as goal
 
 pub loop-side-init : goal.loop-side-init
@@ -14,7 +14,7 @@ loop-side-init g c = record {
   lines = search rules;
   names = search rules;
   all = refl;
-  tells = tells-nothing g.E.Sink c.args.err.now c.args.err.now refl;
+  tells = tells-nothing g.E.Sink c.args.err.now;
 }
 
 pub loop-side-preserved : goal.loop-side-preserved
@@ -44,4 +44,4 @@ returns-in_err-add_side g c =
     let parts : founds_of sides ≡ founds_of (take k sides) ++ founds_of (drop k sides) =
     ap founds_of (sym (take-append-drop k sides)) ∙ map-append found_of (take k sides) (drop k sides) in
     fails-rows _ _ c.from_residual.result c.from_residual.ensures.0
-    (so_far.rows, (founds_of (take k sides), founds_of (drop k sides), parts, so_far.are, tells-no-more g.E.Sink _ _ _ _ so_far.tells c.in_err-add_side.ensures))
+    (so_far.rows, (founds_of (take k sides), founds_of (drop k sides), parts, so_far.are, rw append-nil at (tells-more g.E.Sink _ _ _ _ _ so_far.tells c.in_err-add_side.ensures)))

@@ -1,8 +1,20 @@
-use Rattle.std.proofs.Common.{◌∷◌, ◌++◌, [], ap, map, subst, sym, take, ◌∙◌}
+use Rattle.std.proofs.Common.{ℕ, List, [], ◌∷◌, ◌++◌, append-nil, append_assoc, refl, sym, ap, ◌∙◌, map, subst, take}
 use Rattle.std.proofs.lemmas.List.{map_more}
 use Rattle.xxhsum_tree.specs.Names.{AddsNames, AreNamesIn}
-use Rattle.xxhsum_tree.proofs.NameFacts.{names-more}
 use Rattle.xxhsum_tree.proofs.names.names_in.Goals as goal
+
+-- The names of texts, where those of one more come.
+
+names-more : (end : ℕ) (texts : List (List ℕ)) (text : List ℕ) (old new : List (List ℕ)) → AreNamesIn end texts old → AddsNames end text old new → AreNamesIn end (texts ++ text ∷ []) new
+names-more end [] text old new none adds =
+    (adds.0, [], adds.1 ∙ ap (λ x. x ++ adds.0) none ∙ sym (append-nil adds.0), adds.2, refl)
+names-more end (t ∷ texts) text old new all adds = (
+  all.0,
+  all.1 ++ adds.0,
+  adds.1 ∙ ap (λ x. x ++ adds.0) all.2 ∙ append_assoc all.0 all.1 adds.0,
+  all.3,
+  names-more end texts text all.1 (all.1 ++ adds.0) all.4 (adds.0, refl, adds.2),
+)
 
 pub loop-text-preserved : goal.loop-text-preserved
 loop-text-preserved c =

@@ -5,7 +5,7 @@ use Rattle.xxh_io.proofs.WriteFacts.{Took-join}
 use Rattle.xxhsum_audit.specs.Merge.{found_of, founds_of}
 use Rattle.xxhsum_program.specs.Lines.{PrintsLine}
 use Rattle.xxhsum_tree.specs.Report.{shown_lines}
-use Rattle.xxhsum_tree.proofs.FindFacts.{is-err}
+use Rattle.xxhsum_program.proofs.HashFacts.{is-err}
 use Rattle.xxhsum_tree.proofs.ReportFacts.{ends-in-counts, map-at, report-stops, shown-push, stops-in-line}
 use Rattle.xxhsum_tree.proofs.report.print_report.Goals as goal
 

@@ -3,7 +3,8 @@ use Rattle.std.proofs.lemmas.List.{map-append, map_more}
 use Rattle.xxhsum_program.specs.EachHas.{EachHas}
 use Rattle.xxhsum_program.specs.Told.{TellsOn}
 use Rattle.xxhsum_tree.specs.Texts.{GivesText, HasNoText}
-use Rattle.xxhsum_tree.proofs.FindFacts.{EachHas-push, found-is, lost-is}
+use Rattle.xxhsum_program.proofs.EachFacts.{EachHas-push}
+use Rattle.xxhsum_tree.proofs.FindFacts.{found-is, lost-is}
 use Rattle.xxhsum_tree.proofs.ReportFacts.{map-at}
 use Rattle.xxhsum_tree.proofs.texts.texts_of_files.Goals as goal
 

@@ -1,17 +1,27 @@
-use Rattle.std.proofs.Common.{◌≡◌, inr, ◌<◌, ◌≤◌, [], ◌∷◌, ◌++◌, ◌∙◌, List, ℕ, IfErr, Err, length, take, sym, ap, subst, arith, length-take, length-append, rules}
+use Rattle.std.proofs.Common.{◌≡◌, ℕ, inl, ◌<◌, List, [], ◌∷◌, ◌++◌, length, Ok, Err, IfErr, inr, ◌≤◌, ◌∙◌, take, sym, ap, subst, arith, length-take, length-append, rules}
 use Rattle.std.specs.List.{concat}
 use Rattle.std.specs.declared.result.Result.{Result}
 use Rattle.xxh_io.specs.declared.error.DigestError.{DigestError}
-use Rattle.xxh_io.specs.declared.error.DigestError.TheVariants.{WriteFailed}
-use Rattle.xxh_program.specs.Blocks.{added_lines, last_lines, block_lines, whole_block_lines}
+use Rattle.xxh_io.specs.declared.error.DigestError.TheVariants.{ReadFailed, WriteFailed, TooLong}
+use Rattle.xxh_io.specs.Pieces.{Pieces}
+use Rattle.xxh_io.specs.Digest.{Writes, Took, Refused}
+use Rattle.xxh_io.specs.Rules.{SourceRules, SinkRules}
+use Rattle.xxh_io.proofs.PieceFacts.{Pieces-push, NoneEmpty-push, concat-push}
+use Rattle.xxh_io.proofs.WriteFacts.{Took-join, Refused-join, Writes-join, write-failed, never-too-long}
+use Rattle.xxh_program.specs.Blocks.{block_lines, added_lines, last_lines, whole_block_lines}
 use Rattle.xxh_program.specs.BlockEnds.{DigestsBlocks}
 use Rattle.xxh_program.specs.BlockState.{HasTaken}
-use Rattle.xxh_io.specs.Digest.{Writes, Took, Refused}
-use Rattle.xxh_io.proofs.PieceFacts.{Pieces-push, NoneEmpty-push, concat-push}
 use Rattle.xxh_program.proofs.BlockFacts.{whole-append, all-split}
-use Rattle.xxh_io.proofs.WriteFacts.{Took-join, Refused-join, Writes-join, write-failed, never-too-long}
-use Rattle.xxh_program.proofs.BlockEndFacts.{ends-well}
 use Rattle.xxh_program.proofs.program.blocks.digest_blocks_by.Goals as goal
+
+-- What was read and written, after the end was read.
+
+-- after the end was read
+ends-well : {R W : Type 0} (reading : SourceRules R) (writing : SinkRules W) (block max_reads : ℕ) (pieces : List (List ℕ)) (r_old r_new : R) (w_old w_new : W) (result : Result (Unit {0}) DigestError) → IfErr result (λ e. e ≡ WriteFailed) → (length pieces < max_reads) × Pieces reading.gives r_old (pieces ++ [] ∷ []) r_new → Writes writing (block_lines block (concat pieces)) w_old w_new result → DigestsBlocks reading writing block max_reads pieces r_old r_new w_old w_new result
+ends-well reading writing block max_reads pieces r_old r_new w_old w_new (Ok x) only read wrote = (read, wrote)
+ends-well reading writing block max_reads pieces r_old r_new w_old w_new (Err WriteFailed) only read wrote = inl (read, wrote)
+ends-well reading writing block max_reads pieces r_old r_new w_old w_new (Err ReadFailed) only read wrote = cc
+ends-well reading writing block max_reads pieces r_old r_new w_old w_new (Err TooLong) only read wrote = cc
 
 pub loop-turn-preserved : goal.loop-turn-preserved
 loop-turn-preserved g c =
