@@ -118,8 +118,11 @@ class Trial:
             return [*chosen.values()]
 
     def taken_alone(self):
-        """The edits that have to go alone and weren't tried yet, each with the reason."""
+        """The edits that have to go alone and weren't tried yet, each with the reason. One that others hid, and that would
+        be a batch by itself, is among them: its function's own check says as much, and is the last that it may need."""
         with self.lock:
+            if len(self.waiting) == 1 and self.waiting[0].apart:
+                self.alone.append((self.waiting.pop(), "another edit of its check hid it"))
             taken, self.alone = self.alone, []
             return taken
 
