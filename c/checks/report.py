@@ -23,6 +23,11 @@ class Report:
             known = isinstance(fault, (Fault, subprocess.TimeoutExpired))
             self.row(name, str(fault) if known else f'{type(fault).__name__}: {fault}')
 
+    def count(self, passed, failed):
+        """Checks that have no row each."""
+        self.passed += passed
+        self.failed += failed
+
     def repeat(self, line):
         """A row of another program's report, which is counted here too."""
         if line.startswith(('passed  ', 'FAILED  ')):

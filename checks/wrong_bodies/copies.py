@@ -10,9 +10,9 @@ from . import edits, kit
 
 
 def with_copies(crate, tried, folder):
-    """The crate, written to the folder with its copies, and the name of one copy of each function that has any. The further
-    edits of these functions now change the copies, and the first too where another changed function may call it, since
-    what calls a refused function may have no line of its own."""
+    """The crate, written to the folder with its copies, and the functions that other changed ones may call. The further edits
+    of a function now change its copies, and the first too where it may be called, since what calls a refused function may
+    have no line of its own."""
     for part in kit.rt.rtlib.PARTS:
         if os.path.isdir(f"{crate.folder}/{part}"):
             shutil.copytree(f"{crate.folder}/{part}", f"{folder}/{part}")
@@ -22,13 +22,17 @@ def with_copies(crate, tried, folder):
     for it in tried:
         of_functions.setdefault(it.function, []).append(it)
     bodies = {function: text_of_body(crate, its[0]) for function, its in of_functions.items()}
-    found = []
+    called = [function for function, its in of_functions.items() if is_called(function, its[0].body.name, bodies)]
     for function, its in of_functions.items():
         if len(its) > 1:
-            word = re.compile(rf"\b{its[0].body.name}\b")
-            is_called = any(word.search(text) for other, text in bodies.items() if other != function)
-            found += add_copies(folder, its if is_called else its[1:])[:1]
-    return twin, found
+            give_copies(folder, its, 0 if function in called else 1)
+    return twin, called
+
+
+def is_called(function, name, bodies):
+    """Whether another of these bodies may call the function."""
+    word = re.compile(rf"\b{name}\b")
+    return any(word.search(text) for other, text in bodies.items() if other != function)
 
 
 def text_of_body(crate, edit):
@@ -36,21 +40,26 @@ def text_of_body(crate, edit):
     return "\n".join(lines[edit.body.first:edit.body.last])
 
 
-def add_copies(folder, its):
-    """Adds a copy for each of these edits of one function, and returns the copies' names."""
-    names = []
-    for number, edit in enumerate(its, 1):
-        function, name = edit.function, f"{edit.body.name}_copy_{number}"
-        text = kit.read(f"{folder}/{edit.path}")
-        found = edit.body.copied(text.rstrip("\n").split("\n"), name)
-        if not found:
-            break
-        body, lines = found
-        kit.write(f"{folder}/{edit.path}", "\n".join(lines) + "\n")
-        names.append(f"{function.rpartition('::')[0]}::{name}")
-        copy_answers(folder, function, names[-1])
-        edit.turn_to(names[-1], body, start_of(lines, body.first) - start_of(lines, edit.body.first))
-    return names
+def give_copies(folder, its, first):
+    """Has each of these edits of one function, from the first on, change a copy of its own, where the function can have
+    copies. One more stays as it is: their control."""
+    control, *others = (add_copy(folder, its[0], number) for number in range(len(its) - first + 1))
+    if control:
+        for edit, (name, body, by) in zip(its[first:], others):
+            edit.turn_to(name, body, by, control[0])
+
+
+def add_copy(folder, edit, number):
+    """Adds a copy of the function that the edit changes: its name, where it stands, and how many characters below. Or None."""
+    name = f"{edit.body.name}_copy_{number}"
+    found = edit.body.copied(kit.read(f"{folder}/{edit.path}").rstrip("\n").split("\n"), name)
+    if not found:
+        return None
+    body, lines = found
+    kit.write(f"{folder}/{edit.path}", "\n".join(lines) + "\n")
+    name = f"{edit.function.rpartition('::')[0]}::{name}"
+    copy_answers(folder, edit.function, name)
+    return name, body, start_of(lines, body.first) - start_of(lines, edit.body.first)
 
 
 def start_of(lines, number):

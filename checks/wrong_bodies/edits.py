@@ -14,6 +14,8 @@ class Edit:
         self.refused_by = named and f"{crate.name}::{named[1]}"
         # Functions whose edits hid this one in a check: it isn't tried beside them again.
         self.apart = set()
+        # Where it changes a copy of its function, another copy, which no edit changes.
+        self.control = None
         self.path, pairs = parsed(kit.read(file))
         if kit.rt.read_edit(file, crate.folder)[1] or not self.path or not self.path.startswith("src/"):
             return
@@ -31,9 +33,9 @@ class Edit:
         """Whether it and none of those chosen, by their functions, hid one another before."""
         return not self.apart & chosen.keys() and not any(self.function in it.apart for it in chosen.values())
 
-    def turn_to(self, copy, body, by):
+    def turn_to(self, copy, body, by, control):
         """Has the edit change a copy of the function, so many characters below."""
-        self.function, self.body = copy, body
+        self.function, self.body, self.control = copy, body, control
         self.spots = [(at + by, old, new) for at, old, new in self.spots]
 
 

@@ -9,6 +9,7 @@ import re
 import shutil
 import sys
 import tempfile
+import threading
 
 from . import source
 
@@ -29,8 +30,31 @@ def load():
         sys.exit(f"wrong-bodies: this kit's rt has no {', '.join(lost)}")
     # Its first call sets a signal's handler, which only the main thread may.
     module.rtlib.guarded()
+    module.rtlib.guarded = with_closed_files(module.rtlib.guarded)
     module.checked = with_whole_messages(module.checked)
     return module
+
+
+# Whether what this thread starts may write no file.
+CLOSED = threading.local()
+# Runs a command that may write no file, and is told so by an error, not killed.
+WRITES_NO_FILE = ["sh", "-c", 'trap "" XFSZ; ulimit -f 0; exec "$@"', "sh"]
+
+
+def with_closed_files(guarded):
+    """The words before each command that rt starts, and after them those that let it write no file."""
+    return lambda: [*guarded(), *(WRITES_NO_FILE if getattr(CLOSED, "is_closed", False) else ())]
+
+
+@contextlib.contextmanager
+def no_file_written():
+    """Meanwhile a check writes no file. What it proves is not kept; and where it can't keep that, rattle doesn't load all
+    modules a second time, which it does to print the file that each refused function wants."""
+    CLOSED.is_closed = True
+    try:
+        yield
+    finally:
+        CLOSED.is_closed = False
 
 
 def with_whole_messages(checked):
@@ -66,7 +90,7 @@ def write(path, text):
 
 
 def check(crate, texts, kept, only=()):
-    """Checks the crate with these texts in place of its own, over the kept work: its status and its lines."""
+    """Checks the crate with these texts in place of its own, over the kept work, if there is any: its status and its lines."""
     words = [*one_job(), *(word for name in only for word in ("--only", name))]
     ran = rt.checked(crate, texts, words, kept)
     return ran.returncode, ran.stdout.rstrip("\n").split("\n")
@@ -74,7 +98,11 @@ def check(crate, texts, kept, only=()):
 
 @contextlib.contextmanager
 def copy_of(kept):
-    """A copy of kept work. What was proved is linked: a check replaces such a file, and writes into none."""
+    """A copy of kept work, or None where there is none. What was proved is linked: a check replaces such a file, and
+    writes into none."""
+    if not os.path.isdir(kept):
+        yield None
+        return
     with tempfile.TemporaryDirectory(dir=os.path.dirname(kept)) as room:
         yield shutil.copytree(kept, f"{room}/kept", copy_function=linked_or_copied)
 

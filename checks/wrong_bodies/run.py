@@ -70,7 +70,7 @@ def try_all(files, proofs, jobs, tell_end):
             for trial in [it for it in waiting if proofs.has(it.crate) or is_last]:
                 waiting.remove(trial)
                 ready.append((trial, trial.begin if proofs.has(trial.crate) else trial.give_up))
-            ready.sort(key=lambda it: (it[0].kept_files is not None, -it[0].seconds()))
+            ready.sort(key=lambda it: (it[0].kept_files is not None, -it[0].seconds(), -len(it[0].files)))
             while ready and len(running) < proofs.at_a_time():
                 trial, check = ready.pop(0)
                 running[pool.submit(check)] = trial
@@ -89,11 +89,11 @@ def try_all(files, proofs, jobs, tell_end):
 
 
 def next_checks(trial, at_work):
-    """The trial's next checks. First, by itself, that of the crate as it stands, since the others begin with what it
-    keeps; then those that go alone, each of which may take minutes, and the batches; at last the end."""
+    """The trial's next checks. Where many are to come, first, by itself, that of what they have in common, since they begin
+    with what it keeps; then those that go alone, each of which may take minutes, and the batches; at last the end."""
     if trial.is_ended or at_work and trial.kept_files is None:
         return []
-    if trial.kept_files is None:
+    if trial.kept_files is None and trial.is_shared():
         return [trial.prove]
     started = [functools.partial(trial.try_alone, *it) for it in trial.taken_alone()]
     while batch := trial.batch():

@@ -65,7 +65,7 @@ def owner_of_impl(text):
     variables = re.findall(r"(?:^|,)\s*(?:const )?(\w+)", re.sub(r"<[^<>]*>", "", generics[1])) if generics else []
     text = text[generics.end():] if generics else text
     trait, _, type_ = re.split(r" where\b|\{", text)[0].strip().rpartition(" for ")
-    return name_of_type(type_, variables, bool(trait)) + (name_of_type(trait, variables, False) if trait else "") + "::"
+    return name_of_type(type_, variables, bool(trait)) + (name_of_type(trait, variables) if trait else "") + "::"
 
 
 class Owner:

@@ -11,7 +11,9 @@ from . import edits, kit
 from .copies import with_copies
 
 # The most edits that share a check: a long batch fills one processor while others idle.
-MOST = 60
+MOST = 120
+# So many checks of a crate begin with nothing. For more than that, what they have in common is proved first.
+FEW = 3
 # An error of a proof file that names what the edit took away, which says little of the contract.
 GONE = re.compile(r"has no field|is not in scope|has no `|was not admitted")
 # What is said of an edit that no other error refuses, here and by rt.
@@ -24,11 +26,11 @@ class Trial:
     def __init__(self, crate, room, files, is_proved):
         self.crate, self.room, self.files, self.is_proved = crate, room, files, is_proved
         self.kept = f"{room}/kept"
-        # The crate with its copies, and one copy of each function that has any.
-        self.twin, self.copies = None, []
+        # The crate with its copies, and the changed functions that others may call.
+        self.twin, self.called = None, []
         self.lock = threading.Lock()
         self.waiting, self.alone, self.said, self.is_ended = [], [], {}, False
-        # What the check of the crate as it stands has kept, once it has ended.
+        # What the check of the crate as it stands has kept, once it has ended, where there is one.
         self.kept_files = None
         # Each check: how long it took, and what it tried.
         self.checks = []
@@ -41,19 +43,32 @@ class Trial:
                 self.waiting.append(it)
             else:
                 self.alone.append((it, "it changes no body, or more than one"))
-        self.twin, self.copies = with_copies(self.crate, self.waiting, f"{self.room}/crate")
+        self.twin, self.called = with_copies(self.crate, self.waiting, f"{self.room}/crate")
 
     def give_up(self):
         """Says that none was tried, where the crate isn't proved."""
         self.said = {edits.Edit(it, self.crate, set()): (False, "the crate is not proved") for it in self.files}
         self.is_ended = True
 
+    def is_shared(self):
+        """Whether so many checks are to come that what they have in common is proved first."""
+        functions = [it.function for it in self.waiting]
+        turns = max(map(functions.count, functions), default=0)
+        return max(self.batches(), turns) + len(self.alone) > FEW
+
+    def batches(self):
+        return math.ceil(len(self.waiting) / MOST)
+
     def prove(self):
-        """Proves the functions that edits change, a copy of each that has any, and all that they rest on, as they stand.
-        Each edit is tried over a copy of what this check keeps."""
-        changed = [it.refused_by for it in [*self.waiting, *(it for it, _ in self.alone)] if it.refused_by]
-        self.check_as_it_stands(self.twin, dict.fromkeys([*changed, *self.copies]))
+        """Proves, as they stand, the functions that edits change and others may call, those that edits name, a copy of each
+        that has any, and all that they rest on. Each edit is then tried over a copy of what this check keeps."""
+        named = [it.refused_by for it, _ in self.alone if it.refused_by]
+        self.check_as_it_stands(self.twin, dict.fromkeys([*self.called, *named, *self.controls(self.waiting)]))
         self.kept_files = kit.listing(self.kept)
+
+    def controls(self, batch):
+        """The copies that show that those of these edits are proved where no edit changes them."""
+        return list(dict.fromkeys(it.control for it in batch if it.control))
 
     def check_as_it_stands(self, crate, only):
         os.makedirs(self.kept, exist_ok=True)
@@ -63,8 +78,8 @@ class Trial:
             sys.exit("\n".join([f"wrong-bodies: {crate.name} is not proved as it stands", *why[:5]]))
 
     def check(self, what, crate, texts, only):
-        """Checks the crate with these texts over a copy of the kept work."""
-        with kit.copy_of(self.kept) as kept:
+        """Checks the crate with these texts over a copy of the kept work, if there is any."""
+        with kit.no_file_written(), kit.copy_of(self.kept) as kept:
             return self.timed(what, kit.check, crate, texts, kept, only)
 
     def timed(self, what, work, *words):
@@ -80,7 +95,7 @@ class Trial:
     def end(self):
         """Sees that no check of an edit has changed the kept work, and proves the whole crate over it where nothing else
         has."""
-        if kit.listing(self.kept) != self.kept_files:
+        if kit.listing(self.kept) != (self.kept_files or {}):
             sys.exit(f"wrong-bodies: {self.crate.name}: a check of an edit has changed the work that others begin with")
         if not self.is_proved:
             self.check_as_it_stands(self.crate, ())
@@ -94,8 +109,7 @@ class Trial:
             for it in self.waiting:
                 left.setdefault(it.function, []).append(it)
             # As few batches as hold them all, of equal size.
-            batches = max(1, math.ceil(len(self.waiting) / MOST))
-            most = math.ceil(len(self.waiting) / batches)
+            most = math.ceil(len(self.waiting) / max(1, self.batches()))
             chosen = {}
             for its in sorted(left.values(), key=len, reverse=True):
                 fits = [it for it in its if it.fits_beside(chosen)]
@@ -104,15 +118,19 @@ class Trial:
             return [*chosen.values()]
 
     def taken_alone(self):
-        """The edits that have to go alone and weren't tried yet, each with the reason."""
+        """The edits that have to go alone and weren't tried yet, each with the reason. One that others hid, and that would
+        be a batch by itself, is among them: its function's own check says as much, and is the last that it may need."""
         with self.lock:
+            if len(self.waiting) == 1 and self.waiting[0].apart:
+                self.alone.append((self.waiting.pop(), "another edit of its check hid it"))
             taken, self.alone = self.alone, []
             return taken
 
     def try_batch(self, batch):
         """Tries these edits in one check. What it can't judge waits again, or waits to be tried alone."""
         texts = edits.texts_with(self.twin, batch)
-        status, lines = self.check(f"{len(batch)} edits", self.twin, texts, [it.function for it in batch])
+        controls = self.controls(batch) if self.kept_files is None else []
+        status, lines = self.check(f"{len(batch)} edits", self.twin, texts, [*(it.function for it in batch), *controls])
         with self.lock:
             if status not in (0, 1) or not lines[-1].startswith("only=") or any(kit.is_front_end_error(it, texts) for it in lines):
                 self.without_verdict(batch, lines)
@@ -156,7 +174,8 @@ class Trial:
             self.said[edit] = True, said
             return
         # What its function's own check has let through is tried from nothing at once.
-        with contextlib.nullcontext() if status == 0 else kit.copy_of(self.kept) as kept:
+        copied = contextlib.nullcontext() if status == 0 else kit.copy_of(self.kept)
+        with kit.no_file_written(), copied as kept:
             refused, said = self.timed(f"{edit.name} as rt must-fail does", kit.try_alone, self.crate, edit.file, kept)
         with self.lock:
             self.said[edit] = refused, f"{said} ({why})"
