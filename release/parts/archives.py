@@ -8,7 +8,6 @@ import shutil
 import provenance
 from aarch64 import debian_root
 from packing import read_tar, tree_of, write_tar
-from words import part_of
 from tools import must
 
 PREFIX = 'usr/lib/twox-hash'
@@ -31,7 +30,8 @@ def documents(commit, made):
 
 def words_of(commit, heading):
     """What docs/RELEASES.md says of an archive, as its README: its links lead to other pages, which aren't there."""
-    words = re.sub(r'\[([^]]*)\]\([^)]*\)', r'\1', part_of(commit.read('docs', 'RELEASES.md'), heading))
+    part, = re.findall(rf'^## {re.escape(heading)}\n(.*?)(?=^## |\Z)', commit.read('docs', 'RELEASES.md'), re.M | re.S)
+    words = re.sub(r'\[([^]]*)\]\([^)]*\)', r'\1', part.strip())
     return f'# {heading}\n\n{words}\n'.encode()
 
 

@@ -8,8 +8,8 @@ from report import tail, want
 from tools import QUIET, must
 
 MIRROR, SECURITY = 'http://deb.debian.org/debian', 'http://deb.debian.org/debian-security'
-# Where the archives lie in a root, as a user who has downloaded them has them.
-TAKEN = '/root/taken'
+# Where the archives lie in a root, as a user who has downloaded them has them, and the repository, as one who has cloned it.
+TAKEN, CLONE = '/root/taken', '/root/twox_hash'
 # What an installation may leave behind: logs, caches, and what apt and dpkg know.
 LEFT = ('proc', 'root', 'tmp', 'var/log', 'var/cache', 'var/lib/apt', 'var/lib/dpkg', 'etc/ld.so.cache')
 
@@ -32,23 +32,23 @@ def new_base(suite, folder):
 class Root:
     """A user's machine: what runs there sees no other file, and no toolchain."""
 
-    def __init__(self, path):
-        self.path = path
+    def __init__(self, path, suite='', stem=''):
+        self.path, self.suite, self.stem = path, suite, stem
 
     def at(self, name):
         return os.path.join(self.path, name.lstrip('/'))
 
-    def run(self, script, **variables):
-        """The status and the output of a script of bash, in the folder of the archives."""
+    def run(self, script, folder=TAKEN, **variables):
+        """The status and the output of a script of bash in a folder."""
         environment = {'PATH': '/usr/sbin:/usr/bin:/sbin:/bin', 'HOME': '/root', 'DEBIAN_FRONTEND': 'noninteractive',
                        'LC_ALL': 'C.UTF-8', 'PYTHONDONTWRITEBYTECODE': '1', **variables}
-        words = ['chroot', self.path, '/bin/bash', '-euo', 'pipefail', '-c', f'cd {TAKEN}\n{script}']
+        words = ['chroot', self.path, '/bin/bash', '-c', f'cd {folder}\n{script}']
         done = subprocess.run(words, env=environment, stdin=subprocess.DEVNULL, stdout=subprocess.PIPE,
                               stderr=subprocess.STDOUT, text=True, errors='replace', timeout=1800)
         return done.returncode, done.stdout
 
     def must(self, script, **variables):
-        status, out = self.run(script, **variables)
+        status, out = self.run(f'set -euo pipefail\n{script}', **variables)
         want(status == 0, f'{script.strip().splitlines()[-1][:80]}: status {status}: {tail(out)}')
         return out
 
@@ -78,10 +78,10 @@ class Root:
 
 
 @contextlib.contextmanager
-def new_root(base, path, made):
-    """A copy of a base with the archives in it, while it is needed."""
+def new_root(base, path, suite, made, stem):
+    """A copy of a base with the archives in it, whose names begin with the stem, while it is needed."""
     must(['cp', '-a', base, path])
-    root = Root(path)
+    root = Root(path, suite, stem)
     shutil.copytree(made, root.at(TAKEN))
     must(['mount', '-t', 'proc', 'proc', root.at('proc')])
     try:
