@@ -40,7 +40,7 @@ def choose(given):
     rows = induction(vectors, given.all) + lengths(given.all, given.vector)
     if given.all:
         rows += vector_lengths([vector for vector in vectors if vector != given.vector])
-    rows += of_changes(given.all, given.vector, given.headers) + of_machinery(given.all, given.vector)
+    rows += of_changes(given.all, given.vector, given.headers) + of_machinery(given.all, given.vector, given.headers)
     return [row for row in rows if given.only in row.title]
 
 
@@ -166,8 +166,10 @@ def hand_changes(module):
     return f"{len(found)} changes", [line for is_good, line in found if not is_good]
 
 
-def of_machinery(is_all, vector):
+def of_machinery(is_all, vector, headers):
     out = [Row("the rules are the proved ones", machinery.rules_are_proved, vector),
+           Row("another header on the compiler's path is not the one that is compared", 
+               functools.partial(machinery.header_is_the_named_one, headers=headers)),
            Row("random operations and laws",
                functools.partial(machinery.random_operations, rounds=300 if is_all else 30), vector)]
     if is_all:

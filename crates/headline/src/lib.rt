@@ -5,10 +5,11 @@
 //! An XXH3 stream that was made with a secret alone uses it at every length. Any other one uses the default secret
 //! with its seed up to 240 bytes, and above the secret that it holds, with no seed.
 //!
-//! A reader who believes the definitions and this file needs to read no other contract. Each `.._of_pieces` takes
-//! some pieces, is asked, takes more and is asked again: `AreValuesOf` says that the two answers are the
-//! definition's values of what had come by then. Everything is proved from the public contracts of `twox_hash` and
-//! two lemmas on the definitions (`LongValues` of `twox_core`).
+//! A reader who believes the definitions and this file needs to read few other contracts: what `SecretBuffer::new`,
+//! `with_seed`, `with_secret` and `default` hold, the `bytes` of the four buffers, and what `Finalize` asks of an
+//! implementation. Each `.._of_pieces` takes some pieces, is asked, takes more and is asked again: `AreValuesOf` says
+//! that the two answers are the definition's values of what had come by then. Everything is proved from the public
+//! contracts of `twox_hash` and two lemmas on the definitions (`LongValues` of `twox_core`).
 #![tactic(auto)]
 
 ghost use Rattle.std.specs.Prelude.{◌≡◌, ◌++◌, ◌↔◌, ◌≤◌, ◌<◌, ℕ, Option, Some, List, [], IfOk, IfSome, IsErr, IsSome, length, map};
