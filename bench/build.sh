@@ -17,14 +17,12 @@ fail() {
 
 # need PACKAGE COMMAND: installs the Debian package where the command is missing.
 need() {
-    command -v "$2" > /dev/null && return
-    apt-get update -qq && apt-get install -y -qq "$1" > /dev/null || fail "no $2, and its package $1 could not be installed"
+    command -v "$2" > /dev/null || "$top/checks/install" "$1" || fail "no $2, and its package $1 could not be installed"
 }
 
 # need_file PACKAGE PATTERN: installs the Debian package where no such file is there.
 need_file() {
-    compgen -G "$2" > /dev/null && return
-    apt-get update -qq && apt-get install -y -qq "$1" > /dev/null || fail "no $2, and its package $1 could not be installed"
+    compgen -G "$2" > /dev/null || "$top/checks/install" "$1" || fail "no $2, and its package $1 could not be installed"
 }
 
 # our_library TREE SET FILE: builds the libraries of the benchmark's crates in a tree, proved, for an instruction
@@ -62,7 +60,8 @@ link_layouts() {
     for ((layout = 1; layout <= layouts; layout++)); do
         ld -r -T places.ld "${objects[@]}" -o "$folder/functions.o"
         objcopy --set-section-alignment .text=64 "$folder/functions.o"
-        gcc "$folder"/{driver,peers,functions}.o $libraries -o "$folder/driver_$layout" || fail "the driver was not linked"
+        # Frames of objects that `ld -r` joined have no table, and nothing here is unwound.
+        gcc "$folder"/{driver,peers,functions}.o $libraries -Wl,--no-eh-frame-hdr -o "$folder/driver_$layout" || fail "the driver was not linked"
         found=$(nm "$folder/driver_$layout" | awk '$3 == "twox_xxh3_64" { print $1 }')
         ((0x$found % 64 == 0)) || fail "a function lies at $found, which is no multiple of 64"
         objects=("${objects[@]:1}" "${objects[0]}")

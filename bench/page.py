@@ -50,7 +50,7 @@ def markdown(head, rows):
 
 
 def ranged(values):
-    return f"{statistics.median(values):.2f} ({min(values):.2f} to {max(values):.2f})"
+    return "not measured" if not values else f"{statistics.median(values):.2f} ({min(values):.2f} to {max(values):.2f})"
 
 
 def best(row):

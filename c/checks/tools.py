@@ -4,10 +4,14 @@ import os
 import shutil
 import subprocess
 import sys
+import time
 
 TOP = os.path.dirname(os.path.dirname(os.path.dirname(os.path.abspath(__file__))))
 C = os.path.join(TOP, 'c')
-QUIET = {**os.environ, 'DEBIAN_FRONTEND': 'noninteractive'}
+# So that what apt-get says is looked for in English.
+QUIET = {**os.environ, 'DEBIAN_FRONTEND': 'noninteractive', 'LC_ALL': 'C.UTF-8'}
+# How many seconds an installation waits for another one.
+PATIENCE = 900
 
 
 def must(words, **more):
@@ -31,12 +35,25 @@ def install_packages(packages):
 
 
 def install(packages):
-    """Installs packages. Checks that run beside one another take turns: apt's own lock doesn't make `update` wait."""
+    """Installs packages. Checks that run beside one another take turns, and wait for whoever else installs."""
     if packages:
         with open('/var/lock/twox-hash-packages', 'w') as turn:
             fcntl.flock(turn, fcntl.LOCK_EX)
-            must(['apt-get', 'update', '-qq'], env=QUIET)
-            must(['apt-get', 'install', '-y', '-qq', '--no-install-recommends', *sorted(packages)], env=QUIET)
+            apt_get('update')
+            apt_get('install', '-y', '--no-install-recommends', *sorted(packages))
+
+
+def apt_get(*words):
+    """Runs apt-get, again while another holds a lock: `update` has no way to wait for one."""
+    until = time.monotonic() + PATIENCE
+    command = ['apt-get', '-qq', '-o', f'DPkg::Lock::Timeout={PATIENCE}', *words]
+    while True:
+        done = subprocess.run(command, env=QUIET, stdout=subprocess.PIPE, stderr=subprocess.STDOUT, text=True)
+        if not done.returncode:
+            return
+        if 'Could not get lock' not in done.stdout or time.monotonic() > until:
+            sys.exit(f'{os.path.relpath(sys.argv[0], TOP)}: {" ".join(command)}:\n{done.stdout[-2000:]}')
+        time.sleep(1)
 
 
 def proved_program(name, *flags):

@@ -59,7 +59,8 @@ def add_copy(folder, edit, number):
     kit.write(f"{folder}/{edit.path}", "\n".join(lines) + "\n")
     name = f"{edit.function.rpartition('::')[0]}::{name}"
     copy_answers(folder, edit.function, name)
-    return name, body, start_of(lines, body.first) - start_of(lines, edit.body.first)
+    # The brace may stand on the line of `fn`, which the copy's longer name makes longer.
+    return name, body, start_of(lines, body.first + 1) - start_of(lines, edit.body.first + 1)
 
 
 def start_of(lines, number):

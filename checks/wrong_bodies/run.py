@@ -10,7 +10,10 @@ import time
 
 from . import aims, edits, kit, source
 from .proofs import Built, Heard
-from .trial import BY_NAMES, Trial
+from .trial import BY_ANSWERS, BY_NAMES, Trial
+
+# Refusals that say little of a contract.
+WEAK = (BY_ANSWERS, BY_NAMES, kit.BY_LIMIT)
 
 
 def main(given):
@@ -44,13 +47,12 @@ def tell(trial, is_told_all):
         if is_told_all or not well:
             print(f"{trial.crate.name}/{edit.name}: {'refused' if well else 'FAILED'}: {said[:300]}")
     refused = [well for _, (well, _) in told].count(True)
-    by_names = [edit.name for edit, (_, said) in told if BY_NAMES in said]
-    at_limits = [edit.name for edit, (_, said) in told if kit.BY_LIMIT in said]
+    weak = {words: [edit.name for edit, (_, said) in told if words in said] for words in WEAK}
+    count = refused - sum(map(len, weak.values()))
     print(
-        f"{trial.crate.name}: {refused} of {len(told)} refused, {len(by_names)} of them only because a proof names what is "
-        f"gone, {len(at_limits)} only at a limit of the prover, in {len(trial.checks)} checks of {trial.seconds():.0f} s",
-        *(f"  only by a name: {name}" for name in by_names),
-        *(f"  only at a limit: {name}" for name in at_limits),
+        f"{trial.crate.name}: {refused} of {len(told)} refused, {count} of them by a clause's goal, in {len(trial.checks)} "
+        f"checks of {trial.seconds():.0f} s",
+        *(f"  {words}: {len(names)}: {', '.join(names)}" for words, names in weak.items() if names),
         *(f"  {took:.0f} s: {what[:200]}" for took, what in trial.checks if is_told_all),
         sep="\n",
         flush=True,

@@ -1,40 +1,74 @@
 """Tries planted edits whose verdicts are known: the blocks of planted/CRATE.edits, each with a line `expected: refused`,
-`expected: refused by a name alone`, `expected: not refused` or `expected: bad edit`. They are tried as other edits are,
-those of one crate among one another."""
+`expected: not refused`, `expected: bad edit`, `expected: refused by a name alone` or `expected: refused by an answer
+alone`, or with two of these and `or` between them. They are tried as other edits are, those of one crate among one another.
+Then the places of edits in copies of functions are looked at."""
 import os
 import re
 import tempfile
+import types
 
-from . import edits, kit, proofs, run
-from .trial import BY_NAMES
+from . import copies, edits, kit, proofs, run, source
+from .trial import BY_ANSWERS, BY_NAMES
 
 PLANTED = os.path.join(os.path.dirname(os.path.abspath(__file__)), "planted")
 REFUSED = "refused, as it must be"
-SAYS = {"refused": REFUSED, "refused by a name alone": BY_NAMES, "not refused": "NOT REFUSED", "bad edit": "BAD EDIT"}
+SAYS = {"refused by a name alone": BY_NAMES, "refused by an answer alone": BY_ANSWERS, "not refused": "NOT REFUSED",
+        "bad edit": "BAD EDIT"}
+# A function whose brace stands on the line of `fn`, and one whose clauses stand between.
+FUNCTIONS = """fn first(a: u64) -> u64 {
+    a + 1
+}
+
+fn second(a: u64) -> u64
+    ensures { result ≡ a }
+{
+    a + 2
+}
+"""
 
 
-def main(jobs):
+def main(jobs, chosen):
     crates, names = kit.crates(), sorted(file.removesuffix(".edits") for file in os.listdir(PLANTED))
     with tempfile.TemporaryDirectory() as room:
-        return tried({crates[name]: sorted(edits.written(f"{PLANTED}/{name}.edits", f"{room}/{name}")) for name in names}, jobs)
+        files = {crates[name]: sorted(edits.written(f"{PLANTED}/{name}.edits", f"{room}/{name}"))
+                 for name in names if name in chosen or not chosen}
+        passed, failed = tried(files, jobs)
+    lost = places_lost()
+    print(*(f"an edit of a copy of {name} lands elsewhere" for name in lost), f"{passed + 2 - len(lost)} passed, "
+          f"{failed + len(lost)} failed", sep="\n")
+    return 1 if failed or lost else 0
+
+
+def verdict(refused, said):
+    """What was found of an edit."""
+    return next((name for name, words in SAYS.items() if words in said), "refused" if refused else said[:100])
 
 
 def tried(files, jobs):
-    """Tries the edits of each crate, says which have another verdict than they should, and answers the program's status."""
+    """Tries the edits of each crate, says which have another verdict than they should: how many passed and failed."""
     passed = failed = in_batches = 0
     for trial in run.try_all(files, proofs.Built(files, jobs), jobs, lambda it: None):
         for edit, (refused, said) in trial.said.items():
-            expected = re.search(r"^expected: (.*)$", kit.read(edit.file), re.M)[1]
+            expected = re.search(r"^expected: (.*)$", kit.read(edit.file), re.M)[1].split(" or ")
+            found = verdict(refused, said)
             # What a batch refused has its function's own words; all else is in rt's words.
-            is_by_name = BY_NAMES in said
-            is_of_batch = refused and not is_by_name and REFUSED not in said
-            is_well = SAYS[expected] in said and is_by_name == (expected == "refused by a name alone")
-            is_well = is_well or is_of_batch and expected == "refused"
-            passed, failed, in_batches = passed + is_well, failed + (not is_well), in_batches + is_of_batch
-            if not is_well:
-                print(f"{trial.crate.name}/{edit.name}: expected: {expected}; said: {said[:200]}")
+            in_batches += found == "refused" and REFUSED not in said
+            passed, failed = passed + (found in expected), failed + (found not in expected)
+            if found not in expected:
+                print(f"{trial.crate.name}/{edit.name}: expected: {' or '.join(expected)}; found: {found}: {said[:300]}")
     if not in_batches:
         print("no planted edit was refused in a batch")
-        failed += 1
-    print(f"{passed} passed, {failed} failed")
-    return 1 if failed else 0
+    return passed, failed + (not in_batches)
+
+
+def places_lost():
+    """The functions of whose copies an edit changes another place than it should."""
+    lost = []
+    for number, it in enumerate(source.functions("src/lib.rt", FUNCTIONS.rstrip("\n").split("\n")), 1):
+        with tempfile.TemporaryDirectory() as room:
+            kit.write(f"{room}/lib.rt", FUNCTIONS)
+            edit = types.SimpleNamespace(body=it, path="lib.rt", function=f"crate::{it.name}")
+            _, _, by = copies.add_copy(room, edit, 1)
+            at, text = FUNCTIONS.index(f"+ {number}") + by, kit.read(f"{room}/lib.rt")
+        lost += [it.name] if text[at:at + 3] != f"+ {number}" else []
+    return lost

@@ -18,6 +18,10 @@ FEW = 3
 GONE = re.compile(r"has no field|is not in scope|has no `|was not admitted")
 # What is said of an edit that no other error refuses, here and by rt.
 BY_NAMES = "only because a proof file names what the edit took away"
+# What is said of one whose function has answers that no longer fit its goals: a right body falls so, too.
+BY_ANSWERS = "only because an answer no longer fits"
+# What rt says first of an edit at which an answer no longer fits.
+OF_AN_ANSWER = re.compile(r": (?:\./)?proofs/\S+: error")
 # What a function's line says of its own goals. What it says of its callees, as `it calls`, comes behind.
 OWN_GOALS = re.compile(r"no proof: expected .*`search` did not prove ")
 
@@ -147,21 +151,20 @@ class Trial:
     def judge(self, batch, lines):
         says = {it[2]: it[3] for it in map(kit.LINE.fullmatch, lines) if it}
         functions = {it.function for it in batch}
-        errors = [it for it in map(kit.PLACE.match, lines) if it and not GONE.search(it[3])]
+        errors = [it for it in map(kit.PLACE.match, lines) if it]
         goals = [it for it in map(kit.OPEN_GOAL.match, lines) if it]
         # Each function that no edit changes is a control: it is proved, or would be but for what it calls.
-        loose = [name for name, said in says.items() if name not in functions and not is_well(name, said, errors)]
+        of_values = [it for it in errors if not GONE.search(it[3])]
+        loose = [name for name, said in says.items() if name not in functions and not is_well(name, said, of_values)]
         if loose:
             self.alone += [(it, f"{loose[0]}, which no edit changes, is not proved either") for it in batch]
             return
         for it in batch:
             said = says.get(it.function, "nothing")
-            own = [error[0] for error in errors if error[1].startswith(edits.proof_folder(it.function))]
-            own += [goal[0] for goal in goals if goal[1] == it.path and it.body.has_inside(int(goal[2]) - 1)]
-            if said.startswith("not proved") and own:
-                self.said[it] = True, own[0]
-            elif OWN_GOALS.match(said):
-                self.said[it] = True, said
+            own = [error for error in errors if error[1].startswith(edits.proof_folder(it.function))]
+            open_goals = [goal[0] for goal in goals if goal[1] == it.path and it.body.has_inside(int(goal[2]) - 1)]
+            if why := refusal(said, own, open_goals):
+                self.said[it] = True, why
             elif not it.apart and (hidden_by := called(it.function, says) & functions - {it.function}):
                 it.apart = hidden_by
                 self.waiting.append(it)
@@ -177,6 +180,8 @@ class Trial:
         copied = contextlib.nullcontext() if status == 0 else kit.copy_of(self.kept)
         with kit.no_file_written(), copied as kept:
             refused, said = self.timed(f"{edit.name} as rt must-fail does", kit.try_alone, self.crate, edit.file, kept)
+        if refused and OF_AN_ANSWER.search(said) and BY_NAMES not in said:
+            said = f"{BY_ANSWERS}: {said}"
         with self.lock:
             self.said[edit] = refused, f"{said} ({why})"
 
@@ -190,13 +195,23 @@ class Trial:
         said = says.get(edit.refused_by, "")
         if status != 1 or not lines[-1].startswith("only=") or any(kit.is_front_end_error(it, texts) for it in lines):
             return status, None
-        if OWN_GOALS.match(said):
-            return status, said
-        places = [it for it in map(kit.PLACE.match, lines) if it]
-        errors = [it[0] for it in places if not GONE.search(it[3])] + [it[0] for it in map(kit.OPEN_GOAL.match, lines) if it]
+        errors = [it for it in map(kit.PLACE.match, lines) if it]
+        why = refusal(said, errors, [it[0] for it in map(kit.OPEN_GOAL.match, lines) if it])
         # A check of the whole crate has this error too, so `rt must-fail` would call the edit refused, with these words.
-        errors += [f"{BY_NAMES}: {it[0]}" for it in places]
-        return status, errors[0] if said.startswith("not proved") and errors else None
+        by_names = [f"{BY_NAMES}: {it[0]}" for it in errors if said.startswith("not proved")]
+        return status, why or next(iter(by_names), None)
+
+
+def refusal(said, errors, open_goals):
+    """Why a function is refused, by its line in a check, the errors of its answers, and its goals that are open; or None. A
+    goal tells only where every answer still fits: another shape of a body gives goals other names, and answers other goals."""
+    of_values = [it[0] for it in errors if not GONE.search(it[3])]
+    is_open = OWN_GOALS.match(said) or said.startswith("not proved") and open_goals
+    if is_open and not errors:
+        return said if OWN_GOALS.match(said) else open_goals[0]
+    if is_open or said.startswith("not proved") and of_values:
+        return f"{BY_ANSWERS}: {[*of_values, *(it[0] for it in errors)][0]}"
+    return None
 
 
 def called(name, says):

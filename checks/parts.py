@@ -1,0 +1,66 @@
+"""The parts of the gate: each is a command, which ends with the counts of its checks."""
+import contextlib
+import queue
+import re
+import resource
+import subprocess
+import threading
+import time
+
+COUNTS = re.compile(r"(\d+) passed, (\d+) failed")
+
+
+def processor_time():
+    used = resource.getrusage(resource.RUSAGE_CHILDREN)
+    return used.ru_utime + used.ru_stime
+
+
+class Part:
+    """A part of the gate that was started: its title, the least number of checks that it has, and its command. Its output,
+    with what it says of errors, waits until the part is followed."""
+
+    def __init__(self, top, title, least, *words):
+        self.title, self.least, self.words = title, least, words
+        self.began, self.ended, self.lines = time.monotonic(), None, queue.SimpleQueue()
+        pipe = subprocess.PIPE
+        self.process = subprocess.Popen(words, cwd=top, stdin=pipe, stdout=pipe, stderr=subprocess.STDOUT, text=True,
+                                        errors="replace")
+        threading.Thread(target=self.read, daemon=True).start()
+
+    def read(self):
+        for line in self.process.stdout:
+            self.lines.put(line)
+        self.ended = time.monotonic()
+        self.lines.put(None)
+
+    def hear(self, line):
+        with contextlib.suppress(BrokenPipeError):
+            self.process.stdin.write(line)
+            self.process.stdin.flush()
+
+    def follow(self, hearer=None):
+        """Prints the output as it comes, and tells it to the part that hears it: what there is to say of the part, and how
+        many checks passed and failed."""
+        print(f"== {self.title}: {' '.join(self.words)}", flush=True)
+        last, used = "", processor_time()
+        for line in iter(self.lines.get, None):
+            print(line, end="", flush=True)
+            last = line.strip() or last
+            if hearer:
+                hearer.hear(line)
+        for it in [self, hearer] if hearer else [self]:
+            with contextlib.suppress(BrokenPipeError):
+                it.process.stdin.close()
+        passed, failed, why = self.judged(self.process.wait(), last)
+        took = f"{self.ended - self.began:.0f} s, {processor_time() - used:.0f} s of processor time"
+        return f"{self.title}: {passed} passed, {failed} failed; {took}{why and '; ' + why}", passed, failed
+
+    def judged(self, status, last):
+        """How many checks passed and failed, and why the part failed where its own counts don't say it."""
+        counts = COUNTS.search(last)
+        passed, failed = map(int, counts.groups()) if counts else (0, 0)
+        why = ("" if counts else "its last line has no counts: " + (last[:200] or "it printed nothing"),
+               status and not failed and f"it ended with status {status}",
+               passed + failed < self.least and f"it has {passed + failed} checks, and {self.least} at least are wanted")
+        told = "; ".join(filter(None, why))
+        return passed, failed or int(bool(told)), told
