@@ -6,7 +6,8 @@
 It proves and builds both, or the one that is named; with --of-ci over the libraries that `rt ci` left in this tree. Of
 each text it wants that
 
-- text and sums made anew of the object that was proved are those that are committed;
+- text and sums made anew of the object that was proved are those that are committed, and so is all else that is made of
+  it: the text for macOS on x86-64, the code of a hash of a word, the bitcode;
 - each assembler on the machine (GNU as, clang, rustc) makes that object of the text, as same_bytes.py compares two;
 - the prefetches of its module are those of prefetch.py, and a module that lacks one of their places is refused;
 - a module that is another in one number or one line beside its prefetches is not compiled (tried with one of them);
@@ -14,6 +15,7 @@ each text it wants that
 
 It needs rt, and takes what assemblers there are. One line a check; the status is 1 where one failed."""
 import argparse
+import filecmp
 import os
 import random
 import re
@@ -232,6 +234,18 @@ def is_made_anew(text, made):
             want(committed.read() == anew.read(), f'{os.path.relpath(path, TOP)} is another: {made} has it anew')
 
 
+def are_all_made_anew(library, target):
+    """What else is made of the object that was proved, or of its module."""
+    made = [(os.path.join(library, 'out', 'asm', target), os.path.join(library, 'asm'))]
+    made += [('rust/out/lto', 'rust/lto')] if (library, target) == ('rust', 'x86-64') else []
+    files = [(os.path.join(anew, name), os.path.join(committed, name))
+             for anew, committed in made for name in sorted(os.listdir(os.path.join(TOP, anew)))]
+    other = [committed for anew, committed in files
+             if not filecmp.cmp(os.path.join(TOP, anew), os.path.join(TOP, committed), shallow=False)]
+    want(files and not other, f'{", ".join(other)}: {library}/out has it anew')
+    return f'{len(files)} files'
+
+
 def is_same(assembler, text, proved, room):
     has_sums(assembler, text, room)
     found = compare(proved, os.path.join(room, 'assembled.o'))
@@ -252,6 +266,7 @@ def check_texts(report, library, target, sysroot=None):
     """The texts of a library that was proved and built."""
     out = os.path.join(TOP, library, 'out')
     assemblers = assemblers_for(target, sysroot)
+    report.attempt(f'all that is made of {library} for {target}', are_all_made_anew, library, target)
     for name in SETS[library, target]:
         text, proved = os.path.join(TOP, library, 'asm', f'{name}.s'), os.path.join(out, 'proved', f'{name}.o')
         shown = os.path.relpath(text, TOP)

@@ -2,17 +2,19 @@
 # defined. $assembly is this folder.
 assembly=$(cd "$(dirname "${BASH_SOURCE[0]}")" && pwd)
 
-# read_build WORDS: sets `update` where the word is --update, and `prover` to the command whose verbs `lib` and `run` prove
-# and build, which --of-ci changes. It runs by `annotated`, with no prefetches where the word is --plain.
+# read_build WORDS: sets `update` where a word is --update, and `prover` to the command whose verbs `lib` and `run` prove
+# and build, which --of-ci changes. It runs by `annotated`, with no prefetches where a word is --plain.
 read_build() {
     update='' prover=rt annotated=("$assembly/annotated")
-    case $* in
-    '') ;;
-    --update) update=yes ;;
-    --plain) annotated+=(--plain) ;;
-    --of-ci) prover=$assembly/over_ci.py ;;
-    *) return 1 ;;
-    esac
+    local word
+    for word in "$@"; do
+        case $word in
+        --update) update=yes ;;
+        --plain) annotated+=(--plain) ;;
+        --of-ci) prover=$assembly/over_ci.py ;;
+        *) return 1 ;;
+        esac
+    done
 }
 
 # proving NAME LOG COMMAND..: runs a command of rt in the current folder, whose output goes to a log, and says what it

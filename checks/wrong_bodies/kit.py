@@ -70,6 +70,11 @@ def with_whole_messages(checked):
 rt = load()
 
 
+def identity():
+    """What tells this kit from others."""
+    return f"{read(f'{rt.rtlib.KIT}/KIT-ID')} {os.path.getsize(rt.rtlib.RATTLE)}"
+
+
 def one_job():
     return ["--jobs", "1"]
 

@@ -10,6 +10,7 @@ import time
 
 from . import aims, edits, kit, source
 from .proofs import Built, Heard
+from .memory import Memory
 from .trial import BY_ANSWERS, BY_NAMES, Trial
 
 # Refusals that say little of a contract.
@@ -23,9 +24,12 @@ def main(given):
         if given.unaimed:
             return aims.main(files)
         proofs = Heard(given.jobs) if given.beside_ci else Built(files, given.jobs)
-        trials = try_all(files, proofs, given.jobs, lambda it: tell(it, given.v))
+        trials = try_all(files, proofs, given.jobs, lambda it: tell(it, given.v), Memory(given.anew))
     verdicts = [well for trial in trials for well, _ in trial.said.values()]
     used = resource.getrusage(resource.RUSAGE_CHILDREN)
+    remembered, said = sum(len(it.remembered) for it in trials), [said for it in trials for _, said in it.said.values()]
+    weak = "; ".join(f"{sum(words in it for it in said)} {words}" for words in WEAK)
+    print(f"{len(said)} wrong bodies, {remembered} of whose refusals were remembered; {weak}")
     print(f"{used.ru_utime + used.ru_stime:.0f} seconds of processor time")
     print(f"{verdicts.count(True)} passed, {verdicts.count(False)} failed")
     return 0 if all(verdicts) else 1
@@ -50,8 +54,8 @@ def tell(trial, is_told_all):
     weak = {words: [edit.name for edit, (_, said) in told if words in said] for words in WEAK}
     count = refused - sum(map(len, weak.values()))
     print(
-        f"{trial.crate.name}: {refused} of {len(told)} refused, {count} of them by a clause's goal, in {len(trial.checks)} "
-        f"checks of {trial.seconds():.0f} s",
+        f"{trial.crate.name}: {refused} of {len(told)} refused, {count} of them by a clause's goal, {len(trial.remembered)} "
+        f"remembered, in {len(trial.checks)} checks of {trial.seconds():.0f} s",
         *(f"  {words}: {len(names)}: {', '.join(names)}" for words, names in weak.items() if names),
         *(f"  {took:.0f} s: {what[:200]}" for took, what in trial.checks if is_told_all),
         sep="\n",
@@ -59,13 +63,13 @@ def tell(trial, is_told_all):
     )
 
 
-def try_all(files, proofs, jobs, tell_end):
+def try_all(files, proofs, jobs, tell_end, memory):
     """Tries the edits of each crate that is proved, as many checks at a time as there is room. Of those that are ready, a
     crate's first check comes before all others, since its edits wait for it; then those of crates that took the longest,
     so that none is left for the end."""
     with tempfile.TemporaryDirectory(prefix="wrong-bodies-") as room, concurrent.futures.ThreadPoolExecutor(jobs) as pool:
         ordered = sorted(files, key=lambda it: -it.count(rb"\n"))
-        trials = [Trial(it, f"{room}/{it.name}", files[it], proofs.stands_for(it)) for it in ordered]
+        trials = [Trial(it, f"{room}/{it.name}", files[it], proofs.stands_for(it), memory) for it in ordered]
         waiting, ready, running = list(trials), [], {}
         while waiting or ready or running or not proofs.is_ended:
             is_last = proofs.is_ended

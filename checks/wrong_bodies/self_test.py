@@ -8,6 +8,7 @@ import tempfile
 import types
 
 from . import copies, edits, kit, proofs, run, source
+from .memory import Memory
 from .trial import BY_ANSWERS, BY_NAMES
 
 PLANTED = os.path.join(os.path.dirname(os.path.abspath(__file__)), "planted")
@@ -47,7 +48,7 @@ def verdict(refused, said):
 def tried(files, jobs):
     """Tries the edits of each crate, says which have another verdict than they should: how many passed and failed."""
     passed = failed = in_batches = 0
-    for trial in run.try_all(files, proofs.Built(files, jobs), jobs, lambda it: None):
+    for trial in run.try_all(files, proofs.Built(files, jobs), jobs, lambda it: None, Memory(is_anew=True, keeps=False)):
         for edit, (refused, said) in trial.said.items():
             expected = re.search(r"^expected: (.*)$", kit.read(edit.file), re.M)[1].split(" or ")
             found = verdict(refused, said)

@@ -27,13 +27,15 @@ OWN_GOALS = re.compile(r"no proof: expected .*`search` did not prove ")
 
 
 class Trial:
-    def __init__(self, crate, room, files, is_proved):
-        self.crate, self.room, self.files, self.is_proved = crate, room, files, is_proved
+    def __init__(self, crate, room, files, is_proved, memory):
+        self.crate, self.room, self.files, self.is_proved, self.memory = crate, room, files, is_proved, memory
         self.kept = f"{room}/kept"
         # The crate with its copies, and the changed functions that others may call.
         self.twin, self.called = None, []
         self.lock = threading.Lock()
         self.waiting, self.alone, self.said, self.is_ended = [], [], {}, False
+        # The edits whose refusal was remembered, and under which sum that of each other one will be.
+        self.remembered, self.sums = set(), {}
         # What the check of the crate as it stands has kept, once it has ended, where there is one.
         self.kept_files = None
         # Each check: how long it took, and what it tried.
@@ -43,7 +45,11 @@ class Trial:
         """Sorts the edits of the crate."""
         names = kit.names_of_functions(self.crate)
         for it in (edits.Edit(file, self.crate, names) for file in self.files):
-            if it.function:
+            self.sums[it] = self.memory.sum_of(it, self.crate)
+            if said := self.memory.recall(self.sums[it]):
+                self.said[it] = True, said
+                self.remembered.add(it)
+            elif it.function:
                 self.waiting.append(it)
             else:
                 self.alone.append((it, "it changes no body, or more than one"))
@@ -103,6 +109,9 @@ class Trial:
             sys.exit(f"wrong-bodies: {self.crate.name}: a check of an edit has changed the work that others begin with")
         if not self.is_proved:
             self.check_as_it_stands(self.crate, ())
+        for it, (well, said) in self.said.items():
+            if well and it not in self.remembered:
+                self.memory.keep(self.sums[it], said)
         self.is_ended = True
 
     def batch(self):

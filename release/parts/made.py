@@ -10,6 +10,8 @@ from packing import read_tar
 from report import tail, want
 from tools import TOP, must
 
+# What makes the texts, and for which targets.
+TEXTS = {'c/build': ('x86-64', 'aarch64'), 'rust/build-library': ('x86-64', 'aarch64', 'riscv64', 'windows', 'arm')}
 MAKE = os.path.join(TOP, 'release', 'make')
 
 
@@ -33,6 +35,34 @@ def twice(room, folder, log):
     differ = sorted(name for name in set(one) | set(two) if one.get(name) != two.get(name))
     want(not differ, f'other bytes: {", ".join(differ)}')
     return said
+
+
+def proved_clone(room):
+    """A clone that `rt ci` has proved."""
+    clone = os.path.join(room, 'proved')
+    if not os.path.exists(clone):
+        must(['git', 'clone', '-q', TOP, clone])
+        must(['rt', 'ci'], cwd=clone)
+    return clone
+
+
+def texts_are_made_anew(room):
+    """Every text, and the bitcode, made anew of what is proved, for the targets too that the gate has no time for."""
+    clone = proved_clone(room)
+    for build, targets in TEXTS.items():
+        for target in targets:
+            must([os.path.join(clone, build), '--target', target, '--of-ci', '--update'])
+    other = must(['git', 'status', '--porcelain', '--', 'c/asm', 'rust/asm', 'rust/lto'], cwd=clone)
+    want(not other, f'other than they are made: {other.split()[1::2]}')
+    return ', '.join(TEXTS['rust/build-library'])
+
+
+def wrong_bodies_are_refused(room):
+    """Each wrong body, though this machine may remember that it was refused."""
+    done = subprocess.run([os.path.join(proved_clone(room), 'checks', 'wrong-bodies'), '--anew'], stdin=subprocess.DEVNULL,
+                          stdout=subprocess.PIPE, stderr=subprocess.STDOUT, text=True)
+    want(done.returncode == 0, done.stdout[-1500:])
+    return tail(done.stdout)
 
 
 def sums_of(folder):
