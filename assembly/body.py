@@ -17,7 +17,8 @@ JUMP = re.compile(r'j|call|push|pop|ret|b\b|b\.|bl|br|cb|tb|\.L|\.byte|\.long')
 
 
 def body(text, name):
-    """The function's lines, of which the last one returns."""
+    """The function's lines, of which the last one returns, without those that say its frame."""
+    text = re.sub(r'^\t\.cfi_.*\n', '', text, flags=re.M)
     found = re.search(rf'^{re.escape(name)}:\n((?:\t.*\n)*?)\tret\n\t\.size {re.escape(name)},', text, re.M)
     if not found:
         sys.exit(f'body.py: {name} is no code without a label that ends in its only return')

@@ -21,10 +21,12 @@ import subprocess
 import sys
 from collections import Counter
 
+import frames
+
 # Words of clang that name the toolchain's own target, where it lies, or what it reads and writes.
 OWN = ('--target=', '--sysroot=', '-march=', '-mcpu=', '-mllvm -no-x86-call-frame-opt', '-Werror', '-x ', '-o ', '-c')
-# Directives that say where a text comes from, or are of its assembler alone.
-LEFT_OUT = re.compile(r'\s*\.(file|ident|addrsig|addrsig_sym|attribute|build_version|macosx_version_min)\b')
+# Directives that say where a text comes from, or are of its assembler alone, as those of an epilogue are.
+LEFT_OUT = re.compile(r'\s*\.(file|ident|addrsig|addrsig_sym|attribute|build_version|macosx_version_min|seh_\w+epilogue)\b')
 LABEL = re.compile(r'(\.L|\bL)((?:BB|CPI|JTI|tmp|func_end|PC)\w*)')
 
 
@@ -92,6 +94,11 @@ def with_exports(module, suffix, convention, has_comdat):
     return f'twox_rust_{number}_interface{suffix}', re.sub(r'^define (?!internal|private)', linkage, module, flags=re.M)
 
 
+def with_unwinding(module):
+    """The module whose functions have tables for Windows' unwinder."""
+    return re.sub(r'^(attributes #\d+ = \{)', r'\1 uwtable', module, flags=re.M)
+
+
 def with_signs(module):
     """The module whose exports take and answer 32 bits as registers that repeat the sign."""
     def signed(found):
@@ -118,17 +125,20 @@ def main():
     words.add_argument('--sysv', action='store_true')
     words.add_argument('--sign-extended', action='store_true')
     given = words.parse_args()
-    is_apple, is_riscv = 'apple' in given.target, given.target.startswith('riscv')
+    is_apple, is_riscv, is_windows = 'apple' in given.target, given.target.startswith('riscv'), 'windows' in given.target
     module = with_plain_names(for_target(text_of(os.path.join(given.module, 'module.ll')), given.target), given.tag)
-    guard, module = with_exports(module, given.suffix, 'x86_64_sysvcc ' if given.sysv else '', 'windows' in given.target)
+    guard, module = with_exports(module, given.suffix, 'x86_64_sysvcc ' if given.sysv else '', is_windows)
     module = with_signs(module) if given.sign_extended else module
+    module = with_unwinding(module) if is_windows else module
     generic = [] if given.target.startswith('x86_64') or is_riscv else ['-mcpu=generic']
     made = clang(f'--target={given.target}', *generic, *words_of(given.module), '-x', 'ir', '-', text=module)
     print(f'/* {given.title} Generated of what is proved: not to be changed by hand. SPDX-License-Identifier: MIT */')
     # A second text with weak names, which an optimizer has put into the same module, has nothing to add.
     print(f'\t.ifndef {"_" if is_apple else ""}{guard}')
     print('\t.option push\n\t.option arch, rv64gc' if is_riscv else '', end='\n' if is_riscv else '')
-    print(*as_text(made, {'x': '#', 'r': '#'}.get(given.target[0], ';' if is_apple else '//'), given.tag), sep='\n')
+    lines = as_text(made, {'x': '#', 'r': '#'}.get(given.target[0], ';' if is_apple else '//'), given.tag)
+    # Windows' frames are clang's own.
+    print(*(lines if is_windows else frames.with_directives(frames.RISCV if is_riscv else frames.ARM, lines)), sep='\n')
     print('\t.option pop\n' if is_riscv else '', '\t.endif\n', '\t.section __TEXT,__text' if is_apple else '\t.text', sep='')
 
 

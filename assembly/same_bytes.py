@@ -13,7 +13,8 @@ The parts of an object are its loaded sections and `names`.
   visibility, the names that are wanted from elsewhere, sections for the linker alone, and whether the stack may be
   executed.
 
-Local names, comments and an assembler's own notes don't count: no code and no data depend on them. The last line is
+Local names, comments, an assembler's own notes and the frames of functions (.eh_frame) don't count: no code and no data
+depend on them, and check.py looks at frames. The last line is
 `same: ..`, or `differ: ..` with a line for each difference before it. The status is 0 where they are the same, 1 where
 they differ, and 2 where a file is no object."""
 import hashlib
@@ -27,6 +28,7 @@ Part = namedtuple('Part', 'head body relocations')
 
 NONE, SYMTAB, STRTAB, RELA, NOTE, NOBITS, REL = 0, 2, 3, 4, 7, 8, 9
 LOADED, EXECUTED = 2, 4
+FRAMES = '.eh_frame'
 # What no linker makes code or data of: how LLVM was called, and which functions it may fold.
 WITHOUT_MEANING = ('.comment', '.llvm_addrsig', '.note.GNU-stack')
 # A call of a local name: LLVM writes the one kind, GNU as the other, and the linker makes the same bytes of both.
@@ -59,8 +61,8 @@ class Object:
             yield Symbol(self.text(self.heads[head.link], name), *rest)
 
     def loaded(self):
-        """The heads of what a program loads."""
-        return [head for head in self.heads if head.flags & LOADED and head.size and head.kind != NOTE]
+        """The heads of what a program loads, without notes and without the frames that an unwinder reads."""
+        return [head for head in self.heads if head.flags & LOADED and head.size and head.kind != NOTE and head.name != FRAMES]
 
     def place(self, symbol, add=0):
         """A section, and an offset in it."""

@@ -15,6 +15,7 @@ import sys
 import tempfile
 from collections import defaultdict, namedtuple
 
+import frames
 from names import FUNCTION, MERGED, TOOLS
 from same_bytes import EXECUTED, Object, is_global
 
@@ -101,7 +102,9 @@ class Text:
                           for symbol in self.object.symbols if symbol.info & 15 == FUNCTION and symbol.section}
         # The places in each section that something leads to.
         self.marks = defaultdict(set)
-        self.code = {name: self.written(name, rows) for name, rows in self.listing(path).items()}
+        listing = self.listing(path)
+        self.frames = {name: self.directives(name, rows) for name, rows in listing.items()}
+        self.code = {name: self.written(name, rows) for name, rows in listing.items()}
         self.otherwise = self.written_otherwise()
 
     def listing(self, path):
@@ -118,6 +121,18 @@ class Text:
             found[section] = [Row(at, body[at:end], ' '.join(self.processor.comment.sub('', text).split()))
                               for (at, text), end in zip(rows, ends)]
         return found
+
+    def directives(self, section, rows):
+        """For each instruction the lines that say its frame."""
+        processor = frames.BY_MACHINE[self.object.machine]
+        leaving = {at for at, _, _ in self.object.relocations_of(self.sections[section])}
+        numbers, steps = {row.at: number for number, row in enumerate(rows)}, []
+        for row in rows:
+            target = re.search(r'\b([0-9a-f]+) <.*>$', row.text) if processor.jumps.match(row.text) else None
+            is_outside = target and any(at in leaving for at in range(row.at, row.at + len(row.raw)))
+            inside = target and not is_outside and numbers[int(target[1], 16) - self.sections[section].address]
+            steps.append(frames.Step(row.text, frames.OUTSIDE if is_outside else inside))
+        return list(frames.directives(processor, steps))
 
     def label(self, section, at):
         self.marks[section].add(at)
@@ -182,15 +197,18 @@ class Text:
     def lines_of_code(self, section):
         yield from (f'\t.section {section},"ax",@progbits', aligned(self.sections[section]))
         function = None
-        for row in self.code[section]:
+        for row, frame in zip(self.code[section], self.frames[section]):
             begun = self.functions.get((section, row.at))
             if begun:
                 function = begun
                 yield from self.lines_of_name(begun)
+                yield '\t.cfi_startproc'
+            yield from frame
             if row.at in self.marks[section]:
                 yield f'{self.label(section, row.at)}:'
             as_bytes = row.text is None or (section, row.at) in self.otherwise
             yield '\t' + (self.processor.bytes(row.raw) if as_bytes else row.text)
+        yield '\t.cfi_endproc'
         yield f'\t.size {function.name},.-{function.name}'
 
     def lines_of_name(self, function):

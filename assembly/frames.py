@@ -1,0 +1,205 @@
+"""The frame of a function at each of its instructions, and the directives that say it to an assembler.
+
+A frame is how far the stack pointer lies below the CFA, which is where it was before the call, and where below the CFA the
+registers lie that the caller wants back. It is found by following the instructions and their jumps, since LLVM's own tables
+are wrong for 64-bit ARM and RISC-V. The code that is framed here moves the stack pointer by numbers alone. What else writes
+it is refused, as is a place that two ways reach with different frames, and a function that returns with a frame left.
+
+An unwinder, a debugger or a profiler rests on these directives; no value does."""
+import re
+from collections import namedtuple
+
+Frame = namedtuple('Frame', 'depth saved')    # saved: pairs of a register's number and its place below the CFA
+# An instruction: its text, and the number of the one that it jumps to, OUTSIDE, or None where it jumps nowhere.
+Step = namedtuple('Step', 'text target')
+OUTSIDE = -1
+
+
+class Processor:
+    """What of frames depends on the processor. `numbers` are those of DWARF, of the registers that a caller wants back."""
+
+    def after(self, text, frame):
+        """The frame behind an instruction."""
+        depth, saved = frame.depth, dict(frame.saved)
+        depth = self.moved(text, depth, saved)
+        if any(at < -depth for at in saved.values()):
+            raise ValueError(f'{text}: what it leaves below the stack pointer is no longer the frame\'s')
+        return Frame(depth, tuple(sorted(saved.items())))
+
+    def keep(self, saved, name, at):
+        """A register is stored: the first time counts, since a later store may be of another value."""
+        if name in self.numbers:
+            saved.setdefault(self.numbers[name], at)
+
+    def take_back(self, saved, name, at):
+        if saved.get(self.numbers.get(name)) == at:
+            del saved[self.numbers[name]]
+
+
+class X86(Processor):
+    entry = 8                                  # the address to return to
+    returns, ends, jumps = re.compile(r'repz? ret|ret'), re.compile(r'jmp|ud2|int3|hlt'), re.compile(r'j\w+ ')
+    numbers = {'rbx': 3, 'rbp': 6, 'r12': 12, 'r13': 13, 'r14': 14, 'r15': 15}
+    writes = re.compile(r'(?!cmp|test)\S+ .*,%[er]?spl?$|(leave|enter|pushf|popf)|xchg .*%[er]?spl?\b'
+                        r'|(inc|dec|neg|not|pop|bswap|set\w+) %[er]?spl?$')
+
+    def moved(self, text, depth, saved):
+        if found := re.fullmatch(r'push %(\w+)', text):
+            self.keep(saved, found[1], -depth - 8)
+            return depth + 8
+        if (found := re.fullmatch(r'pop %(\w+)', text)) and found[1] != 'rsp':
+            if found[1] in self.numbers and saved.get(self.numbers[found[1]]) != -depth:
+                raise ValueError(f'{text}: it was not pushed there')
+            self.take_back(saved, found[1], -depth)
+            return depth - 8
+        if found := re.fullmatch(r'(add|sub) \$(-?0x[0-9a-f]+),%rsp', text):
+            return depth + int(found[2], 16) * (1 if found[1] == 'sub' else -1)
+        if self.writes.match(text):
+            raise ValueError(f'{text}: it moves the stack pointer')
+        return depth
+
+
+class Arm(Processor):
+    entry = 0
+    returns, ends = re.compile(r'ret'), re.compile(r'b |br |udf|brk')
+    jumps = re.compile(r'(b|b\.\w+|cbn?z|tbn?z) ')
+    numbers = {**{f'x{n}': n for n in range(19, 31)}, **{f'd{n}': 64 + n for n in range(8, 16)}}
+    writes = re.compile(r'(?!cmp|cmn|tst|st|prfm)\S+ w?sp\b|.*\[sp\], |.*\[sp, #?[^\]]*\]!')
+    access = re.compile(r'(st|ld)(?:r|p|ur) ((?:\w+, )+)\[sp(?:, #(-?\w+))?\](!)?(?:, #(-?\w+))?')
+
+    def moved(self, text, depth, saved):
+        if found := re.fullmatch(r'(add|sub) sp, sp, #(\w+)(?:, lsl #(12))?', text):
+            return depth + (int(found[2], 0) << int(found[3] or 0)) * (1 if found[1] == 'sub' else -1)
+        if found := self.access.fullmatch(text):
+            kind, registers, offset, is_before, behind = found.groups()
+            offset = int(offset or '0', 0)
+            depth, offset = (depth - offset, 0) if is_before else (depth, offset)
+            for name in registers.rstrip(', ').split(', '):
+                (self.keep if kind == 'st' else self.take_back)(saved, name, offset - depth)
+                offset += {'q': 16, 's': 4, 'w': 4}.get(name[0], 8)
+            return depth - int(behind or '0', 0)
+        if self.writes.match(text):
+            raise ValueError(f'{text}: it moves the stack pointer')
+        return depth
+
+
+class RiscV(Processor):
+    entry = 0
+    returns, ends, jumps = re.compile(r'ret'), re.compile(r'j |jr |tail |unimp'), re.compile(r'(b\w+|j|tail) ')
+    numbers = {'ra': 1, 's0': 8, 's1': 9, **{f's{n}': 16 + n for n in range(2, 12)}}
+
+    def moved(self, text, depth, saved):
+        if found := re.fullmatch(r'addi sp, sp, (-?\d+)', text):
+            return depth - int(found[1])
+        if found := re.fullmatch(r'(sd|ld) (\w+), (-?\d+)\(sp\)', text):
+            (self.keep if found[1] == 'sd' else self.take_back)(saved, found[2], int(found[3]) - depth)
+        elif re.match(r'(?!s[bhwd]|b|j|call|tail)\S+ sp\b', text):
+            raise ValueError(f'{text}: it moves the stack pointer')
+        return depth
+
+
+# By the machine's number in ELF, or by what clang calls it.
+X86_64, ARM, RISCV = X86(), Arm(), RiscV()
+BY_MACHINE = {62: X86_64, 183: ARM, 243: RISCV}
+
+
+def frames(processor, steps):
+    """The frame before each instruction, by its number; those that no way reaches have none."""
+    entry = Frame(processor.entry, ())
+    found, waiting = {}, [(0, entry)]
+    while waiting:
+        number, frame = waiting.pop()
+        if found.setdefault(number, frame) != frame:
+            raise ValueError(f'{steps[number].text}: it is reached with {found[number]} and with {frame}')
+        for following, after in followed(processor, steps, number, frame, entry):
+            if found.get(following) != after:
+                waiting.append((following, after))
+    return found
+
+
+def followed(processor, steps, number, frame, entry):
+    """What may follow an instruction, with its frame."""
+    text, target = steps[number]
+    leaves = processor.returns.match(text) or target == OUTSIDE
+    if leaves and frame != entry:
+        raise ValueError(f'{text}: the function is left with {frame}')
+    if target is None and processor.jumps.match(text):
+        raise ValueError(f'{text}: it leads to no one place')
+    if target not in (None, OUTSIDE):
+        yield target, frame
+    if not processor.returns.match(text) and not processor.ends.match(text):
+        if number + 1 == len(steps):
+            raise ValueError(f'{text}: the function is run over its end')
+        yield number + 1, processor.after(text, frame)
+
+
+def directives(processor, steps):
+    """For each instruction the lines that stand before it."""
+    found = frames(processor, steps)
+    said = Frame(processor.entry, ())
+    for number in range(len(steps)):
+        frame = found.get(number, said)
+        before, now = dict(said.saved), dict(frame.saved)
+        lines = [f'\t.cfi_def_cfa_offset {frame.depth}'] if frame.depth != said.depth else []
+        lines += [f'\t.cfi_offset {name}, {at}' for name, at in now.items() if before.get(name) != at]
+        lines += [f'\t.cfi_restore {name}' for name in before if name not in now]
+        said = frame
+        yield lines
+
+
+# ---- a text that clang has written ----
+
+NAME, LOCAL = re.compile(r'([A-Za-z_.$][\w.$]*):(?=\s|$)'), re.compile(r'\.?L|l?tmp')
+
+
+def with_directives(processor, lines):
+    """The lines of a text of clang with the directives of each function in it."""
+    lines, at = list(lines), 0
+    while at < len(lines):
+        end = end_of_function(lines, at)
+        yield from framed(processor, lines[at:end]) if end else [lines[at]]
+        at = end or at + 1
+
+
+def end_of_function(lines, start):
+    """Where the function ends that begins with a line: behind its last instruction. Or None where none begins there."""
+    name = NAME.match(lines[start])
+    if not name or LOCAL.match(name[1]):
+        return None
+    last = None
+    for at in range(start + 1, len(lines)):
+        line = lines[at]
+        label = NAME.match(line)
+        if label and not LOCAL.match(label[1]) or re.match(r'\t\.(section|text|globl|size|comm|quad|byte|endif)\b', line):
+            break
+        last = at + 1 if is_instruction(line) else last
+    return last
+
+
+def is_instruction(line):
+    return line.startswith('\t') and not line.startswith('\t.')
+
+
+def framed(processor, lines):
+    """A function's lines, of which the first is its name."""
+    code = [number for number, line in enumerate(lines) if is_instruction(line)]
+    following = {number: turn for turn, number in enumerate(code)}
+    labels, waiting = {}, []
+    for number, line in enumerate(lines):
+        if label := NAME.match(line):
+            waiting.append(label[1])
+        elif number in following:
+            labels.update((name, following[number]) for name in waiting)
+            waiting = []
+    steps = [step_of(processor, ' '.join(lines[number].split()), labels) for number in code]
+    said = dict(zip(code, directives(processor, steps)))
+    yield from (lines[0], '\t.cfi_startproc')
+    for number, line in enumerate(lines[1:], 1):
+        yield from said.get(number, ())
+        yield line
+    yield '\t.cfi_endproc'
+
+
+def step_of(processor, text, labels):
+    jump = processor.jumps.match(text)
+    return Step(text, labels.get(re.split(r'[ ,]+', text)[-1], OUTSIDE) if jump else None)
