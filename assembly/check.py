@@ -11,7 +11,9 @@ each text it wants that
 - each assembler on the machine (GNU as, clang, rustc) makes that object of the text, as same_bytes.py compares two;
 - the prefetches of its module are those of prefetch.py, and a module that lacks one of their places is refused;
 - a module that is another in one number or one line beside its prefetches is not compiled (tried with one of them);
-- 15 wrong texts are noticed, by the object and by the sums: a constant, a register, an offset, a jump, a word of data.
+- 15 wrong texts are noticed, by the object and by the sums: a constant, a register, an offset, a jump, a word of data;
+- it says the frame at each instruction, and wrong directives are noticed; of the library for C on x86-64 the unwinder of
+  libgcc comes to the caller from each instruction that runs.
 
 It needs rt, and takes what assemblers there are. One line a check; the status is 1 where one failed."""
 import argparse
@@ -32,6 +34,7 @@ sys.dont_write_bytecode = True
 import compile as compiling
 import macho
 import prefetch
+import unwinding
 from report import Fault, Report, want
 from same_bytes import compare, compare_sums, Object
 
@@ -279,9 +282,19 @@ def check_texts(report, library, target, sysroot=None):
             for assembler in assemblers:
                 report.attempt(f'{shown} by {assembler.name}', is_same, assembler, text, proved, room)
             report.attempt(f'{shown} made wrong is noticed', wrong_texts_are_noticed, text, proved, target, room)
+            check_frames(report, library, target, text, room)
             if (library, target) == ('rust', 'x86-64') and shutil.which('clang'):
                 report.attempt(f'{shown} with the directives of macOS', is_same_for_macos, text, proved,
                                os.path.join(out, 'asm', target), room)
+
+
+def check_frames(report, library, target, text, room):
+    shown, assembler = os.path.relpath(text, TOP), As(target, None)
+    report.attempt(f'{shown}: the frames', unwinding.are_told, assembler, text, room)
+    report.attempt(f'{shown}: wrong frames are noticed', unwinding.wrong_ones_are_noticed, assembler, text, room,
+                   lambda out: unwinding.differences(out)[1])
+    if (library, target) == ('c', 'x86-64'):
+        report.attempt(f'{shown}: unwound at each instruction', unwinding.unwinds, assembler, text, room)
 
 
 def has_sums(assembler, text, room):

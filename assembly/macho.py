@@ -111,6 +111,7 @@ def renamed(names):
 
 
 def text_for_macos(text):
+    text = re.sub(r'\t\.section \.note\.gnu\.property(?:.*\n)*?(?=\t\.text)', '', text)
     names = set(re.findall(r'^([A-Za-z_][\w.]*):$', text, re.M))
     word = renamed(names | set(re.findall(r'^\t\.ifndef (\S+)$', text, re.M)))
     for line in text.splitlines():

@@ -32,6 +32,10 @@ class X86:
     leads = re.compile(r'j|call|.*%rip')
     # How many bytes an instruction that is assembled alone gets, and the directive that fills them.
     slot, fill = 16, '.balign 16,0'
+    # That a shadow stack may watch it: no function returns elsewhere than to its caller. It begins with no endbr64, so that
+    # jumps to it aren't said to be marked.
+    notes = ('\t.section .note.gnu.property,"a",@note', '\t.p2align 3', '\t.long 4,16,5', '\t.asciz "GNU"',
+             '\t.long 0xc0000002,4,2,0')
 
     def bytes(self, raw):
         return '.byte ' + ','.join(map(str, raw))
@@ -62,7 +66,7 @@ class Arm:
     comment = re.compile(r'//.*')
     filling = re.compile('(?!)')
     leads = re.compile(r'b |b\.|bl |[ct]bn?z|adrp? |.*:lo12:')
-    slot, fill = 16, '.space 12'
+    slot, fill, notes = 16, '.space 12', ()
 
     def bytes(self, raw):
         return f'.inst 0x{raw[::-1].hex()}'
@@ -103,7 +107,8 @@ class Text:
         # The places in each section that something leads to.
         self.marks = defaultdict(set)
         listing = self.listing(path)
-        self.frames = {name: self.directives(name, rows) for name, rows in listing.items()}
+        processor = frames.BY_MACHINE[self.object.machine]
+        self.frames = {name: list(frames.directives(processor, self.steps(name, rows))) for name, rows in listing.items()}
         self.code = {name: self.written(name, rows) for name, rows in listing.items()}
         self.otherwise = self.written_otherwise()
 
@@ -122,8 +127,8 @@ class Text:
                               for (at, text), end in zip(rows, ends)]
         return found
 
-    def directives(self, section, rows):
-        """For each instruction the lines that say its frame."""
+    def steps(self, section, rows):
+        """The instructions of a section as frames are found of them."""
         processor = frames.BY_MACHINE[self.object.machine]
         leaving = {at for at, _, _ in self.object.relocations_of(self.sections[section])}
         numbers, steps = {row.at: number for number, row in enumerate(rows)}, []
@@ -132,7 +137,7 @@ class Text:
             is_outside = target and any(at in leaving for at in range(row.at, row.at + len(row.raw)))
             inside = target and not is_outside and numbers[int(target[1], 16) - self.sections[section].address]
             steps.append(frames.Step(row.text, frames.OUTSIDE if is_outside else inside))
-        return list(frames.directives(processor, steps))
+        return steps
 
     def label(self, section, at):
         self.marks[section].add(at)
@@ -192,7 +197,7 @@ class Text:
         for name, head in self.sections.items():
             yield from self.lines_of_code(name) if head.flags & EXECUTED else self.lines_of_data(name, head)
         yield from ['\t.endif'] if guard else []
-        yield from ('\t.section .note.GNU-stack,"",@progbits', '\t.text')
+        yield from ('\t.section .note.GNU-stack,"",@progbits', *self.processor.notes, '\t.text')
 
     def lines_of_code(self, section):
         yield from (f'\t.section {section},"ax",@progbits', aligned(self.sections[section]))
