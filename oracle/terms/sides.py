@@ -35,12 +35,13 @@ def install(headers, with_solver):
 
 
 def llvm_text(headers=HEADERS, vector="scalar"):
-    """LLVM's text of the header in a folder, as clang's front end writes it with no optimiser."""
+    """LLVM's text of the header in a folder, as clang's front end writes it with no optimiser. The header is copied to a
+    room of its own: clang passes over `-I /usr/include`, and would take one of another folder."""
     with tempfile.TemporaryDirectory(prefix="symbolic-") as room:
         out = f"{room}/reference.ll"
+        shutil.copy(f"{headers}/xxhash.h", room)
         subprocess.run([CLANG, "-O0", "-w", "-fno-discard-value-names", "-S", "-emit-llvm", *VECTORS[vector], "-I",
-                        headers,
-                        f"{FOLDER}/reference.c", "-o", out], check=True)
+                        room, f"{FOLDER}/reference.c", "-o", out], check=True)
         with open(out, encoding="utf-8") as file:
             return file.read()
 
