@@ -6,7 +6,7 @@
 #include <stdio.h>
 #include <string.h>
 #include <unistd.h>
-#include "features.h"
+#include "processor.h"
 
 #define BUILDS "/libexec/twox-hash/"
 #define ITSELF "/proc/self/exe"

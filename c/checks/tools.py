@@ -8,6 +8,8 @@ import sys
 TOP = os.path.dirname(os.path.dirname(os.path.dirname(os.path.abspath(__file__))))
 C = os.path.join(TOP, 'c')
 QUIET = {**os.environ, 'DEBIAN_FRONTEND': 'noninteractive'}
+# Another apt-get may hold the lock for a while.
+APT = ['apt-get', '-qq', '-o', 'DPkg::Lock::Timeout=600']
 
 
 def must(words, **more):
@@ -35,8 +37,8 @@ def install(packages):
     if packages:
         with open('/var/lock/twox-hash-packages', 'w') as turn:
             fcntl.flock(turn, fcntl.LOCK_EX)
-            must(['apt-get', 'update', '-qq'], env=QUIET)
-            must(['apt-get', 'install', '-y', '-qq', '--no-install-recommends', *sorted(packages)], env=QUIET)
+            must([*APT, 'update'], env=QUIET)
+            must([*APT, 'install', '-y', '--no-install-recommends', *sorted(packages)], env=QUIET)
 
 
 def proved_program(name, *flags):
@@ -52,19 +54,24 @@ def proved_program(name, *flags):
     return program
 
 
-def hide_rt(room):
-    """Takes rt off PATH: a folder that holds it gives way to one with links to all else in it."""
+def path_without(room, hidden):
+    """PATH without a command: a folder that holds it gives way to one with links to all else in it."""
     folders = []
     for number, folder in enumerate(os.environ['PATH'].split(':')):
-        if os.path.lexists(os.path.join(folder, 'rt')):
-            links = os.path.join(room, f'commands-{number}')
+        if os.path.lexists(os.path.join(folder, hidden)):
+            links = os.path.join(room, f'commands-without-{hidden}-{number}')
             os.mkdir(links)
             for name in os.listdir(folder):
-                if name != 'rt':
+                if name != hidden:
                     os.symlink(os.path.join(folder, name), os.path.join(links, name))
             folder = links
         folders.append(folder)
-    os.environ['PATH'] = ':'.join(folders)
+    return ':'.join(folders)
+
+
+def hide_rt(room):
+    """Takes rt off PATH."""
+    os.environ['PATH'] = path_without(room, 'rt')
     if shutil.which('rt'):
         sys.exit('rt is on PATH still')
 

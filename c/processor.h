@@ -1,8 +1,8 @@
 /* SPDX-License-Identifier: MIT */
 /* What the processor has of x86-64, and the system keeps registers for. No compiler's builtin is asked: clang knows no
  * x86-64-v3 before release 16, and libgcc would be one library more for a static program. */
-#ifndef TWOX_HASH_FEATURES_H
-#define TWOX_HASH_FEATURES_H
+#ifndef TWOX_HASH_PROCESSOR_H
+#define TWOX_HASH_PROCESSOR_H
 
 #include <cpuid.h>
 

@@ -1,6 +1,6 @@
 /* SPDX-License-Identifier: MIT */
 /* What a program asks who chooses by the processor itself. The calls of this library need no such choice. */
-#include "features.h"
+#include "processor.h"
 #include "xxh_x86dispatch.h"
 
 int XXH_featureTest(void)
