@@ -6,6 +6,7 @@
 #include <stdio.h>
 #include <string.h>
 #include <unistd.h>
+#include "processor.h"
 
 #define BUILDS "/libexec/twox-hash/"
 #define ITSELF "/proc/self/exe"
@@ -33,7 +34,7 @@ int main(int count, char **words)
 
     (void)count;
     if (find_folder(path, PATH_MAX)) {
-        strcat(path, __builtin_cpu_supports("x86-64-v3") ? BUILDS "x86-64-v3/" PROGRAM : BUILDS "x86-64-v2/" PROGRAM);
+        strcat(path, has_v3(features_here()) ? BUILDS "x86-64-v3/" PROGRAM : BUILDS "x86-64-v2/" PROGRAM);
         execv(path, words);
     } else {
         strcpy(path, ITSELF);

@@ -16,14 +16,17 @@ int main(int count, char **words)
 '''
 SETS = ('x86-64-v2', 'x86-64-v3')
 BUILDS = 'libexec/twox-hash'
-# A processor without AVX2.
+# A processor without AVX2, one with all that qemu has, and what x86-64-v3 asks for.
 OLD = ['qemu-x86_64', '-cpu', 'Nehalem']
+FULL = ['qemu-x86_64', '-cpu', 'max']
+OF_V3 = ('avx2', 'bmi1', 'bmi2', 'f16c', 'fma', 'abm', 'movbe', 'xsave')
 
 
-def lay_out(room):
+def lay_out(room, compiler):
     """Two builds that print which one they are and their words, a launcher, and a link of another name to it, in a
     folder that was moved since. Its name has what a shell or C would take for something else."""
-    first, folder = os.path.join(room, 'first'), os.path.join(room, 'launched "$(here)\\')
+    first, folder = os.path.join(room, 'first'), os.path.join(room, compiler, 'launched "$(here)\\')
+    os.mkdir(os.path.dirname(folder))
     source = os.path.join(room, 'shows.c')
     with open(source, 'w') as file:
         file.write(SHOWS)
@@ -31,7 +34,7 @@ def lay_out(room):
         os.makedirs(os.path.join(first, BUILDS, name))
         must(['gcc', f'-DSET="{name}"', source, '-o', os.path.join(first, BUILDS, name, 'shows')])
     os.mkdir(os.path.join(first, 'bin'))
-    must(['gcc', '-O2', '-Wall', '-Wextra', '-Werror', '-static-pie', '-DPROGRAM="shows"', os.path.join(C, 'launch.c'),
+    must([compiler, '-O2', '-Wall', '-Wextra', '-Werror', '-static-pie', '-DPROGRAM="shows"', os.path.join(C, 'launch.c'),
           '-o', os.path.join(first, 'bin', 'launcher')])
     os.symlink('launcher', os.path.join(first, 'bin', 'other-name'))
     os.rename(first, folder)
@@ -44,9 +47,9 @@ def runs(words, told=b'', **more):
     return done.returncode, done.stdout
 
 
-def launches(room, v3):
+def launches(room, v3, compiler):
     """Name, words, answer and standard streams are those of the build; where that is missing, one line says so."""
-    folder = lay_out(room)
+    folder = lay_out(room, compiler)
     launcher = os.path.join(folder, 'bin', 'launcher')
     best, plain = SETS[v3].encode(), SETS[0].encode()
     for words in ([], ['-q', '', 'a b'], [b'\xff', '\n', 'x' * 100000]):
@@ -56,6 +59,10 @@ def launches(room, v3):
             want(found == (1 + len(words), best + b'[%s]' % name.encode() + shown), f'as {name}: {found}'[:300])
         found = runs([*OLD, launcher, *words])
         want(found == (1 + len(words), plain + b'[%s]' % launcher.encode() + shown), f'{OLD}: {found}'[:300])
+    for lacking in ('', *OF_V3):
+        words = [*FULL[:-1], f'{FULL[-1]},-{lacking}', launcher] if lacking else [*FULL, launcher]
+        found = runs(words)[1]
+        want(found.startswith(SETS[not lacking].encode()), f'{words}: {found}')
     missing = os.path.join(folder, BUILDS, SETS[v3], 'shows')
     os.remove(missing)
     found = runs([launcher], told=f'shows: {missing}: No such file or directory\n'.encode())

@@ -8,17 +8,24 @@ import tempfile
 import time
 
 import aarch64
+import launcher
+import made
+import suits
 import values
 from report import Fault, tail, want
 from sides import THEIRS, Side
-from tools import Built, clean_copy, hide_rt, install_packages, must
+from tools import Built, clean_copy, hide_rt, install_packages, must, path_without
 
-PACKAGES = {'gcc': 'gcc', '/usr/include/stdio.h': 'libc6-dev', 'nm': 'binutils', 'make': 'make', 'python3': 'python3',
-            'pkg-config': 'pkg-config', 'cmake': 'cmake', 'clang': 'clang', 'musl-gcc': 'musl-tools',
-            'xxhsum': 'xxhash', THEIRS: 'libxxhash0', '/usr/lib/x86_64-linux-gnu/libxxhash.a': 'libxxhash-dev'}
-ARM_PACKAGES = {**aarch64.PACKAGES, 'make': 'make', 'python3': 'python3'}
-# What stands in place of a constant of XXH64 in a text that is wrong.
-RIGHT, WRONG = '$0x9e3779b185ebca87', '$0x9e3779b185ebca89'
+PACKAGES = {'gcc': 'gcc', 'g++': 'g++', '/usr/include/stdio.h': 'libc6-dev', 'nm': 'binutils', 'make': 'make',
+            'python3': 'python3', 'pkg-config': 'pkg-config', 'cmake': 'cmake', 'clang': 'clang',
+            'musl-gcc': 'musl-tools', 'qemu-x86_64': 'qemu-user', 'xxhsum': 'xxhash', THEIRS: 'libxxhash0',
+            '/usr/lib/x86_64-linux-gnu/libxxhash.a': 'libxxhash-dev'}
+ARM_PACKAGES = {**aarch64.PACKAGES, 'gcc': 'gcc', 'make': 'make', 'python3': 'python3'}
+ARM_GCC, ON_ARM = 'aarch64-linux-gnu-gcc', 'run=qemu-aarch64 -L /usr/aarch64-linux-gnu'
+# A function, what stands in its text in place of a constant, the goal that notices, and a word of what that says.
+WRONG_TEXTS = (('XXH64', '$0x9e3779b185ebca87', '$0x9e3779b185ebca89', 'check-values', 'differ'),
+               ('XXH64_reset', '$0x60ea27eeadc0b5d6', '$0x60ea27eeadc0b5d7', 'check-names', 'a stream of XXH64'))
+COMPILERS = ('clang', 'g++', 'clang++', 'gcc -flto', 'clang -flto=thin')
 
 
 class Made(Built):
@@ -32,9 +39,13 @@ class Made(Built):
         self.set_paths(os.path.join(room, 'prefix'))
 
 
+def run_make(copy, *words, **variables):
+    return subprocess.run(['make', '-s', '-C', os.path.join(copy, 'c'), *words], stdout=subprocess.PIPE,
+                          stderr=subprocess.STDOUT, text=True, env={**os.environ, **variables})
+
+
 def make(copy, *words):
-    done = subprocess.run(['make', '-s', '-C', os.path.join(copy, 'c'), *words], stdout=subprocess.PIPE,
-                          stderr=subprocess.STDOUT, text=True)
+    done = run_make(copy, *words)
     want(done.returncode == 0, tail(done.stdout))
     return done.stdout
 
@@ -46,39 +57,62 @@ def is_made(copy):
 
 
 def passes_make_check(copy, compiler, out, *words):
-    """make check ends well, having compared each text."""
+    """make check ends well, having compared each text and called each name."""
     said = make(copy, f'CC={compiler}', f'out={out}', *words, 'check')
-    same = re.findall(r'^same: .*', said, re.M)
-    want('all values' in said and same, f'it says {tail(said)}')
-    return '; '.join(same)
+    same, names = re.findall(r'^same: .*', said, re.M), re.findall(r'^all \d+ names', said, re.M)
+    want('all values' in said and same and names, f'it says {tail(said)}')
+    return '; '.join([*names, *same])
 
 
-def wrong_text_is_noticed(copy):
-    """A wrong constant in the text: the values are wrong, and the sums name the function."""
-    text = os.path.join(copy, 'c', 'asm', 'x86-64-v2.s')
-    shutil.copy(text, text + '.right')
-    with open(text) as file:
-        right = file.read()
-    at = right.index(RIGHT, right.index('\nXXH64:'))
-    function = re.findall(r'\.section (\S+?),"ax"', right[:at])[-1]
-    with open(text, 'w') as file:
-        file.write(right[:at] + WRONG + right[at + len(RIGHT):])
-    try:
-        for goal, word in (('check-values', 'differ'), ('check-bytes', f'{function}: other than what was proved')):
-            done = subprocess.run(['make', '-s', '-C', os.path.join(copy, 'c'), 'out=out/wrong', goal],
-                                  stdout=subprocess.PIPE, stderr=subprocess.STDOUT, text=True)
-            want(done.returncode != 0 and word in done.stdout, f'{goal}: {tail(done.stdout)}')
-    finally:
-        os.rename(text + '.right', text)
-    return function
-
-
-def is_refused(copy, word, *words):
+def is_refused(copy, word, *words, **variables):
     """make ends with one line that says why."""
-    done = subprocess.run(['make', '-s', '-C', os.path.join(copy, 'c'), *words], stdout=subprocess.PIPE,
-                          stderr=subprocess.STDOUT, text=True)
+    done = run_make(copy, *words, **variables)
     want(done.returncode != 0 and word in done.stdout, f'status {done.returncode}: {tail(done.stdout)}')
     return word
+
+
+# ---- what is wrong ----
+
+class Changed:
+    """A file of the copy with another text in it, for as long as something is tried."""
+
+    def __init__(self, copy, name, change):
+        self.path = os.path.join(copy, 'c', name)
+        with open(self.path) as file:
+            self.right = file.read()
+        self.wrong = change(self.right)
+
+    def __enter__(self):
+        self.write(self.wrong)
+
+    def __exit__(self, *_):
+        self.write(self.right)
+
+    def write(self, text):
+        with open(self.path, 'w') as file:
+            file.write(text)
+
+
+def wrong_text_is_noticed(copy, function, right, wrong, goal, word):
+    """A wrong constant in the text: what the function answers is wrong, and the sums name its section."""
+    sections = []
+
+    def change(text):
+        at = text.index(right, text.index(f'\n{function}:'))
+        sections[:] = re.findall(r'\.section (\S+?),"ax"', text[:at])
+        return text[:at] + wrong + text[at + len(right):]
+    with Changed(copy, 'asm/x86-64-v2.s', change):
+        is_refused(copy, word, 'out=out/wrong', goal)
+        is_refused(copy, f'{sections[-1]}: other than what was proved', 'out=out/wrong', 'check-bytes')
+    return sections[-1]
+
+
+def uncalled_name_is_noticed(copy):
+    """A program that leaves out a call prints other names than the library has."""
+    def change(text):
+        return text.replace('        values_of_128(lengths[i]);\n', '').replace('static void values', 'void values')
+    with Changed(copy, 'checks/names.c', change):
+        return is_refused(copy, 'differ', 'out=out/uncalled', 'check-names')
 
 
 def foreign_compiler(room, machine):
@@ -89,6 +123,86 @@ def foreign_compiler(room, machine):
     os.chmod(path, 0o755)
     return path
 
+
+def check_refusals(report, copy, room):
+    for machine in ('riscv64-linux-gnu', 'aarch64-linux-android', 'x86_64-linux-gnux32', 'arm64-apple-darwin22'):
+        said = f'there is no text for {machine}: there is for Linux on'
+        report.attempt(f'{machine} is refused', is_refused, copy, said, f'CC={foreign_compiler(room, machine)}')
+    report.attempt('no compiler', is_refused, copy, "no C compiler: CC is '/nowhere/cc'", 'CC=/nowhere/cc')
+    report.attempt('gcc -m32', is_refused, copy, 'there is no text for pointers of 32 bits', 'CC=gcc -m32')
+    report.attempt('a PREFIX that is no whole path', is_refused, copy, 'PREFIX has to begin with /', 'install',
+                   'PREFIX=here')
+    for goal in ('install', 'uninstall'):
+        report.attempt(f'{goal} without PREFIX', is_refused, copy,
+                       f'it needs a folder: make -C c {goal} PREFIX=/opt/twox_hash', goal, f'DESTDIR={room}/nowhere')
+    report.attempt('uninstall of another library', other_library_stays, copy, room)
+    report.attempt('make check without python3', lambda: is_refused(
+        copy, 'no python3, which compares', 'out=out/no-python', 'check-bytes', PATH=path_without(room, 'python3')))
+
+
+# ---- folders ----
+
+def names_of(copy, lib):
+    return len(values.exported(os.path.join(copy, 'c', lib, 'libxxhash.so.0')))
+
+
+def folders_stay_apart(copy):
+    """The library is whole where its folder has the name of a set, or of any other in which something is made."""
+    places = ('x86-64-v2', '.', 'made/x86_64-linux-gnu', 'made/x86_64-linux-gnu/x86-64-v2')
+    for number, place in enumerate(places):
+        out = f'out/apart-{number}'
+        make(copy, f'out={out}', f'lib={out}/{place}', 'all', 'check-values', 'check-bytes')
+        found = names_of(copy, f'{out}/{place}')
+        want(found == 58, f'with lib={out}/{place} it has {found} names')
+    return f'{len(places)} folders'
+
+
+def processors_stay_apart(copy):
+    """Two processors in one tree, in any order and by one folder: each library has the names of its processor."""
+    arm = f'CC={ARM_GCC}'
+    for words, names in (([arm], 49), ([], 58), ([arm], 49), ([arm, 'lib=out/arm'], 49), (['lib=out/other'], 58),
+                         (['lib=out/arm'], 58), ([arm, 'lib=out/arm'], 49)):
+        make(copy, *words)
+        lib = next((word[4:] for word in words if word.startswith('lib=')), 'out/lib')
+        want(names_of(copy, lib) == names, f'{words}: {names_of(copy, lib)} names')
+    return '49 and 58 names, in turns'
+
+
+def files_below(folder):
+    return sorted(os.path.relpath(os.path.join(where, name), folder) for where, _, names in os.walk(folder)
+                  for name in names)
+
+
+def is_taken_away(copy, room):
+    """What install puts somewhere uninstall takes away, and nothing else. install says where, and what runs on it."""
+    root = os.path.join(room, 'destination')
+    place = os.path.join(root, 'opt/twox_hash')
+    said = make(copy, 'install', 'PREFIX=/opt/twox_hash', f'DESTDIR={root}')
+    want(f'{place}/lib and include: no program runs on it unless' in said, f'install says {tail(said)}')
+    put = files_below(place)
+    want(len(put) >= 10, f'it puts {put}')
+    with open(os.path.join(place, 'lib', 'other.so'), 'w'):
+        pass
+    make(copy, 'uninstall', 'PREFIX=/opt/twox_hash', f'DESTDIR={root}')
+    want(files_below(root) == ['opt/twox_hash/lib/other.so'], f'it leaves {files_below(root)}')
+    said = make(copy, 'install', 'PREFIX=/usr/local', f'DESTDIR={root}')
+    want('after ldconfig each program of this machine' in said, f'install to /usr/local says {tail(said)}')
+    make(copy, 'uninstall', 'PREFIX=/usr/local/', f'DESTDIR={root}')
+    want(not os.path.exists(os.path.join(root, 'usr/local')), 'a folder is left')
+    return f'{len(put)} files'
+
+
+def other_library_stays(copy, room):
+    """uninstall takes nothing away where the header is another library's."""
+    include = os.path.join(room, 'theirs/opt/include')
+    os.makedirs(include)
+    shutil.copy('/usr/include/xxhash.h', include)
+    word = is_refused(copy, 'there is no twox_hash in', 'uninstall', 'PREFIX=/opt', f'DESTDIR={room}/theirs')
+    want(files_below(include) == ['xxhash.h'], 'the header is gone')
+    return word
+
+
+# ---- all ----
 
 def static_table_agrees(copy, room, compiler, out, run=()):
     """The oracle's table by a static program, as musl's loader or none has it."""
@@ -105,36 +219,41 @@ def static_table_agrees(copy, room, compiler, out, run=()):
     return f'{len(table.splitlines()) - 1} rows'
 
 
-def check_refusals(report, copy, room):
-    for machine in ('riscv64-linux-gnu', 'aarch64-linux-android', 'x86_64-linux-gnux32', 'arm64-apple-darwin22'):
-        said = f'there is no text for {machine}: there is for Linux on'
-        report.attempt(f'{machine} is refused', is_refused, copy, said, f'CC={foreign_compiler(room, machine)}')
-    report.attempt('no compiler', is_refused, copy, "no C compiler: CC is '/nowhere/cc'", 'CC=/nowhere/cc')
-    report.attempt('a PREFIX that is no whole path', is_refused, copy, 'PREFIX has to begin with /', 'install',
-                   'PREFIX=here')
+def check_makefile(report, copy, room):
+    report.attempt('make', is_made, copy)
+    report.attempt('make check', passes_make_check, copy, 'cc', 'out')
+    for number, compiler in enumerate(COMPILERS):
+        report.attempt(f'make check by {compiler}', passes_make_check, copy, compiler, f'out/by-{number}')
+    report.attempt("musl: the oracle's table by a static program", static_table_agrees, copy, room, 'musl-gcc',
+                   'out/musl')
+    report.attempt('folders of one name', folders_stay_apart, copy)
+    report.attempt('install and uninstall', is_taken_away, copy, room)
+    for wrong in WRONG_TEXTS:
+        report.attempt(f'a wrong text of {wrong[0]} is noticed', wrong_text_is_noticed, copy, *wrong)
+    report.attempt('a name that is not called is noticed', uncalled_name_is_noticed, copy)
+    check_refusals(report, copy, room)
 
 
 def check_x86(report, copy, room, has_v3, examples):
-    report.attempt('make', is_made, copy)
-    report.attempt('make check', passes_make_check, copy, 'cc', 'out')
-    report.attempt('make check by clang', passes_make_check, copy, 'clang', 'out/clang')
-    report.attempt("musl: the oracle's table by a static program", static_table_agrees, copy, room, 'musl-gcc',
-                   'out/musl')
-    report.attempt('a wrong text is noticed', wrong_text_is_noticed, copy)
-    check_refusals(report, copy, room)
-    made = Made(room, copy)
-    for path in (made.plain, made.v3):
-        report.attempt(f'names of {os.path.relpath(path, made.folder)}', values.names_are_theirs, path, THEIRS)
-    program = values.calls_program(made, 'calls')
-    for path in (made.plain, made.v3) if has_v3 else (made.plain,):
-        report.attempt(f'calls of {os.path.relpath(path, made.folder)}', values.calls_agree, [program], THEIRS, path,
+    check_makefile(report, copy, room)
+    built = Made(room, copy)
+    paths = (built.plain, built.v3) if has_v3 else (built.plain,)
+    for path in (built.plain, built.v3):
+        report.attempt(f'names of {os.path.relpath(path, built.folder)}', values.names_are_theirs, path, THEIRS)
+    made.check_all(report, built, paths)
+    for compiler in ('gcc', 'clang'):
+        report.attempt(f'the launcher of two builds by {compiler}', launcher.launches, room, has_v3, compiler)
+    suits.check_all(report, room)
+    program = values.calls_program(built, 'calls')
+    for path in paths:
+        report.attempt(f'calls of {os.path.relpath(path, built.folder)}', values.calls_agree, [program], THEIRS, path,
                        10000)
-    examples(report, made, Side('make install', made.folder, made.v3 if has_v3 else made.plain))
+    examples(report, built, Side('make install', built.folder, paths[-1]))
 
 
 def check_arm(report, copy, room):
-    gcc, run = 'aarch64-linux-gnu-gcc', 'run=qemu-aarch64 -L /usr/aarch64-linux-gnu'
-    report.attempt('make check for 64-bit ARM', passes_make_check, copy, gcc, 'out/arm', run)
+    report.attempt('make check for 64-bit ARM', passes_make_check, copy, ARM_GCC, 'out', 'lib=out/aarch64', ON_ARM)
+    report.attempt('two processors in one tree', processors_stay_apart, copy)
     report.attempt("musl for 64-bit ARM: the oracle's table by a static program", static_table_agrees, copy, room,
                    aarch64.musl_gcc(room), 'out/arm-musl', ['qemu-aarch64'])
 

@@ -14,6 +14,16 @@
 extern "C" {
 #endif
 
+/* The widest vectors for which release 0.8.3 has code that this processor and system take, by its numbers. A program
+ * may choose by it. The calls here don't. */
+#ifndef XXH_SSE2
+#define XXH_SCALAR 0
+#define XXH_SSE2 1
+#define XXH_AVX2 2
+#define XXH_AVX512 3
+#endif
+int XXH_featureTest(void);
+
 XXH64_hash_t XXH3_64bits_dispatch(const void *input, size_t length);
 XXH64_hash_t XXH3_64bits_withSeed_dispatch(const void *input, size_t length, XXH64_hash_t seed);
 XXH64_hash_t XXH3_64bits_withSecret_dispatch(const void *input, size_t length, const void *secret,

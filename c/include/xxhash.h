@@ -1,7 +1,7 @@
 /* SPDX-License-Identifier: MIT */
 /* XXH32, XXH64, XXH3 of 64 bits and XXH3 of 128 bits: the calls of libxxhash 0.8.1, proved equal to the xxHash
  * definition. Programs written for <xxhash.h> compile with this header as they stand, if they make their states
- * by createState. docs/C.md says how to link, and what differs from the C library.
+ * of XXH3 by createState. docs/C.md says how to link, and what differs from the C library.
  *
  * Of every call:
  * - A length counts bytes. An input of length 0 may be null.
@@ -60,14 +60,10 @@ typedef enum {
     XXH_ERROR = 1
 } XXH_errorcode;
 
-/* States of streams. Their size is the library's own affair, so none lies on the stack or in a struct: where one is
- * asked for, clang shows these lines, and gcc the message. */
-typedef struct XXH32_state_s XXH32_state_t; /* a state comes from XXH32_createState alone */
-typedef struct XXH64_state_s XXH64_state_t; /* a state comes from XXH64_createState alone */
-typedef struct XXH3_state_s XXH3_state_t; /* a state comes from XXH3_createState alone */
-#if defined(XXH_STATIC_LINKING_ONLY) && defined(__GNUC__) && !defined(__clang__)
-#pragma message "a state comes from createState alone: the size of one on the stack isn't known"
-#endif
+/* States of streams. */
+typedef struct XXH32_state_s XXH32_state_t;
+typedef struct XXH64_state_s XXH64_state_t;
+typedef struct XXH3_state_s XXH3_state_t; /* a state of XXH3 comes from XXH3_createState alone */
 
 /* The bytes of the shortest secret that XXH3 takes. */
 #define XXH3_SECRET_SIZE_MIN 136
@@ -92,8 +88,9 @@ void XXH32_copyState(XXH32_state_t *to, const XXH32_state_t *from);
 /* Lets the state stand for no bytes and the seed. XXH_OK. */
 XXH_errorcode XXH32_reset(XXH32_state_t *state, XXH32_hash_t seed);
 
-/* Lets the state stand for its bytes and these after them: XXH_OK. A state comes from createState, so it was reset;
- * memory without the mark of a reset is refused by XXH_ERROR and stays as it is. */
+/* Lets the state stand for its bytes and these after them: XXH_OK. The state was reset, as createState does. Memory
+ * without the mark of a reset is refused by XXH_ERROR and stays as it is: one word, of which 16 values of 2^32 pass, and
+ * with XXH64 32. What passes by chance gives some value, and nothing beside the state is written. */
 XXH_errorcode XXH32_update(XXH32_state_t *state, const void *input, size_t length);
 
 /* The hash of the bytes that the state stands for, which may take more bytes afterwards. 0 of memory that update
@@ -187,5 +184,22 @@ void XXH3_generateSecret_fromSeed(void *secret, XXH64_hash_t seed);
 
 #ifdef __cplusplus
 }
+#endif
+#endif
+
+/* For whoever lays a state on the stack or in a struct, also after this header was included without the word: states
+ * with the sizes and the alignments of the C library's, and members that are the library's own affair. Such a state is
+ * reset before its first use. One of XXH3 is larger here than in the C library, so it has no size: where one is asked
+ * for, clang shows the line of its type, and gcc the message. */
+#if defined(XXH_STATIC_LINKING_ONLY) && !defined(XXHASH_H_TWOX_HASH_STATES)
+#define XXHASH_H_TWOX_HASH_STATES
+struct XXH32_state_s {
+    uint32_t reserved[12];
+};
+struct XXH64_state_s {
+    uint64_t reserved[11];
+};
+#if defined(__GNUC__) && !defined(__clang__)
+#pragma message "a state of XXH3 comes from XXH3_createState alone: it has no size here"
 #endif
 #endif

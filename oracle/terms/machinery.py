@@ -4,13 +4,11 @@ import glob
 import os
 import random
 import re
-import subprocess
 import sys
-import tempfile
 
 import table
 
-from . import comparison, definition, nodes, operations, sides
+from . import comparison, definition, nodes, operations
 from .nodes import BITS, NODES, SUM, SYMBOL, Node, most_of, symbol, values_at
 from .operations import (add, add_at, bits, both, either, monus, multiply, multiply_at, quotient, remainder,
                          shift_right,
@@ -37,18 +35,6 @@ def rules_are_proved(module):
 
 
 # ---- random operations, each compared with numbers at eight points, and laws
-
-def header_is_the_named_one(module, headers):
-    """The text is of the header that was summed, though another one lies in front of the system's folders."""
-    with tempfile.TemporaryDirectory(prefix="symbolic-") as other:
-        with open(f"{other}/xxhash.h", "w") as file:
-            file.write("#error another header\n")
-        try:
-            sides.llvm_text(headers, CPATH=other)
-        except subprocess.CalledProcessError:
-            return "", ["the other header was compiled"]
-    return "compiled beside another one", []
-
 
 def constant(draw):
     return draw.choice((draw.getrandbits(draw.choice((3, 8, 32, 64))), 1 << draw.randrange(70),

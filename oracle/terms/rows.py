@@ -3,10 +3,13 @@ import collections
 import concurrent.futures
 import functools
 import multiprocessing
+import os
 import resource
+import tempfile
 import threading
 import time
 import traceback
+import unittest.mock
 
 import antt
 import mutants
@@ -166,10 +169,21 @@ def hand_changes(module):
     return f"{len(found)} changes", [line for is_good, line in found if not is_good]
 
 
+def header_is_the_one_named(headers, vector, _module):
+    """The text is of the header that is summed, also where another one lies in a folder that compilers look into."""
+    with tempfile.TemporaryDirectory(prefix="symbolic-") as room:
+        with open(f"{room}/xxhash.h", "w", encoding="utf-8") as file:
+            file.write('#error "another header"\n')
+        with unittest.mock.patch.dict(os.environ, CPATH=room, C_INCLUDE_PATH=room):
+            beside_another = llvm_text(headers, vector)
+    is_same = beside_another == llvm_text(headers, vector)
+    return "another one is passed over", [] if is_same else ["with another header beside it the text is another"]
+
+
 def of_machinery(is_all, vector, headers):
-    out = [Row("the rules are the proved ones", machinery.rules_are_proved, vector),
-           Row("another header on the compiler's path is not the one that is compared", 
-               functools.partial(machinery.header_is_the_named_one, headers=headers)),
+    out = [Row("the header is the one that is summed",
+               functools.partial(header_is_the_one_named, headers, vector), vector),
+           Row("the rules are the proved ones", machinery.rules_are_proved, vector),
            Row("random operations and laws",
                functools.partial(machinery.random_operations, rounds=300 if is_all else 30), vector)]
     if is_all:

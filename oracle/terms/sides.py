@@ -34,15 +34,14 @@ def install(headers, with_solver):
     tools.install([package for package, there in is_there.items() if not there])
 
 
-def llvm_text(headers=HEADERS, vector="scalar", **variables):
-    """LLVM's text of the header in a folder, as clang's front end writes it with no optimiser. A copy of the header is
-    included, since clang passes over an -I that names a folder of the system, and takes another header that lies in
-    front of that."""
+def llvm_text(headers=HEADERS, vector="scalar"):
+    """LLVM's text of the header in a folder, as clang's front end writes it with no optimiser. The header is copied to a
+    room of its own: clang passes over `-I /usr/include`, and would take one of another folder."""
     with tempfile.TemporaryDirectory(prefix="symbolic-") as room:
-        shutil.copy(f"{headers}/xxhash.h", room)
         out = f"{room}/reference.ll"
-        subprocess.run([CLANG, "-O0", "-w", "-fno-discard-value-names", "-S", "-emit-llvm", *VECTORS[vector], "-I", room,
-                        f"{FOLDER}/reference.c", "-o", out], check=True, env={**os.environ, **variables})
+        shutil.copy(f"{headers}/xxhash.h", room)
+        subprocess.run([CLANG, "-O0", "-w", "-fno-discard-value-names", "-S", "-emit-llvm", *VECTORS[vector], "-I",
+                        room, f"{FOLDER}/reference.c", "-o", out], check=True)
         with open(out, encoding="utf-8") as file:
             return file.read()
 

@@ -13,19 +13,15 @@ static inline hash_value narrow(uint64_t low)
 
 /* The states as they lie in memory: crates/twox_c declares them so, and proves their sizes. */
 struct xxh32_state {
-    uint32_t v1, seed, v2;
-    uint64_t total_length;
-    uint32_t v3;
-    uint64_t waiting;
-    uint32_t v4;
+    uint32_t v1, seed, v2, marked_waiting, v3, total_low, total_high, v4;
     unsigned char buffer[16];
-    uint64_t mark;
 };
 
 struct xxh64_state {
-    uint64_t v1, seed, v2, total_length, v3, waiting, v4;
+    uint64_t v1, seed, v2, total_length, v3;
+    uint32_t marked_waiting;
+    uint64_t v4;
     unsigned char buffer[32];
-    uint64_t mark;
 };
 
 _Static_assert(sizeof(struct xxh32_state) == XXH32_STATE_BYTES, "the state of XXH32 has another layout");

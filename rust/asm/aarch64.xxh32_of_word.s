@@ -1,4 +1,4 @@
-/* twox_rust_3_xxh32_of_word. Generated of what is proved: not to be changed by hand. SPDX-License-Identifier: MIT */
+/* twox_rust_4_xxh32_of_word. Generated of what is proved: not to be changed by hand. SPDX-License-Identifier: MIT */
 	mov w8, #0xae3d
 	mov w10, #0x67b9
 	lsr x11, x0, #32

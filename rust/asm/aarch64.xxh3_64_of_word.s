@@ -1,4 +1,4 @@
-/* twox_rust_3_xxh3_64_of_word. Generated of what is proved: not to be changed by hand. SPDX-License-Identifier: MIT */
+/* twox_rust_4_xxh3_64_of_word. Generated of what is proved: not to be changed by hand. SPDX-License-Identifier: MIT */
 	mov x9, #0xd5a2
 	rev w8, w1
 	movk x9, #0xc5ec, lsl #16

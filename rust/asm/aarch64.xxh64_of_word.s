@@ -1,4 +1,4 @@
-/* twox_rust_3_xxh64_of_word. Generated of what is proved: not to be changed by hand. SPDX-License-Identifier: MIT */
+/* twox_rust_4_xxh64_of_word. Generated of what is proved: not to be changed by hand. SPDX-License-Identifier: MIT */
 	mov x8, #0xeb4f
 	mov x10, #0xca87
 	mov x11, #0x67cd

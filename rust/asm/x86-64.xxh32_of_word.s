@@ -1,4 +1,4 @@
-/* twox_rust_3_xxh32_of_word. Generated of what is proved: not to be changed by hand. SPDX-License-Identifier: MIT */
+/* twox_rust_4_xxh32_of_word. Generated of what is proved: not to be changed by hand. SPDX-License-Identifier: MIT */
 	mov %edi,%eax
 	shr $0x20,%rdi
 	imul $0xc2b2ae3d,%eax,%eax

@@ -1,4 +1,4 @@
-/* twox_rust_3_xxh3_64_of_word. Generated of what is proved: not to be changed by hand. SPDX-License-Identifier: MIT */
+/* twox_rust_4_xxh3_64_of_word. Generated of what is proved: not to be changed by hand. SPDX-License-Identifier: MIT */
 	mov %esi,%eax
 	bswap %eax
 	shl $0x20,%rax

@@ -1,4 +1,4 @@
-/* twox_rust_3_xxh64_of_word. Generated of what is proved: not to be changed by hand. SPDX-License-Identifier: MIT */
+/* twox_rust_4_xxh64_of_word. Generated of what is proved: not to be changed by hand. SPDX-License-Identifier: MIT */
 	movabs $0x27d4eb2f165667cd,%rax
 	add %rsi,%rax
 	movabs $0xc2b2ae3d27d4eb4f,%rcx

@@ -16,43 +16,142 @@ use core::mem::MaybeUninit;
 #[cfg(target_arch = "x86_64")]
 use crate::processor::{ask, known, Known, FEW, IS_BUILT_FOR_V3};
 
-/// The library's record of a plain hash: XXH32 has words of 32 bits and a buffer of 16 bytes, XXH64 of 64 and 32.
+/// The library's record of XXH32.
 #[derive(Clone, PartialEq)]
 #[repr(C)]
-pub struct Record<Word, const STRIPE: usize> {
-    pub v1: Word,
-    pub seed: Word,
-    pub v2: Word,
-    pub total_len: u64,
-    pub v3: Word,
-    pub buffer_usage: usize,
-    pub v4: Word,
-    pub buffer: [u8; STRIPE],
+pub struct Record32 {
+    pub v1: u32,
+    pub seed: u32,
+    pub v2: u32,
+    marked_usage: u32,
+    pub v3: u32,
+    total_low: u32,
+    total_high: u32,
+    pub v4: u32,
+    pub buffer: [u8; 16],
 }
 
-impl<Word, const STRIPE: usize> Record<Word, STRIPE> {
-    /// Keeps the first eight bytes of a stream, as the library does: they fill no stripe.
-    #[inline(always)]
-    pub fn keep_first(&mut self, word: u64) {
-        self.total_len = 8;
-        self.buffer_usage = 8;
-        self.buffer[..8].copy_from_slice(&word.to_ne_bytes());
-    }
-
-    /// The bytes of the stream, where they are eight.
-    #[inline(always)]
-    pub fn only_word(&self) -> Option<u64> {
-        if self.total_len != 8 {
-            return None;
+impl Record32 {
+    /// A record of these parts, which the library refuses where no bytes lead to them.
+    pub const fn of_parts(
+        total_len: u64,
+        seed: u32,
+        [v1, v2, v3, v4]: [u32; 4],
+        buffer: [u8; 16],
+        buffer_usage: usize,
+    ) -> Self {
+        Self {
+            v1,
+            seed,
+            v2,
+            marked_usage: Self::marked(buffer_usage),
+            v3,
+            total_low: total_len as u32,
+            total_high: (total_len >> 32) as u32,
+            v4,
+            buffer,
         }
-        let mut bytes = [0; 8];
-        bytes.copy_from_slice(&self.buffer[..8]);
-        Some(u64::from_ne_bytes(bytes))
+    }
+
+    #[inline(always)]
+    pub const fn total_len(&self) -> u64 {
+        (self.total_high as u64) << 32 | self.total_low as u64
+    }
+
+    #[inline(always)]
+    fn set_total_len(&mut self, total_len: u64) {
+        self.total_low = total_len as u32;
+        self.total_high = (total_len >> 32) as u32;
     }
 }
 
-pub type Record32 = Record<u32, 16>;
-pub type Record64 = Record<u64, 32>;
+/// The library's record of XXH64.
+#[derive(Clone, PartialEq)]
+#[repr(C)]
+pub struct Record64 {
+    pub v1: u64,
+    pub seed: u64,
+    pub v2: u64,
+    total_len: u64,
+    pub v3: u64,
+    marked_usage: u32,
+    pub v4: u64,
+    pub buffer: [u8; 32],
+}
+
+impl Record64 {
+    /// A record of these parts, which the library refuses where no bytes lead to them.
+    pub const fn of_parts(
+        total_len: u64,
+        seed: u64,
+        [v1, v2, v3, v4]: [u64; 4],
+        buffer: [u8; 32],
+        buffer_usage: usize,
+    ) -> Self {
+        Self {
+            v1,
+            seed,
+            v2,
+            total_len,
+            v3,
+            marked_usage: Self::marked(buffer_usage),
+            v4,
+            buffer,
+        }
+    }
+
+    #[inline(always)]
+    pub const fn total_len(&self) -> u64 {
+        self.total_len
+    }
+
+    #[inline(always)]
+    fn set_total_len(&mut self, total_len: u64) {
+        self.total_len = total_len;
+    }
+}
+
+/// What both records have. One word is the mark of a record and how many bytes of its buffer wait, less than a stripe.
+macro_rules! marked_record {
+    ($record:ident, $mark:literal, $stripe:literal) => {
+        impl $record {
+            // Any other usage, also one of more than 32 bits, becomes a word that the library refuses.
+            const fn marked(buffer_usage: usize) -> u32 {
+                if buffer_usage < $stripe {
+                    $mark + buffer_usage as u32
+                } else {
+                    $mark - 1
+                }
+            }
+
+            pub const fn buffer_usage(&self) -> usize {
+                self.marked_usage.wrapping_sub($mark) as usize
+            }
+
+            /// Keeps the first eight bytes of a stream, as the library does: they fill no stripe.
+            #[inline(always)]
+            pub fn keep_first(&mut self, word: u64) {
+                self.set_total_len(8);
+                self.marked_usage = Self::marked(8);
+                self.buffer[..8].copy_from_slice(&word.to_ne_bytes());
+            }
+
+            /// The bytes of the stream, where they are eight.
+            #[inline(always)]
+            pub fn only_word(&self) -> Option<u64> {
+                if self.total_len() != 8 {
+                    return None;
+                }
+                let mut bytes = [0; 8];
+                bytes.copy_from_slice(&self.buffer[..8]);
+                Some(u64::from_ne_bytes(bytes))
+            }
+        }
+    };
+}
+
+marked_record!(Record32, 0x3233_5858, 16);
+marked_record!(Record64, 0x3436_5858, 32);
 
 /// The library's stream of XXH3. What no stream of no bytes has is left unwritten: no call reads it.
 #[derive(Clone)]
@@ -117,7 +216,7 @@ impl Stream {
 }
 
 // The library proves these sizes of its own records.
-const _: () = assert!(core::mem::size_of::<Record32>() == 64);
+const _: () = assert!(core::mem::size_of::<Record32>() == 48);
 const _: () = assert!(core::mem::size_of::<Record64>() == 88);
 const _: () = assert!(core::mem::size_of::<Stream>() == 680);
 
@@ -184,7 +283,7 @@ macro_rules! call_of_export {
         #[inline(always)]
         pub unsafe fn $name($($record: $record_kind,)* $($slice: &[u8],)* $($other: $other_kind),*) $(-> $answer)? {
             proved! {
-                #[link_name = concat!("twox_rust_3_", stringify!($name), $set)]
+                #[link_name = concat!("twox_rust_4_", stringify!($name), $set)]
                 fn $name($($record: $record_kind,)* $($slice: *const u8, _: usize,)* $($other: $other_kind),*) $(-> $answer)?;
             }
             // SAFETY: as whoever calls this says.

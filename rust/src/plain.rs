@@ -55,17 +55,7 @@ macro_rules! plain_hash {
             #[must_use]
             pub const fn with_seed(seed: $word) -> Self {
                 // Constants, since no call can be made here. rust/check compares them with the library's own start.
-                let [v1, v2, v3, v4] = $initial(seed);
-                Self($record {
-                    v1,
-                    seed,
-                    v2,
-                    total_len: 0,
-                    v3,
-                    buffer_usage: 0,
-                    v4,
-                    buffer: [0; $stripe],
-                })
+                Self($record::of_parts(0, seed, $initial(seed), [0; $stripe], 0))
             }
 
             /// The seed that the hasher was made with.
@@ -87,7 +77,7 @@ macro_rules! plain_hash {
             /// assert_eq!(hasher.total_len(), 10);
             /// ```
             pub const fn total_len(&self) -> u64 {
-                self.0.total_len
+                self.0.total_len()
             }
         }
 
@@ -107,7 +97,7 @@ macro_rules! plain_hash {
             // A map's key is a word alone, and its hash needs no call.
             #[inline]
             fn write_u64(&mut self, word: u64) {
-                if self.0.total_len == 0 {
+                if self.0.total_len() == 0 {
                     self.0.keep_first(word);
                 } else {
                     self.write(&word.to_ne_bytes());
@@ -140,14 +130,14 @@ macro_rules! plain_hash {
                     acc4: record.v4,
                 };
                 let buffer = Buffer {
-                    offset: record.buffer_usage,
+                    offset: record.buffer_usage(),
                     data: words(&record.buffer),
                 };
                 f.debug_struct("Hasher")
                     .field("seed", &record.seed)
                     .field("accumulators", &accumulators)
                     .field("buffer", &buffer)
-                    .field("length", &record.total_len)
+                    .field("length", &record.total_len())
                     .finish()
             }
         }
@@ -263,7 +253,7 @@ macro_rules! plain_hash {
             fn serialize<S: serde::Serializer>(&self, serializer: S) -> Result<S::Ok, S::Error> {
                 let Self(record) = self;
                 let saved = Saved {
-                    total_len: record.total_len,
+                    total_len: record.total_len(),
                     seed: record.seed,
                     core: Core {
                         v1: record.v1,
@@ -272,7 +262,7 @@ macro_rules! plain_hash {
                         v4: record.v4,
                     },
                     buffer: record.buffer,
-                    buffer_usage: record.buffer_usage,
+                    buffer_usage: record.buffer_usage(),
                 };
                 saved.serialize(serializer)
             }
@@ -283,16 +273,14 @@ macro_rules! plain_hash {
         impl<'de> serde::Deserialize<'de> for Hasher {
             fn deserialize<D: serde::Deserializer<'de>>(deserializer: D) -> Result<Self, D::Error> {
                 let saved = Saved::deserialize(deserializer)?;
-                let record = $record {
-                    v1: saved.core.v1,
-                    seed: saved.seed,
-                    v2: saved.core.v2,
-                    total_len: saved.total_len,
-                    v3: saved.core.v3,
-                    buffer_usage: saved.buffer_usage,
-                    v4: saved.core.v4,
-                    buffer: saved.buffer,
-                };
+                let Core { v1, v2, v3, v4 } = saved.core;
+                let record = $record::of_parts(
+                    saved.total_len,
+                    saved.seed,
+                    [v1, v2, v3, v4],
+                    saved.buffer,
+                    saved.buffer_usage,
+                );
                 if library::$test(&record) == library::DONE {
                     Ok(Self(record))
                 } else {

@@ -38,6 +38,7 @@ fn a_record_that_no_bytes_lead_to_is_refused() {
         (31, 0, 31),
         (u64::MAX, V1, 32),
         (5, V1, usize::MAX),
+        (5, V1, (1 << 32) + 5),
     ];
     for (total_len, v1, buffer_usage) in wrong {
         let text = text_of_64(total_len, v1, buffer_usage);

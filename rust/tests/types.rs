@@ -40,7 +40,7 @@ fn types_have_the_impls_of_the_original() {
 
 #[test]
 fn sizes_are_those_of_the_page() {
-    assert_eq!(size_of::<XxHash32>(), 64);
+    assert_eq!(size_of::<XxHash32>(), 48);
     assert_eq!(size_of::<XxHash64>(), 88);
     assert_eq!(size_of::<XxHash3_64>(), 696);
     assert_eq!(size_of::<XxHash3_128>(), 696);

@@ -1,19 +1,18 @@
 -- A state of XXH64 that C holds.
 use Rattle.std.specs.Prelude.{◌≡◌, ◌<◌, ℕ, List}
 use Rattle.twox_plain.specs.Record64.{StandsFor}
-use Rattle.twox_plain.specs.StateInMemory64.{record_of}
+use Rattle.twox_plain.specs.StateInMemory64.{record_of, usage_of}
 use Rattle.twox_plain.specs.declared.xxhash64.SavedState.{SavedState}
 use Rattle.twox_c.specs.declared.xxh64.Xxh64State.{Xxh64State}
-use Rattle.twox_c.specs.declared.xxh64.TheConstants.{MARK_64}
 
 -- the record of its hasher
 abbrev pub record_of_state : Xxh64State → SavedState
 record_of_state c = record_of c.hasher
 
--- it has the mark of a reset, and less than a stripe waits: calls go on from it, and refuse any other
+-- it has the mark of a reset, and less than a stripe waits: calls go on from it, and refuse any other. One word says
+-- both: it is the mark, and less than a stripe more
 pub record IsUsable (c : Xxh64State) : Type 0 where
-  pub mark : c.mark ≡ MARK_64
-  pub in_range : c.hasher.buffer_usage < 32
+  pub in_range : usage_of c.hasher < 32
 
 -- it was reset with the seed and has taken m since
 pub record WasGiven (c : Xxh64State) (seed : ℕ) (m : List ℕ) : Type 0 where

@@ -20,14 +20,14 @@
 //! - A null pointer of a state is not told, nor one of a secret or of bytes with a length above 0. To those in a reset
 //!   of XXH3 and in `XXH3_generateSecret` the C library answers `XXH_ERROR`, as `c/guards.c` does, which stands before
 //!   these exports. A null input of an update it passes over.
-//! - A state is larger than the C library's, so no client may lay one on its stack by that library's header.
+//! - A state of XXH3 is larger than the C library's, so no client may lay one on its stack by that library's header.
 //!
 //! # What crosses
 //!
 //! | C type | here | size | alignment |
 //! |---|---|---|---|
-//! | `XXH32_state_t` | `Xxh32State` | 72 | 8 |
-//! | `XXH64_state_t` | `Xxh64State` | 96 | 8 |
+//! | `XXH32_state_t` | `Xxh32State` | 48 | 4 |
+//! | `XXH64_state_t` | `Xxh64State` | 88 | 8 |
 //! | `XXH3_state_t` | `Xxh3State` | 960 | 8 |
 //! | `XXH128_hash_t` | `Xxh128Hash` | 16 | 8 |
 //! | `XXH32_canonical_t`, `XXH64_canonical_t`, `XXH128_canonical_t` | arrays of bytes | 4, 8, 16 | 1 |

@@ -9,20 +9,15 @@ ghost use Rattle.twox_c.specs.State32.{IsUsable, WasGiven, record_of_state};
 use crate::{XXH_ERROR, XXH_OK};
 use twox_plain::xxhash32::{Hasher, StateInMemory};
 
-/// What a reset leaves in a state: the letters `twoxXX32`, the first in the low byte.
-pub const MARK_32: u64 = 0x3233_5858_786f_7774;
-
-/// `XXH32_state_t`: 72 bytes, aligned to 8. Before the first reset it may hold anything.
+/// `XXH32_state_t`: 48 bytes, aligned to 4, as the C library's. Before the first reset it may hold anything.
 #[repr(C)]
 #[derive(Clone, Copy)]
 pub struct Xxh32State {
-    /// What the hasher holds.
+    /// What the hasher holds, and the mark of a reset.
     pub hasher: StateInMemory,
-    /// `MARK_32` after a reset.
-    pub mark: u64,
 }
 
-const _: () = prove!(size_of::<Xxh32State>() == 72);
+const _: () = prove!(size_of::<Xxh32State>() == 48);
 
 impl Xxh32State {
     // A state that was reset with the seed.
@@ -32,7 +27,6 @@ impl Xxh32State {
     {
         Xxh32State {
             hasher: StateInMemory::of_record(Hasher::with_seed(seed).to_state()),
-            mark: MARK_32,
         }
     }
 
@@ -41,7 +35,7 @@ impl Xxh32State {
     fn is_usable(&self) -> bool
         ensures { IsTrue result ↔ IsUsable self.now }
     {
-        self.mark == MARK_32 && self.hasher.buffer_usage < 16
+        self.hasher.usage() < 16
     }
 
     // Takes the bytes of a piece, unless it has no mark of a reset. A call of its own, since fewer registers are
@@ -121,7 +115,7 @@ pub extern "C" fn XXH32_digest(state: &Xxh32State) -> u32
 pub extern "C" fn twox_c_forget_xxh32(state: &mut Xxh32State)
     ensures { ¬ IsUsable state.new }
 {
-    state.mark = 0;
+    state.hasher.marked_usage = 0;
 }
 
 /// `void XXH32_copyState(XXH32_state_t* dst, const XXH32_state_t* src)`: makes `dst` the same as `src`.

@@ -9,20 +9,15 @@ ghost use Rattle.twox_c.specs.State64.{IsUsable, WasGiven, record_of_state};
 use crate::{XXH_ERROR, XXH_OK};
 use twox_plain::xxhash64::{Hasher, StateInMemory};
 
-/// What a reset leaves in a state: the letters `twoxXX64`, the first in the low byte.
-pub const MARK_64: u64 = 0x3436_5858_786f_7774;
-
-/// `XXH64_state_t`: 96 bytes, aligned to 8. Before the first reset it may hold anything.
+/// `XXH64_state_t`: 88 bytes, aligned to 8, as the C library's. Before the first reset it may hold anything.
 #[repr(C)]
 #[derive(Clone, Copy)]
 pub struct Xxh64State {
-    /// What the hasher holds.
+    /// What the hasher holds, and the mark of a reset.
     pub hasher: StateInMemory,
-    /// `MARK_64` after a reset.
-    pub mark: u64,
 }
 
-const _: () = prove!(size_of::<Xxh64State>() == 96);
+const _: () = prove!(size_of::<Xxh64State>() == 88);
 
 impl Xxh64State {
     // A state that was reset with the seed.
@@ -32,7 +27,6 @@ impl Xxh64State {
     {
         Xxh64State {
             hasher: StateInMemory::of_record(Hasher::with_seed(seed).to_state()),
-            mark: MARK_64,
         }
     }
 
@@ -41,7 +35,7 @@ impl Xxh64State {
     fn is_usable(&self) -> bool
         ensures { IsTrue result ↔ IsUsable self.now }
     {
-        self.mark == MARK_64 && self.hasher.buffer_usage < 32
+        self.hasher.usage() < 32
     }
 
     // Takes the bytes of a piece, unless it has no mark of a reset. A call of its own, since fewer registers are
@@ -121,7 +115,7 @@ pub extern "C" fn XXH64_digest(state: &Xxh64State) -> u64
 pub extern "C" fn twox_c_forget_xxh64(state: &mut Xxh64State)
     ensures { ¬ IsUsable state.new }
 {
-    state.mark = 0;
+    state.hasher.marked_usage = 0;
 }
 
 /// `void XXH64_copyState(XXH64_state_t* dst, const XXH64_state_t* src)`: makes `dst` the same as `src`.

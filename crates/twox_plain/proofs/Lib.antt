@@ -24,5 +24,7 @@ pub mod Tail64
 pub mod UnitFacts
 pub mod UnitLaws
 pub mod UpperWords
+pub mod Usage32
+pub mod Usage64
 pub mod Vectors32
 pub mod Vectors64

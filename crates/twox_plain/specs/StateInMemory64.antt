@@ -1,6 +1,14 @@
 -- The record of a hasher, from its fields in the order in which they lie in memory.
+use Rattle.std.specs.Prelude.{ℕ}
+use Rattle.std.specs.Int.{w32}
+use Rattle.twox_words.specs.Word.{wrap_sub}
 use Rattle.twox_plain.specs.declared.xxhash64.SavedState.{SavedState}
 use Rattle.twox_plain.specs.declared.xxhash64.StateInMemory.{StateInMemory}
+use Rattle.twox_plain.specs.declared.xxhash64.TheConstants.{MARK}
+
+-- how many bytes wait: a stripe or more in memory without the mark
+abbrev pub usage_of : StateInMemory → ℕ
+usage_of a = wrap_sub w32 a.marked_usage MARK
 
 abbrev pub record_of : StateInMemory → SavedState
 record_of a = record {
@@ -8,5 +16,5 @@ record_of a = record {
   seed = a.seed;
   core = record { v1 = a.v1; v2 = a.v2; v3 = a.v3; v4 = a.v4 };
   buffer = a.buffer;
-  buffer_usage = a.buffer_usage;
+  buffer_usage = usage_of a;
 }

@@ -29,8 +29,8 @@ pub struct Answer {
 /// Its name is the number of this interface: it changes with every change of an export or of a record's layout, so
 /// that a caller of another number finds no such name. The answer is that number.
 #[unsafe(no_mangle)]
-pub extern "C" fn twox_rust_interface_3() -> u32
-    ensures { result ≡ 3 }
+pub extern "C" fn twox_rust_interface_4() -> u32
+    ensures { result ≡ 4 }
 {
-    3
+    4
 }

@@ -2,14 +2,14 @@
 
 ghost use Rattle.std.specs.Prelude.{◌≡◌, ◌↔◌, ◌<◌, ℕ, List, [], ◌++◌};
 ghost use Rattle.twox_plain.specs.Record32.{StandsFor, IsReachable, initial_record, after_write, finish_value};
-ghost use Rattle.twox_plain.specs.StateInMemory32.{record_of};
+ghost use Rattle.twox_plain.specs.StateInMemory32.{record_of, usage_of};
 ghost use Rattle.twox_plain.specs.Xxh32.{xxh32};
 
 use crate::Answer;
 use twox_exports::{DONE, NOT_A_STREAM};
 use twox_plain::xxhash32::{Hasher, StateInMemory};
 
-const _: () = prove!(size_of::<StateInMemory>() == 64);
+const _: () = prove!(size_of::<StateInMemory>() == 48);
 
 /// The hash of all bytes at once.
 #[unsafe(no_mangle)]
@@ -25,27 +25,27 @@ pub extern "C" fn twox_rust_xxh32_start(stream: &mut StateInMemory, seed: u32)
     ensures record { record_of stream.new ≡ initial_record seed }
     ensures empty { StandsFor (record_of stream.new) [] }
     ensures seed { stream.new.seed ≡ seed }
-    ensures in_range { stream.new.buffer_usage < 16 }
+    ensures in_range { usage_of stream.new < 16 }
 {
     *stream = StateInMemory::of_record(Hasher::with_seed(seed).to_state());
 }
 
 /// Takes the bytes of a piece after those taken before.
 ///
-/// `NOT_A_STREAM`: as many bytes wait as a stripe has, or more. The record stays as it was.
+/// `NOT_A_STREAM`: the record has no mark, or a stripe waits by it, or more. The record stays as it was.
 #[unsafe(no_mangle)]
 pub extern "C" fn twox_rust_xxh32_write(stream: &mut StateInMemory, input: &[u8]) -> u32
-    ensures done { result ≡ DONE ↔ (stream.old.buffer_usage < 16) }
-    ensures refused { result ≡ NOT_A_STREAM ↔ (¬ (stream.old.buffer_usage < 16)) }
+    ensures done { result ≡ DONE ↔ (usage_of stream.old < 16) }
+    ensures refused { result ≡ NOT_A_STREAM ↔ (¬ (usage_of stream.old < 16)) }
     ensures message { (m : List ℕ) → result ≡ DONE → StandsFor (record_of stream.old) m
         → StandsFor (record_of stream.new) (m ++ input.now) }
     ensures seed { stream.new.seed ≡ stream.old.seed }
     ensures exact { result ≡ DONE
         → record_of stream.new ≡ after_write (record_of stream.old) input.now }
-    ensures in_range { result ≡ DONE → stream.new.buffer_usage < 16 }
+    ensures in_range { result ≡ DONE → usage_of stream.new < 16 }
     ensures kept { result ≡ NOT_A_STREAM → stream.new ≡ stream.old }
 {
-    if stream.buffer_usage >= 16 {
+    if stream.usage() >= 16 {
         return NOT_A_STREAM;
     }
     stream.add_piece(input);
@@ -54,23 +54,23 @@ pub extern "C" fn twox_rust_xxh32_write(stream: &mut StateInMemory, input: &[u8]
 
 /// The hash of the bytes taken so far. More may be taken afterwards.
 ///
-/// `NOT_A_STREAM`: as many bytes wait as a stripe has, or more.
+/// `NOT_A_STREAM`: the record has no mark, or a stripe waits by it, or more.
 #[unsafe(no_mangle)]
 pub extern "C" fn twox_rust_xxh32_finish(stream: &StateInMemory) -> Answer
-    ensures done { result.code ≡ DONE ↔ (stream.now.buffer_usage < 16) }
-    ensures refused { result.code ≡ NOT_A_STREAM ↔ (¬ (stream.now.buffer_usage < 16)) }
+    ensures done { result.code ≡ DONE ↔ (usage_of stream.now < 16) }
+    ensures refused { result.code ≡ NOT_A_STREAM ↔ (¬ (usage_of stream.now < 16)) }
     ensures message { (m : List ℕ) → result.code ≡ DONE → StandsFor (record_of stream.now) m
         → result.value ≡ xxh32 stream.now.seed m }
     ensures exact { result.code ≡ DONE → result.value ≡ finish_value (record_of stream.now) }
     ensures none { result.code ≡ NOT_A_STREAM → result.value ≡ 0 }
 {
-    if stream.buffer_usage >= 16 {
+    if stream.usage() >= 16 {
         return Answer {
             code: NOT_A_STREAM,
             value: 0,
         };
     }
-    if stream.total_len < 16 {
+    if stream.total_len() < 16 {
         return Answer {
             code: DONE,
             value: u64::from(stream.finish()),
@@ -82,7 +82,7 @@ pub extern "C" fn twox_rust_xxh32_finish(stream: &StateInMemory) -> Answer
 // The hash where a stripe was taken: a call of its own, so that fewer bytes pay for no register that it keeps.
 #[inline(never)]
 fn finish_far(stream: &StateInMemory) -> Answer
-    requires { stream.now.buffer_usage < 16 }
+    requires { usage_of stream.now < 16 }
     ensures done { result.code ≡ DONE }
     ensures message { (m : List ℕ) → StandsFor (record_of stream.now) m
         → result.value ≡ xxh32 stream.now.seed m }

@@ -2,7 +2,7 @@
 
 ghost use Rattle.std.specs.Prelude.{◌≡◌, ◌↔◌, ◌<◌, ℕ, List, [], ◌++◌};
 ghost use Rattle.twox_plain.specs.Record64.{StandsFor, IsReachable, initial_record, after_write, finish_value};
-ghost use Rattle.twox_plain.specs.StateInMemory64.{record_of};
+ghost use Rattle.twox_plain.specs.StateInMemory64.{record_of, usage_of};
 ghost use Rattle.twox_plain.specs.Xxh64.{xxh64};
 
 use crate::Answer;
@@ -25,27 +25,27 @@ pub extern "C" fn twox_rust_xxh64_start(stream: &mut StateInMemory, seed: u64)
     ensures record { record_of stream.new ≡ initial_record seed }
     ensures empty { StandsFor (record_of stream.new) [] }
     ensures seed { stream.new.seed ≡ seed }
-    ensures in_range { stream.new.buffer_usage < 32 }
+    ensures in_range { usage_of stream.new < 32 }
 {
     *stream = StateInMemory::of_record(Hasher::with_seed(seed).to_state());
 }
 
 /// Takes the bytes of a piece after those taken before.
 ///
-/// `NOT_A_STREAM`: as many bytes wait as a stripe has, or more. The record stays as it was.
+/// `NOT_A_STREAM`: the record has no mark, or a stripe waits by it, or more. The record stays as it was.
 #[unsafe(no_mangle)]
 pub extern "C" fn twox_rust_xxh64_write(stream: &mut StateInMemory, input: &[u8]) -> u32
-    ensures done { result ≡ DONE ↔ (stream.old.buffer_usage < 32) }
-    ensures refused { result ≡ NOT_A_STREAM ↔ (¬ (stream.old.buffer_usage < 32)) }
+    ensures done { result ≡ DONE ↔ (usage_of stream.old < 32) }
+    ensures refused { result ≡ NOT_A_STREAM ↔ (¬ (usage_of stream.old < 32)) }
     ensures message { (m : List ℕ) → result ≡ DONE → StandsFor (record_of stream.old) m
         → StandsFor (record_of stream.new) (m ++ input.now) }
     ensures seed { stream.new.seed ≡ stream.old.seed }
     ensures exact { result ≡ DONE
         → record_of stream.new ≡ after_write (record_of stream.old) input.now }
-    ensures in_range { result ≡ DONE → stream.new.buffer_usage < 32 }
+    ensures in_range { result ≡ DONE → usage_of stream.new < 32 }
     ensures kept { result ≡ NOT_A_STREAM → stream.new ≡ stream.old }
 {
-    if input.len() < 32usize.saturating_sub(stream.buffer_usage) {
+    if input.len() < 32usize.saturating_sub(stream.usage()) {
         stream.add_piece(input);
         return DONE;
     }
@@ -55,17 +55,17 @@ pub extern "C" fn twox_rust_xxh64_write(stream: &mut StateInMemory, input: &[u8]
 // Adds a piece of any length, out of line, so that pieces that fill no stripe pay for no register that it keeps.
 #[inline(never)]
 fn write_far(stream: &mut StateInMemory, input: &[u8]) -> u32
-    ensures done { result ≡ DONE ↔ (stream.old.buffer_usage < 32) }
-    ensures refused { result ≡ NOT_A_STREAM ↔ (¬ (stream.old.buffer_usage < 32)) }
+    ensures done { result ≡ DONE ↔ (usage_of stream.old < 32) }
+    ensures refused { result ≡ NOT_A_STREAM ↔ (¬ (usage_of stream.old < 32)) }
     ensures message { (m : List ℕ) → result ≡ DONE → StandsFor (record_of stream.old) m
         → StandsFor (record_of stream.new) (m ++ input.now) }
     ensures seed { stream.new.seed ≡ stream.old.seed }
     ensures exact { result ≡ DONE
         → record_of stream.new ≡ after_write (record_of stream.old) input.now }
-    ensures in_range { result ≡ DONE → stream.new.buffer_usage < 32 }
+    ensures in_range { result ≡ DONE → usage_of stream.new < 32 }
     ensures kept { result ≡ NOT_A_STREAM → stream.new ≡ stream.old }
 {
-    if stream.buffer_usage >= 32 {
+    if stream.usage() >= 32 {
         return NOT_A_STREAM;
     }
     stream.add_piece(input);
@@ -74,17 +74,17 @@ fn write_far(stream: &mut StateInMemory, input: &[u8]) -> u32
 
 /// The hash of the bytes taken so far. More may be taken afterwards.
 ///
-/// `NOT_A_STREAM`: as many bytes wait as a stripe has, or more.
+/// `NOT_A_STREAM`: the record has no mark, or a stripe waits by it, or more.
 #[unsafe(no_mangle)]
 pub extern "C" fn twox_rust_xxh64_finish(stream: &StateInMemory) -> Answer
-    ensures done { result.code ≡ DONE ↔ (stream.now.buffer_usage < 32) }
-    ensures refused { result.code ≡ NOT_A_STREAM ↔ (¬ (stream.now.buffer_usage < 32)) }
+    ensures done { result.code ≡ DONE ↔ (usage_of stream.now < 32) }
+    ensures refused { result.code ≡ NOT_A_STREAM ↔ (¬ (usage_of stream.now < 32)) }
     ensures message { (m : List ℕ) → result.code ≡ DONE → StandsFor (record_of stream.now) m
         → result.value ≡ xxh64 stream.now.seed m }
     ensures exact { result.code ≡ DONE → result.value ≡ finish_value (record_of stream.now) }
     ensures none { result.code ≡ NOT_A_STREAM → result.value ≡ 0 }
 {
-    if stream.buffer_usage >= 32 {
+    if stream.usage() >= 32 {
         return Answer {
             code: NOT_A_STREAM,
             value: 0,
@@ -102,7 +102,7 @@ pub extern "C" fn twox_rust_xxh64_finish(stream: &StateInMemory) -> Answer
 // The hash where a stripe was taken: a call of its own, so that fewer bytes pay for no register that it keeps.
 #[inline(never)]
 fn finish_far(stream: &StateInMemory) -> Answer
-    requires { stream.now.buffer_usage < 32 }
+    requires { usage_of stream.now < 32 }
     ensures done { result.code ≡ DONE }
     ensures message { (m : List ℕ) → StandsFor (record_of stream.now) m
         → result.value ≡ xxh64 stream.now.seed m }

@@ -8,6 +8,7 @@ from ._types import Hasher, HasherType
 
 WORD = 1 << 64
 USAGE = 'The buffer usage does not match the total length'
+CORE = ('v1', 'v2', 'v3', 'v4')
 
 
 def text_of(hasher: Hasher) -> str:
@@ -80,21 +81,23 @@ def _with_fields(hasher: Hasher, layout: struct.Struct, *fields: Any) -> Hasher:
 
 class _Plain:
     """XXH32 and XXH64: a state stands for some bytes exactly where it is accepted, as `from_state` of the proved
-    hashers has it."""
+    hashers has it. In memory one field is the mark of a state and the number of bytes that wait."""
 
-    def __init__(self, bits: int, stripe: int, layout: str):
-        self.limit, self.stripe, self.layout = 1 << bits, stripe, struct.Struct(layout)
+    def __init__(self, bits: int, stripe: int, mark: bytes, layout: str, fields: str):
+        self.limit, self.stripe, self.mark = 1 << bits, stripe, int.from_bytes(mark, 'little')
+        self.layout, self.fields = struct.Struct(layout), fields.split()
 
     def record_of(self, memory: bytes) -> dict[str, Any]:
-        v1, seed, v2, total, v3, usage, v4, buffer = self.layout.unpack_from(memory)
-        core = {'v1': v1, 'v2': v2, 'v3': v3, 'v4': v4}
-        return {'buffer': list(buffer), 'buffer_usage': usage, 'core': core, 'seed': seed, 'total_len': total}
+        state = dict(zip(self.fields, self.layout.unpack_from(memory)))
+        core = {name: state[name] for name in CORE}
+        return {'buffer': list(state['buffer']), 'buffer_usage': state['marked_usage'] - self.mark, 'core': core,
+                'seed': state['seed'], 'total_len': state['total_len']}
 
     def hasher_of(self, kind: Any, record: dict[str, Any]) -> Hasher:
         buffer = bytes(_numbers(record.get('buffer'), self.stripe, self.stripe))
         usage, total = _number(record.get('buffer_usage')), _number(record.get('total_len'))
         members = _object(record.get('core'))
-        core = {name: _number(members.get(name), self.limit) for name in ('v1', 'v2', 'v3', 'v4')}
+        core = {name: _number(members.get(name), self.limit) for name in CORE}
         seed = _number(record.get('seed'), self.limit)
         # A length from 2^64 - 1 on is counted as that, so it says nothing of the bytes that wait.
         if usage >= self.stripe or total < WORD - 1 and usage != total % self.stripe:
@@ -102,8 +105,8 @@ class _Plain:
         hasher = kind(seed=seed)
         if total < self.stripe and core != self.record_of(hasher._memory())['core']:
             raise ValueError('The core does not match the seed')
-        return _with_fields(hasher, self.layout, core['v1'], seed, core['v2'], total, core['v3'], usage, core['v4'],
-                            buffer)
+        state = {**core, 'seed': seed, 'total_len': total, 'marked_usage': self.mark + usage, 'buffer': buffer}
+        return _with_fields(hasher, self.layout, *(state[name] for name in self.fields))
 
 
 class _Stream:
@@ -147,6 +150,7 @@ class _Stream:
 
 
 _FORMS: dict[HasherType, Union[_Plain, _Stream]] = {
-    xxh32: _Plain(32, 16, '<IIIxxxxQIxxxxQI16s'), xxh64: _Plain(64, 32, '<QQQQQQQ32s'), xxh3_64: _Stream(),
-    xxh3_128: _Stream(),
+    xxh32: _Plain(32, 16, b'XX32', '<5IQI16s', 'v1 seed v2 marked_usage v3 total_len v4 buffer'),
+    xxh64: _Plain(64, 32, b'XX64', '<5QI4xQ32s', 'v1 seed v2 total_len v3 marked_usage v4 buffer'),
+    xxh3_64: _Stream(), xxh3_128: _Stream(),
 }

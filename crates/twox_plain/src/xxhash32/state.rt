@@ -1,29 +1,34 @@
 //! A stream of XXH32: its accumulators, the bytes that wait for a stripe, and the length.
 
-ghost use Rattle.std.specs.Prelude.{◌≡◌, ℕ, ◌+◌, ◌<◌, ◌≤◌, List, ◌++◌, drop, length};
+ghost use Rattle.std.specs.Prelude.{◌≡◌, ℕ, ◌+◌, ◌-◌, ◌^◌, ◌<◌, ◌≤◌, List, ◌++◌, drop, length, min};
 ghost use Rattle.twox_plain.specs.Xxh32.{xxh32};
-ghost use Rattle.twox_plain.specs.StateInMemory32.{AfterPiece, record_of, after_rest};
+ghost use Rattle.twox_plain.specs.StateInMemory32.{AfterPiece, record_of, usage_of, total_of, after_rest};
 
 use super::rounds::{BYTES_IN_BLOCK, BYTES_IN_STRIPE, finish_with};
-use super::{Core, SavedState, StateInMemory};
-use crate::words::{IntoU64, copy_front, copy_short};
+use super::{Core, MARK, SavedState, StateInMemory};
+use crate::words::{Halves, IntoU64, copy_front, copy_short};
 
 impl StateInMemory {
     ghost use Rattle.twox_plain.specs.Record32.{StandsFor, after_write, finish_value};
 
     /// The record's fields in their places.
+    ///
+    /// The caller shows that less than a stripe waits.
     #[inline(always)]
     pub fn of_record(state: SavedState) -> StateInMemory
-        ensures { record_of result ≡ state }
+        requires { state.buffer_usage < 16 }
+        ensures record { record_of result ≡ state }
+        ensures in_range { usage_of result < 16 }
     {
         let buffer = state.buffer;
         StateInMemory {
             v1: state.core.v1,
             seed: state.seed,
             v2: state.core.v2,
-            total_len: state.total_len,
+            marked_usage: MARK + state.buffer_usage as u32,
             v3: state.core.v3,
-            buffer_usage: state.buffer_usage,
+            total_low: state.total_len.lower_half(),
+            total_high: state.total_len.upper_half(),
             v4: state.core.v4,
             buffer,
         }
@@ -36,12 +41,51 @@ impl StateInMemory {
     {
         let buffer = self.buffer;
         SavedState {
-            total_len: self.total_len,
+            total_len: self.total_len(),
             seed: self.seed,
             core: self.core(),
             buffer,
-            buffer_usage: self.buffer_usage,
+            buffer_usage: self.usage(),
         }
+    }
+
+    /// How many bytes of the buffer wait. Memory without the mark seems to have a stripe or more.
+    #[inline(always)]
+    pub fn usage(&self) -> usize
+        ensures { result ≡ usage_of self.now }
+    {
+        self.marked_usage.wrapping_sub(MARK) as usize
+    }
+
+    // Sets how many bytes of the buffer wait, and with it the mark.
+    #[inline(always)]
+    fn set_usage(&mut self, usage: usize)
+        requires { usage ≤ 16 }
+        ensures { self.new ≡ record self.old { marked_usage = MARK + usage } }
+    {
+        self.marked_usage = MARK + usage as u32;
+    }
+
+    /// The number of bytes that were hashed, or `u64::MAX` where there were more.
+    #[inline(always)]
+    pub fn total_len(&self) -> u64
+        ensures { result ≡ total_of self.now }
+    {
+        (self.total_high.into_u64() << 32) + self.total_low.into_u64()
+    }
+
+    // Adds to the number of bytes that were hashed.
+    #[inline(always)]
+    fn count(&mut self, more: usize)
+        ensures total { total_of self.new ≡ min (total_of self.old + more) (2 ^ 64 - 1) }
+        ensures others { self.new ≡ record self.old {
+          total_low = self.new.total_low;
+          total_high = self.new.total_high;
+        } }
+    {
+        let total = self.total_len().saturating_add(more.into_u64());
+        self.total_low = total.lower_half();
+        self.total_high = total.upper_half();
     }
 
     // The accumulators.
@@ -74,12 +118,12 @@ impl StateInMemory {
     /// The caller shows that less than a stripe waits.
     #[inline(always)]
     pub fn add_piece(&mut self, input: &[u8])
-        requires { self.old.buffer_usage < 16 }
+        requires { usage_of self.old < 16 }
         ensures exact { record_of self.new ≡ after_write (record_of self.old) input.now }
         ensures message { (m : List ℕ)
             → StandsFor (record_of self.old) m → StandsFor (record_of self.new) (m ++ input.now) }
         ensures seed { self.new.seed ≡ self.old.seed }
-        ensures in_range { self.new.buffer_usage < 16 }
+        ensures in_range { usage_of self.new < 16 }
     {
         self.take_piece::<true>(input);
     }
@@ -87,13 +131,13 @@ impl StateInMemory {
     // A piece that only is kept comes first, with one test.
     #[inline(always)]
     pub(super) fn take_piece<const BLOCKS: bool>(&mut self, input: &[u8])
-        requires { self.old.buffer_usage < 16 }
+        requires { usage_of self.old < 16 }
         ensures { AfterPiece self.old input.now self.new }
     {
-        let used = self.buffer_usage;
+        let used = self.usage();
         if input.len() < BYTES_IN_STRIPE - used {
-            self.total_len = self.total_len.saturating_add(input.len().into_u64());
-            self.buffer_usage = used + input.len();
+            self.count(input.len());
+            self.set_usage(used + input.len());
             copy_short(&mut self.buffer[used..used + input.len()], input);
             return;
         }
@@ -108,8 +152,8 @@ impl StateInMemory {
     #[inline(always)]
     #[tactic(auto, unfolding(crate::specs::StateInMemory32::after_rest))]
     fn add_stripes(&mut self, input: &[u8])
-        requires less { self.old.buffer_usage < 16 }
-        requires fills { 16 ≤ self.old.buffer_usage + length input.now }
+        requires less { usage_of self.old < 16 }
+        requires fills { 16 ≤ usage_of self.old + length input.now }
         ensures { AfterPiece self.old input.now self.new }
     {
         let rest = self.fill_buffer(input);
@@ -122,8 +166,8 @@ impl StateInMemory {
     #[inline(never)]
     #[tactic(auto, unfolding(crate::specs::StateInMemory32::after_rest))]
     fn add_blocks(&mut self, input: &[u8])
-        requires less { self.old.buffer_usage < 16 }
-        requires fills { 16 ≤ self.old.buffer_usage + length input.now }
+        requires less { usage_of self.old < 16 }
+        requires fills { 16 ≤ usage_of self.old + length input.now }
         ensures { AfterPiece self.old input.now self.new }
     {
         let rest = self.fill_buffer(input);
@@ -135,14 +179,14 @@ impl StateInMemory {
     // Counts a piece that fills a stripe, takes that stripe if its first bytes wait in the buffer, and gives the rest.
     #[inline(always)]
     fn fill_buffer<'d>(&mut self, input: &'d [u8]) -> &'d [u8]
-        requires less { self.old.buffer_usage < 16 }
-        requires fills { 16 ≤ self.old.buffer_usage + length input.now }
+        requires less { usage_of self.old < 16 }
+        requires fills { 16 ≤ usage_of self.old + length input.now }
         ensures piece { after_rest (record_of self.new) result.now
             ≡ after_write (record_of self.old) input.now }
         ensures seed { self.new.seed ≡ self.old.seed }
     {
-        self.total_len = self.total_len.saturating_add(input.len().into_u64());
-        let before = self.buffer_usage;
+        self.count(input.len());
+        let before = self.usage();
         let mut taken = 0;
         if before > 0 {
             let room = BYTES_IN_STRIPE - before;
@@ -165,12 +209,12 @@ impl StateInMemory {
           v3 = core.v3;
           v4 = core.v4;
           buffer = rest.now ++ drop (length rest.now) self.old.buffer;
-          buffer_usage = length rest.now;
+          marked_usage = MARK + length rest.now;
         } }
     {
         self.set_core(core);
         copy_front(&mut self.buffer, rest);
-        self.buffer_usage = rest.len();
+        self.set_usage(rest.len());
     }
 
     /// The hash of the bytes so far.
@@ -179,16 +223,16 @@ impl StateInMemory {
     #[tactic(auto, using(crate::proofs::Message32::finish_value_of_message))]
     #[inline(always)]
     pub fn finish(&self) -> u32
-        requires { self.now.buffer_usage < 16 }
+        requires { usage_of self.now < 16 }
         ensures message { (m : List ℕ) → StandsFor (record_of self.now) m
             → result ≡ xxh32 self.now.seed m }
         ensures exact { result ≡ finish_value (record_of self.now) }
     {
         finish_with(
             self.seed,
-            self.total_len,
+            self.total_len(),
             &self.core(),
-            &self.buffer[..self.buffer_usage],
+            &self.buffer[..self.usage()],
         )
     }
 }

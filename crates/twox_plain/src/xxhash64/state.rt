@@ -2,19 +2,23 @@
 
 ghost use Rattle.std.specs.Prelude.{◌≡◌, ℕ, ◌+◌, ◌<◌, ◌≤◌, List, ◌++◌, drop, length};
 ghost use Rattle.twox_plain.specs.Xxh64.{xxh64};
-ghost use Rattle.twox_plain.specs.StateInMemory64.{record_of};
+ghost use Rattle.twox_plain.specs.StateInMemory64.{record_of, usage_of};
 
 use super::rounds::{BYTES_IN_STRIPE, finish_with};
-use super::{Core, SavedState, StateInMemory};
+use super::{Core, MARK, SavedState, StateInMemory};
 use crate::words::{IntoU64, copy_front, copy_short};
 
 impl StateInMemory {
     ghost use Rattle.twox_plain.specs.Record64.{StandsFor, after_write, finish_value};
 
     /// The record's fields in their places.
+    ///
+    /// The caller shows that less than a stripe waits.
     #[inline(always)]
     pub fn of_record(state: SavedState) -> StateInMemory
-        ensures { record_of result ≡ state }
+        requires { state.buffer_usage < 32 }
+        ensures record { record_of result ≡ state }
+        ensures in_range { usage_of result < 32 }
     {
         let buffer = state.buffer;
         StateInMemory {
@@ -23,7 +27,7 @@ impl StateInMemory {
             v2: state.core.v2,
             total_len: state.total_len,
             v3: state.core.v3,
-            buffer_usage: state.buffer_usage,
+            marked_usage: MARK + state.buffer_usage as u32,
             v4: state.core.v4,
             buffer,
         }
@@ -40,8 +44,25 @@ impl StateInMemory {
             seed: self.seed,
             core: self.core(),
             buffer,
-            buffer_usage: self.buffer_usage,
+            buffer_usage: self.usage(),
         }
+    }
+
+    /// How many bytes of the buffer wait. Memory without the mark seems to have a stripe or more.
+    #[inline(always)]
+    pub fn usage(&self) -> usize
+        ensures { result ≡ usage_of self.now }
+    {
+        self.marked_usage.wrapping_sub(MARK) as usize
+    }
+
+    // Sets how many bytes of the buffer wait, and with it the mark.
+    #[inline(always)]
+    fn set_usage(&mut self, usage: usize)
+        requires { usage ≤ 32 }
+        ensures { self.new ≡ record self.old { marked_usage = MARK + usage } }
+    {
+        self.marked_usage = MARK + usage as u32;
     }
 
     // The accumulators.
@@ -74,18 +95,18 @@ impl StateInMemory {
     /// The caller shows that less than a stripe waits.
     #[inline(always)]
     pub fn add_piece(&mut self, input: &[u8])
-        requires { self.old.buffer_usage < 32 }
+        requires { usage_of self.old < 32 }
         ensures exact { record_of self.new ≡ after_write (record_of self.old) input.now }
         ensures message { (m : List ℕ)
             → StandsFor (record_of self.old) m → StandsFor (record_of self.new) (m ++ input.now) }
         ensures seed { self.new.seed ≡ self.old.seed }
-        ensures in_range { self.new.buffer_usage < 32 }
+        ensures in_range { usage_of self.new < 32 }
     {
         // A piece that only is kept comes first, with one test.
-        let used = self.buffer_usage;
-        if input.len() < BYTES_IN_STRIPE - used {
+        let used = self.usage();
+        if used + input.len() < BYTES_IN_STRIPE {
             self.total_len = self.total_len.saturating_add(input.len().into_u64());
-            self.buffer_usage = used + input.len();
+            self.set_usage(used + input.len());
             copy_short(&mut self.buffer[used..used + input.len()], input);
             return;
         }
@@ -95,16 +116,16 @@ impl StateInMemory {
     // Adds a piece that fills a stripe.
     #[inline(always)]
     fn add_stripes(&mut self, input: &[u8])
-        requires less { self.old.buffer_usage < 32 }
-        requires fills { 32 ≤ self.old.buffer_usage + length input.now }
+        requires less { usage_of self.old < 32 }
+        requires fills { 32 ≤ usage_of self.old + length input.now }
         ensures exact { record_of self.new ≡ after_write (record_of self.old) input.now }
         ensures message { (m : List ℕ)
             → StandsFor (record_of self.old) m → StandsFor (record_of self.new) (m ++ input.now) }
         ensures seed { self.new.seed ≡ self.old.seed }
-        ensures in_range { self.new.buffer_usage < 32 }
+        ensures in_range { usage_of self.new < 32 }
     {
         self.total_len = self.total_len.saturating_add(input.len().into_u64());
-        let before = self.buffer_usage;
+        let before = self.usage();
         let mut taken = 0;
         if before > 0 {
             let room = BYTES_IN_STRIPE - before;
@@ -118,7 +139,7 @@ impl StateInMemory {
         let rest = core.write_many(&input[taken..]);
         self.set_core(core);
         copy_front(&mut self.buffer, rest);
-        self.buffer_usage = rest.len();
+        self.set_usage(rest.len());
     }
 
     /// The hash of the bytes so far.
@@ -127,7 +148,7 @@ impl StateInMemory {
     #[tactic(auto, using(crate::proofs::Message64::finish_value_of_message))]
     #[inline(always)]
     pub fn finish(&self) -> u64
-        requires { self.now.buffer_usage < 32 }
+        requires { usage_of self.now < 32 }
         ensures message { (m : List ℕ) → StandsFor (record_of self.now) m
             → result ≡ xxh64 self.now.seed m }
         ensures exact { result ≡ finish_value (record_of self.now) }
@@ -136,7 +157,7 @@ impl StateInMemory {
             self.seed,
             self.total_len,
             &self.core(),
-            &self.buffer[..self.buffer_usage],
+            &self.buffer[..self.usage()],
         )
     }
 }

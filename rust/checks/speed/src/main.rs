@@ -236,7 +236,7 @@ fn peers<'a>(
 use peer as theirs;
 
 extern "C" {
-    fn twox_rust_3_interface() -> u32;
+    fn twox_rust_4_interface() -> u32;
 }
 
 // Turns, or a count of calls.
@@ -258,7 +258,7 @@ fn main() {
         .map(|i: u32| (i.wrapping_mul(0x9e37_79b1) >> 24) as u8)
         .collect();
     // SAFETY: it takes nothing, and answers a number.
-    let empty: Call<'_> = Box::new(|_| unsafe { twox_rust_3_interface() }.into());
+    let empty: Call<'_> = Box::new(|_| unsafe { twox_rust_4_interface() }.into());
     row("an empty call\t", measure, &bytes, vec![empty]);
     if let Measure::Calls(_) = measure {
         row("no call\t", measure, &bytes, vec![Box::new(|_| 0)]);

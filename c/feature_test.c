@@ -1,0 +1,10 @@
+/* SPDX-License-Identifier: MIT */
+/* What a program asks who chooses by the processor itself. The calls of this library need no such choice. */
+#include "processor.h"
+#include "xxh_x86dispatch.h"
+
+int XXH_featureTest(void)
+{
+    struct features here = features_here();
+    return has_avx512(here) ? XXH_AVX512 : has_avx2(here) ? XXH_AVX2 : XXH_SSE2;
+}

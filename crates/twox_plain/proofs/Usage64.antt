@@ -1,0 +1,8 @@
+-- The word of a record in memory that is the mark and how many bytes wait.
+use Rattle.std.proofs.Common.{◌≡◌, ℕ, ◌+◌, ◌≤◌, arith}
+use Rattle.std.specs.Int.{w32}
+use Rattle.twox_words.specs.Word.{wrap_sub}
+use Rattle.twox_plain.specs.declared.xxhash64.TheConstants.{MARK}
+
+pub usage_marked : (k : ℕ) → k ≤ 32 → wrap_sub w32 (MARK + k) MARK ≡ k
+usage_marked k small = omega arith
