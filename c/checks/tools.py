@@ -69,19 +69,24 @@ def proved_program(name, *flags):
     return program
 
 
-def hide_rt(room):
-    """Takes rt off PATH: a folder that holds it gives way to one with links to all else in it."""
+def path_without(room, hidden):
+    """PATH without a command: a folder that holds it gives way to one with links to all else in it."""
     folders = []
     for number, folder in enumerate(os.environ['PATH'].split(':')):
-        if os.path.lexists(os.path.join(folder, 'rt')):
-            links = os.path.join(room, f'commands-{number}')
+        if os.path.lexists(os.path.join(folder, hidden)):
+            links = os.path.join(room, f'commands-without-{hidden}-{number}')
             os.mkdir(links)
             for name in os.listdir(folder):
-                if name != 'rt':
+                if name != hidden:
                     os.symlink(os.path.join(folder, name), os.path.join(links, name))
             folder = links
         folders.append(folder)
-    os.environ['PATH'] = ':'.join(folders)
+    return ':'.join(folders)
+
+
+def hide_rt(room):
+    """Takes rt off PATH."""
+    os.environ['PATH'] = path_without(room, 'rt')
     if shutil.which('rt'):
         sys.exit('rt is on PATH still')
 
