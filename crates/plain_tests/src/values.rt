@@ -1,6 +1,7 @@
 //! Values of XXH32 and XXH64. Each expected value is one that the tests of the Rust crate `twox-hash` expect, one
 //! that the C library prints, or follows from the xxHash specification by hand.
 
+use twox_plain::by_stripes;
 use twox_plain::xxhash32::Hasher as XxHash32;
 use twox_plain::xxhash64::Hasher as XxHash64;
 
@@ -83,9 +84,9 @@ fn values_of_64_bits(rt: HostRuntime) {
 #[test]
 fn values_of_32_bits_by_stripes(rt: HostRuntime) {
     let hundred: [u8; 100] = bytes_from_0();
-    assert!(rt; XxHash32::oneshot_by_stripes(0, &hundred) == 0x7f89_ba44);
+    assert!(rt; by_stripes::oneshot(0, &hundred) == 0x7f89_ba44);
     let mut hasher = XxHash32::with_seed(OTHER_SEED_32);
-    hasher.write_by_stripes(&hundred);
+    by_stripes::write(&mut hasher, &hundred);
     assert!(rt; hasher.finish_32() == 0x6d2f_6c17);
 }
 

@@ -15,6 +15,7 @@ ghost use Rattle.twox_exports.specs.StateValue.{state_value_64, state_value_128}
 ghost use Rattle.twox_core.specs.InRange.{IsInRange};
 
 use crate::{DONE, NOT_A_STREAM, SECRET_TOO_SHORT, Wide, halves};
+use twox_core::short_pieces::keep_few;
 use twox_hash::words::IntoU64;
 use twox_hash::xxhash3::{
     BUFFERED_BYTES, CUTOFF, CoreState, Finalize, Secret, Vector, default_secret,
@@ -55,7 +56,7 @@ pub fn write<V: Vector>(core: &mut CoreState, v: V, secret: &[u8], input: &[u8])
         return SECRET_TOO_SHORT;
     };
     if has_room(core, secret, input) {
-        core.keep_few(input);
+        keep_few(core, input);
         return DONE;
     }
     write_far(core, v, secret, input)

@@ -7,13 +7,14 @@ ghost use Rattle.twox_hash.specs.Record32.{StandsFor, IsReachable, initial_recor
 use twox_exports::{DONE, NOT_A_STREAM};
 use twox_hash::XxHash32;
 use twox_hash::xxhash32::SavedState;
+use twox_plain::by_stripes;
 
 /// The hash of all bytes at once.
 #[unsafe(no_mangle)]
 pub extern "C" fn twox_xxh32(seed: u32, input: &[u8]) -> u32
     ensures { result ≡ xxh32 seed input.now }
 {
-    XxHash32::oneshot_by_stripes(seed, input)
+    by_stripes::oneshot(seed, input)
 }
 
 /// The size of a stream's record in bytes.
@@ -50,7 +51,7 @@ pub extern "C" fn twox_xxh32_update(stream: &mut SavedState, input: &[u8]) -> u3
     let Ok(mut hasher) = XxHash32::from_state(*stream) else {
         return NOT_A_STREAM;
     };
-    hasher.write_by_stripes(input);
+    by_stripes::write(&mut hasher, input);
     *stream = hasher.to_state();
     DONE
 }

@@ -1,17 +1,15 @@
 //! Little-endian words of a slice, by absolute position, and what belongs to them: conversions that keep the
-//! value, the halves of a word, the chunks of a slice, and copies of short slices.
+//! value, the halves of a word, and the chunks of a slice.
 
 ghost use Rattle.std.specs.Prelude.{◌≡◌, ◌↔◌, ◌+◌, ◌-◌, ◌≤◌, ℕ, List, IsSome, IfSome, length};
 ghost use Rattle.std.specs.Int.{w32, w64};
 ghost use Rattle.twox_words.specs.Word.{word_at};
 
 mod chunks;
-mod copies;
 mod halves;
 mod widening;
 
 pub use chunks::{bp_as_chunks, bp_as_chunks_mut};
-pub use copies::{copy_front, copy_short, copy_up_to_128};
 pub use halves::Halves;
 pub use widening::{IntoU32, IntoU64, IntoU128};
 

@@ -6,7 +6,8 @@ ghost use Rattle.twox_plain.specs.StateInMemory32.{AfterPiece, record_of, usage_
 
 use super::rounds::{BYTES_IN_BLOCK, BYTES_IN_STRIPE, finish_with};
 use super::{Core, MARK, SavedState, StateInMemory};
-use crate::words::{Halves, IntoU64, copy_front, copy_short};
+use crate::words::{Halves, IntoU64};
+use twox_words::copies::{copy_front, copy_short};
 
 impl StateInMemory {
     ghost use Rattle.twox_plain.specs.Record32.{StandsFor, after_write, finish_value};

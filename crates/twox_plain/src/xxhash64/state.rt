@@ -6,7 +6,8 @@ ghost use Rattle.twox_plain.specs.StateInMemory64.{record_of, usage_of};
 
 use super::rounds::{BYTES_IN_STRIPE, finish_with};
 use super::{Core, MARK, SavedState, StateInMemory};
-use crate::words::{IntoU64, copy_front, copy_short};
+use crate::words::IntoU64;
+use twox_words::copies::{copy_front, copy_short};
 
 impl StateInMemory {
     ghost use Rattle.twox_plain.specs.Record64.{StandsFor, after_write, finish_value};

@@ -8,7 +8,8 @@ ghost use Rattle.twox_core.specs.Stripes.{current_stripe_of};
 use super::taken_stripes::TakenStripes;
 use crate::xxhash3::parts::array_at;
 use crate::xxhash3::{CUTOFF, DEFAULT_SEED, Finalize, Secret, Vector, default_secret};
-use twox_words::words::{IntoU64, copy_short, copy_up_to_128};
+use twox_words::copies::{copy_short, copy_up_to_128};
+use twox_words::words::IntoU64;
 
 /// How many bytes a stream keeps for later: whole stripes, and more than the greatest length that is hashed
 /// with no stripes.
@@ -110,10 +111,10 @@ impl CoreState {
         }
     }
 
-    /// Takes a piece of a few bytes that the buffer has room for, with no call, over whatever secret.
+    // Takes a piece of a few bytes that the buffer has room for, with no call, over whatever secret.
     #[tactic(auto, using(std::proofs::lemmas::Bool::Decides::nat_tests), unfolding(crate::specs::AfterWrite::state_after_write))]
     #[inline(always)]
-    pub fn keep_few(&mut self, input: &[u8])
+    pub(crate) fn keep_few(&mut self, input: &[u8])
         requires room { self.old.buffer_usage + length input.now ≤ 512 }
         requires few { length input.now ≤ 64 }
         ensures { (s : List ℕ) → self.new ≡ state_after_write s self.old input.now }
