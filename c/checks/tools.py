@@ -29,9 +29,14 @@ def four_hashes(file):
     return ''.join(f'{kind} {words[0] if kind != "3-64" else words[-1]}\n' for kind, words in hashes.items())
 
 
+def missing_packages(packages):
+    """The packages whose command or file is missing."""
+    return {package for name, package in packages.items() if not (shutil.which(name) or os.path.exists(name))}
+
+
 def install_packages(packages):
-    """Installs the packages whose command or file is missing."""
-    install({package for name, package in packages.items() if not (shutil.which(name) or os.path.exists(name))})
+    """Installs those that are missing."""
+    install(missing_packages(packages))
 
 
 def install(packages):

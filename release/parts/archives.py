@@ -14,6 +14,7 @@ PREFIX = 'usr/lib/twox-hash'
 EXAMPLES = tuple(f'examples/{name}' for name in ('c', 'cmake', 'cpp', 'go', 'java', 'python'))
 # The machines that the library for C and the Debian packages are for: as Linux, as Debian and as c/build name them.
 MACHINES = {'x86_64': ('amd64', 'x86-64'), 'aarch64': ('arm64', 'aarch64')}
+TOOLS = {'x86_64': '', 'aarch64': 'aarch64-linux-gnu-'}
 
 
 def new_files(folder, step):
@@ -48,7 +49,7 @@ def unpacked(commit, architecture):
 
 
 def debian(commit, made):
-    """The Debian packages, which the archives of the library and of the programs are taken from."""
+    """The Debian packages, which the archive of the programs is taken from."""
     names = []
     for architecture, target in MACHINES.values():
         words = [commit.path('c', 'package'), '--target', target, '--of-ci', '--provenance', f'{made}/PROVENANCE', made]
@@ -58,15 +59,30 @@ def debian(commit, made):
     return names
 
 
+def installed(commit, machine):
+    """The folder of the library that make installs, without what no program links to. Or None where no compiler is."""
+    tools, root = TOOLS[machine], os.path.join(commit.room, f'c-{machine}')
+    if not shutil.which(tools + 'gcc'):
+        print(f'no {tools}gcc: the library for {machine} is left out')
+        return None
+    must(['make', '-s', '-C', commit.path('c'), f'CC={tools}gcc', f'out=out/release-{machine}', f'DESTDIR={root}',
+          'PREFIX=/prefix', 'install'])
+    files = [path for path in tree_of(root).values() if not os.path.islink(path)]
+    must([tools + 'strip', '--strip-unneeded', '-R', '.comment', *(path for path in files if '.so.' in path)])
+    must([tools + 'strip', '--strip-debug', '--enable-deterministic-archives', '-R', '.comment',
+          *(path for path in files if path.endswith('.a'))])
+    return os.path.join(root, 'prefix')
+
+
 def library(commit, made):
     names = []
-    for machine, (architecture, _) in MACHINES.items():
-        files = {**documents(commit, made), 'README.md': words_of(commit, 'The library for C')}
-        for part in ('lib', 'include'):
-            files |= tree_of(os.path.join(unpacked(commit, architecture), part), part)
-        for part in EXAMPLES:
-            files |= tree_of(commit.path(part), part)
-        names += write_archive(commit, made, f'c-{machine}', files)
+    for machine in MACHINES:
+        folder = installed(commit, machine)
+        if folder:
+            files = {**documents(commit, made), 'README.md': words_of(commit, 'The library for C'), **tree_of(folder)}
+            for part in EXAMPLES:
+                files |= tree_of(commit.path(part), part)
+            names += write_archive(commit, made, f'c-{machine}', files)
     return names
 
 
@@ -102,13 +118,19 @@ def crate(commit, made):
     return [os.path.basename(path)]
 
 
+def python_machines(commit):
+    """The variables of the builds of wheels, for each machine that there is a compiler for."""
+    yield {}
+    if shutil.which(TOOLS['aarch64'] + 'gcc'):
+        root = debian_root(os.path.join(commit.room, 'python-arm'), 'libpython3.11-dev')
+        yield {'CC': TOOLS['aarch64'] + 'gcc', 'CFLAGS': f'-idirafter {root}/usr/include'}
+
+
 def python(commit, made):
     """The source package, and a wheel for each machine."""
     shutil.copy(os.path.join(made, 'PROVENANCE'), commit.path('python'))
-    root = debian_root(os.path.join(commit.room, 'python-arm'), 'libpython3.11-dev')
-    arm = {'CC': 'aarch64-linux-gnu-gcc', 'CFLAGS': f'-idirafter {root}/usr/include'}
     names = set()
-    for variables in ({}, arm):
+    for variables in python_machines(commit):
         must([commit.path('python', 'build'), '/usr/bin/python3'], env={**os.environ, **variables})
         for path in glob.glob(commit.path('python', 'out', '*')):
             shutil.copy(path, made)
@@ -145,4 +167,5 @@ def api(commit, made):
     return write_archive(commit, made, 'api', {**documents(commit, made), **tree_of(folder)})
 
 
-PARTS = (debian, library, programs, crate, python, node, page, api)
+PARTS_WITHOUT_RT = (library, crate, python, node, page, api)
+PARTS = (debian, programs, *PARTS_WITHOUT_RT)

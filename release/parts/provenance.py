@@ -35,7 +35,7 @@ def kit():
 
 def tools():
     """The first line that each compiler says of itself."""
-    names = ('gcc', 'aarch64-linux-gnu-gcc', 'ld', '/usr/bin/python3', 'cargo', 'npm')
+    names = filter(shutil.which, ('gcc', 'aarch64-linux-gnu-gcc', 'ld', '/usr/bin/python3', 'cargo', 'npm'))
     return [f'{os.path.basename(name)}: {must([name, "--version"]).splitlines()[0]}' for name in names]
 
 
@@ -74,10 +74,15 @@ def texts(commit):
     return sums(commit.tree, [name for name in names if name.endswith('.s')])
 
 
-def text(commit, log):
+UNPROVED = ['none: release/make --without-rt proves nothing. The texts and the modules below are those of the commit, which its',
+            'gate compares with what is proved; the programs and the Debian packages need the toolchain and are left out']
+
+
+def text(commit, log, without_rt):
     """PROVENANCE: what was packed, what proved and compiled it, and the SHA-256 of what it was made of."""
-    parts = {f'twox_hash {commit.version}': [f'commit {commit.name}', f'of {commit.date}'], 'Kit': kit(),
-             'Tools': tools(), **gate(log), 'Assembly text': texts(commit)}
+    parts = {f'twox_hash {commit.version}': [f'commit {commit.name}', f'of {commit.date}'],
+             'Kit': UNPROVED if without_rt else kit(), 'Tools': tools(), **gate(log), 'Assembly text': texts(commit),
+             'Modules': sums(commit.tree, ['web/twox_hash.wasm', 'web/twox_hash_simd.wasm'])}
     return '\n'.join('\n'.join([title, *(f'  {line}' for line in lines), '']) for title, lines in parts.items())
 
 
