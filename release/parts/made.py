@@ -4,6 +4,7 @@ import os
 import re
 import shutil
 import subprocess
+import tempfile
 import zipfile
 
 from packing import read_tar
@@ -12,6 +13,7 @@ from tools import TOP, must
 
 # What makes the texts, and for which targets.
 TEXTS = {'c/build': ('x86-64', 'aarch64'), 'rust/build-library': ('x86-64', 'aarch64', 'riscv64', 'windows', 'arm')}
+PLAIN_PATH = 'PATH=/usr/sbin:/usr/bin:/sbin:/bin'
 MAKE = os.path.join(TOP, 'release', 'make')
 
 
@@ -100,6 +102,34 @@ def change_is_noticed(room, folder):
     return os.path.basename(path)
 
 
+def members(path):
+    """What an archive holds, but for what says of what it was made."""
+    if path.endswith('.whl'):
+        with zipfile.ZipFile(path) as archive:
+            found = {name: archive.read(name) for name in archive.namelist()}
+    elif path.endswith(('.gz', '.tgz', '.crate')):
+        found = read_tar(path)
+    else:
+        with open(path, 'rb') as file:
+            found = {'': file.read()}
+    return {name: data for name, data in found.items() if os.path.basename(name) not in ('PROVENANCE', 'RECORD')}
+
+
+def plain_one_is_the_same(folder):
+    """release/make --without-rt in a clone, by a user who may install nothing and has no rt: all that it makes is as in the
+    whole release, but for PROVENANCE."""
+    with tempfile.TemporaryDirectory(prefix='twox-plain-') as place:
+        must(['git', 'clone', '-q', TOP, f'{place}/clone'])
+        must(['chown', '-R', 'nobody', place])
+        must(['runuser', '-u', 'nobody', '--', 'env', f'HOME={place}', f'TMPDIR={place}', PLAIN_PATH,
+              f'{place}/clone/release/make', '--without-rt', f'{place}/made'])
+        names = sorted(set(os.listdir(f'{place}/made')) - {'PROVENANCE', 'SHA256SUMS'})
+        other = [name for name in names if not os.path.exists(f'{folder}/{name}')
+                 or members(f'{place}/made/{name}') != members(f'{folder}/{name}')]
+    want(names and not other, f'other than the whole release has them: {", ".join(other)}')
+    return f'{len(names)} files'
+
+
 def provenances(room, path):
     """The files of that name in an archive."""
     if path.endswith('.whl'):
@@ -132,3 +162,4 @@ def check_all(report, room, folder):
     report.attempt('SHA256SUMS', sums_agree, folder)
     report.attempt('a changed byte is noticed', change_is_noticed, room, folder)
     report.attempt('PROVENANCE in each archive', has_provenance, room, folder)
+    report.attempt('the same without rt, by a user who may install nothing', plain_one_is_the_same, folder)
