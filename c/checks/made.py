@@ -1,4 +1,4 @@
-"""What programs make of the installed library by themselves: states that they lay out, and a choice by the processor."""
+"""What programs make of the installed library by themselves: states that they lay out, a choice by the processor."""
 import os
 import shutil
 import subprocess
@@ -49,6 +49,6 @@ def check_all(report, built, paths):
     headers = {'theirs': their_header(built.room), 'ours': built.include}
     for compiler in ('gcc', 'clang'):
         for name, folder in headers.items():
-            report.attempt(f'states of a program by {compiler} and the header of {name}', own_states_agree, built, paths,
-                           compiler, folder)
+            report.attempt(f'states of a program by {compiler} and the header of {name}', own_states_agree, built,
+                           paths, compiler, folder)
     report.attempt('XXH_featureTest', features_are_known, built)
