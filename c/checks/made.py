@@ -8,6 +8,19 @@ from sides import THEIRS
 from tools import C, must
 
 HEADER = '/usr/include/xxhash.h'
+# The word comes after the header was included once, as where another header includes it.
+IN_CPP = '''#include <xxhash.h>
+#define XXH_STATIC_LINKING_ONLY
+#include <xxhash.h>
+int main()
+{
+    XXH32_state_t first;
+    XXH64_state_t second;
+    XXH32_reset(&first, 7);
+    XXH64_reset(&second, 7);
+    return XXH32_digest(&first) != XXH32("", 0, 7) || XXH64_digest(&second) != XXH64("", 0, 7);
+}
+'''
 ASKS = '#include <xxh_x86dispatch.h>\nint main(void) { return XXH_featureTest(); }\n'
 
 
@@ -31,6 +44,12 @@ def their_header(room):
     return folder
 
 
+def states_in_cpp(built, compiler):
+    path = os.path.join(built.room, 'in-cpp')
+    must([compiler, '-x', 'c++', '-', '-I', built.include, '-x', 'none', built.archive, '-o', path], input=IN_CPP)
+    must([path])
+
+
 def features_are_known(built):
     """XXH_featureTest beside what the system says of its processor, and on others that qemu plays."""
     path = os.path.join(built.room, 'asks')
@@ -51,4 +70,6 @@ def check_all(report, built, paths):
         for name, folder in headers.items():
             report.attempt(f'states of a program by {compiler} and the header of {name}', own_states_agree, built,
                            paths, compiler, folder)
+    for compiler in ('g++', 'clang++'):
+        report.attempt(f'states of a program in C++ by {compiler}', states_in_cpp, built, compiler)
     report.attempt('XXH_featureTest', features_are_known, built)
