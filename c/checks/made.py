@@ -24,13 +24,14 @@ int main()
 ASKS = '#include <xxh_x86dispatch.h>\nint main(void) { return XXH_featureTest(); }\n'
 
 
-def own_states_agree(built, paths, compiler, folder):
+def own_states_agree(built, theirs, paths, compiler, folder, run=()):
     """States by a header, between bytes that have to stay, and memory that was never reset."""
     program = os.path.join(built.room, 'own-states')
     must([compiler, '-O2', '-Wall', '-Wextra', '-I', folder, os.path.join(C, 'checks', 'own_states.c'), '-o', program])
     found = []
     for path in paths:
-        done = subprocess.run([program, THEIRS, path], stdout=subprocess.PIPE, stderr=subprocess.STDOUT, text=True)
+        words = [*run, program, theirs, path]
+        done = subprocess.run(words, stdout=subprocess.PIPE, stderr=subprocess.STDOUT, text=True)
         want(done.returncode == 0, done.stdout[-300:])
         found.append(done.stdout.split()[0])
     return f'{", ".join(found)} compared'
@@ -69,7 +70,7 @@ def check_all(report, built, paths):
     for compiler in ('gcc', 'clang'):
         for name, folder in headers.items():
             report.attempt(f'states of a program by {compiler} and the header of {name}', own_states_agree, built,
-                           paths, compiler, folder)
+                           THEIRS, paths, compiler, folder)
     for compiler in ('g++', 'clang++'):
         report.attempt(f'states of a program in C++ by {compiler}', states_in_cpp, built, compiler)
     report.attempt('XXH_featureTest', features_are_known, built)
