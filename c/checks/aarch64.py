@@ -5,6 +5,7 @@ import tempfile
 
 import clients
 import headers
+import made
 import package
 import values
 from check import check_texts
@@ -123,6 +124,9 @@ def check_all(report, quick):
                        built.plain, count // 10)
         report.attempt('states after freeState', values.freed_states_are_refused, [*qemu, program], root + THEIRS,
                        built.plain, 1000)
+        for name, folder in (('theirs', made.their_header(room)), ('ours', built.include)):
+            report.attempt(f'states of a program by the header of {name}', made.own_states_agree, built, root + THEIRS,
+                           [built.plain], TOOLS + 'gcc', folder, qemu)
         report.attempt('calls of a reference with a wrong constant differ', wrong_reference_differs, built, qemu,
                        program, count // 100)
         report.attempt("the oracle's table, with the static library", table_agrees, built, qemu)

@@ -6,7 +6,7 @@ import sys
 import tempfile
 
 from report import want
-from tools import TOP, Built, clean_copy, install_packages, must
+from tools import C, TOP, Built, clean_copy, install_packages, must
 
 sys.path.append(os.path.join(TOP, 'release', 'parts'))
 from roots import TAKEN, new_base, new_root
@@ -126,6 +126,14 @@ def same_on_both(theirs, ours, stopping, script):
     return f'{len(found[1].splitlines())} lines are the same; a library that stops at each hash is noticed'
 
 
+def suits_says_yes(root):
+    """c/suits there says yes of lz4, whose library has states of XXH32 of its own, and of Python's binding."""
+    for path in ('/usr/bin/lz4', '/usr/lib/python3/dist-packages/lz4/frame/_frame.*.so'):
+        said = root.must(f'c/suits {path}')
+        want('/liblz4.so.1: yes: ' in said, f'{path}: {said[-300:]}')
+    return said.splitlines()[-1]
+
+
 class Made(Built):
     """The library that make installs from a clean copy."""
 
@@ -144,6 +152,9 @@ def laid_out(room):
     for name, text in (('frames.c', FRAMES_C), ('frames.py', PYTHON)):
         with open(os.path.join(taken, name), 'w') as file:
             file.write(text)
+    os.mkdir(os.path.join(taken, 'c'))
+    for name in ('suits', 'libxxhash.map'):
+        shutil.copy(os.path.join(C, name), os.path.join(taken, 'c'))
     os.mkdir(os.path.join(taken, 'ours'))
     shutil.copytree(built.folder, os.path.join(taken, 'ours', 'lib'), symlinks=True)
     os.mkdir(os.path.join(taken, 'stopping'))
@@ -162,5 +173,6 @@ def check_all(report):
             root.must(REPOSITORY)
             theirs, ours = Library(root, 'theirs'), Library(root, 'ours', f'{TAKEN}/ours/lib')
             stopping = Library(root, 'stopping', f'{TAKEN}/stopping')
+            report.attempt('Debian 13: c/suits', suits_says_yes, root)
             for name, script in PROGRAMS.items():
                 report.attempt(f'Debian 13: {name}', same_on_both, theirs, ours, stopping, script)

@@ -34,8 +34,8 @@ def lay_out(room, compiler):
         os.makedirs(os.path.join(first, BUILDS, name))
         must(['gcc', f'-DSET="{name}"', source, '-o', os.path.join(first, BUILDS, name, 'shows')])
     os.mkdir(os.path.join(first, 'bin'))
-    must([compiler, '-O2', '-Wall', '-Wextra', '-Werror', '-static-pie', '-DPROGRAM="shows"', os.path.join(C, 'launch.c'),
-          '-o', os.path.join(first, 'bin', 'launcher')])
+    must([compiler, '-O2', '-Wall', '-Wextra', '-Werror', '-static-pie', '-DPROGRAM="shows"',
+          os.path.join(C, 'launch.c'), '-o', os.path.join(first, 'bin', 'launcher')])
     os.symlink('launcher', os.path.join(first, 'bin', 'other-name'))
     os.rename(first, folder)
     return folder

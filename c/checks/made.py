@@ -1,4 +1,4 @@
-"""What programs make of the installed library by themselves: states that they lay out, and a choice by the processor."""
+"""What programs make of the installed library by themselves: states that they lay out, a choice by the processor."""
 import os
 import shutil
 import subprocess
@@ -8,16 +8,30 @@ from sides import THEIRS
 from tools import C, must
 
 HEADER = '/usr/include/xxhash.h'
+# The word comes after the header was included once, as where another header includes it.
+IN_CPP = '''#include <xxhash.h>
+#define XXH_STATIC_LINKING_ONLY
+#include <xxhash.h>
+int main()
+{
+    XXH32_state_t first;
+    XXH64_state_t second;
+    XXH32_reset(&first, 7);
+    XXH64_reset(&second, 7);
+    return XXH32_digest(&first) != XXH32("", 0, 7) || XXH64_digest(&second) != XXH64("", 0, 7);
+}
+'''
 ASKS = '#include <xxh_x86dispatch.h>\nint main(void) { return XXH_featureTest(); }\n'
 
 
-def own_states_agree(built, paths, compiler, folder):
+def own_states_agree(built, theirs, paths, compiler, folder, run=()):
     """States by a header, between bytes that have to stay, and memory that was never reset."""
     program = os.path.join(built.room, 'own-states')
     must([compiler, '-O2', '-Wall', '-Wextra', '-I', folder, os.path.join(C, 'checks', 'own_states.c'), '-o', program])
     found = []
     for path in paths:
-        done = subprocess.run([program, THEIRS, path], stdout=subprocess.PIPE, stderr=subprocess.STDOUT, text=True)
+        words = [*run, program, theirs, path]
+        done = subprocess.run(words, stdout=subprocess.PIPE, stderr=subprocess.STDOUT, text=True)
         want(done.returncode == 0, done.stdout[-300:])
         found.append(done.stdout.split()[0])
     return f'{", ".join(found)} compared'
@@ -29,6 +43,12 @@ def their_header(room):
     os.makedirs(folder)
     shutil.copy(HEADER, folder)
     return folder
+
+
+def states_in_cpp(built, compiler):
+    path = os.path.join(built.room, 'in-cpp')
+    must([compiler, '-x', 'c++', '-', '-I', built.include, '-x', 'none', built.archive, '-o', path], input=IN_CPP)
+    must([path])
 
 
 def features_are_known(built):
@@ -49,6 +69,8 @@ def check_all(report, built, paths):
     headers = {'theirs': their_header(built.room), 'ours': built.include}
     for compiler in ('gcc', 'clang'):
         for name, folder in headers.items():
-            report.attempt(f'states of a program by {compiler} and the header of {name}', own_states_agree, built, paths,
-                           compiler, folder)
+            report.attempt(f'states of a program by {compiler} and the header of {name}', own_states_agree, built,
+                           THEIRS, paths, compiler, folder)
+    for compiler in ('g++', 'clang++'):
+        report.attempt(f'states of a program in C++ by {compiler}', states_in_cpp, built, compiler)
     report.attempt('XXH_featureTest', features_are_known, built)

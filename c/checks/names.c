@@ -165,7 +165,8 @@ static void values_of_128(size_t length)
     want(!XXH128_isEqual(one, other), "XXH128_isEqual of two", length);
     want((XXH128_cmp(&one, &other) > 0) == (one.low64 > other.low64), "XXH128_cmp", length);
     THE(XXH128_canonicalFromHash)(&bytes, one);
-    want(bytes.digest[0] == one.high64 >> 56 && bytes.digest[15] == (one.low64 & 255), "XXH128_canonicalFromHash", length);
+    want(bytes.digest[0] == one.high64 >> 56 && bytes.digest[15] == (one.low64 & 255), "XXH128_canonicalFromHash",
+         length);
     want(same(THE(XXH128_hashFromCanonical)(&bytes), one), "XXH128_hashFromCanonical", length);
 }
 
@@ -173,7 +174,7 @@ static void values_of_128(size_t length)
 static void secrets(void)
 {
     want(THE(XXH3_generateSecret)(secret, sizeof secret, "custom", 6) == XXH_OK, "XXH3_generateSecret", 6);
-    want(XXH3_generateSecret(secret, XXH3_SECRET_SIZE_MIN - 1, "custom", 6) == XXH_ERROR, "XXH3_generateSecret of little", 6);
+    want(XXH3_generateSecret(secret, XXH3_SECRET_SIZE_MIN - 1, "custom", 6) == XXH_ERROR, "XXH3_generateSecret, few", 6);
     THE(XXH3_generateSecret_fromSeed)(secret, seed);
     want(XXH3_64bits_withSecret(input, sizeof input, SECRET) == XXH3_64bits_withSeed(input, sizeof input, seed),
          "XXH3_generateSecret_fromSeed", sizeof input);

@@ -5,9 +5,9 @@
  *
  * Each state of XXH32 and of XXH64 lies between bytes that have to stay, at every place of its alignment. Its digests
  * are compared with the reference's one-shots, with cuts and copies. Of memory that was never reset ours is asked: what
- * debuggers, allocators and freed states leave is refused, and so is a word beside the mark. Memory whose word passes by
- * chance gives some value, and nothing beside it is read or written. It prints how much was compared, and answers 1
- * where something differs. */
+ * debuggers and allocators leave is refused, and so is a word beside the mark. Memory whose word passes by chance gives
+ * some value, and nothing beside it is read or written: it lies beside memory that nobody may read too. It prints how
+ * much was compared, and answers 1 where something differs. */
 #define XXH_STATIC_LINKING_ONLY
 #include <dlfcn.h>
 #include <stdalign.h>
@@ -15,6 +15,8 @@
 #include <stdio.h>
 #include <stdlib.h>
 #include <string.h>
+#include <sys/mman.h>
+#include <unistd.h>
 #include <xxhash.h>
 
 _Static_assert(sizeof(XXH32_state_t) == 48 && alignof(XXH32_state_t) == 4, "XXH32_state_t");
@@ -64,6 +66,17 @@ static int stays(const struct room *room, const void *state, size_t size)
     for (size_t i = 0; i < sizeof room->bytes; i++)
         if ((i < at || i >= at + size) && room->bytes[i] != STAYS) return 0;
     return 1;
+}
+
+/* A page between two that nobody may read. */
+static unsigned char *lone_page(size_t size)
+{
+    unsigned char *pages = mmap(0, 3 * size, PROT_NONE, MAP_PRIVATE | MAP_ANONYMOUS, -1, 0);
+    if (pages == MAP_FAILED || mprotect(pages + size, size, PROT_READ | PROT_WRITE)) {
+        fprintf(stderr, "own_states: no memory\n");
+        exit(2);
+    }
+    return pages + size;
 }
 
 /* The calls of a kind, and what is tried of them. `place` is where its word of the mark lies. */
@@ -118,12 +131,16 @@ static int stays(const struct room *room, const void *state, size_t size)
         } \
     } \
     /* A word of the mark and a number of bytes, in memory of any other bytes. */ \
-    static void word_##bits(struct calls_##bits by, struct room *room, size_t at, int usage) \
+    static void put_word_##bits(unsigned char *state, int usage) \
     { \
-        unsigned char *state = room->bytes + at; \
         uint32_t word = mark + (uint32_t)usage; \
         for (size_t i = 0; i < sizeof(XXH##bits##_state_t); i++) state[i] = (unsigned char)random_word(); \
         memcpy(state + place, &word, sizeof word); \
+    } \
+    static void word_##bits(struct calls_##bits by, struct room *room, size_t at, int usage) \
+    { \
+        unsigned char *state = room->bytes + at; \
+        put_word_##bits(state, usage); \
         if (usage < 0 || usage >= stripe) { \
             refused_##bits(by, room, at, "XXH" #bits " of a word beside the mark"); \
             return; \
@@ -132,10 +149,24 @@ static int stays(const struct room *room, const void *state, size_t size)
         by.digest((void *)state); \
         want(stays(room, state, sizeof(XXH##bits##_state_t)), "what lies beside XXH" #bits " of a word that passes"); \
     } \
+    /* Such memory at both ends of a page, by which other memory can't be read. */ \
+    static void lone_##bits(struct calls_##bits by) \
+    { \
+        size_t size = (size_t)sysconf(_SC_PAGESIZE); \
+        unsigned char *page = lone_page(size), *ends[] = { page, page + size - sizeof(XXH##bits##_state_t) }; \
+        for (int try = 0; try < 2000; try++) { \
+            unsigned char *state = ends[try % 2]; \
+            put_word_##bits(state, (int)(random_word() % (stripe + 4)) - 2); \
+            by.update((void *)state, input, random_word() % 100); \
+            by.digest((void *)state); \
+        } \
+        munmap(page - size, 3 * size); \
+    } \
     static void try_##bits(const char *reference, const char *ours) \
     { \
         struct calls_##bits by = calls_of_##bits(reference, ours); \
         struct room room, other; \
+        lone_##bits(by); \
         for (size_t at = BESIDE; at < BESIDE + 64; at += alignof(XXH##bits##_state_t)) { \
             fill(&room), fill(&other); \
             for (int round = 0; round < 50; round++) stream_##bits(by, &room, &other, at, round % 4 ? 20 : 300); \

@@ -90,7 +90,8 @@ def own_states(room):
     program, library = programs.with_library('by path', 'a folder')
     verdict_is('no', program, of=library)
     nobody = programs.compiled('libnobody.so', 'void XXH_nobody(void) {}\n', '-shared', '-fPIC')
-    verdict_is('no', programs.compiled('foreign name', 'void XXH_nobody(void);\nint main(void) { XXH_nobody(); }\n', nobody))
+    calls_nobody = 'void XXH_nobody(void);\nint main(void) { XXH_nobody(); }\n'
+    verdict_is('no', programs.compiled('foreign name', calls_nobody, nobody))
     return 'two kinds yes, XXH3 no, also in a library by path; another name no'
 
 

@@ -245,6 +245,7 @@ def check_x86(report, copy, room, has_v3, examples):
         report.attempt(f'the launcher of two builds by {compiler}', launcher.launches, room, has_v3, compiler)
     suits.check_all(report, room)
     program = values.calls_program(built, 'calls')
+    report.attempt('states after freeState', values.freed_states_are_refused, [program], THEIRS, built.plain, 1000)
     for path in paths:
         report.attempt(f'calls of {os.path.relpath(path, built.folder)}', values.calls_agree, [program], THEIRS, path,
                        10000)
