@@ -109,8 +109,12 @@ export async function load(source = besideThisFile) {
   }
 }
 
+/** Where this file is: as a module it knows, and in a bundle that is a classic script it is where that is, or the page. */
+const here = import.meta.url ?? globalThis.document?.currentScript?.src ?? globalThis.location?.href;
+
 /** Bundlers find the modules by these very expressions, and put them beside what they write. */
 function besideThisFile(withVectors) {
+  if (import.meta.url === undefined) return withVectors ? "twox_hash_simd.wasm" : "twox_hash.wasm";
   return withVectors ? new URL("twox_hash_simd.wasm", import.meta.url) : new URL("twox_hash.wasm", import.meta.url);
 }
 
@@ -127,10 +131,17 @@ async function instantiate(source) {
 async function bytesOf(source) {
   if (isBytes(source)) return ownView(source);
   if (typeof Response === "function" && source instanceof Response) return fetched(source);
-  // Where a bundle has no address of its own, a name counts from the page.
-  const url = new URL(source, import.meta.url ?? globalThis.location?.href);
+  const url = addressOf(source);
   if (url.protocol === "file:") throw new Error(`${url} is a file, which node.js reads and a page can't`);
   return fetched(await fetch(url));
+}
+
+function addressOf(source) {
+  try {
+    return new URL(source, here);
+  } catch (error) {
+    throw new Error(`${wordOr(source, nameOf(source))} is no address here: hand load() the module's bytes, or take twox_hash/inline`, { cause: error });
+  }
 }
 
 async function fetched(response) {
