@@ -1,4 +1,4 @@
-"""The build of the package, as pip and build ask for it (PEP 517): it takes Python, a C compiler and nothing else, so
+"""The build of the package, as pip and build ask for it (PEP 517): it takes Python with its headers and a C compiler, so
 `pip install .` works without a network.
 
 The proved code is assembly text. In the repository that is c/asm; a source package has copies in its folder proved/.

@@ -31,9 +31,13 @@ function fieldInWords(wanted, done, same, all) {
   if (all === 0) return "There is nothing to compare it with yet.";
   if (done.length === 0) return "There is no digest to compare it with yet.";
   const left = done.length < all ? ` ${inThousands(all - done.length)} more have no digest.` : "";
-  if (same.length === 0) return `Different: ${done.length === 1 ? `no digest of ${done[0].name}` : `none of the ${inThousands(done.length)}`} is this one.${left}`;
+  if (same.length === 0) return `Different: ${done.length === 1 ? `no digest of ${done[0].name}` : `none of the ${inThousands(done.length)}`} is this one.${left}${otherInWords(wanted)}`;
   const others = done.length > same.length ? ` Different from ${counted(done.length - same.length, "other")}.` : "";
   return `Same: ${NAMES[sameKind(wanted, same[0].digests)]} of ${same.map(({ name }) => name).join(", ")}.${others}${left}`;
+}
+
+function otherInWords({ digits, mayBe }) {
+  return mayBe ? ` ${digits.length} digits may also be ${mayBe}, which this page doesn't compute.` : "";
 }
 
 function verdictOf(wanted, card, where) {
@@ -150,11 +154,12 @@ function matched(entries, cards, listName) {
   const taken = new Set(found);
   const byLast = grouped(cards.filter((card) => !taken.has(card)), ({ name }) => lastOf(name));
   const left = grouped(entries.filter((_, i) => !found[i]), ({ name }) => lastOf(name));
+  // Where two files or two lines of other paths have one name, none is guessed.
+  const isClear = ([last, same]) => byLast.get(last)?.length === 1 && new Set(same.map(({ name }) => plain(name))).size === 1;
+  const clear = new Map([...left].filter(isClear).map(([last]) => [last, byLast.get(last)[0]]));
   return found.map((card, i) => {
-    const last = lastOf(entries[i].name);
-    // Where two files or two lines of other paths have one name, none is guessed.
-    const isClear = byLast.get(last)?.length === 1 && new Set(left.get(last)?.map(({ name }) => plain(name))).size === 1;
-    return card ?? (isClear && endAlike(entries[i].name, byLast.get(last)[0].name) ? byLast.get(last)[0] : undefined);
+    const only = clear.get(lastOf(entries[i].name));
+    return card ?? (only && endAlike(entries[i].name, only.name) ? only : undefined);
   });
 }
 

@@ -11,18 +11,23 @@ function byPath(found) {
   return found.sort((left, right) => (left.path < right.path ? -1 : 1));
 }
 
-/** Files of a drop. What can't be read has an `error` in place of a file. */
+/** Files of a drop. What can't be read has an `error` in place of a file, and what is none of both too. */
 export async function filesOfDrop({ items }) {
   // What was dropped is gone after the event, so all entries are asked for before the first wait.
   const entries = [...items].filter(({ kind }) => kind === "file").map((item) => {
     const entry = item.webkitGetAsEntry?.();
     return entry?.isDirectory ? entry : item.getAsFile() ?? entry;
   });
-  const found = await Promise.all(entries.map((entry) => (entry instanceof File ? [{ path: entry.name, file: entry }] : filesIn(entry))));
+  const found = await Promise.all(entries.map((entry, i) => (entry ? filesIn(entry) : [neither(`item ${i + 1} of the drop`)])));
   return byPath(found.flat());
 }
 
+function neither(path) {
+  return { path, error: new Error("It is neither a file nor a folder that this browser can read.") };
+}
+
 async function filesIn(entry) {
+  if (entry instanceof File) return [{ path: entry.name, file: entry }];
   const path = entry.fullPath.replace(/^\//, "");
   try {
     if (entry.isFile) return [{ path, file: await new Promise((resolve, reject) => entry.file(resolve, reject)) }];
@@ -39,6 +44,6 @@ async function childrenOf(folder) {
   for (;;) {
     const some = await new Promise((resolve, reject) => reader.readEntries(resolve, reject));
     if (some.length === 0) return all;
-    all.push(...some);
+    for (const entry of some) all.push(entry);
   }
 }

@@ -4,6 +4,12 @@
 /** The hashes that so many digits may be of. */
 const KINDS_BY_LENGTH = { 8: ["xxh32"], 16: ["xxh64", "xxh3_64"], 32: ["xxh3_128"] };
 
+/** Other hashes: what so many digits look like or may be, and names that people write before a digest. */
+const OTHERS = { 40: "SHA-1", 56: "SHA-224", 64: "SHA-256", 96: "SHA-384", 128: "SHA-512" };
+const MAY_BE = { 8: "a CRC-32", 32: "an MD5" };
+const OTHER_NAME = /^(md5|crc-?32c?|sha-?[0-9]{1,3}|blake[0-9]\w*)$/i;
+const COMPUTED = "this page computes XXH32, XXH64 and XXH3 alone.";
+
 /** The hashes that a name may stand for. */
 const KINDS_BY_NAME = { XXH32: ["xxh32"], XXH64: ["xxh64"], XXH128: ["xxh3_128"], XXH3: ["xxh3_64", "xxh3_128"] };
 
@@ -76,14 +82,25 @@ function turned(digits) {
   return (digits.match(/../g) ?? []).reverse().join("");
 }
 
-/** The digest in what somebody pasted, with or without a name beside it; an error where there is none. */
+/**
+ * The digest in what somebody pasted, with or without a name beside it; an error where there is none. `mayBe` says what
+ * else it may be, where no name says that it is ours.
+ */
 export function readExpected(words) {
+  const expected = readPasted(words);
+  return { ...expected, mayBe: /XXH/i.test(words) ? undefined : MAY_BE[expected.digits.length] };
+}
+
+function readPasted(words) {
   const line = readLine(words.trim());
   // Who pastes the line of a tool that knows no prefix may mean XXH3.
   if (line) return line.kinds[0] === "xxh64" && !words.includes("XXH64") ? { ...line, kinds: KINDS_BY_LENGTH[16] } : line;
   const parts = words.split(/[\s:=,()*]+/).filter(Boolean);
   const digits = parts.map((part) => part.replace(/^(0x|XXH3_)/i, "")).find((part) => /^[0-9a-f]{8,}$/i.test(part));
   const name = parts.map((part) => part.match(/^(XXH32|XXH64|XXH128|XXH3)(?![0-9])/i)?.[1].toUpperCase()).find(Boolean);
+  const other = parts.find((part) => OTHER_NAME.test(part));
+  if (other && digits) throw new Error(`This is a digest of ${other}; ${COMPUTED}`);
+  if (OTHERS[digits?.length]) throw new Error(`${digits.length} digits: this looks like ${OTHERS[digits.length]}; ${COMPUTED}`);
   if (!KINDS_BY_LENGTH[digits?.length]) throw new Error("This is no digest: one has 8, 16 or 32 hexadecimal digits.");
   const kinds = KINDS_BY_LENGTH[digits.length].filter((kind) => KINDS_BY_NAME[name]?.includes(kind) ?? true);
   if (!kinds.length) throw new Error(`${name} has another number of digits than these ${digits.length}.`);

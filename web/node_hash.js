@@ -4,11 +4,12 @@ import { Transform } from "node:stream";
 import { Stream, TwoxHashError, toBytes } from "./twox_hash.js";
 
 /**
- * A hash that is updated, or that a stream is piped into. As with `crypto.Hash` its digest ends it, and is what can be
- * read of it once a stream that was piped into it has ended.
+ * A hash that is updated, or that a stream is piped into. As with `crypto.Hash` its digest ends it. Once a stream that was
+ * piped into it has ended, the digest is what can be read of it, and `digest` answers it too.
  */
 export class Hash extends Transform {
   #stream;
+  #value; // of a stream that was piped into it and has ended
 
   constructor(stream) {
     super();
@@ -21,17 +22,14 @@ export class Hash extends Transform {
    * @returns {this}
    */
   update(piece, encoding = "utf8") {
-    const isUtf8 = typeof piece !== "string" || /^utf-?8$/i.test(encoding);
-    this.#open().update(isUtf8 ? piece : Buffer.from(piece, encoding));
+    this.#open().update(typeof piece === "string" ? bytesOf(piece, encoding) : piece);
     return this;
   }
 
   /** The digest, the highest byte first: as text in an encoding such as "hex", or as a Buffer. It ends the hash. */
   digest(encoding) {
-    const stream = this.#open();
-    const bytes = Buffer.from(toBytes(stream.digest(), stream.kind));
-    stream.free();
-    this.#stream = undefined;
+    const bytes = this.#value ?? this.#end();
+    this.#value = undefined;
     return encoding === undefined || encoding === "buffer" ? bytes : bytes.toString(encoding);
   }
 
@@ -45,12 +43,23 @@ export class Hash extends Transform {
     return this.#stream;
   }
 
+  #end() {
+    const stream = this.#open();
+    const bytes = Buffer.from(toBytes(stream.digest(), stream.kind));
+    stream.free();
+    this.#stream = undefined;
+    return bytes;
+  }
+
   _transform(piece, encoding, done) {
     this.#attempt(() => this.update(piece, encoding), done);
   }
 
   _flush(done) {
-    this.#attempt(() => this.push(this.digest()), done);
+    this.#attempt(() => {
+      this.#value = this.#end();
+      this.push(Buffer.from(this.#value));
+    }, done);
   }
 
   #attempt(call, done) {
@@ -61,6 +70,15 @@ export class Hash extends Transform {
       done(error);
     }
   }
+}
+
+/** Text as it is where it counts in UTF-8, and as the bytes that it stands for in another encoding. */
+function bytesOf(text, encoding) {
+  if (!Buffer.isEncoding(encoding) || /^utf-?8$/i.test(encoding)) return text;
+  if (/^hex$/i.test(encoding) && text.length % 2) {
+    throw new TwoxHashError("input", `These are ${text.length} hexadecimal digits, and a byte has two.`);
+  }
+  return Buffer.from(text, encoding);
 }
 
 /**

@@ -42,7 +42,28 @@ const checklists = [];
 const rows = new Rows($("list"), $("more-files"));
 
 /** The files to be hashed, first come first served. One that doesn't wait any more is passed over. */
-const queue = [];
+class Queue {
+  #cards = [];
+  #at = 0;
+
+  add(card) {
+    this.#cards.push(card);
+  }
+
+  /** The card whose turn it is, undefined where none waits. */
+  get first() {
+    while (this.#at < this.#cards.length && this.#cards[this.#at].state !== "waiting") this.#at += 1;
+    if (this.#at === this.#cards.length) this.clear();
+    return this.#cards[this.#at];
+  }
+
+  clear() {
+    this.#cards = [];
+    this.#at = 0;
+  }
+}
+
+const queue = new Queue();
 
 /** The cards of what is being hashed, by the number of the job. */
 const cards = new Map();
@@ -74,22 +95,23 @@ const list = {
     return this.isCompact && !isOpen ? [$("kind").value] : Object.keys(NAMES);
   },
 
+  /** Where another one waits before it, that one's turn says when to start. */
   enqueue(card) {
-    queue.push(card);
-    this.startNext();
+    queue.add(card);
+    if (queue.first === card) this.startNext();
   },
 
   /** Starts the next files, as far as there is room. With a wrong seed or secret, none until it is put right. */
   startNext() {
-    while (queue.length > 0 && queue[0].state !== "waiting") queue.shift();
-    if (queue.length === 0 || !hasRoomFor(queue[0])) return;
+    const card = queue.first;
+    if (!card || !hasRoomFor(card)) return;
     const key = readKey();
     if (key.wrong) {
       $("key").open = true;
-      queue[0].tell(`Waiting for ${key.wrong} to be right`);
+      card.tell(`Waiting for ${key.wrong} to be right`);
       return;
     }
-    queue.shift().start(key);
+    card.start(key);
     this.startNext();
   },
 
@@ -157,7 +179,7 @@ function compare() {
 function stopSearch() {
   if (foundDigest === $("expected").value) return;
   foundDigest = $("expected").value;
-  queue.length = 0;
+  queue.clear();
   for (const card of files.filter(({ state }) => state === "waiting")) {
     card.end("stopped", "Not hashed, since the expected digest was found");
   }
@@ -283,19 +305,17 @@ function removeText() {
 
 function hashAgain() {
   foundDigest = "";
-  for (const card of files) card.state = "waiting";
-  for (const card of files) card.show("Waiting");
-  queue.splice(0, queue.length, ...files);
-  list.startNext();
+  queue.clear();
+  for (const card of files) card.wait();
 }
 
 function stopAll() {
-  queue.length = 0;
+  queue.clear();
   for (const card of files.filter((card) => card.isBusy())) card.stop();
 }
 
 function clear() {
-  queue.length = 0;
+  queue.clear();
   for (const card of files.splice(0)) {
     if (card.state === "running") list.stop(card);
     list.forget(card);

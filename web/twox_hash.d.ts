@@ -60,8 +60,12 @@ export function isSupported(): boolean;
 /** Whether WebAssembly has vectors of 128 bits here, so that `load()` takes the faster of the two modules. */
 export function hasVectors(): boolean;
 
+/** What a class of the program's surroundings makes, where they have it: a program needs no types of a browser. */
+type Made<Name extends string> = typeof globalThis extends { [K in Name]: { prototype: infer T } } ? T : never;
+type Compiled = typeof globalThis extends { WebAssembly: { Module: { prototype: infer T } } } ? T : never;
+
 /** The WebAssembly module, or where it is. */
-export type Source = URL | string | Response | BufferSource | WebAssembly.Module;
+export type Source = string | Bytes | Made<"URL"> | Made<"Response"> | Compiled;
 
 /**
  * Makes the calls ready. A second call waits for the first one and reads nothing.
@@ -121,7 +125,7 @@ export class Stream<K extends Kind = Kind> {
    * @throws {TwoxHashError} `state` where no stream leads to these bytes, `secret` where it is another one
    */
   static load(saved: Bytes, options?: { secret?: Input }): Stream;
-  /** Gives the stream's memory back. Later calls of it are refused. */
+  /** Lets go what the stream holds, as is done too when it is collected. Later calls of it are refused. */
   free(): void;
 }
 

@@ -26,8 +26,14 @@ const CHUNK_BYTES = 128 * 1024;
 /** The unit in which the module's memory grows. */
 const PAGE_BYTES = 65536;
 
-/** The least room that is lent, in bytes. */
-const SMALLEST_ROOM = 256;
+/** What addresses are multiples of. */
+const ALIGNMENT = 256;
+
+/** How many streams of a family lie in the module's memory. */
+const PLACES = 64;
+
+/** A secret of at most as many bytes lies beside its stream. */
+const SHORT_SECRET_LENGTH = 256;
 
 /** The hashes. */
 export const KINDS = Object.freeze(["xxh32", "xxh64", "xxh3_64", "xxh3_128"]);
@@ -103,8 +109,12 @@ export async function load(source = besideThisFile) {
   }
 }
 
+/** Where this file is: as a module it knows, and in a bundle that is a classic script it is where that is, or the page. */
+const here = import.meta.url ?? globalThis.document?.currentScript?.src ?? globalThis.location?.href;
+
 /** Bundlers find the modules by these very expressions, and put them beside what they write. */
 function besideThisFile(withVectors) {
+  if (import.meta.url === undefined) return withVectors ? "twox_hash_simd.wasm" : "twox_hash.wasm";
   return withVectors ? new URL("twox_hash_simd.wasm", import.meta.url) : new URL("twox_hash.wasm", import.meta.url);
 }
 
@@ -119,12 +129,19 @@ async function instantiate(source) {
 }
 
 async function bytesOf(source) {
-  if (source instanceof ArrayBuffer || ArrayBuffer.isView(source)) return source;
+  if (isBytes(source)) return ownView(source);
   if (typeof Response === "function" && source instanceof Response) return fetched(source);
-  // Where a bundle has no address of its own, a name counts from the page.
-  const url = new URL(source, import.meta.url ?? globalThis.location?.href);
+  const url = addressOf(source);
   if (url.protocol === "file:") throw new Error(`${url} is a file, which node.js reads and a page can't`);
   return fetched(await fetch(url));
+}
+
+function addressOf(source) {
+  try {
+    return new URL(source, here);
+  } catch (error) {
+    throw new Error(`${wordOr(source, nameOf(source))} is no address here: hand load() the module's bytes, or take twox_hash/inline`, { cause: error });
+  }
 }
 
 async function fetched(response) {
@@ -134,50 +151,76 @@ async function fetched(response) {
 
 const encoder = new TextEncoder();
 
-/** The module's memory, lent in rooms whose sizes are powers of two. */
+/** Where the streams of a family lie that are used. The others keep their bytes themselves, so none has to be freed. */
+class Places {
+  constructor(memory, family) {
+    this.length = Number(memory.exports[`twox_${family}_stream_size`]());
+    this.update = memory.exports[`twox_${family}_update`];
+    this.all = Array.from({ length: PLACES }, () => ({ record: memory.take(this.length), secret: memory.take(SHORT_SECRET_LENGTH), stream: null }));
+    this.next = 0;
+    this.freed = null;
+  }
+
+  /** The place that was freed last, or that whose turn it is. */
+  take() {
+    const place = this.freed ?? this.all[this.next];
+    if (this.freed === null) this.next = (this.next + 1) % PLACES;
+    this.freed = null;
+    return place;
+  }
+
+  free(place) {
+    place.stream = null;
+    this.freed = place;
+  }
+}
+
+/** The module's memory: a value, a chunk of input, the places of streams, and at its end a secret, with which it grows. */
 class Room {
   constructor(exports) {
     this.exports = exports;
     this.end = Number(exports.__heap_base.value);
-    this.free = new Map();
+    this.size = 0;
     this.value = this.take(16);
     this.chunk = this.take(CHUNK_BYTES);
+    this.places = Object.fromEntries(["xxh32", "xxh64", "xxh3"].map((family) => [family, new Places(this, family)]));
+    this.secret = this.take(0);
+    this.secretThere = null;
+    this.look();
   }
 
   /** The bytes of the memory, of which a larger view is needed where it has grown. */
   get bytes() {
-    const { buffer } = this.exports.memory;
-    if (this.view?.buffer !== buffer) this.view = new Uint8Array(buffer);
+    if (this.view.buffer !== this.exports.memory.buffer) this.look();
     return this.view;
+  }
+
+  /** The chunk's bytes, over whose end nothing can be put. */
+  get chunkBytes() {
+    if (this.view.buffer !== this.exports.memory.buffer) this.look();
+    return this.chunkView;
+  }
+
+  look() {
+    this.view = new Uint8Array(this.exports.memory.buffer);
+    this.chunkView = this.view.subarray(this.chunk, this.chunk + CHUNK_BYTES);
   }
 
   /** The address of that many bytes, a multiple of 256. */
   take(length) {
-    const size = roomSize(length);
-    const given = this.free.get(size)?.pop();
-    if (given !== undefined) return given;
-    const start = Math.ceil(this.end / SMALLEST_ROOM) * SMALLEST_ROOM;
-    this.grow(start + size);
-    this.end = start + size;
+    const start = Math.ceil(this.end / ALIGNMENT) * ALIGNMENT;
+    this.end = start + length;
+    this.grow(this.end);
     return start;
   }
 
-  /** Takes back what `take` gave for that length. */
-  give(start, length) {
-    const size = roomSize(length);
-    if (!this.free.has(size)) this.free.set(size, []);
-    this.free.get(size).push(start);
-  }
-
-  /** Makes the memory at least that long. */
+  /** Makes the memory at least that long: by half of what there is, so that growing in small steps takes no longer. */
   grow(length) {
-    const pages = Math.ceil((length - this.exports.memory.buffer.byteLength) / PAGE_BYTES);
-    if (pages <= 0) return;
-    try {
-      this.exports.memory.grow(pages);
-    } catch (error) {
-      throw new TwoxHashError("memory", "The WebAssembly module can't have more memory.", { cause: error });
-    }
+    if (length <= this.size) return;
+    const { memory } = this.exports;
+    const [pages, wanted] = [memory.buffer.byteLength, length].map((bytes) => Math.ceil(bytes / PAGE_BYTES));
+    if (wanted > pages) growBy(memory, Math.max(wanted - pages, pages >> 1), wanted - pages);
+    this.size = memory.buffer.byteLength;
   }
 
   /** Puts bytes at an address. */
@@ -185,19 +228,32 @@ class Room {
     this.bytes.set(bytes, start);
   }
 
+  /** Puts a secret at the end. */
+  putSecret(secret) {
+    this.secretThere = null;
+    this.grow(this.secret + lengthOf(secret));
+    this.put(this.secret, secret);
+  }
+
+  /** Has a stream's secret at the end, which stays as it is. */
+  holdSecret(secret) {
+    if (this.secretThere === secret) return;
+    this.putSecret(secret);
+    this.secretThere = secret;
+  }
+
   /**
-   * Puts text or bytes into the chunk, from `from` on and as far as there is room: up to where that goes, counted as
-   * `from` is, and how many bytes it makes.
+   * Puts text or bytes of that length into the chunk, from `from` on and as far as there is room: up to where that goes,
+   * counted as `from` is, and how many bytes it makes.
    */
-  putPiece(input, from) {
+  putPiece(input, whole, from) {
     if (typeof input === "string") {
-      const place = this.bytes.subarray(this.chunk, this.chunk + CHUNK_BYTES);
-      const { read, written } = encoder.encodeInto(partOf(input, from), place);
+      const { read, written } = encoder.encodeInto(partOf(input, from), this.chunkBytes);
       return { end: from + read, length: written };
     }
-    const piece = input.length <= CHUNK_BYTES ? input : input.subarray(from, from + CHUNK_BYTES);
-    this.put(this.chunk, piece);
-    return { end: from + piece.length, length: piece.length };
+    const length = Math.min(whole - from, CHUNK_BYTES);
+    this.chunkBytes.set(length === whole ? input : input.subarray(from, from + length));
+    return { end: from + length, length };
   }
 
   /** The value of so many bits that a call wrote. */
@@ -217,10 +273,14 @@ function partOf(text, from) {
   return text.slice(from, isFirstOfPair ? to - 1 : to);
 }
 
-function roomSize(length) {
-  let size = SMALLEST_ROOM;
-  while (size < length) size *= 2;
-  return size;
+/** Has the memory grow by so many pages, or where there are no more by fewer. */
+function growBy(memory, pages, least) {
+  try {
+    memory.grow(pages);
+  } catch (error) {
+    if (pages > least) return growBy(memory, least, least);
+    throw new TwoxHashError("memory", "The WebAssembly module can't have more memory.", { cause: error });
+  }
 }
 
 function room() {
@@ -228,28 +288,76 @@ function room() {
   return loaded;
 }
 
+/** A getter of every object of a kind, whatever a class that extends it or the object itself says. */
+function getterOf(kind, name) {
+  return Object.getOwnPropertyDescriptor(kind.prototype, name).get;
+}
+
+const TypedArray = Object.getPrototypeOf(Uint8Array);
+const lengthOfArray = getterOf(TypedArray, "length");
+const tagOfArray = getterOf(TypedArray, Symbol.toStringTag);
+const lengthsOfBuffers = [ArrayBuffer, globalThis.SharedArrayBuffer].filter(Boolean).map((kind) => getterOf(kind, "byteLength"));
+const [ofArray, ofDataView] = [TypedArray, DataView].map((kind) => ["buffer", "byteOffset", "byteLength"].map((name) => getterOf(kind, name)));
+
+/** The length of text, or of bytes. */
+function lengthOf(input) {
+  return typeof input === "string" ? input.length : lengthOfArray.call(input);
+}
+
 /** The input as it is, where it is text, and as bytes otherwise. */
 function asInput(input) {
   return typeof input === "string" ? input : asBytes(input);
 }
 
+/** Bytes as they are, where they fit into the chunk, and otherwise as an array of this file's own. */
 function asBytes(input, code = "input", what = "The input", wanted = "text or bytes") {
-  if (input instanceof Uint8Array) return input;
-  if (ArrayBuffer.isView(input)) return new Uint8Array(input.buffer, input.byteOffset, input.byteLength);
-  const isBuffer = input instanceof ArrayBuffer
-    || (typeof SharedArrayBuffer === "function" && input instanceof SharedArrayBuffer);
-  if (isBuffer) return new Uint8Array(input);
-  throw new TwoxHashError(code, `${what} must be ${wanted}, an ArrayBuffer or a view of one, and not ${nameOf(input)}.`);
+  if (tagOfArray.call(input) === "Uint8Array") {
+    const length = lengthOfArray.call(input);
+    if (length > 0 && length <= CHUNK_BYTES) return input;
+  }
+  if (!isBytes(input)) {
+    throw new TwoxHashError(code, `${what} must be ${wanted}, an ArrayBuffer or a view of one, and not ${nameOf(input)}.`);
+  }
+  try {
+    return ownView(input);
+  } catch (error) {
+    throw new TwoxHashError(code, `${what} has no bytes any more: its buffer was handed on, or is too short.`, { cause: error });
+  }
+}
+
+/** Whether it is a buffer or a view of one, of this page or of another. */
+function isBytes(given) {
+  return ArrayBuffer.isView(given) || lengthsOfBuffers.some((lengthOfBuffer) => {
+    try {
+      lengthOfBuffer.call(given);
+      return true;
+    } catch {
+      return false;
+    }
+  });
+}
+
+/** The bytes of a view or a buffer, as an array that nothing was added to; an error where they are gone. */
+function ownView(given) {
+  if (!ArrayBuffer.isView(given)) return new Uint8Array(given);
+  const isArray = tagOfArray.call(given) !== undefined;
+  if (isArray) TypedArray.prototype.keys.call(given); // refuses one that is out of its buffer's bounds
+  return new Uint8Array(...(isArray ? ofArray : ofDataView).map((get) => get.call(given)));
 }
 
 function nameOf(value) {
   if (value === null || value === undefined) return String(value);
-  if (typeof value === "object") return `an object of ${value.constructor?.name ?? "no class"}`;
+  if (typeof value === "object") return `an object of ${wordOr(value.constructor?.name, "no class")}`;
   return `a ${typeof value}`;
+}
+
+function wordOr(value, otherwise) {
+  return typeof value === "string" ? value : otherwise;
 }
 
 /** The seed as a BigInt of the hash's range. */
 function asSeed(seed, bits) {
+  if (seed === 0 || seed === 0n) return 0n;
   const isWhole = typeof seed === "bigint" || Number.isSafeInteger(seed);
   if (!isWhole) {
     throw new TwoxHashError("seed", `The seed must be a BigInt or a whole number, and not ${shown(seed)}.`);
@@ -267,15 +375,15 @@ function shown(value) {
 
 function asSecret(secret) {
   const bytes = typeof secret === "string" ? encoder.encode(secret) : asBytes(secret, "secret", "The secret");
-  if (bytes.length < SECRET_MINIMUM_LENGTH) {
-    throw new TwoxHashError("secret", `The secret has ${bytes.length} bytes, and ${SECRET_MINIMUM_LENGTH} are needed.`);
+  if (lengthOf(bytes) < SECRET_MINIMUM_LENGTH) {
+    throw new TwoxHashError("secret", `The secret has ${lengthOf(bytes)} bytes, and ${SECRET_MINIMUM_LENGTH} are needed.`);
   }
   return bytes;
 }
 
 function asKind(kind) {
   if (KINDS.includes(kind)) return kind;
-  throw new TwoxHashError("kind", `The kind must be one of ${KINDS.join(", ")}, and not ${String(kind)}.`);
+  throw new TwoxHashError("kind", `The kind must be one of ${KINDS.join(", ")}, and not ${wordOr(kind, nameOf(kind))}.`);
 }
 
 /** The seed and the secret of the options, each undefined where it isn't given. */
@@ -283,9 +391,10 @@ function asKey(kind, options) {
   if (options === null || typeof options !== "object") {
     throw new TwoxHashError("options", `The options must be an object, and not ${nameOf(options)}.`);
   }
-  const { seed, secret, ...others } = options;
-  const [unknown] = Object.keys(others);
-  if (unknown !== undefined) throw new TwoxHashError("options", `There is no option ${unknown}.`);
+  for (const name of Object.keys(options)) {
+    if (name !== "seed" && name !== "secret") throw new TwoxHashError("options", `There is no option ${name}.`);
+  }
+  const { seed, secret } = options;
   if (secret !== undefined && !isXxh3(kind)) throw new TwoxHashError("secret", `${kind} takes no secret.`);
   return {
     seed: seed === undefined ? undefined : asSeed(seed, SEED_BITS[kind]),
@@ -387,30 +496,21 @@ function hash(kind, given, options) {
   const memory = room();
   const input = asInput(given);
   const key = asKey(kind, options);
-  if (input.length > CHUNK_BYTES) return hashInPieces(kind, input, options);
-  const { end, length } = memory.putPiece(input, 0);
-  return end < input.length ? hashInPieces(kind, input, options) : hashAtOnce(memory, kind, length, key);
+  const whole = lengthOf(input);
+  if (whole > CHUNK_BYTES) return hashInPieces(kind, input, options);
+  const { end, length } = memory.putPiece(input, whole, 0);
+  return end < whole ? hashInPieces(kind, input, options) : hashAtOnce(memory, kind, length, key);
 }
 
 function hashInPieces(kind, input, options) {
-  const stream = new Stream(kind, options);
-  try {
-    return stream.update(input).digest();
-  } finally {
-    stream.free();
-  }
+  return new Stream(kind, options).update(input).digest();
 }
 
 /** The hash of the bytes in the chunk. */
 function hashAtOnce(memory, kind, length, { seed, secret }) {
   if (secret === undefined) return oneshot(memory, kind, seed ?? 0n, length);
-  const at = memory.take(secret.length);
-  try {
-    memory.put(at, secret);
-    return oneshotWithSecret(memory, kind, seed, [at, secret.length], length);
-  } finally {
-    memory.give(at, secret.length);
-  }
+  memory.putSecret(secret);
+  return oneshotWithSecret(memory, kind, seed, [memory.secret, lengthOf(secret)], length);
 }
 
 function oneshot(memory, kind, seed, length) {
@@ -439,28 +539,18 @@ function oneshotWithSecret(memory, kind, seed, secret, length) {
 
 // ---- streams
 
-/** Gives back the memory of streams that were let go without `free`. */
-const lost = new FinalizationRegistry((rooms) => giveBack(rooms));
-
-function giveBack(rooms) {
-  for (const [start, length] of rooms) loaded.give(start, length);
-}
-
-/** The length of a stream's record, in bytes. */
-function recordLength({ exports }, kind) {
-  return Number(exports[`twox_${FAMILY[kind]}_stream_size`]());
-}
-
 /** Has a stream take bytes that lie in the module's memory; no method, so that callers don't. */
 let updateFromMemory;
 
 /** Bytes or text that come in pieces. `update` takes a piece, and `digest` answers the hash of all so far. */
 export class Stream {
   #kind;
-  #record;
-  #secret = [];
+  #places;
+  #place = null; // where it lies, or lay before another took the place
+  #record = null; // its bytes, once another has taken the place
+  #secret = null; // that with which it was started, or was derived, once another has taken the place
+  #secretLength = 0;
   #hasOwnSecret = false;
-  #rooms = [];
 
   static {
     updateFromMemory = (stream, start, length) => stream.#updateFrom(start, length);
@@ -477,10 +567,10 @@ export class Stream {
     const memory = room();
     this.#kind = asKind(kind);
     const key = asKey(kind, options);
-    this.#record = this.#take(recordLength(memory, kind));
+    this.#places = memory.places[FAMILY[kind]];
+    this.#takePlace(memory);
     if (isXxh3(kind)) this.#startXxh3(memory, key);
     else this.#startPlain(memory, key);
-    lost.register(this, this.#rooms, this);
   }
 
   /** The hash that `digest()` answers. */
@@ -506,7 +596,7 @@ export class Stream {
    * @returns {number | bigint} a number of XXH32, and a BigInt of the others
    */
   digest(kind = this.#kind) {
-    const memory = this.#room();
+    const memory = this.#enter();
     if (FAMILY[asKind(kind)] !== FAMILY[this.#kind]) {
       throw new TwoxHashError("kind", `A stream of ${this.#kind} answers no ${kind}.`);
     }
@@ -520,9 +610,8 @@ export class Stream {
    * @returns {Uint8Array}
    */
   save() {
-    const memory = this.#room();
-    const record = memory.bytes.slice(this.#record, this.#record + recordLength(memory, this.#kind));
-    return savedOf(this.#kind, record, this.#hasOwnSecret ? this.#digestOfSecret(memory) : undefined);
+    const memory = this.#enter();
+    return savedOf(this.#kind, this.#recordThere(memory), this.#hasOwnSecret ? this.#digestOfSecret(memory) : undefined);
   }
 
   /**
@@ -534,101 +623,130 @@ export class Stream {
    */
   static load(saved, options = {}) {
     const memory = room();
-    const state = readSaved(memory, asBytes(saved, "state", "The saved state", "bytes"));
+    const state = readSaved(memory, ownView(asBytes(saved, "state", "The saved state", "bytes")));
     const { seed } = options ?? {};
     if (seed !== undefined) throw new TwoxHashError("options", "The seed is part of the saved state.");
     const { secret } = asKey(state.kind, options);
     const stream = new Stream(state.kind, secret === undefined ? { seed: state.seed } : { secret });
-    try {
-      stream.#goOnFrom(memory, state);
-      return stream;
-    } catch (error) {
-      stream.free();
-      throw error;
-    }
+    stream.#goOnFrom(memory, state);
+    return stream;
   }
 
   #goOnFrom(memory, { record, digestOfSecret }) {
     const digest = this.#hasOwnSecret ? this.#digestOfSecret(memory) : undefined;
     if (digest !== digestOfSecret) throw new TwoxHashError("secret", secretInWords(digest, digestOfSecret));
-    memory.put(this.#record, record);
+    memory.put(this.#place.record, record);
     if (this.#digestCode(memory) !== DONE) throw notAState("no bytes lead to it");
   }
 
-  #digestOfSecret({ exports }) {
-    return BigInt.asUintN(64, exports.twox_xxh64(0n, ...this.#secret));
+  #digestOfSecret(memory) {
+    return BigInt.asUintN(64, memory.exports.twox_xxh64(0n, this.#secretAt(memory), this.#secretLength));
   }
 
   // What the module says of the record, with the digest at the value's place.
   #digestCode(memory, kind = this.#kind) {
-    return memory.exports[`twox_${kind}_digest`](this.#record, ...this.#secret, memory.value);
+    const digest = memory.exports[`twox_${kind}_digest`];
+    const { record } = this.#place;
+    return this.#secretLength === 0 ? digest(record, memory.value)
+      : digest(record, this.#secretAt(memory), this.#secretLength, memory.value);
   }
 
   /** Another stream that has taken the same bytes. */
   copy() {
-    const memory = this.#room();
-    const secret = this.#hasOwnSecret ? this.#secretBytes(memory).slice() : undefined;
-    const other = new Stream(this.#kind, { secret });
-    memory.bytes.copyWithin(other.#record, this.#record, this.#record + recordLength(memory, this.#kind));
-    if (isXxh3(this.#kind)) memory.put(other.#secret[0], this.#secretBytes(memory));
+    const memory = this.#enter();
+    const [record, secret] = [this.#recordThere(memory), this.#secretThere(memory)]; // before the other takes the place
+    const other = new Stream(this.#kind);
+    if (isXxh3(this.#kind)) other.#keepSecret(memory, secret);
+    memory.put(other.#place.record, record);
+    other.#hasOwnSecret = this.#hasOwnSecret;
     return other;
   }
 
-  // The secret that each call is handed, where it lies.
-  #secretBytes(memory) {
-    const [at, length] = this.#secret;
-    return memory.bytes.subarray(at, at + length);
-  }
-
-  /** Gives the stream's memory back. Later calls of it are refused. */
+  /** Lets go what the stream holds. Later calls of it are refused. */
   free() {
-    lost.unregister(this);
-    giveBack(this.#rooms);
-    this.#rooms = [];
-    this.#record = undefined;
+    if (this.#isThere()) this.#places.free(this.#place);
+    this.#places = this.#place = this.#record = this.#secret = null;
   }
 
   #updateFrom(start, length) {
-    const memory = this.#room();
-    const update = memory.exports[`twox_${FAMILY[this.#kind]}_update`];
-    const [secret, secretLength] = this.#secret;
-    const code = secret === undefined ? update(this.#record, start, length)
-      : update(this.#record, secret, secretLength, start, length);
-    refuse(code);
+    const memory = this.#enter();
+    const { update } = this.#places;
+    const { record } = this.#place;
+    refuse(this.#secretLength === 0 ? update(record, start, length)
+      : update(record, this.#secretAt(memory), this.#secretLength, start, length));
   }
 
   #startPlain(memory, { seed = 0n }) {
     const { twox_xxh32_start: start32, twox_xxh64_start: start64 } = memory.exports;
-    if (this.#kind === "xxh32") start32(this.#record, Number(seed));
-    else start64(this.#record, seed);
+    if (this.#kind === "xxh32") start32(this.#place.record, Number(seed));
+    else start64(this.#place.record, seed);
   }
 
   #startXxh3(memory, { seed, secret }) {
     const calls = memory.exports;
+    const { record } = this.#place;
     if (secret === undefined) {
-      const at = this.#take(DERIVED_SECRET_LENGTH);
-      calls.twox_xxh3_start_with_seed(this.#record, at, seed ?? 0n);
-      this.#secret = [at, DERIVED_SECRET_LENGTH];
+      calls.twox_xxh3_start_with_seed(record, this.#place.secret, seed ?? 0n);
+      this.#secretLength = DERIVED_SECRET_LENGTH;
       return;
     }
-    const at = this.#take(secret.length);
-    memory.put(at, secret);
-    this.#secret = [at, secret.length];
+    this.#keepSecret(memory, new Uint8Array(secret));
     this.#hasOwnSecret = true;
-    if (seed === undefined) refuse(calls.twox_xxh3_start_with_secret(this.#record, ...this.#secret));
-    else refuse(calls.twox_xxh3_start_with_seed_and_secret(this.#record, seed, ...this.#secret));
+    const place = [this.#secretAt(memory), this.#secretLength];
+    if (seed === undefined) refuse(calls.twox_xxh3_start_with_secret(record, ...place));
+    else refuse(calls.twox_xxh3_start_with_seed_and_secret(record, seed, ...place));
   }
 
-  // The address of room of the stream's own.
-  #take(length) {
-    const start = loaded.take(length);
-    this.#rooms.push([start, length]);
-    return start;
+  #isThere() {
+    return this.#place?.stream === this;
   }
 
-  #room() {
-    if (this.#record === undefined) throw new TwoxHashError("freed", "The stream was freed.");
-    return room();
+  /** The memory, in which the stream lies with its secret. */
+  #enter() {
+    if (this.#places === null) throw new TwoxHashError("freed", "The stream was freed.");
+    const memory = room();
+    if (this.#place.stream !== this) {
+      this.#takePlace(memory);
+      memory.put(this.#place.record, this.#record);
+      if (this.#secretLength > 0) this.#keepSecret(memory, this.#secret);
+    }
+    return memory;
+  }
+
+  /** Takes a place. The stream that lies there keeps its bytes itself from now on. */
+  #takePlace(memory) {
+    const place = this.#places.take();
+    if (place.stream !== null) place.stream.#leave(memory);
+    place.stream = this;
+    this.#place = place;
+  }
+
+  #leave(memory) {
+    this.#record = this.#recordThere(memory);
+    if (this.#secretLength > 0) this.#secret ??= this.#secretThere(memory);
+  }
+
+  #recordThere(memory) {
+    const { record } = this.#place;
+    return memory.bytes.slice(record, record + this.#places.length);
+  }
+
+  /** Keeps bytes that nobody else changes as the secret, and puts them beside the stream where there is room for them. */
+  #keepSecret(memory, secret) {
+    this.#secret = secret;
+    this.#secretLength = secret.length;
+    if (secret.length <= SHORT_SECRET_LENGTH) memory.put(this.#place.secret, secret);
+  }
+
+  #secretThere(memory) {
+    return this.#secret ?? memory.bytes.slice(this.#place.secret, this.#place.secret + this.#secretLength);
+  }
+
+  /** The address of the secret: a long one is put there anew where another was. */
+  #secretAt(memory) {
+    if (this.#secretLength <= SHORT_SECRET_LENGTH) return this.#place.secret;
+    memory.holdSecret(this.#secret);
+    return memory.secret;
   }
 }
 
@@ -641,13 +759,14 @@ export class Stream {
 export function updateAll(streams, piece) {
   const memory = room();
   const input = asInput(piece);
+  const whole = lengthOf(input);
   const all = [...streams];
   let at = 0;
   do {
-    const { end, length } = memory.putPiece(input, at);
+    const { end, length } = memory.putPiece(input, whole, at);
     for (const stream of all) updateFromMemory(stream, memory.chunk, length);
     at = end;
-  } while (at < input.length);
+  } while (at < whole);
 }
 
 // ---- saved states
@@ -690,7 +809,7 @@ function readSaved(memory, saved) {
   if (saved.length < HEAD_BYTES || MARK.some((byte, i) => saved[i] !== byte)) throw notAState("its mark isn't there");
   const kind = KINDS[saved[KIND_AT]];
   if (kind === undefined) throw notAState("its hash is none of the four");
-  const length = HEAD_BYTES + recordLength(memory, kind) + CHECK_BYTES;
+  const length = HEAD_BYTES + memory.places[FAMILY[kind]].length + CHECK_BYTES;
   if (saved.length !== length) throw notAState(`it has ${saved.length} bytes, and one of ${kind} has ${length}`);
   const record = new Uint8Array(saved.subarray(HEAD_BYTES, length - CHECK_BYTES));
   const digestOfSecret = saved[NEEDS_SECRET_AT] ? view.getBigUint64(DIGEST_OF_SECRET_AT, true) : undefined;

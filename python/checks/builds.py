@@ -62,6 +62,19 @@ def pip_builds_in_place(built):
     want(found.startswith(clone), f'it is {found}')
 
 
+def pages_say_so(built):
+    """The lines of Python in the pages run, one page after another, and a value behind one is what it answers."""
+    lines, values = ['import os', f'os.chdir({TOP!r})'], 0
+    for page in ('python/README.md', 'docs/PYTHON.md'):
+        with open(os.path.join(TOP, page), encoding='utf-8') as file:
+            for block in re.findall(r'```python\n(.*?)```', file.read(), re.S):
+                tested, count = re.subn(r'^(\S.*?) +# (["\'].*)$', r'assert \1 == \2', block, flags=re.M)
+                lines, values = [*lines, tested], values + count
+    want(len(lines) >= 5 and values >= 2, f'{len(lines)} blocks with {values} values')
+    must([PYTHON, '-c', '\n'.join(lines)], PYTHONPATH=built.site)
+    return f'{values} values'
+
+
 def wheel_installs(built):
     """The wheel in a fresh environment whose PATH has neither rt nor a compiler: the tests pass there."""
     programs = venv(built, 'fresh-wheel')
@@ -159,6 +172,7 @@ def check_all(report, built):
     report.attempt('the source package builds the same wheel', source_is_complete, built)
     report.attempt('pip install . in a fresh environment', pip_builds, built)
     report.attempt('pip install -e .', pip_builds_in_place, built)
+    report.attempt('the lines of Python in the pages', pages_say_so, built)
     report.attempt('the wheel where rt and compilers are hidden', wheel_installs, built)
     report.attempt('no compiler, and one for another machine', refusals, built)
     report.attempt('names of the extension', names_are_hidden, built)

@@ -38,6 +38,9 @@ PLANTED = [
      'hasher.update(room[:length - 1])', 'files'),
     ('rows without their odd byte', 'python/native/many.c', 'rows->width, rows->width, key)',
      'rows->width, rows->width & ~(size_t)1, key)', 'many'),
+    ('a wrong row leaves digests behind', 'python/native/many.c', 'room->has_view && !may_fail', 'room->has_view', 'many'),
+    ('sizes that wrap', 'python/native/many.c', 'digests > PY_SSIZE_T_MAX / kind->digest_bytes', '0', 'many'),
+    ('a reader that lies is believed', 'python/src/twox_hash/_files.py', 'not 0 < length <= PIECE_BYTES', 'False', 'files'),
 ]
 
 

@@ -42,19 +42,6 @@ def must(words, folder=None, **more):
     return done.stdout
 
 
-def install_packages(packages):
-    """Installs the packages whose file is missing."""
-    missing = sorted({package for path, package in packages.items() if not os.path.exists(path)})
-    if not missing:
-        return
-    quiet = {**os.environ, 'DEBIAN_FRONTEND': 'noninteractive'}
-    for words in (['update', '-qq'], ['install', '-y', '-qq', '--no-install-recommends', *missing]):
-        done = subprocess.run(['apt-get', *words], env=quiet, stdout=subprocess.PIPE, stderr=subprocess.STDOUT,
-                              text=True)
-        if done.returncode:
-            sys.exit(f'python/{os.path.basename(sys.argv[0])}: apt-get {" ".join(words)}:\n{done.stdout[-2000:]}')
-
-
 def copied(folder):
     """A copy of what the package is built of, as a clean clone has it: nothing is built in the repository."""
     keep = shutil.ignore_patterns('out', '__pycache__', '*.so')

@@ -21,7 +21,11 @@ int open_bytes(struct bytes *bytes, PyObject *object)
     bytes->is_view = 1;
     bytes->start = bytes->view.buf;
     bytes->length = (size_t)bytes->view.len;
-    return 1;
+    if (bytes->view.len >= 0) return 1;
+    PyErr_SetString(PyExc_BufferError, "the buffer has a negative length");
+    close_bytes(bytes);
+    bytes->is_view = 0;
+    return 0;
 }
 
 /* The objects of a call by parameter, each null where it wasn't given, and what is wrong with the call. */

@@ -220,8 +220,8 @@ static PyMethodDef methods[] = {
     METHOD("state", hasher_state, METH_NOARGS,
            "state($self, /)\n--\n\nAll that the object holds, as JSON. from_state goes on from it."),
     METHOD("from_state", hasher_from_state, METH_O | METH_CLASS,
-           "from_state($type, state, /)\n--\n\nThe object that was saved. ValueError: the text is no saved state, "
-           "or no bytes lead to it."),
+           "from_state($type, state, /)\n--\n\nThe object that was saved. ValueError: the text is no saved state; "
+           "of XXH32 and XXH64\nalso one that no bytes lead to, and of XXH3 one whose parts don't fit each other."),
     METHOD("__reduce__", hasher_reduce, METH_NOARGS,
            "__reduce__($self, /)\n--\n\nfrom_state and the state, for pickle."),
     METHOD("_memory", hasher_memory, METH_NOARGS, "The state as it lies in memory."),

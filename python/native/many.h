@@ -5,13 +5,13 @@
 
 #include "hasher.h"
 
-/* _many(rows, into): of a tuple of bytes-like objects or str. */
+/* _many(rows, into, numbers): of a tuple of bytes-like objects or str. */
 PyObject *hasher_many(struct hasher *hasher, PyObject *const *args, Py_ssize_t count);
 
-/* _many_of_width(buffer, rows, into): of that many rows of a buffer, side by side and all of one length. */
+/* _many_of_width(buffer, rows, into, numbers): of that many rows of a buffer, side by side and all of one length. */
 PyObject *hasher_many_of_width(struct hasher *hasher, PyObject *const *args, Py_ssize_t count);
 
 /* Both answer a list of digests. Where `into` isn't None they write the digests there, one after another, and answer
- * it. */
+ * None: as native integers where `numbers` is True. */
 
 #endif

@@ -26,6 +26,15 @@ void write_digest(void *digest, const struct kind *kind, hash_value value)
     if (kind->digest_bytes == 16) write_word(digest, value.high64);
 }
 
+void write_number(void *number, const struct kind *kind, hash_value value)
+{
+    const uint32_t half = (uint32_t)value.low64;
+    if (kind->digest_bytes == 4)
+        memcpy(number, &half, sizeof half);
+    else
+        memcpy(number, &value.low64, sizeof value.low64);
+}
+
 PyObject *as_digest(const struct kind *kind, hash_value value)
 {
     PyObject *digest = PyBytes_FromStringAndSize(NULL, kind->digest_bytes);

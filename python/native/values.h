@@ -20,6 +20,9 @@ static inline hash_value hash_of(const struct kind *kind, const void *start, siz
 /* Writes the kind's digest: the bytes of the value, the highest first. */
 void write_digest(void *digest, const struct kind *kind, hash_value value);
 
+/* Writes the value of a hash of at most 64 bits as an integer of its width, in the machine's order of bytes. */
+void write_number(void *number, const struct kind *kind, hash_value value);
+
 /* New objects: the digest as bytes, its hexadecimal digits, and the value as a number. */
 PyObject *as_digest(const struct kind *kind, hash_value value);
 PyObject *as_hexdigest(const struct kind *kind, hash_value value);

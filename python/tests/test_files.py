@@ -150,6 +150,21 @@ class Files(unittest.TestCase):
         with self.assertRaisesRegex(OSError, 'it fails'):
             ours.file_digest(Failing())
 
+    def test_a_reader_that_lies(self):
+        """Of how many bytes it has read it can only say a number from 0 to as many as there is room for."""
+        for answer in (-1, (1 << 18) + 1, 1 << 70):
+            answers = iter((answer, 0))
+
+            class Lying(io.RawIOBase):
+                def readinto(self, room):
+                    return next(answers)
+            with self.assertRaisesRegex(OSError, 'readinto'):
+                ours.file_digest(Lying())
+
+    def test_keys_are_a_seed_and_a_secret(self):
+        with self.assertRaisesRegex(TypeError, 'input'):
+            ours.file_digest(self.file(b'abc'), input=b'before')
+
     def test_a_file_that_was_opened_is_closed(self):
         before = len(os.listdir('/proc/self/fd'))
         for _ in range(50):

@@ -1,6 +1,8 @@
 """Digests of many rows in one call."""
 import array
 import ctypes
+import subprocess
+import sys
 import unittest
 
 from .both import NAMES, WITH_SECRET, bytes_of, ours
@@ -82,6 +84,22 @@ class Many(unittest.TestCase):
         self.assertEqual(ours.many(names), [ours.xxh3_64_digest(name) for name in (b'one\0\0', b'three')])
         objects = numpy.array([b'one', 'three'], dtype=object)
         self.assertEqual(ours.many(objects), [ours.xxh3_64_digest(name) for name in (b'one', b'three')])
+        records = numpy.array([(1, 2)], dtype=[('Offset', 'u4'), ('width', 'u4')])
+        for width in (None, 8):
+            self.assertEqual(ours.many(records, width=width), [ours.xxh3_64_digest(records.tobytes())])
+        for wrong in (numpy.array(['one', 'three']), numpy.array([('a', 1)], dtype=[('name', 'U3'), ('n', 'u4')])):
+            with self.assertRaisesRegex(TypeError, r'text .*tolist\(\)'):
+                ours.many(wrong)
+        self.assertEqual(ours.many(wrong['n']), [ours.xxh3_64_digest(wrong['n'].tobytes())])
+        for wrong in (objects.reshape(2, 1), numpy.array([('a', 1)], dtype=[('name', 'O'), ('n', 'u4')])):
+            with self.assertRaisesRegex(TypeError, 'objects'):
+                ours.many(wrong)
+        numbers = numpy.empty(100, 'u8')
+        self.assertIs(ours.many(table, 'xxh64', into=numbers), numbers)
+        self.assertEqual(numbers.tolist(), into.tolist())
+        for wrong in (numpy.empty(200, 'u8')[::2], numpy.frombuffer(bytes(800), 'u8')):
+            with self.assertRaises(BufferError):
+                ours.many(table, 'xxh64', into=wrong)
         for wrong in (table[:, ::2], table.T, table[::2], numpy.asfortranarray(table)):
             with self.assertRaises(BufferError):
                 ours.many(wrong)
@@ -114,6 +132,75 @@ class Many(unittest.TestCase):
         with self.assertRaises(ValueError):
             ours.many(memoryview(memory)[:40], width=8, into=memoryview(memory)[39:79])
         ours.many(memoryview(memory)[:40], width=8, into=memoryview(memory)[40:])
+        rows = [memoryview(memory)[at:at + 8] for at in range(0, 40, 8)]
+        before = bytes(memory)
+        for start in (0, 8, 39):
+            with self.assertRaisesRegex(ValueError, 'into lies over row'):
+                ours.many(rows, into=memoryview(memory)[start:start + 40])
+        self.assertEqual(memory, before)
+        ours.many(rows, into=memoryview(memory)[40:])
+        ours.many([memoryview(memory)[4:4], b'a'], into=memoryview(memory)[:16])
+
+    def test_more_digests_than_memory_has(self):
+        """Rows of no bytes are as many as their shape says. A process of its own asks, since it may die."""
+        for count, name, into in (('2**61', 'xxh64', 'bytearray(0)'), ('2**62', 'xxh32', 'bytearray(0)'),
+                                  ('2**60', 'xxh128', 'bytearray(0)'), ('2**61 + 1', 'xxh64', 'bytearray(8)'),
+                                  ('2**63 - 1', 'xxh64', 'None')):
+            words = f'twox_hash.many(((ctypes.c_char * 0) * ({count}))(), "{name}", into={into})'
+            asked = subprocess.run([sys.executable, '-c', f'import ctypes, twox_hash\n{words}'], stderr=subprocess.PIPE,
+                                   text=True)
+            self.assertRegex(asked.stderr, r'\nOverflowError: \d+ digests', (words, asked.returncode))
+
+    def test_an_error_leaves_into_as_it_was(self):
+        into = bytearray(b'before' * 4)
+        for wrong, error in ((5, TypeError), ('\ud800', UnicodeEncodeError), (memoryview(bytes(4))[::2], BufferError)):
+            for row in range(3):
+                rows = [b'a', 'b', bytearray(b'c')]
+                rows[row] = wrong
+                with self.assertRaisesRegex(error, f'row {row}'):
+                    ours.many(rows, into=into)
+                with self.assertRaisesRegex(error, f'row {row}'):
+                    ours.many(rows)
+                self.assertEqual(into, b'before' * 4)
+
+    def test_keys_are_a_seed_and_a_secret(self):
+        for key in ({'input': b'a'}, {'input': 'a', 'seed': 1}, {'data': b'a'}):
+            with self.assertRaisesRegex(TypeError, next(iter(key))):
+                ours.many([b'a'], **key)
+
+    def test_integers_of_a_digests_size_get_the_numbers(self):
+        rows = [b'one', b'two', b'three']
+        together = b'a' * 4 + b'b' * 4 + b'c' * 4
+        for code, name in (('Q', 'xxh64'), ('L', 'xxh3_64'), ('I', 'xxh32'), ('q', 'xxh64')):
+            digits = getattr(ours, name + '_intdigest')
+            into = array.array(code, [0] * 3)
+            self.assertIs(ours.many(rows, name, into=into), into)
+            mask = (1 << 8 * into.itemsize) - 1
+            self.assertEqual([number & mask for number in into], [digits(row) for row in rows])
+            ours.many(together, name, width=4, into=into)
+            self.assertEqual([number & mask for number in into], [digits(row * 4) for row in (b'a', b'b', b'c')])
+        into = (ctypes.c_uint64 * 3)()
+        ours.many(rows, into=into)
+        self.assertEqual(list(into), [ours.xxh3_64_intdigest(row) for row in rows])
+
+    def test_other_items_of_into(self):
+        """Bytes and big-endian integers get the digests. Integers that would come out reversed are refused."""
+        rows, digests = [b'one', b'two'], b''.join(ours.xxh3_128_digest(row) for row in (b'one', b'two'))
+        for into in ((ctypes.c_char * 32)(), (ctypes.c_ubyte * 16 * 2)(), (ctypes.c_uint64.__ctype_be__ * 4)(),
+                     (ctypes.c_double * 4)()):
+            self.assertEqual(bytes(ours.many(rows, 'xxh128', into=into)), digests)
+        for name, into in (('xxh128', array.array('Q', [1] * 4)), ('xxh64', array.array('I', [1] * 4)),
+                           ('xxh32', array.array('Q', [1])), ('xxh32', (ctypes.c_uint16 * 4)())):
+            before = bytes(into)
+            with self.assertRaisesRegex(ValueError, 'into has integers of'):
+                ours.many(rows, name, into=into)
+            self.assertEqual(bytes(into), before)
+
+    def test_rows_of_text_in_memory(self):
+        """UTF-32 is no row that anybody means."""
+        for rows in (array.array('u', 'abc'), (ctypes.c_wchar * 3)()):
+            with self.assertRaisesRegex(TypeError, 'text'):
+                ours.many(rows)
 
     def test_rows_that_change_while_they_are_hashed(self):
         """The rows of a list are taken together, before the first one is hashed."""

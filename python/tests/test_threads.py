@@ -1,5 +1,7 @@
 """Threads: long inputs let others run, and an object that several threads use is still one."""
+import hashlib
 import os
+import signal
 import tempfile
 import threading
 import time
@@ -119,6 +121,28 @@ class Threads(unittest.TestCase):
             for thread in threads:
                 thread.join()
             self.assertIn(hasher.digest(), want)
+
+    def status_of_a_child(self, hasher, call):
+        """How a process ends that is forked while a thread updates the object, and makes the call for two seconds."""
+        thread = threading.Thread(target=hasher.update, args=(bytes(1 << 30),))
+        thread.start()
+        time.sleep(0.03)
+        child = os.fork()
+        if not child:
+            signal.alarm(2)
+            call()
+            os._exit(0)
+        status = os.waitpid(child, 0)[1]
+        thread.join()
+        return os.waitstatus_to_exitcode(status)
+
+    def test_a_fork_during_a_long_update(self):
+        """As with hashlib, the child waits for ever for that object, and uses all others."""
+        for make in (hashlib.sha256, ours.xxh64):
+            hasher = make()
+            hasher.update(LONG)
+            self.assertEqual(self.status_of_a_child(hasher, lambda: hasher.update(b'a')), -signal.SIGALRM)
+            self.assertEqual(self.status_of_a_child(hasher, lambda: make(LONG).copy().update(LONG)), 0)
 
     def test_an_input_that_is_held_can_not_move(self):
         data = bytearray(LONG)

@@ -31,7 +31,7 @@ def expected(page):
     for digits in SOME_BYTES.values():
         other = digits[:-1] + ("0" if digits[-1] != "0" else "1")
         page.set_field("expected", other)
-        page.browser.wait("return document.getElementById('verdict').textContent === 'Different: no digest of some.txt is this one.'", seconds=5)
+        page.browser.wait("return document.getElementById('verdict').textContent.startsWith('Different: no digest of some.txt is this one.')", seconds=5)
         want(page.text_of(".card .verdicts") == "Different from the expected digest", page.text_of(".card .verdicts"))
     page.set_field("expected", f"XXH64 {narrow}")
     page.browser.wait("return document.getElementById('verdict').textContent.startsWith('Different')", seconds=5)
@@ -46,6 +46,27 @@ def no_digest(page):
     want(page.error_of("expected")[0].startswith("XXH64 has another number of digits"), page.error_of("expected"))
     page.set_field("expected", "")
     want(page.error_of("expected") == ["", "false"] and page.text_of("#verdict") == "", page.error_of("expected"))
+
+
+def other_digests(page):
+    """Digests of other hashes are told by what they are: by their names, by how many digits they have, or as what may be."""
+    page.choose(page.file("some.txt", b"some bytes"))
+    page.digests("some.txt")
+    for name, count in (("SHA-1", 40), ("SHA-224", 56), ("SHA-256", 64), ("SHA-384", 96), ("SHA-512", 128)):
+        for words in ("ab" * (count // 2), "CD" * (count // 2) + "  some.txt", f"{'ef' * (count // 2)} *some.txt"):
+            page.set_field("expected", words)
+            wanted = f"{count} digits: this looks like {name}; this page computes XXH32, XXH64 and XXH3 alone."
+            want(page.error_of("expected") == [wanted, "true"], page.error_of("expected"))
+    for words, name in (("MD5 (some.txt) = " + "ab" * 16, "MD5"), ("sha256:" + "ab" * 32, "sha256"), ("MD5: " + "ab" * 16, "MD5"),
+                        ("SHA512 (some.txt) = " + "ab" * 64, "SHA512"), ("crc32 1234abcd", "crc32")):
+        page.set_field("expected", words)
+        wanted = f"This is a digest of {name}; this page computes XXH32, XXH64 and XXH3 alone."
+        want(page.error_of("expected") == [wanted, "true"], page.error_of("expected"))
+    for words, name in (("ab" * 16, "an MD5"), ("ab" * 16 + "  some.txt", "an MD5"), ("1234abcd", "a CRC-32"), ("XXH128 " + "ab" * 16, "")):
+        page.set_field("expected", words)
+        end = f" {len(words.split()[0])} digits may also be {name}, which this page doesn't compute." if name else ""
+        page.browser.wait("return document.getElementById('verdict').textContent === arguments[0]",
+                          "Different: no digest of some.txt is this one." + end, seconds=5)
 
 
 def among_many(page):
@@ -127,6 +148,75 @@ def folder_dropped(page):
     page.browser.wait("return document.querySelectorAll('.card code').length === 120")
     want(page.digests("dropped/deep/er/077.bin") == reference(os.path.join(folder, "deep/er/077.bin")), "077.bin")
     return "120 files"
+
+
+# What the page is given as a drop: entries as a browser has them, which a script made.
+DROP = """const event = new Event("drop", { bubbles: true, cancelable: true });
+const fileEntry = (path, file) => ({ isFile: true, isDirectory: false, fullPath: path, file });
+const item = (entry) => ({ kind: "file", webkitGetAsEntry: () => entry, getAsFile: () => null });
+const good = new File(["some bytes"], "good.txt");
+Object.defineProperty(event, "dataTransfer", { value: { items: %s } });
+document.body.dispatchEvent(event);"""
+
+
+def odd_items(page):
+    """Of a drop with things that can't be read each is told, and the others are hashed. Hashed again, it is as before."""
+    page.set_key("1234")
+    page.browser.run("navigator.clipboard.writeText = async (text) => { window.copied = text; };")
+    page.browser.run(DROP % """[item(null), item(fileEntry("/closed.bin", (_, fail) => fail(new DOMException("closed", "NotReadableError")))),
+        item(fileEntry("/good.txt", (give) => give(good))), { kind: "string" }]""")
+    for _ in range(2):
+        want(page.digests("good.txt") == SOME_BYTES, page.card("good.txt"))
+        closed = page.wait_for("closed.bin", "card.failed")
+        want("can't be read" in closed["words"] and not closed["digests"], closed)
+        odd = page.wait_for("item 1 of the drop", "card.failed")
+        want("neither a file nor a folder" in odd["words"] and not odd["digests"], odd)
+        page.browser.click("#copy-all")
+        page.browser.wait("return window.copied", seconds=5)
+        want(page.browser.run("const it = window.copied; window.copied = ''; return it;") == f"{SOME_BYTES['xxh64']}  good.txt\n",
+             "other lines are copied")
+        page.browser.run("document.querySelector('.card .state').textContent = ''")
+        page.browser.click("#again")
+        page.wait_for("good.txt", "card.words.includes('seed 1234') && 'xxh64' in card.digests")
+
+
+def dragged(page):
+    """Wherever the page is scrolled to, it shows that files may be dropped."""
+    shown = """const { content, position, display } = getComputedStyle(document.body, "::after");
+        return content !== "none" && position === "fixed" && display !== "none";"""
+    page.browser.run("document.body.style.minHeight = '5000px'; scrollTo(0, 3000);")
+    for kind, is_shown in (("dragover", True), ("dragleave", False), ("dragover", True), ("drop", False)):
+        page.browser.run("""const carried = new DataTransfer();
+            document.body.dispatchEvent(new DragEvent(arguments[0], { bubbles: true, cancelable: true, dataTransfer: carried }));""", kind)
+        want(page.browser.run(shown) == is_shown, f"after {kind}")
+
+
+MILLION = 1_000_000
+
+
+def million_names(page):
+    """A folder of 1,000,000 files is listed, stopped, begun again and hashed as far as one waits for it."""
+    page.set_key("wrong")
+    began = time.monotonic()
+    page.browser.run(DROP % """[item({ isDirectory: true, fullPath: "/many", createReader: () => {
+        const batches = [Array.from({ length: arguments[0] }, (_, i) => fileEntry(`/many/${i}`, (give) => give(good))), []];
+        return { readEntries: (give) => give(batches.shift()) };
+    } })]""", MILLION)
+    page.browser.wait("return document.getElementById('status').textContent === arguments[0]", f"{MILLION:,} files were added", seconds=240)
+    listed = time.monotonic() - began
+    page.browser.click("#stop-all")
+    page.browser.wait("return !document.getElementById('again').hidden", seconds=60)
+    page.browser.click("#again")
+    page.browser.wait("return document.getElementById('again').hidden && !document.getElementById('stop-all').hidden", seconds=60)
+    page.set_key("1234")
+    page.browser.wait("return document.getElementById('tally').textContent.match(/^([0-9,]+) of/)?.[1].length > 3", seconds=120)
+    page.browser.click("#stop-all")
+    page.browser.wait("return document.getElementById('stop-all').hidden", seconds=60)
+    tally = page.text_of("#tally")
+    want(f"of {MILLION:,} files hashed" in tally, tally)
+    want(page.digests("many/0") == SOME_BYTES, page.card("many/0"))
+    page.browser.click("#clear")
+    return f"listed in {listed:.0f} s"
 
 
 def lines_saved(page):
@@ -249,6 +339,9 @@ def opened_as_file(page):
 LIST_CHECKS = {
     "an expected digest, in words": expected,
     "what is no digest is told": no_digest,
+    "a digest of another hash is told": other_digests,
+    "what can't be read in a drop is told, and again": odd_items,
+    "dragging over a scrolled page": dragged,
     "an expected digest among many": among_many,
     "a checksum file with its files": checksum_file,
     "improper lines of a checksum file": improper_lines,
@@ -257,12 +350,13 @@ LIST_CHECKS = {
     "lines saved and copied, for xxhsum -c": lines_saved,
     "one file is removed": removed,
     "10,000 files and their checksum file": many_files,
+    "1,000,000 names": million_names,
     "verifying a download": download,
     "a small screen": small_screen,
     "opened as a file": opened_as_file,
 }
 
 # What is tried in each browser.
-IN_EACH_BROWSER = ["an expected digest, in words", "an expected digest among many", "a checksum file with its files",
+IN_EACH_BROWSER = ["an expected digest, in words", "a digest of another hash is told", "what can't be read in a drop is told, and again", "an expected digest among many", "a checksum file with its files",
                    "improper lines of a checksum file", "one file is removed", "10,000 files and their checksum file",
                    "verifying a download"]

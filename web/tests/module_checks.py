@@ -4,18 +4,20 @@ import os
 import re
 import shutil
 import subprocess
+import tempfile
 
 from report import Fault, want
 from values import long_digests
 
 HERE = os.path.dirname(os.path.abspath(__file__))
 WEB = os.path.dirname(HERE)
-PACKAGED = ["LICENSE", "README.md", "inline.d.ts", "inline.js", "modules.js", "node.d.ts", "node.js", "node_hash.js", "package.json",
+PACKAGED = ["LICENSE", "README.md", "SHA256SUMS", "inline.d.ts", "inline.js", "node.d.ts", "node.js", "node_hash.js", "package.json",
             "streams.d.ts", "streams.js", "twox_hash.d.ts", "twox_hash.js", "twox_hash.wasm", "twox_hash_simd.wasm",
-            "xxhash_wasm.d.ts", "xxhash_wasm.js"]
+            "xxhash_wasm.d.ts", "xxhash_wasm.js", "out/modules.js", "out/modules.cjs",
+            *(f"out/{name}.{end}" for name in ("inline", "node", "node_hash", "streams", "twox_hash", "xxhash_wasm")
+              for end in ("cjs", "d.cts") if (name, end) != ("node_hash", "d.cts"))]
 MODULES = ["twox_hash.wasm", "twox_hash_simd.wasm"]
-TSC = ["tsc", "--strict", "--noEmit", "--target", "es2022", "--lib", "es2022,dom", "--module", "node16",
-       "--moduleResolution", "node16"]
+TSC = ["tsc", "--strict", "--noEmit", "--target", "es2022", "--module", "node16", "--moduleResolution", "node16"]
 # Bundles for a browser: the file's form, esbuild's words, and how the entry is made there.
 BUNDLES = {
     "with the bytes inside, as one classic script": (["--format=iife"], 'import * as entry from "twox_hash/inline";'),
@@ -25,6 +27,7 @@ BUNDLES = {
         'import vectors from "twox_hash/twox_hash_simd.wasm";'
         "const entry = { ...twox, load: () => twox.load((hasVectors) => hasVectors ? vectors : plain) };"),
     "whose modules lie beside it": (["--format=esm"], 'import * as entry from "twox_hash";'),
+    "whose modules lie beside it, as one classic script": (["--format=iife"], 'import * as entry from "twox_hash";'),
 }
 # What engine and flag leave an x86 processor without the vectors of WebAssembly.
 WITHOUT_VECTORS = ["--no-enable-sse4-1"]
@@ -54,9 +57,12 @@ def all_right(lines):
     return f"{len(lines)} tests"
 
 
-def tests_in_node(folder, node, entry, others="", flags=(), vectors=None):
-    """The tests of an entry, and of the other ones, under a Node: as the folder's scripts import them."""
+def tests_in_node(folder, node, entry, others="", flags=(), vectors=None, required=False):
+    """The tests of an entry, and of the other ones, under a Node: as the folder's scripts import or require them."""
     imports = "".join(f'import * as {name} from "{path}";' for name, path in entry.items())
+    if required:
+        imports = 'import { createRequire } from "node:module"; const given = createRequire(import.meta.url);' + "".join(
+            f'const {name} = given("{path}");' for name, path in entry.items())
     script = write(folder, "run.mjs", f'{imports} {others} import {{ report }} from "file://{HERE}/run_node.mjs";'
                                       f"await report(process.argv[2], {{ {', '.join(entry)}{', xxhash' if others else ''} }});")
     said = json.loads(must([node, *flags, script, json.dumps(long_digests())], folder))
@@ -112,9 +118,55 @@ def packed(folder):
     archive = next(name for name in os.listdir(folder) if name.endswith(".tgz"))
     write(folder, "package.json", '{ "private": true, "type": "module" }')
     must(["npm", "install", "--offline", "--no-audit", "--no-fund", "./" + archive], folder)
-    files = [name for _, _, names in os.walk(os.path.join(folder, "node_modules", "twox_hash")) for name in names]
-    want(sorted(files) == sorted(PACKAGED), sorted(files))
+    package = os.path.join(folder, "node_modules", "twox_hash")
+    files = [os.path.relpath(os.path.join(at, name), package) for at, _, names in os.walk(package) for name in names]
+    want(sorted(files) == sorted(PACKAGED), sorted(set(files) ^ set(PACKAGED)))
+    want(text_of(package, "LICENSE") == text_of(os.path.dirname(WEB), "LICENSE"), "LICENSE is another")
+    links = set(re.findall(r"\]\(([^)#:]+)[^):]*\)", text_of(package, "README.md")))
+    lost = [link for link in links if not link.startswith("../") and not os.path.exists(os.path.join(package, link))]
+    want(not lost, f"README links to {lost}")
     return archive
+
+
+def text_of(folder, name):
+    with open(os.path.join(folder, name), encoding="utf-8") as file:
+        return file.read()
+
+
+def installed_from_folder(folder, node):
+    """`npm install FOLDER`, as a user has it from a clone: nothing was packed or built there."""
+    with tempfile.TemporaryDirectory(dir=folder) as room:
+        must(["git", "-C", os.path.dirname(WEB), "checkout-index", "-q", "-a", f"--prefix={room}/clone/"] if os.path.exists(os.path.join(os.path.dirname(WEB), ".git"))
+             else ["cp", "-r", os.path.dirname(WEB), f"{room}/clone"], folder)
+        shutil.rmtree(os.path.join(room, "clone", "web", "out"), ignore_errors=True)
+        user = os.path.join(room, "user")
+        os.makedirs(user)
+        write(user, "package.json", '{ "private": true }')
+        must(["npm", "install", "--offline", "--no-audit", "--no-fund", os.path.join(room, "clone", "web")], user)
+        for name in ("twox_hash", "twox_hash/inline"):
+            said = must([node, "--input-type=module", "-e", f'import {{ load, xxh64 }} from "{name}"; await load(); console.log(xxh64("some bytes", 1234).toString(16));'], user)
+            want(said.strip() == "eab55659a496d78b", said)
+
+
+def tests_of_commonjs(folder, node):
+    """All tests of the package as `require` gives it, whose names are those that `import` gives."""
+    with open(os.path.join(folder, "commonjs.cjs"), "w", encoding="utf-8") as file:
+        file.write("""const entries = ["twox_hash", "twox_hash/streams", "twox_hash/inline", "twox_hash/xxhash-wasm"];
+            module.exports = Object.fromEntries(entries.map((name) => [name, require(name)]));
+            const { load, xxh64, TwoxHashError } = require("twox_hash");
+            const early = (() => { try { return xxh64("some bytes"); } catch (error) { return error instanceof TwoxHashError && error.code; } })();
+            module.exports.first = load().then(() => [early, xxh64("some bytes", 1234).toString(16)].join(" "));""")
+    script = write(folder, "commonjs.mjs", """import { createRequire } from "node:module";
+        const { first, ...entries } = createRequire(import.meta.url)("./commonjs.cjs");
+        const wrong = [];
+        for (const [name, given] of Object.entries(entries)) {
+          const [one, other] = [Object.keys(given), Object.keys(await import(name))].map((names) => names.sort().join());
+          if (one !== other) wrong.push(`${name}: ${one} and not ${other}`);
+        }
+        console.log(JSON.stringify([await first, wrong]));""")
+    want(json.loads(must([node, script], folder)) == ["not-loaded eab55659a496d78b", []], must([node, script], folder))
+    given = {"entry": "twox_hash", "streams": "twox_hash/streams"}
+    return tests_in_node(folder, node, {**given, "node": "twox_hash"}, 'const xxhash = given("twox_hash/xxhash-wasm");', required=True)
 
 
 def page_example(folder, node):
@@ -133,8 +185,12 @@ def page_example(folder, node):
 
 
 def types(folder):
-    shutil.copy(os.path.join(HERE, "types.ts"), folder)
-    must([*TSC, "types.ts"], folder)
+    """The types, of `import` and of `require`, and where a program has no types of a browser."""
+    for name in ("types.ts", "types.cts"):
+        shutil.copy(os.path.join(HERE, "types.ts"), os.path.join(folder, name))
+        must([*TSC, "--lib", "es2022,dom", name], folder)
+    shutil.copy(os.path.join(HERE, "types_without_dom.ts"), folder)
+    must([*TSC, "--lib", "es2022", "types_without_dom.ts"], folder)
 
 
 def bundle(folder, name, words, entry):
@@ -144,7 +200,7 @@ def bundle(folder, name, words, entry):
     app = write(folder, f"{name}.js", f'{entry} import {{ runTests }} from "{HERE}/module_tests.js";'
                                       "globalThis.tests = (...given) => runTests(entry, ...given);")
     must(["esbuild", app, "--bundle", "--log-level=error", *words, f"--outdir={out}"], folder)
-    if "--format=esm" in words and "--loader:.wasm=file" not in words:
+    if '"twox_hash"' in entry and "--loader:.wasm=file" not in words:
         for module in MODULES:
             shutil.copy(os.path.join(WEB, module), out)
     kind = "" if "--format=iife" in words else ' type="module"'
@@ -229,7 +285,9 @@ def check_package(checks, folder, nodes):
     for node in nodes:
         checks.attempt(f"the package in {node}: all tests", tests_in_node, folder, node,
                    {"entry": "twox_hash", "node": "twox_hash", "streams": "twox_hash/streams"}, xxhash)
+        checks.attempt(f"the package in {node}: all tests of what require gives", tests_of_commonjs, folder, node)
         checks.attempt(f"the package in {node}: the entry with the bytes inside", tests_in_node, folder, node, {"entry": "twox_hash/inline"})
+    checks.attempt("npm install of this folder", installed_from_folder, folder, nodes[0])
     checks.attempt("the examples of web/README.md", page_example, folder, nodes[0])
     checks.attempt("the package's types, by tsc --strict", types, folder)
 

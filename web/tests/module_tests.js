@@ -139,6 +139,43 @@ function codeOf(call) {
 const BYTES = Uint8Array.of(1, 2, 3);
 const SECRET = new Uint8Array(136);
 
+/** The view once its buffer was handed to another thread. */
+function detached(view) {
+  if (typeof structuredClone === "function") structuredClone(view.buffer, { transfer: [view.buffer] });
+  else view.buffer.transfer();
+  return view;
+}
+
+/** Views of "some bytes" that say something else of themselves. */
+function liars() {
+  class Short extends Uint8Array {
+    get length() {
+      return 3;
+    }
+  }
+  class Long extends Uint8Array {
+    get length() {
+      return 131072;
+    }
+
+    get byteLength() {
+      return 131072;
+    }
+  }
+  class Elsewhere extends Uint8Array {
+    get buffer() {
+      return new ArrayBuffer(10);
+    }
+
+    subarray() {
+      return new Uint8Array(10);
+    }
+  }
+  const own = new TextEncoder().encode("some bytes");
+  Object.defineProperty(own, "length", { value: 7 });
+  return [own, ...[Short, Long, Elsewhere].map((kind) => kind.from(new TextEncoder().encode("some bytes")))];
+}
+
 /** Calls that are refused, and the code. */
 const REFUSED = [
   ["input", () => twox.xxh64(7)],
@@ -161,6 +198,16 @@ const REFUSED = [
   ["secret", () => new twox.Stream("xxh64", { secret: SECRET })],
   ["kind", () => new twox.Stream("xxh128")],
   ["kind", () => new twox.Stream(undefined)],
+  ["kind", () => new twox.Stream(Object.create(null))],
+  ["kind", () => twox.toHex(7n, Object.create(null))],
+  ["input", () => twox.xxh64(Object.create(null))],
+  ["input", () => twox.xxh64({ constructor: { name: Symbol("odd") } })],
+  ["input", () => twox.xxh64(detached(new Uint8Array(10)))],
+  ["input", () => twox.xxh64(detached(new Uint8Array(10)).buffer)],
+  ["input", () => twox.xxh64(detached(new DataView(new ArrayBuffer(10))))],
+  ["input", () => new twox.Stream("xxh3_64").update(detached(new Uint8Array(10)))],
+  ["secret", () => twox.xxh3_64(BYTES, { secret: detached(new Uint8Array(200)) })],
+  ["state", () => twox.Stream.load(detached(new Uint8Array(200)))],
   ["kind", () => new twox.Stream("xxh64").digest("xxh32")],
   ["options", () => twox.xxh3_64(BYTES, 7)],
   ["options", () => twox.xxh3_64(BYTES, { sead: 7 })],
@@ -332,6 +379,30 @@ const TESTS = {
     const inputs = [wide.subarray(1, 11), new DataView(wide.buffer, 1, 10), wide.slice(1, 11).buffer];
     return { ok: inputs.every((input) => twox.xxh64(input, 1234) === 0xeab55659a496d78bn) };
   },
+  "a view is taken by its own length": () => {
+    const [other, before] = [new twox.Stream("xxh3_64").update("other"), twox.xxh3_64("other")];
+    const ok = liars().every((input) => twox.xxh64(input, 1234) === 0xeab55659a496d78bn
+      && new twox.Stream("xxh64", { seed: 1234 }).update(input).digest() === 0xeab55659a496d78bn);
+    class Short extends Uint8Array {
+      get length() {
+        return 3;
+      }
+    }
+    const long = new Short(1_000_003).fill(7);
+    const whole = twox.xxh3_64(new Uint8Array(1_000_003).fill(7));
+    return { ok: ok && twox.xxh3_64(long) === whole && other.digest() === before };
+  },
+  "a million streams that are never freed": () => {
+    const times = [];
+    let value;
+    for (let part = 0; part < 4; part += 1) {
+      const start = Date.now();
+      for (let i = 0; i < 250_000; i += 1) value = new twox.Stream("xxh3_64").update(BYTES).digest();
+      times.push(Date.now() - start);
+    }
+    const isLevel = times[3] < 5 * Math.min(...times);
+    return { ok: isLevel && value === twox.xxh3_64(BYTES), words: times.map((time) => `${time} ms`).join(", ") };
+  },
   "a stream of XXH3 answers both widths, and goes on afterwards": (table) => {
     const row = rowsOf(table).find(({ kind, length, secretDrawn }) => kind === "xxh3_128" && length > 1000 && secretDrawn);
     const stream = new twox.Stream("xxh3_64", row.options);
@@ -348,6 +419,38 @@ const TESTS = {
     const ok = streams.every(({ row, stream }) => stream.digest() === row.answer);
     for (const { stream } of streams) stream.free();
     return { ok: ok && rows.every(rowIsRight), words: `${streams.length} streams` };
+  },
+  "more streams than lie in the memory, with their copies, in turn": (table) => {
+    const rows = chosen(table).filter(({ length }) => length > 300 && length < 3000).slice(0, 300);
+    const parts = (row) => [row.input.subarray(0, 250), row.input.subarray(250, 260), row.input.subarray(260)];
+    const streams = rows.map((row) => ({ row, all: [new twox.Stream(row.kind, row.options)] }));
+    for (let part = 0; part < 3; part += 1) {
+      for (const { row, all } of streams) {
+        for (const stream of all) stream.update(parts(row)[part]);
+        all.push(all[0].copy());
+      }
+    }
+    const wrong = streams.filter(({ row, all }) => all.some((stream) => BigInt(stream.digest()) !== row.answer
+      || BigInt(twox.Stream.load(stream.save(), row.options.secret ? { secret: row.options.secret } : {}).digest()) !== row.answer));
+    return { ok: rows.length > 200 && wrong.length === 0, words: wrong[0]?.row.line ?? `${rows.length} rows` };
+  },
+  "a copy, however many streams came between": () => {
+    const wrong = twox.KINDS.flatMap((kind) => Array.from({ length: 140 }, (_, count) => {
+      const stream = new twox.Stream(kind, { seed: 7 }).update("some");
+      for (let i = 0; i < count; i += 1) new twox.Stream(kind).update("other");
+      const values = [stream.copy(), stream].map((it) => it.update(" bytes").digest());
+      return values.every((value) => value === new twox.Stream(kind, { seed: 7 }).update("some bytes").digest()) ? [] : [`${kind} ${count}`];
+    }).flat());
+    return { ok: wrong.length === 0, words: wrong.join(", ") };
+  },
+  "long secrets of several streams in turn": (table) => {
+    const secrets = [1, 2, 3].map((byte) => new Uint8Array(1000 * byte).fill(byte));
+    const streams = secrets.map((secret) => new twox.Stream("xxh3_64", { secret }));
+    for (let i = 0; i < 300; i += 1) for (const stream of streams) stream.update(BYTES);
+    const input = new Uint8Array(900).map((_, i) => BYTES[i % 3]);
+    const values = secrets.map((secret) => twox.xxh3_64(input, { secret }));
+    for (const secret of secrets) secret.fill(9);
+    return { ok: streams.every((stream, i) => stream.digest() === values[i] && stream.copy().digest() === values[i]) };
   },
   "a secret larger than the memory at first": (table) => {
     const row = rowsOf(table).find(({ kind, length, seed, secretDrawn }) => kind === "xxh3_64" && length <= 240 && seed && secretDrawn);

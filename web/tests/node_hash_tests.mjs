@@ -1,14 +1,124 @@
 /** The tests of createHash, for Node. */
+import { createHash } from "node:crypto";
+import { once } from "node:events";
 import { createReadStream } from "node:fs";
 import { mkdtemp, rm, writeFile } from "node:fs/promises";
 import { tmpdir } from "node:os";
 import { join } from "node:path";
+import { PassThrough } from "node:stream";
 import { pipeline } from "node:stream/promises";
+import { runInNewContext } from "node:vm";
 import { many } from "./module_tests.js";
 
 let twox;
 
+// ---- the cases of the page of node:crypto, and what follows from them, by hashes that `make` makes
+
+function outcome(call) {
+  try {
+    return call();
+  } catch {
+    return "an error";
+  }
+}
+
+const TEXT = "some data to hash";
+const BYTES = Buffer.from(TEXT);
+
+const CASES = {
+  "as a stream": async (make) => {
+    const [hash, seen] = [make(), []];
+    hash.on("readable", () => {
+      const data = hash.read();
+      if (data) seen.push(data.toString("hex"));
+    });
+    hash.write("some data ");
+    hash.write(Buffer.from("to hash"));
+    hash.end();
+    await once(hash, "end");
+    return seen;
+  },
+  "in a line of pipes": async (make, file) => {
+    const end = new PassThrough();
+    createReadStream(file).pipe(make()).setEncoding("hex").pipe(end);
+    return (await end.toArray()).join("");
+  },
+  "update and digest": (make) => [undefined, "hex", "base64", "base64url", "latin1", "binary", "buffer"].map((encoding) => {
+    const digest = make().update(TEXT).digest(encoding);
+    return Buffer.isBuffer(digest) ? ["bytes", digest.toString("hex")] : Buffer.from(digest, encoding).toString("hex");
+  }),
+  "copies between updates": (make) => {
+    const hash = make();
+    return ["one", "two", "three"].map((word) => hash.update(word).copy().digest("hex"));
+  },
+  "a file, as it can be read": async (make, file) => {
+    const [hash, input] = [make(), createReadStream(file)];
+    input.on("readable", () => {
+      const data = input.read();
+      if (data) hash.update(data);
+    });
+    await once(input, "end");
+    return hash.digest("hex");
+  },
+  "what comes after the digest": (make) => ["digest", "update", "copy"].map((name) => {
+    const hash = make().update(TEXT);
+    hash.digest();
+    return outcome(() => hash[name]("more"));
+  }),
+  "a pipeline, and then the digest": async (make, file) => {
+    const hash = make();
+    await pipeline(createReadStream(file), hash);
+    return [hash.digest("hex"), outcome(() => hash.digest("hex")), outcome(() => hash.update("more")), outcome(() => hash.copy())];
+  },
+  "a pipeline, and then what can be read, and the digest": async (make, file) => {
+    const hash = make();
+    await pipeline(createReadStream(file), hash);
+    return [hash.read().toString("hex"), hash.read(), hash.digest("hex")];
+  },
+  "writes that end, and then the digest": async (make) => {
+    const hash = make();
+    hash.end(TEXT);
+    await once(hash, "finish");
+    return hash.digest("hex");
+  },
+  "inputs of each kind": (make) => [
+    [TEXT], [TEXT, "utf8"], [TEXT, "UTF-8"], [TEXT, "ascii"], [BYTES.toString("hex"), "hex"], [BYTES.toString("base64"), "base64"],
+    [BYTES.toString("base64url"), "base64url"], [BYTES], [BYTES, "hex"], [new Uint8Array(BYTES)], [new DataView(new Uint8Array(BYTES).buffer)],
+    [new Uint16Array([1, 258])], [TEXT, "utf16le"], [TEXT, "no encoding"], ["\u00e9", "latin1"],
+  ].map((words) => make().update(...words).digest("hex")),
+  "inputs of no kind": (make) => [[7], [null], [undefined], [{}], ["abc", "hex"], []].map((words) => outcome(() => make().update(...words).digest("hex"))),
+};
+
+/** What a case gives, with each digest called by what it is of. */
+async function seen(run, make, file) {
+  const known = ["", TEXT, "one", "onetwo", "onetwothree", Buffer.from([1, 0, 2, 1]), Buffer.from(TEXT, "utf16le"), Buffer.from([0xe9])];
+  const names = new Map(known.map((input) => [make().update(input).digest("hex"), `digest of ${Buffer.from(input).toString("hex")}`]));
+  return JSON.stringify(await run(make, file), (_, value) => names.get(value) ?? value);
+}
+
 const TESTS = {
+  "createHash: the cases of the page of node:crypto, beside it": async () => {
+    const folder = await mkdtemp(join(tmpdir(), "twox-"));
+    const wrong = [];
+    try {
+      await writeFile(join(folder, "file"), TEXT);
+      for (const [name, run] of Object.entries(CASES)) {
+        const theirs = await seen(run, () => createHash("sha256"), join(folder, "file"));
+        const ours = await seen(run, () => twox.createHash("xxh3_128"), join(folder, "file")).catch(String);
+        if (ours !== theirs || !theirs.includes("digest of") && !theirs.includes("error")) wrong.push(`${name}: ${ours} and not ${theirs}`);
+      }
+    } finally {
+      await rm(folder, { recursive: true });
+    }
+    return { ok: wrong.length === 0, words: wrong.join("; ") || `${Object.keys(CASES).length} cases` };
+  },
+  "buffers and views of another page": () => {
+    const bytes = `[..."some bytes"].map((it) => it.charCodeAt(0))`;
+    const kinds = [`Uint8Array.of(...${bytes})`, `Uint8Array.of(...${bytes}).buffer`, `new DataView(Uint8Array.of(...${bytes}).buffer)`,
+      `(() => { const it = new SharedArrayBuffer(10); new Uint8Array(it).set(${bytes}); return it; })()`];
+    const values = kinds.map((kind) => twox.toHex(twox.xxh64(runInNewContext(kind), 1234), "xxh64"));
+    return { ok: values.every((value) => value === "eab55659a496d78b"), words: values.join(" ") };
+  },
   "createHash: update and digest, as text and as bytes": (digests) => {
     const input = many();
     const wrong = twox.KINDS.filter((kind) => {

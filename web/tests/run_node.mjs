@@ -35,6 +35,15 @@ function largeNumbersCross({ Stream }) {
   return { name: "an input of 2 GiB, and one that lies above", ok: isRight(0) && isRight(2 ** 31 - 1) };
 }
 
+/** Streams that nobody frees take no more memory of the module, and little of the engine. */
+function memoryIsLevel({ Stream, KINDS }) {
+  const sizes = () => instances.map(({ exports }) => exports.memory.buffer.byteLength).join();
+  const [before, heap] = [sizes(), process.memoryUsage().rss];
+  for (let i = 0; i < 400_000; i += 1) new Stream(KINDS[i % 4]).update("some bytes").digest();
+  const grown = Math.round((process.memoryUsage().rss - heap) / 1e6);
+  return { name: "400,000 streams that are never freed, in level memory", ok: sizes() === before && grown < 200, words: `${before}, ${sizes()}; ${grown} MB more of the engine's` };
+}
+
 const readTable = () => readFile(new URL("../../oracle/vectors.txt", import.meta.url), "utf8");
 
 /** All tests of the entry, and of the others that are given: streams.js, the entry for Node, that of xxhash-wasm's names. */
@@ -44,6 +53,6 @@ export async function report(digests, { entry, streams, node, xxhash }) {
   if (streams) lines.push(...await runStreamTests(entry, streams, values));
   if (node) lines.push(...await runNodeHashTests(node, values));
   if (xxhash) lines.push(...await runXxhashWasmTests(xxhash, table));
-  lines.push(stackIsShort(), largeNumbersCross(entry));
+  lines.push(stackIsShort(), memoryIsLevel(entry), largeNumbersCross(entry));
   console.log(JSON.stringify({ lines, hasVectors: entry.hasVectors(), version: process.versions.node }));
 }

@@ -2,7 +2,7 @@
 import os
 from typing import Any, BinaryIO, Union, overload
 
-from ._types import Hasher, OneHasher, type_of
+from ._types import Hasher, OneHasher, begun
 
 Path = Union[str, bytes, 'os.PathLike[Any]']
 
@@ -21,9 +21,10 @@ def file_digest(file: Union[Path, BinaryIO], algorithm: Any = 'xxh3_64', **key: 
     open. `seed` and `secret` are as the algorithm's type takes them. Other threads run meanwhile.
 
     The errors of the system come as they are: FileNotFoundError, IsADirectoryError, PermissionError and the others.
+    OSError: `readinto` answered no number of bytes that there was room for.
     TypeError: `file` is neither, or is open for text. BlockingIOError: it has no bytes yet, and doesn't wait.
     ValueError: there is no such algorithm, or the secret is too short."""
-    hasher = type_of(algorithm)(**key)
+    hasher = begun(algorithm, key)
     if isinstance(file, (str, bytes, os.PathLike)):
         with open(file, 'rb', buffering=0) as opened:
             _take_all(hasher, opened)
@@ -44,6 +45,8 @@ def _take_all(hasher: Hasher, file: Any) -> None:
             raise BlockingIOError(f'{file!r} has no bytes yet')
         if not length:
             return
+        if not 0 < length <= PIECE_BYTES:
+            raise OSError(f'{file!r}.readinto() answered {length}, and there was room for {PIECE_BYTES} bytes')
         hasher.update(room[:length])
 
 

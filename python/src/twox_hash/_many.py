@@ -1,10 +1,16 @@
 """Digests of many inputs in one call."""
+import re
 from collections.abc import Iterable, Sized
 from typing import Any, Optional, TypeVar, Union, overload
 
-from ._types import HasherType, type_of
+from ._types import HasherType, begun
 
 Into = TypeVar('Into', bound=Sized)
+
+# The name of a field in the format of a buffer.
+FIELD = re.compile(':[^:]*:')
+# Integers in the machine's order of bytes, which is little-endian wherever the package runs.
+NATIVE_INTEGER = re.compile('[@=<]?[hHiIlLqQnN]')
 
 
 @overload
@@ -22,21 +28,40 @@ def many(rows: Iterable[Any], algorithm: Union[str, HasherType] = 'xxh3_64', *, 
     form with `width`, the bytes of a row.
 
     With `into`, a contiguous buffer that can be written and has just the bytes of all digests, these go there one after
-    another, no objects are made, and `into` is the answer. `seed` and `secret` are as the algorithm's type takes them.
+    another, no objects are made, and `into` is the answer. Native integers get the values as numbers, and have to be of
+    a digest's size; all else gets the digests' bytes. `seed` and `secret` are as the algorithm's type takes them.
 
-    ValueError: the lengths don't fit, or there is no such algorithm. BufferError: a buffer isn't contiguous, or can't
-    be written. TypeError: the rows are a str, or one of them has no bytes."""
-    hasher = type_of(algorithm)(**key)
+    ValueError: the lengths don't fit, `into` lies over a row, or there is no such algorithm. BufferError: a buffer isn't
+    contiguous, or can't be written. TypeError: the rows are a str or hold text as UTF-32, or one of them has no bytes.
+    OverflowError: there are more digests than a buffer can have. What a row raises names the row, and `into` is then as
+    it was."""
+    hasher = begun(algorithm, key)
     if isinstance(rows, str):
         raise TypeError("rows are wanted, not 'str'")
+    numbers = into is not None and _takes_numbers(into, hasher.digest_size)
     view = _view_of(rows)
     if view is None:
         if width is not None:
             raise TypeError(f'width is for a buffer, not {type(rows).__name__!r}')
-        return hasher._many(tuple(rows), into)
-    if not view.c_contiguous:
-        raise BufferError('the rows do not lie side by side: the buffer is not C-contiguous')
-    return hasher._many_of_width(view, _count(view, width), into)
+        digests = hasher._many(tuple(rows), into, numbers)
+    else:
+        if not view.c_contiguous:
+            raise BufferError('the rows do not lie side by side: the buffer is not C-contiguous')
+        digests = hasher._many_of_width(view, _count(view, width), into, numbers)
+    return digests if into is None else into
+
+
+def _takes_numbers(into: Any, digest_bytes: int) -> bool:
+    """Whether a buffer gets the values as native integers, and not the digests' bytes."""
+    with memoryview(into) as room:
+        if room.readonly or not room.c_contiguous:
+            raise BufferError(f'into {"can not be written" if room.readonly else "is not C-contiguous"}')
+        if not NATIVE_INTEGER.fullmatch(room.format):
+            return False
+        if room.itemsize == digest_bytes:
+            return True
+        raise ValueError(f'into has integers of {room.itemsize} bytes, and a digest has {digest_bytes}: they would hold '
+                         'parts of it in reversed order')
 
 
 def _view_of(rows: Any) -> Optional[memoryview]:
@@ -45,7 +70,15 @@ def _view_of(rows: Any) -> Optional[memoryview]:
         view = memoryview(rows)
     except TypeError:
         return None
-    return None if 'O' in view.format else view
+    items = FIELD.sub('', view.format)
+    if items == 'O' and view.ndim == 1:
+        return None
+    if 'O' in items:
+        raise TypeError(f'these rows hold objects (format {view.format!r}) and not bytes')
+    if 'w' in items or 'u' in items:
+        raise TypeError(f'these rows hold text as it lies in memory (format {view.format!r}), and not its bytes in UTF-8: '
+                        'rows.tolist() has it as str')
+    return view
 
 
 def _count(view: memoryview, width: Optional[int]) -> int:
@@ -53,7 +86,16 @@ def _count(view: memoryview, width: Optional[int]) -> int:
     if width is None:
         if view.ndim == 0 or view.ndim == 1 and view.itemsize == 1:
             raise ValueError('these bytes have no rows: width is the bytes of one')
-        return len(view)
+        assert view.shape
+        return view.shape[0]
     if width <= 0 or view.nbytes % width:
         raise ValueError(f'{view.nbytes} bytes are no rows of {width} bytes')
     return view.nbytes // width
+
+
+def name_row(fault: Exception, row: int) -> None:
+    """Has the exception that a row raised name the row. many.c calls it."""
+    if isinstance(fault, UnicodeEncodeError):
+        fault.reason += f', in row {row}'
+    elif fault.args:
+        fault.args = (f'row {row}: {fault.args[0]}', *fault.args[1:])

@@ -18,7 +18,8 @@ def text_of(hasher: Hasher) -> str:
 
 
 def from_text(kind: HasherType, text: Union[str, bytes]) -> Hasher:
-    """The object that was saved. ValueError: the text is no saved state, or no bytes lead to it."""
+    """The object that was saved. ValueError: the text is no saved state; of XXH32 and XXH64 also one that no bytes lead
+    to, and of XXH3 one whose parts don't fit each other."""
     if not isinstance(text, (str, bytes)):
         raise TypeError(f'a saved state is a str, not {type(text).__name__!r}')
     return _FORMS[kind].hasher_of(kind, _read(text))
@@ -110,8 +111,8 @@ class _Plain:
 
 
 class _Stream:
-    """XXH3 of both widths: a state is accepted where its parts fit each other and the secret, and where some bytes lead
-    to it at least. `seed` is null in one that was made with its secret alone."""
+    """XXH3 of both widths: a state is accepted where its parts fit each other and the secret. Whether some bytes lead to
+    its accumulators is known of those of no stripe alone. `seed` is null in one that was made with its secret alone."""
     taken = struct.Struct('<8QQ64sQ512sQQ')
     # The seed, the end of the buffer and that of the secret aren't written where they say nothing.
     whole = struct.Struct('<8QQ64sQ512sQQ8xQ8sQ256s')

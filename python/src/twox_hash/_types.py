@@ -1,5 +1,5 @@
 """The hashes by their names."""
-from typing import TypeVar, Union
+from typing import Any, TypeVar, Union
 
 from ._native import xxh3_64, xxh3_128, xxh32, xxh64
 
@@ -24,3 +24,10 @@ def type_of(algorithm: Union[str, HasherType]) -> HasherType:
     if algorithm not in _BY_NAME.values():
         raise TypeError(f'an algorithm is a name or one of the types, not {algorithm!r}')
     return algorithm
+
+
+def begun(algorithm: Union[str, HasherType], key: dict[str, Any]) -> Hasher:
+    """An object of no bytes yet. Its key is a seed and a secret alone: an input would stand before all that follows."""
+    if 'input' in key:
+        raise TypeError("'input' is no keyword argument of this call: `seed` and `secret` are")
+    return type_of(algorithm)(**key)

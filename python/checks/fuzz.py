@@ -1,0 +1,118 @@
+"""Calls the package with hostile shapes, strides and buffers: `fuzz.py TURNS SEED`. What it is given is refused, or has
+the digests of the bytes that are there. The sanitizers, and a page behind the memory, end the process otherwise."""
+import array
+import ctypes
+import random
+import sys
+
+import hostile
+import twox_hash
+
+REFUSALS = (TypeError, ValueError, BufferError, OverflowError, MemoryError, OSError)
+NAMES = ('xxh32', 'xxh64', 'xxh3_64', 'xxh3_128')
+# No number is between them: of so many rows as that the list alone would fill the memory.
+SIZES = (*range(9), 15, 16, 17, 64, 240, 241, 256, 300, 2**59, 2**60, 2**60 + 1, 2**61, 2**61 + 1, 2**62, 2**63 - 1)
+FORMATS = (None, 'B', 'c', 'Q', '<Q', '>Q', 'I', 'd', 'O', '3w', '8s', 'T{I:Offset:I:x:}', 'T{', ':', '', 'ä')
+
+
+class Reader:
+    """A file that lies of how much it has read."""
+
+    def __init__(self, answers):
+        self.answers = iter(answers)
+
+    def readinto(self, room):
+        return next(self.answers, 0)
+
+
+class Fuzz:
+    def __init__(self, seed):
+        self.draw = random.Random(seed)
+        self.taken = self.refused = 0
+
+    def size(self):
+        return self.draw.choice(SIZES) * self.draw.choice((1, 1, 1, 1, 1, 1, -1))
+
+    def sizes(self):
+        count = self.draw.choice((0, 1, 1, 2, 2, 3, 64))
+        return tuple(self.size() for _ in range(count))
+
+    def hostile(self):
+        """Memory of up to 300 bytes, of which it tells all, fewer, or a negative length."""
+        draw, bytes_there = self.draw, self.draw.randrange(301)
+        shape = draw.choice((None, (bytes_there,), self.sizes(), (self.size(), bytes_there), (draw.randrange(40), 8)))
+        strides = draw.choice((None, None, shape and tuple(self.size() for _ in shape)))
+        told = draw.choice((bytes_there, bytes_there, bytes_there, draw.randrange(bytes_there + 1), -self.draw.randrange(9)))
+        # Without a shape Python itself divides by the size of an item.
+        itemsize = draw.choice((1, 1, 8, 4, self.size())) or bool(shape is None)
+        return hostile.Buffer(bytes_there, told, itemsize, draw.choice(FORMATS), shape, strides,
+                              draw.choice((False, False, True)))
+
+    def huge(self):
+        """Rows of no bytes, as ctypes has them."""
+        return (ctypes.c_char * 0 * self.draw.choice([size for size in SIZES if size < 2**63]))()
+
+    def rows(self):
+        return self.draw.choice((self.hostile, self.huge, lambda: bytes(self.draw.randrange(300)),
+                                 lambda: [self.hostile() for _ in range(self.draw.randrange(5))]))()
+
+    def into(self, rows):
+        length = self.draw.choice((0, 4, 8, 16, 24, 32, self.draw.randrange(300)))
+        return self.draw.choice((None, None, rows, self.hostile(), bytearray(length), memoryview(bytearray(length))[::-1],
+                                 array.array(self.draw.choice('QIqdB'), bytes(length // 8 * 8))))
+
+    def many(self, name):
+        rows, width = self.rows(), self.draw.choice((None, None, self.size()))
+        answer = twox_hash.many(rows, name, width=width, into=self.into(rows))
+        if isinstance(answer, list) and not isinstance(rows, list) and answer:
+            whole, digest = bytes(rows), getattr(twox_hash, f'{name}_digest')
+            width = len(whole) // len(answer)
+            assert answer == [digest(whole[i * width:(i + 1) * width]) for i in range(len(answer))]
+
+    def rows_by_number(self, name):
+        hasher, numbers = getattr(twox_hash, name)(), self.draw.choice((False, True))
+        hasher._many_of_width(self.rows(), self.size(), self.into(None), numbers)
+
+    def function(self, name):
+        getattr(twox_hash, f'{name}_digest')(self.rows(), self.size(), **self.secret())
+
+    def object(self, name):
+        hasher = getattr(twox_hash, name)(self.rows(), **self.secret())
+        hasher.update(self.rows())
+        hasher.copy().hexdigest()
+
+    def secret(self):
+        return self.draw.choice(({}, {'secret': self.hostile()}, {'secret': self.huge()}))
+
+    def memory(self, name):
+        """A forged state: what it answers is any value, and it reads nothing that isn't its own."""
+        hasher = getattr(twox_hash, name)()
+        forged = bytearray(hasher._memory())
+        for _ in range(self.draw.randrange(1, 20)):
+            forged[self.draw.randrange(len(forged))] = self.draw.choice((0, 1, 127, 255, self.draw.randrange(256)))
+        hasher._set_memory(bytes(forged[:self.draw.choice((len(forged), len(forged), self.draw.randrange(len(forged))))]))
+        hasher.update(bytes(self.draw.randrange(600)))
+        hasher.digest(), hasher.reset(), hasher.state()
+
+    def file(self, name):
+        twox_hash.file_digest(Reader([self.size() for _ in range(self.draw.randrange(4))]), name)
+
+    def turn(self):
+        call = self.draw.choice((self.many, self.many, self.rows_by_number, self.function, self.object, self.memory, self.file))
+        try:
+            call(self.draw.choice(NAMES))
+            self.taken += 1
+        except REFUSALS:
+            self.refused += 1
+
+
+def main(turns, seed):
+    fuzz = Fuzz(seed)
+    for _ in range(turns):
+        fuzz.turn()
+    assert min(fuzz.taken, fuzz.refused) > turns // 20, (fuzz.taken, fuzz.refused)
+    print(f'{fuzz.taken} taken, {fuzz.refused} refused')
+
+
+if __name__ == '__main__':
+    main(int(sys.argv[1]), int(sys.argv[2]))

@@ -1,0 +1,50 @@
+"""The C of the package under AddressSanitizer and UndefinedBehaviorSanitizer, called with hostile buffers (fuzz.py)."""
+import os
+
+from planted import plant
+from report import tail, want
+from room import PYTHON, copied, must, packed, run, site
+
+HERE = os.path.dirname(os.path.abspath(__file__))
+TURNS, SEED = 60000, 1
+FLAGS = '-g -fsanitize=address,undefined -fno-sanitize-recover=all'
+# Python and its memory aren't built so: what it leaks is nobody's fault, and memory that isn't there is refused.
+OPTIONS = 'detect_leaks=0:allocator_may_return_null=1'
+
+
+def built_so(room, name, *change):
+    """A folder for PYTHONPATH with the package built so, and with the module hostile. `change` is something wrong."""
+    clone = os.path.join(room, name)
+    folder = copied(clone)
+    if change:
+        plant(clone, *change)
+    path = site(room, name, packed(folder, CFLAGS=FLAGS)[1])
+    must(['/usr/bin/gcc', '-shared', '-fPIC', '-O1', '-I', must([PYTHON, '-c', 'import sysconfig; '
+          'print(sysconfig.get_path("include"))']).strip(), os.path.join(HERE, 'hostile.c'), '-o',
+          os.path.join(path, 'hostile.so')])
+    return path
+
+
+def fuzz(path):
+    runtimes = [must(['/usr/bin/gcc', f'-print-file-name=lib{name}.so']).strip() for name in ('asan', 'ubsan')]
+    return run([PYTHON, '-B', os.path.join(HERE, 'fuzz.py'), str(TURNS), str(SEED)], PYTHONPATH=path,
+               PYTHONMALLOC='malloc', LD_PRELOAD=':'.join(runtimes), ASAN_OPTIONS=OPTIONS)
+
+
+def passes(room):
+    done = fuzz(built_so(room, 'sanitized'))
+    want(done.returncode == 0, next((line for line in done.stdout.splitlines() if 'ERROR' in line or 'error' in line),
+                                    tail(done.stdout)))
+    return tail(done.stdout)
+
+
+def notices(room):
+    """Without the test of how many digests there are, it ends by the sanitizer."""
+    done = fuzz(built_so(room, 'sanitized-wrong', 'python/native/many.c',
+                         'digests > PY_SSIZE_T_MAX / kind->digest_bytes', '0'))
+    want(done.returncode and 'AddressSanitizer' in done.stdout, f'it is not noticed: {tail(done.stdout)}')
+
+
+def check_all(report, room):
+    report.attempt('hostile shapes, strides and buffers under ASan and UBSan', passes, room)
+    report.attempt('noticed there: sizes that wrap', notices, room)
