@@ -22,6 +22,19 @@ class Case(NamedTuple):
     shell: str = ''
     # What ours has to do where it differs from both originals on purpose, which are not run then.
     wanted: Optional[dict] = None
+    # Where the originals tell no more than `Wrong parameters`: the word that ours names behind, by default the first.
+    wrong: str = ''
+
+
+def one_line(text):
+    """A text that is told, as one line: as names stand in lists, with a backslash before it where it needs one."""
+    escaped = text.replace(b'\\', b'\\\\').replace(b'\n', b'\\n').replace(b'\r', b'\\r')
+    return (b'\\' if escaped != text else b'') + escaped + b'\n'
+
+
+def fails(told, out=b''):
+    """Ours tells these lines, and ends with 1."""
+    return {'out': out, 'err': b''.join(map(one_line, told)), 'status': 1}
 
 
 def refused(status=1):
@@ -51,6 +64,8 @@ def no_stdin(place):
 
 # A file that opens, and of which each read fails.
 FAILING = '/proc/self/mem'
+# What is told where `-` would be left unread.
+BESIDE_NAMES = b"Error: '-' is standard input, which is read alone; a file of that name is './-'."
 NOT_READ = b"Error: Could not read '/proc/self/mem': a failure occurred reading the input file. \n"
 
 
@@ -128,6 +143,8 @@ def names():
         Case('reads that fail, among others', ('a', FAILING, FAILING, 'gone', 'a'), wanted={
             'out': GOOD * 2, 'err': NOT_READ * 2 + b"Error: Could not open 'gone': No such file or directory. \n", 'status': 1}),
         Case('2,000 names', ('a', 'e') * 1000),
+        Case('100,000 short names', ('a',) * 100000),
+        Case('12,000 arguments', ('-q',) * 11998 + ('gone', 'a')),
         Case('words of 100,000 bytes', ('y' * 100000, 'a', 'z/' * 50000)),
         Case('500 long names', ('n' * 255, 'x' * 255) * 250),
         Case('spaces and tabs at both ends of names', (' both ', 'a ', ' a', 'a\t'), files={' both ': HELLO}),
@@ -150,7 +167,7 @@ def kinds():
         Case('the last -H counts', ('-H0', '-H2', 'a')),
         Case('the last -H counts in one word', ('-H0H1', 'a')),
         Case('-H and a number apart', ('-H', '0', 'a')),
-        Case('an unknown kind before the version', ('-H9', '-V'), compared=NO_ERROR_TEXT),
+        Case('an unknown kind before the version', ('-H9', '-V')),
     ]
 
 
@@ -184,7 +201,9 @@ def options():
         Case('options before --', ('-H0', '--tag', '--', '-x')),
         Case('letters together', ('-qH0w', 'a')),
         Case('quiet twice', ('-q', '--quiet', 'd', 'a')),
-        Case('a bad option before the version', ('-Z', '-V'), compared=NO_ERROR_TEXT),
+        Case('a bad option before the version', ('-Z', '-V')),
+        Case('a bad option behind good ones', ('-q', '--tag', '-H0x', 'a'), wrong='-H0x'),
+        Case('a bad option with a line feed', ('-x\na: OK', 'a')),
         Case('the version before a bad option', ('-V', '-Z'), compared=NO_ERROR_TEXT),
         Case('a number too large before a bad option', ('-i99999999999', '-Z')),
         Case('a bad option after a file', ('a', '--nope')),
@@ -202,9 +221,15 @@ def input_alone():
         Case('input by -', ('-',), given=HELLO),
         Case('input by - twice', ('-', '-'), given=HELLO),
         Case('options after -', ('-', '-H0', '--tag'), given=HELLO),
-        Case('a name after -', ('-', 'a'), given=b'world'),
-        Case('- after a name', ('a', '-'), given=b'world'),
-        Case('- after --', ('--', '-'), given=b'world'),
+        # The originals drop standard input beside a name before it, or open a file of the name `-`: ours never leaves
+        # unread what was asked for, and says so.
+        *(Case(name, words, given=b'world', files={'-': HELLO}, wanted=fails([BESIDE_NAMES])) for name, words in (
+            ('a name after -', ('-', 'a')), ('- after a name', ('a', '-')), ('- after --', ('--', '-')),
+            ('- between names', ('-H0', 'a', '-', 'a')), ('names after - and --', ('-', '--', 'a')),
+            ('- before a list', ('-c', '-', 'good')), ('- after a list', ('-c', 'good', '-')),
+            ('- before a list of names', ('--files-from', '-', 'a')), ('- among names of an audit', ('--audit', 'good', '-')),
+            ('- before an audit', ('--audit', '-', 'good')))),
+        Case('a file of the name -', ('./-',), given=b'world', files={'-': HELLO}),
         Case('input, tagged', ('--tag',), given=HELLO),
         Case('input, little endian', ('--little-endian', '-H0'), given=HELLO),
         Case('input, quiet', ('-q',), given=HELLO),
@@ -225,7 +250,9 @@ def program_names():
     return [Case(f'called {name}', ('a', 'gone'), called=name) for name in names] + [
         Case('called xxh32sum, another kind', ('-H2', 'a'), called='xxh32sum'),
         Case('called xxh32sum, a list', ('-c', 'good', 'd'), called='xxh32sum'),
-        Case('called xxh128sum, a bad option', ('--nope',), called='xxh128sum', compared=NO_ERROR_TEXT),
+        Case('called xxh128sum, a bad option', ('--nope',), called='xxh128sum'),
+        Case('called by a name with a line feed', ('-b',), called='a\nxxhsum', wanted=fails([
+            b'a\nxxhsum: this xxhsum has no benchmark'])),
         Case('called xxh128sum, tagged', ('--tag', 'a'), called='xxh128sum'),
     ]
 
@@ -365,6 +392,9 @@ def missing_files():
         Case('names, --ignore-missing', ('--ignore-missing', 'gone', 'a')),
         of_list('a file below no folder is not missing', X64 + b'  a/b\n' + GOOD, *missing, wanted={
             'out': unopened + b'a: OK\n1 listed file could not be read\n', 'err': b'', 'status': 1}),
+        of_list('a name that is not UTF-8 is not missing', X64 + b'  \xff\xfe\n' + GOOD, *missing, wanted={
+            'out': unread(b'L:1', b'\xff\xfe', b'The name is not UTF-8') + b'a: OK\n1 listed file could not be read\n',
+            'err': b'', 'status': 1}),
         of_list('a link to itself is not missing', X64 + b'  loop\n' + GOOD, *missing, wanted={
             'out': unread(b'L:1', b'loop', b'Too many levels of symbolic links') + b'a: OK\n1 listed file could not be read\n',
             'err': b'', 'status': 1}),
@@ -387,7 +417,7 @@ def lines_with_nuls():
     def raw(digits, *names):
         return b''.join(digits + b'  ' + name.encode() + b'\0' for name in names)
 
-    refused_words = {'out': b'', 'err': b'Wrong parameters\n', 'status': 1}
+    refused_words = fails([b"Wrong parameters: '-z' beside '-c' or '--audit'"])
     return [
         beside('lines that NULs end, as sha256sum has them', '-z', 's/^[0-9a-f]*//', b'  %s\0'),
         beside('tagged lines that NULs end, as sha256sum has them', '-z --tag', 's/^[A-Z0-9]* //; s/[0-9a-f]*$//',
@@ -427,7 +457,6 @@ def several_lists():
         Case('a list from input by -', ('-c', '-'), given=WRONG + b'  a\n' + X64 + b'  gone\n' + b'junk\n'),
         Case('a warned list from input', ('-cw',), given=b'junk\n' + GOOD),
         Case('an empty list from input', ('-c',)),
-        Case('a list named -', ('-c', 'good', '-'), given=GOOD),
         Case('a list named stdin', ('-c', 'stdin'), given=WRONG + b'  a\n', files={'stdin': GOOD}),
         Case('- in a list is a file', ('-c',), given=X64 + b'  -\n', files={'-': HELLO}),
         Case('stdin in a list from input', ('-c',), given=GOOD + X64 + b'  stdin\n' + GOOD, wanted={
@@ -470,6 +499,8 @@ def trees():
         Case('names of the input', ('--files-from',), given=b'a\ne\n'),
         Case('names that NULs end', ('--files0-from', 'ended'), files=ended, wanted={
             'out': X64 + b'  a\n\\' + X64 + b'  line\\nfeed\n' + EMPTY + b'  e\n', 'err': b'', 'status': 0}),
+        Case('an audit of names of the input, by -', ('--audit', '--files0-from', '-', 'good'), given=b'a\0', wanted={
+            'out': b'a: same\n1 same, 0 changed, 0 moved, 0 new, 0 missing\n', 'err': b'', 'status': 0}),
         Case('names that NULs end, of the input', ('--files0-from', '-'), given=b'a\0e\0', wanted={
             'out': X64 + b'  a\n' + EMPTY + b'  e\n', 'err': b'', 'status': 0}),
         Case('an audit', ('--audit', 'lines', 'a', 'e', 'b c', '(p)', '*star'), files={'lines': lines}, wanted=changed),
@@ -494,8 +525,49 @@ def trees():
     ]
 
 
+def told_names():
+    """Names that would end a line, where something else than a digest is told of them: one line, as lists have names. The
+    originals print them as they are, so that whoever writes a list or names a file can forge a line."""
+    odd = b'gone\na: OK'
+    escaped = b'\\' + X64 + b'  gone\\na: OK\n'
+    missing = b'No such file or directory'
+    unopened = b"Error: Could not open '" + odd + b"': " + missing
+
+    def in_folder(line, **wanted):
+        return {'shell': f'mkdir "$(printf "x\\ny")"; printf "junk\\n" >"$(printf "l\\nL")"; {line}', 'wanted': wanted}
+
+    listed = b"L:1: Could not open or read '" + odd + b"': " + missing + b'.'
+    return [
+        of_list('a list that forges a line', escaped + GOOD, wanted={
+            'out': one_line(listed) + b'a: OK\n1 listed file could not be read\n', 'err': b'', 'status': 1}),
+        of_list('a wrong line of an odd name', b'\\' + WRONG + b'  line\\nfeed\n', wanted={
+            'out': one_line(b'line\nfeed: FAILED') + b'1 computed checksum did NOT match\n', 'err': b'', 'status': 1}),
+        Case('a missing file of an odd name', (odd, 'back\\gone'), wanted=fails([
+            unopened + b'. ', b"Error: Could not open 'back\\gone': " + missing + b'. '])),
+        Case('a missing file of an odd name, -z', ('-z', odd), wanted=fails([unopened + b'. '])),
+        Case('a missing list of an odd name', ('-c', odd), wanted=fails([unopened])),
+        Case('a folder of an odd name', **in_folder('"$X" x*y', **fails([b'xxhsum: x\ny: Is a directory ']))),
+        Case('a list of an odd name', **in_folder('"$X" -cw l*L', **fails([
+            b'l\nL:1: Error: Improperly formatted checksum line.',
+            b'l\nL: no properly formatted xxHash checksum lines found']))),
+        Case('a list of an odd name, --ignore-missing', **in_folder(
+            f'printf "{X64.decode()}  gone\\n" >"$(printf "l\\nL")"; "$X" -c --ignore-missing l*L',
+            out=one_line(b'l\nL: no file was verified'), err=b'', status=1)),
+        Case('a missing list of names of an odd name', ('--files-from', odd), wanted=fails([unopened + b'.'])),
+        Case('an audit of a list of an odd name', **in_folder('"$X" --audit l*L a', **fails([
+            b'l\nL:1: Error: Improperly formatted checksum line.']))),
+        Case('an audit of an odd name that stands twice', ('--audit', 'good', 'line\nfeed', 'line\nfeed'), wanted=fails([
+            b"Error: 'line\nfeed' stands twice."])),
+        Case('an audit of a line of an odd name that stands twice', ('--audit', 'L', 'a'), files={'L': escaped * 2},
+             wanted=fails([b"L: '" + odd + b"' stands twice."])),
+        Case('an audit of odd names', ('--audit', 'L', 'line\nfeed'), files={'L': escaped}, wanted={
+            'out': one_line(b'line\nfeed: moved from ' + odd) + b'0 same, 0 changed, 1 moved, 0 new, 0 missing\n',
+            'err': b'', 'status': 1}),
+    ]
+
+
 CASES = (names() + kinds() + lines() + options() + input_alone() + program_names() + verdicts() + plain_lines()
-         + tagged_lines() + missing_files() + lines_with_nuls() + several_lists() + ends() + trees())
+         + tagged_lines() + missing_files() + lines_with_nuls() + several_lists() + ends() + trees() + told_names())
 
 # The cases in which one of the originals does something else than ours, for the reasons that docs/XXHSUM.md gives: 0.8.1
 # knows no escapes, comments and XXH3 without a tag, and has fewer options.

@@ -105,6 +105,39 @@ fn other_numbers_of_buffer_bytes(rt: HostRuntime) {
     }
 }
 
+// A saved text before so many spaces, longer than any constant of the code: want of memory is no answer, where none is
+// refused.
+fn long_text(alloc: Global, saved: &str, spaces: u32) -> Result<String, AllocError> {
+    let mut text = String::new(alloc);
+    text.push_str(saved)?;
+    for _ in 0..spaces {
+        text.push_str(" ")?;
+    }
+    Ok(text)
+}
+
+#[test]
+fn long_texts_are_read(rt: HostRuntime) {
+    for spaces in [1000, 100_000, 1_000_000] {
+        assert!(rt;
+            reads_as_32(
+                rt.alloc(),
+                long_text(rt.alloc(), TEXT_32, spaces),
+                record_32()
+            ),
+            "{spaces} spaces"
+        );
+        assert!(rt;
+            reads_as_64(
+                rt.alloc(),
+                long_text(rt.alloc(), TEXT_64, spaces),
+                record_64()
+            ),
+            "{spaces} spaces"
+        );
+    }
+}
+
 // Whether the text is read as the record.
 fn reads_as_32(
     alloc: Global,

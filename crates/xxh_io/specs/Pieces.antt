@@ -7,10 +7,6 @@ use Rattle.std.specs.List.{AllByRecursion}
 abbrev pub Step : Type 0 → Type 1
 Step S = S → List ℕ → S → Type 0
 
--- one that fails
-abbrev pub Failing : Type 0 → Type 1
-Failing S = S → S → Type 0
-
 -- the pieces, one step each, lead from old to new
 abbrev pub Pieces : {S : Type 0} → Step S → S → List (List ℕ) → S → Type 0
 Pieces step old [] new = new ≡ old

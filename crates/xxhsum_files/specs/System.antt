@@ -1,5 +1,7 @@
--- What clauses say of the system's files: nothing, since which bytes they hold is not known here.
-use Rattle.std.specs.Prelude.{Bool, ℕ, List}
+-- What clauses say of the system's files: which bytes they hold is not known here.
+use Rattle.std.specs.Prelude.{◌≡◌, Bool, ℕ, List, Option, pos}
+use Rattle.std.specs.Str.{IsUtf8}
+use Rattle.xxhsum_files.specs.Refusal.{refusal_code}
 use Rattle.xxh_io.specs.declared.from_read.FromRead.{FromRead}
 use Rattle.xxhsum_files.specs.declared.refusal.Refusal.{Refusal}
 use Rattle.xxhsum_files.specs.declared.system.SystemFiles.{SystemFiles}
@@ -8,9 +10,13 @@ use Rattle.xxhsum_files.specs.declared.system.SystemFiles.{SystemFiles}
 abbrev pub AnyFile : {P F : Type 0} → SystemFiles P → List ℕ → FromRead F → Type 0
 AnyFile files name file = Unit {0}
 
--- a name may be refused for any reason
-abbrev pub AnyRefusal : {P : Type 0} → SystemFiles P → List ℕ → Refusal → Type 0
-AnyRefusal files name why = Unit {0}
+-- a name that is not UTF-8 is refused by a number of its own, and is not missing; another may be refused for any reason
+abbrev pub RefusesNoText : {P : Type 0} → SystemFiles P → List ℕ → Refusal → Type 0
+RefusesNoText files name why = ¬ IsUtf8 name → refusal_code why ≡ pos 84
+
+-- a file may have any size, or none that is known
+abbrev pub AnySize : {P : Type 0} → SystemFiles P → List ℕ → Option ℕ → Type 0
+AnySize files name size = Unit {0}
 
 -- a name may be a directory's or not
 abbrev pub AnyAnswer : {P : Type 0} → SystemFiles P → List ℕ → Bool → Type 0

@@ -1,6 +1,6 @@
 //! Files in memory, for tests: a table of names and of the sources that they lead to.
 
-ghost use Rattle.std.specs.Prelude.{◌≡◌};
+ghost use Rattle.std.specs.Prelude.{◌≡◌, None};
 ghost use Rattle.std.specs.Option.{option_copied};
 ghost use Rattle.xxhsum_files.specs.Memory.{entries_of, entry_named, is_directory_named, LeadsTo, RefusedFor};
 
@@ -51,6 +51,8 @@ impl<S: Source + Copy> Store for MemoryFiles<'_, S> {
     ghost refuses = { RefusedFor S.has_failed };
 
     ghost holds_directory = { λ store name answer. answer ≡ is_directory_named store name };
+
+    ghost sizes = { λ store name size. size ≡ None };
 
     fn is_directory(&self, name: &[u8]) -> bool {
         match self.find(name) {

@@ -1,6 +1,6 @@
 //! What files are opened from.
 
-ghost use Rattle.std.specs.Prelude.{◌≡◌, false, List, ℕ, Bool, IfOk, IfErr};
+ghost use Rattle.std.specs.Prelude.{◌≡◌, false, List, ℕ, Bool, Option, IfOk, IfErr};
 ghost use Rattle.xxhsum_files.specs.declared.refusal.Refusal.{Refusal};
 
 use crate::refusal::Refusal;
@@ -20,13 +20,16 @@ pub trait Store {
     // Whether the name is a directory's, as far as the store can say.
     ghost holds_directory: { Self → List ℕ → Bool → Type 0 };
 
+    // How many bytes the file of the name has, as far as the store can say beforehand.
+    ghost sizes: { Self → List ℕ → Option ℕ → Type 0 };
+
     /// Whether the name is a directory's.
     fn is_directory(&self, name: &[u8]) -> bool
         ensures { holds_directory self.now name.now result };
 
-    /// How many bytes the file of this name has, as far as the store can say beforehand. Progress goes by it alone, so no
-    /// clause tells what it is.
-    fn size(&self, name: &[u8]) -> Option<u64>;
+    /// How many bytes the file of this name has, as far as the store can say beforehand. Progress goes by it alone.
+    fn size(&self, name: &[u8]) -> Option<u64>
+        ensures { sizes self.now name.now result };
 
     /// Opens the file of this name for reading. Its first read may still fail, as a directory's does. An error
     /// says why there is none.

@@ -1,6 +1,7 @@
-//! The system's files, by the names that std opens. Which bytes they give no clause can say.
+//! The system's files, by the names that std opens. Which bytes they give no clause can say, but what becomes of a name
+//! that is not UTF-8.
 
-ghost use Rattle.xxhsum_files.specs.System.{AnyAnswer, AnyFile, AnyRefusal};
+ghost use Rattle.xxhsum_files.specs.System.{AnyAnswer, AnyFile, AnySize, RefusesNoText};
 
 use crate::refusal::Refusal;
 use crate::store::Store;
@@ -30,9 +31,11 @@ impl<P: Files> Store for SystemFiles<'_, P> {
 
     ghost opens = { AnyFile };
 
-    ghost refuses = { AnyRefusal };
+    ghost refuses = { RefusesNoText };
 
     ghost holds_directory = { AnyAnswer };
+
+    ghost sizes = { AnySize };
 
     fn is_directory(&self, name: &[u8]) -> bool {
         let Ok(path) = str::from_utf8(name) else {

@@ -1,5 +1,5 @@
 -- Escaped names: what they mean, and which bytes they lack.
-use Rattle.std.proofs.Common.{◌≡◌, ◌≢◌, ◌⊎◌, ℕ, ◌+◌, ◌*◌, ◌<◌, ◌≤◌, true, false, ◌||◌, nat_eq, List, [], ◌∷◌, ◌++◌, length, take, get_or, Option, Some, None, refl, sym, ap, ◌∙◌, inl, inr, append-nil, append_assoc, length-append, arith}
+use Rattle.std.proofs.Common.{◌≡◌, ◌≢◌, ◌⊎◌, ℕ, ◌+◌, ◌*◌, ◌<◌, ◌≤◌, Bool, true, false, ◌||◌, nat_eq, List, [], ◌∷◌, ◌++◌, length, take, get_or, Option, Some, None, refl, sym, ap, ◌∙◌, inl, inr, append-nil, append_assoc, length-append, arith}
 use Rattle.std.specs.Option.{option_and_then}
 use Rattle.std.proofs.lemmas.Bool.{cases_eq, cond-false, ne_eqb, or_parts}
 use Rattle.std.proofs.lemmas.List.{take_more}
@@ -25,9 +25,17 @@ cases c =
       ]
     ]
 
-escaped_append : (x y : List ℕ) → escaped (x ++ y) ≡ escaped x ++ escaped y
+or_assoc : (a b c : Bool) → (a || (b || c)) ≡ ((a || b) || c)
+or_assoc true b c = refl
+or_assoc false b c = refl
+
+pub escaped_append : (x y : List ℕ) → escaped (x ++ y) ≡ escaped x ++ escaped y
 escaped_append [] y = refl
 escaped_append (c ∷ x) y = ap (λ r. escape c ++ r) (escaped_append x y) ∙ sym (append_assoc (escape c) (escaped x) (escaped y))
+
+pub needs_append : (x y : List ℕ) → needs_escape (x ++ y) ≡ (needs_escape x || needs_escape y)
+needs_append [] y = refl
+needs_append (c ∷ x) y = ap (λ r. is_special c || r) (needs_append x y) ∙ or_assoc (is_special c) (needs_escape x) (needs_escape y)
 
 -- one byte more of a name
 pub escaped_more : (name : List ℕ) (i : ℕ) → i < length name → escaped (take (i + 1) name) ≡ escaped (take i name) ++ escape (get_or name i 0)

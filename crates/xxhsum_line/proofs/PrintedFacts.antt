@@ -9,7 +9,7 @@ use Rattle.xxh_io.specs.declared.kind.Kind.TheVariants.{X32, X64, X3_64, X3_128}
 use Rattle.xxhsum_line.specs.Digits.{value_shown}
 use Rattle.xxhsum_line.specs.Entry.{Says, SaysPlain, TextSays, is_comment, value_meant}
 use Rattle.xxhsum_line.specs.Escapes.{body_of, escaped, is_escaped, mark_of, name_meant, needs_escape, unescaped}
-use Rattle.xxhsum_line.specs.Laws.{PrintedIsAccepted, PrintedIsNoComment, PrintedIsOneLine}
+use Rattle.xxhsum_line.specs.Laws.{PlainTextsStay, PrintedIsAccepted, PrintedIsNoComment, PrintedIsOneLine, ToldIsOneLine}
 use Rattle.xxhsum_line.specs.Parts.{Lacks, up_to_nul}
 use Rattle.xxhsum_line.specs.Printed.{formed, full_tag, line_of, plain_text, prefix_of, shown, tagged_text, text_of}
 use Rattle.xxhsum_line.specs.declared.printed.Shape.{Shape}
@@ -96,6 +96,14 @@ printed_is_one_line kind shape value name =
     let low : 10 < 32 = omega arith in
     lacks_both 10 (mark_of name) (formed kind shape value (escaped name)) (marked_lacks 10 (needs_escape name) low)
     (lacks_formed 10 kind shape value (escaped name) low (escaped_lacks_line_feed name))
+
+pub told_is_one_line : ToldIsOneLine
+told_is_one_line text =
+    let low : 10 < 32 = omega arith in
+    (mark_of text ++ escaped text, refl, lacks_both 10 (mark_of text) (escaped text) (marked_lacks 10 (needs_escape text) low) (escaped_lacks_line_feed text))
+
+pub plain_texts_stay : PlainTextsStay
+plain_texts_stay text plain = rw (plain, plain_names_stay text plain) refl
 
 -- ---- how a line begins
 

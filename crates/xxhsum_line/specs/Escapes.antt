@@ -25,6 +25,10 @@ needs_escape (c ∷ cs) = is_special c || needs_escape cs
 abbrev pub mark_of : List ℕ → List ℕ
 mark_of name = if needs_escape name then 92 ∷ [] else []
 
+-- a text as one line: each of its bytes as an escaped line has it, and a backslash before them where one of them needs it
+abbrev pub one_line : List ℕ → List ℕ
+one_line text = mark_of text ++ escaped text ++ 10 ∷ []
+
 -- the byte that another one behind a backslash stands for
 abbrev pub meant_by : ℕ → Option ℕ
 meant_by c =

@@ -1,9 +1,9 @@
 -- What holds of printed lines and of entries.
-use Rattle.std.specs.Prelude.{ℕ, ◌≡◌, ◌<◌, ◌^◌, Bool, false, List, Some}
+use Rattle.std.specs.Prelude.{ℕ, ◌≡◌, ◌<◌, ◌^◌, Bool, false, List, [], ◌∷◌, ◌++◌, Some}
 use Rattle.xxh_io.specs.Kind.{digits_of}
 use Rattle.xxh_io.specs.declared.kind.Kind.{Kind}
 use Rattle.xxhsum_line.specs.Entry.{Says, is_comment}
-use Rattle.xxhsum_line.specs.Escapes.{escaped, needs_escape, unescaped}
+use Rattle.xxhsum_line.specs.Escapes.{escaped, needs_escape, one_line, unescaped}
 use Rattle.xxhsum_line.specs.Parts.{IsPlain, IsTagged, Lacks}
 use Rattle.xxhsum_line.specs.Printed.{text_of}
 use Rattle.xxhsum_line.specs.declared.printed.Shape.{Shape}
@@ -18,6 +18,18 @@ PrintedIsAccepted =
 abbrev pub PrintedIsOneLine : Type 0
 PrintedIsOneLine =
     (kind : Kind) (shape : Shape) (value : ℕ) (name : List ℕ) → Lacks 10 (text_of kind shape value name)
+
+-- this is one line: its last byte is a line feed, and no other is
+abbrev pub IsOneLine : List ℕ → Type 0
+IsOneLine line = (text : List ℕ) × (line ≡ text ++ 10 ∷ []) × Lacks 10 text
+
+-- a text that is told as one line is one, whatever names stand in it
+abbrev pub ToldIsOneLine : Type 0
+ToldIsOneLine = (text : List ℕ) → IsOneLine (one_line text)
+
+-- and where nothing in it needs an escape, it is the text
+abbrev pub PlainTextsStay : Type 0
+PlainTextsStay = (text : List ℕ) → needs_escape text ≡ false → one_line text ≡ text ++ 10 ∷ []
 
 -- no printed line is a comment
 abbrev pub PrintedIsNoComment : Type 0

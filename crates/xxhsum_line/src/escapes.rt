@@ -2,9 +2,10 @@
 //! with such a name begins with a backslash.
 
 ghost use Rattle.std.specs.Prelude.{◌≡◌, ◌++◌, IfOk, MatchOption, None, Some};
-ghost use Rattle.xxhsum_line.specs.Escapes.{body_of, escape, escaped, is_blank, is_escaped, is_special, mark_of, meant_by, name_meant, needs_escape, unescaped};
+ghost use Rattle.xxhsum_line.specs.Escapes.{body_of, escape, escaped, is_blank, is_escaped, is_special, mark_of, meant_by, name_meant, needs_escape, one_line, unescaped};
 
 use std::alloc::{AllocError, Global};
+use std::slice;
 
 /// Whether a name has a backslash, a line feed or a carriage return.
 pub fn needs_escape(name: &[u8]) -> bool
@@ -41,19 +42,30 @@ pub fn put_escaped(line: &mut Vec<u8>, name: &[u8]) -> Result<(), AllocError>
     ensures { IfOk result (λ _. line.new.items ≡ line.old.items ++ escaped name.now) }
 {
     for byte in name {
-        put_byte(line, *byte)?;
+        line.extend_from_slice(escape(byte))?;
     }
     Ok(())
 }
 
-fn put_byte(line: &mut Vec<u8>, byte: u8) -> Result<(), AllocError>
-    ensures { IfOk result (λ _. line.new.items ≡ line.old.items ++ escape byte) }
+/// Puts the text behind the line as one line: escaped, with a backslash before it where it needs one, and with a line
+/// feed. `AllocError` where memory runs out.
+pub fn put_line(line: &mut Vec<u8>, text: &[u8]) -> Result<(), AllocError>
+    ensures { IfOk result (λ _. line.new.items ≡ line.old.items ++ one_line text.now) }
+{
+    put_mark(line, text)?;
+    put_escaped(line, text)?;
+    line.extend_from_slice(b"\n")
+}
+
+/// A byte of a name as it stands in an escaped line.
+pub fn escape(byte: &u8) -> &[u8]
+    ensures { result.now ≡ escape byte.now }
 {
     match byte {
-        b'\\' => line.extend_from_slice(b"\\\\"),
-        b'\n' => line.extend_from_slice(b"\\n"),
-        b'\r' => line.extend_from_slice(b"\\r"),
-        _ => line.extend_from_slice(&[byte]),
+        b'\\' => b"\\\\",
+        b'\n' => b"\\n",
+        b'\r' => b"\\r",
+        _ => slice::from_ref(byte),
     }
 }
 

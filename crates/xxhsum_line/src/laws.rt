@@ -3,7 +3,7 @@
 ghost use Rattle.std.specs.Prelude.{◌≡◌, ◌<◌, ◌^◌, true, IfOk};
 ghost use Rattle.xxh_io.specs.Kind.{digits_of};
 ghost use Rattle.xxhsum_line.specs.Entry.{Says};
-ghost use Rattle.xxhsum_line.specs.Laws.{EscapeIsUndone, NotBothForms, PlainNamesStay, PlainPartsAreOne, PrintedIsAccepted, PrintedIsNoComment, PrintedIsOneLine, SaysOneThing, TaggedPartsAreOne};
+ghost use Rattle.xxhsum_line.specs.Laws.{EscapeIsUndone, NotBothForms, PlainNamesStay, PlainPartsAreOne, PlainTextsStay, PrintedIsAccepted, PrintedIsNoComment, PrintedIsOneLine, SaysOneThing, TaggedPartsAreOne, ToldIsOneLine};
 ghost use Rattle.xxhsum_line.specs.Parts.{Lacks};
 
 use crate::entry::{Entry, Meaning, meaning_of};
@@ -11,11 +11,14 @@ use crate::printed::{Shape, digest_line};
 use std::alloc::{AllocError, Global};
 use xxh_io::kind::Kind;
 
-/// The laws of lines: what is printed is accepted, a printed line is one line and no comment, an escape is undone, and
-/// a line has at most one choice of parts and says at most one thing. It does nothing.
+/// The laws of lines: what is printed is accepted, a printed line is one line and no comment, a text that is told as one
+/// line is one, whatever names stand in it, an escape is undone, and a line has at most one choice of parts and says at
+/// most one thing. It does nothing.
 pub fn laws_of_lines()
     ensures printed_is_accepted { PrintedIsAccepted }
     ensures printed_is_one_line { PrintedIsOneLine }
+    ensures told_is_one_line { ToldIsOneLine }
+    ensures plain_texts_stay { PlainTextsStay }
     ensures printed_is_no_comment { PrintedIsNoComment }
     ensures escape_is_undone { EscapeIsUndone }
     ensures plain_names_stay { PlainNamesStay }

@@ -10,5 +10,6 @@ mod ProgressFacts
 mod SaidFacts
 mod StopFacts
 pub mod ToldFacts
+pub mod ToldLineFacts
 mod WatchedFacts
 mod WatchedListFacts

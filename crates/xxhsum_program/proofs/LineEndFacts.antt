@@ -5,6 +5,7 @@ use Rattle.std.specs.declared.result.Result.{Result}
 use Rattle.xxh_io.specs.Digest.{Took}
 use Rattle.xxh_io.specs.Rules.{SinkRules}
 use Rattle.xxh_io.proofs.WriteFacts.{Refused-join, Refused-more, Took-join}
+use Rattle.xxhsum_line.specs.Escapes.{one_line}
 use Rattle.xxhsum_words.specs.declared.options.Options.{Options}
 use Rattle.xxhsum_program.specs.declared.check.Report.{Report}
 use Rattle.xxhsum_program.specs.declared.stop.Stop.{Stop}
@@ -40,7 +41,7 @@ summary-is options report some speaks =
     let different = count_text report.different (codes " computed checksum did NOT match\n") (codes " computed checksums did NOT match\n") in
     one-of report.proper options.is_status_only (concat (improper ∷ unread ∷ different ∷ [])) some speaks ∙ ap (λ bytes. improper ++ (unread ++ bytes)) (append-nil different)
 
-pub none-is : (list : List ℕ) (report : Report) → report.proper ≡ 0 → told_summary list report ≡ concat (list ∷ codes ": no properly formatted xxHash checksum lines found\n" ∷ [])
+pub none-is : (list : List ℕ) (report : Report) → report.proper ≡ 0 → told_summary list report ≡ one_line (concat (list ∷ codes ": no properly formatted xxHash checksum lines found" ∷ []))
 none-is list report none = rw none refl
 
 pub break-none : (list : List ℕ) (number : ℕ) (report : Report) → report.proper ≡ 0 → told_break list number report FailedRead ≡ []
@@ -52,5 +53,5 @@ else-of count text some = grind arith
 pub break-some : (list : List ℕ) (number : ℕ) (report : Report) → report.proper ≢ 0 → told_break list number report FailedRead ≡ told_of_line list number (codes "A failure occurred reading the list")
 break-some list number report some = else-of report.proper _ some
 
-pub unverified-is : (options : Options) (list : List ℕ) (report : Report) → is_unverified options.ignores_missing report ≡ true → unverified_text options list report ≡ list ++ codes ": no file was verified\n"
+pub unverified-is : (options : Options) (list : List ℕ) (report : Report) → is_unverified options.ignores_missing report ≡ true → unverified_text options list report ≡ one_line (concat (list ∷ codes ": no file was verified" ∷ []))
 unverified-is options list report is = rw is refl

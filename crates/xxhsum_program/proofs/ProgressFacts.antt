@@ -1,7 +1,7 @@
 -- What is shown of a read, by the counts.
 use Rattle.std.proofs.Common.{◌≡◌, ◌≢◌, ℕ, ◌<◌, ◌≤◌, ◌/◌, ◌-◌, ◌++◌, Bool, true, false, Option, Some, [], ap, codes, decimal, nat_eq, nat_lt, refl, arith, if◌then◌else◌}
 use Rattle.std.proofs.lemmas.Bool.Decides.{nat_tests}
-use Rattle.xxhsum_program.specs.Progress.{cleared, count_after, left_text, line_text, progress_line, rate_of, shown_text}
+use Rattle.xxhsum_program.specs.Progress.{cleared, count_after, empty_line, left_text, line_text, progress_line, rate_of, shown_text}
 
 -- a step ends between the counts
 pub line-between : (size : Option ℕ) (millis before count : ℕ) → before / 67108864 < count / 67108864 → progress_line size millis before count ≡ line_text size count (rate_of count millis)
@@ -16,7 +16,7 @@ left-is size most count rate is some =
     rw (is, test) refl
 
 -- there is a line to take away
-pub cleared-after : (count : ℕ) → 67108864 ≤ count → cleared count ≡ codes "\r                                                                      \r"
+pub cleared-after : (count : ℕ) → 67108864 ≤ count → cleared count ≡ empty_line
 cleared-after count past = grind arith
 
 pub shown-end : (is_on : Bool) (size : Option ℕ) (millis before count : ℕ) → is_on ≡ true → count ≡ 0 → shown_text is_on size millis before count ≡ cleared before

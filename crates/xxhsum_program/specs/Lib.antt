@@ -19,4 +19,5 @@ pub mod Said
 pub mod Screen
 pub mod Task
 pub mod Told
+pub mod ToldLines
 pub mod Watched

@@ -9,6 +9,7 @@ use Rattle.xxh_io.specs.Digest.{Took, Refused}
 use Rattle.xxh_io.specs.Rules.{SinkRules}
 use Rattle.xxhsum_line.specs.declared.printed.Shape.{Shape}
 use Rattle.xxhsum_line.specs.declared.printed.Style.{Style}
+use Rattle.xxhsum_line.specs.Escapes.{one_line}
 use Rattle.xxhsum_line.specs.Printed.{line_of, styled_line}
 use Rattle.xxhsum_program.specs.declared.outcome.Outcome.{Outcome}
 use Rattle.xxhsum_program.specs.declared.outcome.Outcome.TheVariants.{Digested, IsDirectory, Unread}
@@ -39,10 +40,10 @@ step_text Why.TooLong = codes "read"
 -- the line of a name on standard error: why it has no value
 abbrev pub told_line : List ℕ → Outcome → List ℕ
 told_line name (Digested value) = []
-told_line name IsDirectory = concat (codes "xxhsum: " ∷ name ∷ codes ": Is a directory \n" ∷ [])
+told_line name IsDirectory = one_line (concat (codes "xxhsum: " ∷ name ∷ codes ": Is a directory " ∷ []))
 told_line name (Unread reason) =
-    concat (codes "Error: Could not " ∷ step_text reason ∷ codes " '" ∷ name ∷ codes "': " ∷ reason_text reason
-    ∷ codes ". \n" ∷ [])
+    one_line (concat (codes "Error: Could not " ∷ step_text reason ∷ codes " '" ∷ name ∷ codes "': "
+    ∷ reason_text reason ∷ codes ". " ∷ []))
 
 -- the lines of all names, in their order
 abbrev pub lines_of : {T : Type 0} → (List ℕ → T → List ℕ) → List (List ℕ) → List T → List ℕ
@@ -78,4 +79,4 @@ printed_input kind style name value (Err e) = []
 -- its line on standard error: why it has no value
 abbrev pub told_input : Result ℕ DigestError → List ℕ
 told_input (Ok value) = []
-told_input (Err e) = concat (codes "Error: " ∷ reason_text (reason_of e) ∷ codes ".\n" ∷ [])
+told_input (Err e) = one_line (concat (codes "Error: " ∷ reason_text (reason_of e) ∷ codes "." ∷ []))

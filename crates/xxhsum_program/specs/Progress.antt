@@ -33,11 +33,23 @@ count_after before count = min (before + count) (2 ^ 64 - 1)
 abbrev pub rate_of : ℕ → ℕ → ℕ
 rate_of count millis = count / 1024 * 1000 / max millis 1
 
--- a count in MiB and a rate in MiB a second, on a cleared line
+-- an empty line: a carriage return, and ESC [ K
+abbrev pub empty_line : List ℕ
+empty_line = 13 ∷ 27 ∷ 91 ∷ 75 ∷ []
+
+-- ESC [ ? 7 l, behind which no character comes into the terminal's next row
+abbrev pub one_row : List ℕ
+one_row = 27 ∷ 91 ∷ 63 ∷ 55 ∷ 108 ∷ []
+
+-- ESC [ ? 7 h, behind which one may, and a carriage return
+abbrev pub row_end : List ℕ
+row_end = 27 ∷ 91 ∷ 63 ∷ 55 ∷ 104 ∷ 13 ∷ []
+
+-- a count in MiB and a rate in MiB a second, on an empty line of one row
 abbrev pub rate_text : ℕ → ℕ → List ℕ
 rate_text count rate =
-    concat (codes "\r                                                                      \r"
-    ∷ decimal (count / 1048576) ∷ codes " MiB, " ∷ decimal (rate / 1024) ∷ codes " MiB/s" ∷ [])
+    concat (empty_line ∷ one_row ∷ decimal (count / 1048576) ∷ codes " MiB, " ∷ decimal (rate / 1024)
+    ∷ codes " MiB/s" ∷ [])
 
 -- how many seconds the rest lasts at this rate, where the size is known
 abbrev pub left_text : Option ℕ → ℕ → ℕ → List ℕ
@@ -46,19 +58,16 @@ left_text (Some size) count rate =
     if nat_lt 0 rate then codes ", " ++ decimal ((size - count) / 1024 / rate) ++ codes " s left" else []
 
 abbrev pub line_text : Option ℕ → ℕ → ℕ → List ℕ
-line_text size count rate = (rate_text count rate ++ left_text size count rate) ++ codes "\r"
+line_text size count rate = (rate_text count rate ++ left_text size count rate) ++ row_end
 
 -- the line of a count where a multiple of 64 MiB comes behind the count before
 abbrev pub progress_line : Option ℕ → ℕ → ℕ → ℕ → List ℕ
 progress_line size millis before count =
     if nat_lt (before / 67108864) (count / 67108864) then line_text size count (rate_of count millis) else []
 
--- what takes the line away, where this count had one: 70 spaces
+-- what takes the line away, where this count had one
 abbrev pub cleared : ℕ → List ℕ
-cleared count =
-    if nat_lt count 67108864
-    then []
-    else codes "\r                                                                      \r"
+cleared count = if nat_lt count 67108864 then [] else empty_line
 
 -- what is shown of a read of so many bytes: its line, or, at the end, what takes the last line away
 abbrev pub shown_text : Bool → Option ℕ → ℕ → ℕ → ℕ → List ℕ

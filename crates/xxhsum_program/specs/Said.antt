@@ -1,10 +1,10 @@
--- What the check of a list says: the texts on both ends, by the options and by what was found. A list's name stands as
--- it was given, and lines are numbered from 1.
+-- What the check of a list says: the texts on both ends, by the options and by what was found. Each is one line, whatever
+-- names stand in it, and lines are numbered from 1.
 use Rattle.std.specs.Prelude.{ℕ, ◌+◌, Bool, List, [], ◌∷◌, ◌++◌, Option, Some, None, ◌||◌, codes, decimal, length, nat_eq, if◌then◌else◌}
 use Rattle.std.specs.List.{concat}
 use Rattle.xxhsum_files.specs.declared.refusal.Refusal.{Refusal}
 use Rattle.xxhsum_files.specs.Refusal.{refusal_text}
-use Rattle.xxhsum_line.specs.Escapes.{escaped, mark_of}
+use Rattle.xxhsum_line.specs.Escapes.{one_line}
 use Rattle.xxhsum_words.specs.declared.options.Options.{Options}
 use Rattle.xxhsum_program.specs.declared.check.Report.{Report}
 use Rattle.xxhsum_program.specs.declared.entry.Found.{Found}
@@ -20,22 +20,22 @@ use Rattle.xxhsum_program.specs.Report.{is_unverified}
 -- what is wrong with the line of this number
 abbrev pub told_of_line : List ℕ → ℕ → List ℕ → List ℕ
 told_of_line list number what =
-    concat (list ∷ codes ":" ∷ decimal number ∷ codes ": Error: " ∷ what ∷ codes ".\n" ∷ [])
+    one_line (concat (list ∷ codes ":" ∷ decimal number ∷ codes ": Error: " ∷ what ∷ codes "." ∷ []))
 
--- a word of the file of this name, which stands as lists have it
+-- a word of the file of this name
 abbrev pub named_text : List ℕ → List ℕ → List ℕ
-named_text name word = mark_of name ++ escaped name ++ word
+named_text name word = one_line (concat (name ∷ word ∷ []))
 
 -- why the file of a line could not be read
 abbrev pub unread_text : List ℕ → ℕ → List ℕ → List ℕ → List ℕ
 unread_text list number name why =
-    concat (list ∷ codes ":" ∷ decimal number ∷ codes ": Could not open or read '" ∷ name ∷ codes "': " ∷ why
-    ∷ codes ".\n" ∷ [])
+    one_line (concat (list ∷ codes ":" ∷ decimal number ∷ codes ": Could not open or read '" ∷ name ∷ codes "': " ∷ why
+    ∷ codes "." ∷ []))
 
 -- "OK" exactly where the file has the line's value
 abbrev pub found_text : Bool → List ℕ → ℕ → List ℕ → Found → List ℕ
-found_text is_quiet list number name Same = if is_quiet then [] else named_text name (codes ": OK\n")
-found_text is_quiet list number name Different = named_text name (codes ": FAILED\n")
+found_text is_quiet list number name Same = if is_quiet then [] else named_text name (codes ": OK")
+found_text is_quiet list number name Different = named_text name (codes ": FAILED")
 found_text is_quiet list number name (Unread reason) = unread_text list number name (reason_text reason)
 
 -- nothing is said of how a file is under `--status`, and of one that is passed over
@@ -81,7 +81,9 @@ printed_summary options report =
 -- that no file of the list was verified, where those that aren't there are passed over: whatever else is asked for
 abbrev pub unverified_text : Options → List ℕ → Report → List ℕ
 unverified_text options list report =
-    if is_unverified options.ignores_missing report then list ++ codes ": no file was verified\n" else []
+    if is_unverified options.ignores_missing report
+    then one_line (concat (list ∷ codes ": no file was verified" ∷ []))
+    else []
 
 -- all that is printed behind the lines
 abbrev pub summary_text : Options → List ℕ → Report → List ℕ
@@ -91,7 +93,7 @@ summary_text options list report = printed_summary options report ++ unverified_
 abbrev pub told_summary : List ℕ → Report → List ℕ
 told_summary list report =
     if nat_eq report.proper 0
-    then concat (list ∷ codes ": no properly formatted xxHash checksum lines found\n" ∷ [])
+    then one_line (concat (list ∷ codes ": no properly formatted xxHash checksum lines found" ∷ []))
     else []
 
 -- Why the list breaks off at the line of this number. Where a read failed and no line was proper, that is told by the
@@ -134,4 +136,4 @@ told_list options list findings end = told_lines options list findings end ++ to
 -- a list that can't be opened
 abbrev pub told_refusal : List ℕ → Refusal → List ℕ
 told_refusal list refusal =
-    concat (codes "Error: Could not open '" ∷ list ∷ codes "': " ∷ refusal_text refusal ∷ codes "\n" ∷ [])
+    one_line (concat (codes "Error: Could not open '" ∷ list ∷ codes "': " ∷ refusal_text refusal ∷ []))

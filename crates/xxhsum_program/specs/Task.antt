@@ -1,13 +1,14 @@
 -- What the arguments ask the program to do.
-use Rattle.std.specs.Prelude.{◌≡◌, ℕ, Bool, true, false, ◌&&◌, not, List, [], ◌∷◌, Option, Some, None, codes, drop, length, nat_eq, if◌then◌else◌}
+use Rattle.std.specs.Prelude.{◌≡◌, ℕ, Bool, true, false, ◌&&◌, not, List, [], ◌∷◌, ◌++◌, Option, Some, None, codes, drop, get_or, length, nat_eq, if◌then◌else◌}
 use Rattle.std.specs.List.{concat}
 use Rattle.xxhsum_program.specs.declared.process.Terminals.{Terminals}
 use Rattle.xxhsum_program.specs.declared.usage.TheConstants.{ABOUT, NO_BENCHMARK, OPTIONS, TITLE}
 use Rattle.xxhsum_program.specs.Arguments.{IsLastPart}
+use Rattle.xxhsum_line.specs.Escapes.{one_line}
 use Rattle.xxhsum_words.specs.Name.{kind_of_program}
 use Rattle.xxhsum_words.specs.Options.{asked_of}
 use Rattle.xxhsum_words.specs.declared.options.Asked.{Asked}
-use Rattle.xxhsum_words.specs.declared.options.Asked.TheVariants.{Run, Benchmark, Version, Help, BadUsage, NumberTooLarge}
+use Rattle.xxhsum_words.specs.declared.options.Asked.TheVariants.{Run, Benchmark, Version, Help, WrongOption, NulsInList, InputBesideNames, NumberTooLarge}
 use Rattle.xxhsum_words.specs.declared.options.Options.{Options}
 
 -- a text is told, and the answer is this; or files are digested, or lists checked, and their reads are shown or not
@@ -20,10 +21,15 @@ abbrev pub IsProgram : List (List ℕ) → List ℕ → Type 0
 IsProgram [] program = program ≡ codes "xxhsum"
 IsProgram (path ∷ words) program = IsLastPart path program
 
--- how the program is used, behind these words
-abbrev pub usage_text : List ℕ → List ℕ → List ℕ
-usage_text before program =
-    concat (before ∷ program ∷ TITLE.now ∷ ABOUT.now ∷ program ∷ OPTIONS.now ∷ [])
+-- how the program is used
+abbrev pub usage_text : List ℕ → List ℕ
+usage_text program =
+    one_line (concat (program ∷ TITLE.now ∷ [])) ++ ABOUT.now
+    ++ one_line (concat (codes "Usage: " ∷ program ∷ codes " [OPTION].. [FILE].." ∷ [])) ++ OPTIONS.now
+
+-- the same behind a line that says what is wrong with the words
+abbrev pub wrong_text : List ℕ → List ℕ → List ℕ
+wrong_text line program = one_line line ++ codes "\n" ++ usage_text program
 
 -- progress is shown where standard error is a terminal, and there with neither `-q` nor `--status`
 abbrev pub shows_progress : Terminals → Options → Bool
@@ -38,19 +44,26 @@ waits_for_terminal terminals options names =
     has_none names && not options.takes_terminal && terminals.input
 
 -- what is told where no run is asked for, and whether all is well then
-abbrev pub answer_text : List ℕ → Asked → List ℕ
-answer_text program Version = concat (program ∷ TITLE.now ∷ [])
-answer_text program Help = usage_text [] program
-answer_text program Benchmark = concat (program ∷ NO_BENCHMARK.now ∷ [])
-answer_text program BadUsage = usage_text (codes "Wrong parameters\n\n") program
-answer_text program (Run options place) = []
-answer_text program NumberTooLarge = codes "Error: numeric value too large \n"
+abbrev pub answer_text : List ℕ → List (List ℕ) → Asked → List ℕ
+answer_text program words Version = one_line (concat (program ∷ TITLE.now ∷ []))
+answer_text program words Help = usage_text program
+answer_text program words Benchmark = one_line (concat (program ∷ NO_BENCHMARK.now ∷ []))
+answer_text program words (WrongOption at) =
+    wrong_text (concat (codes "Wrong parameters: '" ∷ get_or words at [] ∷ codes "'" ∷ [])) program
+answer_text program words NulsInList =
+    wrong_text (codes "Wrong parameters: '-z' beside '-c' or '--audit'") program
+answer_text program words InputBesideNames =
+    codes "Error: '-' is standard input, which is read alone; a file of that name is './-'.\n"
+answer_text program words (Run options place) = []
+answer_text program words NumberTooLarge = codes "Error: numeric value too large \n"
 
 abbrev pub is_well : Asked → Bool
 is_well Version = true
 is_well Help = true
 is_well Benchmark = false
-is_well BadUsage = false
+is_well (WrongOption at) = false
+is_well NulsInList = false
+is_well InputBesideNames = false
 is_well (Run options place) = false
 is_well NumberTooLarge = false
 
@@ -60,14 +73,16 @@ run_asked (Run options place) = Some (options, place)
 run_asked Version = None
 run_asked Help = None
 run_asked Benchmark = None
-run_asked BadUsage = None
+run_asked (WrongOption at) = None
+run_asked NulsInList = None
+run_asked InputBesideNames = None
 run_asked NumberTooLarge = None
 
 abbrev pub task_from : Terminals → List ℕ → List (List ℕ) → Asked → Option (Options × ℕ) → Task
-task_from terminals program words asked None = Tells (answer_text program asked) (is_well asked)
+task_from terminals program words asked None = Tells (answer_text program words asked) (is_well asked)
 task_from terminals program words asked (Some run) =
     if waits_for_terminal terminals run.0 (drop run.1 words)
-    then Tells (answer_text program BadUsage) false
+    then Tells (wrong_text (codes "Wrong parameters") program) false
     else Reads run.0 (drop run.1 words) (shows_progress terminals run.0)
 
 -- the task of the words behind the program's name

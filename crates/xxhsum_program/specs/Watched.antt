@@ -1,5 +1,5 @@
 -- A source or a store whose reads are shown.
-use Rattle.std.specs.Prelude.{◌≡◌, ℕ, Bool}
+use Rattle.std.specs.Prelude.{◌≡◌, ℕ, Bool, List, Option, None, MatchBool}
 use Rattle.std.specs.declared.result.Result.{Result}
 use Rattle.std.specs.declared.result.Result.TheVariants.{Ok, Err}
 use Rattle.xxh_io.specs.declared.ends.Failed.{Failed}
@@ -7,7 +7,7 @@ use Rattle.xxh_io.specs.Rules.{SourceRules, SinkRules}
 use Rattle.xxhsum_program.specs.declared.progress.Meter.{Meter}
 use Rattle.xxhsum_program.specs.declared.watched.Watched.{Watched}
 use Rattle.xxhsum_program.specs.declared.watched.WatchedFiles.{WatchedFiles}
-use Rattle.xxhsum_program.specs.Progress.{ShowsSometime, bytes_read, is_shown}
+use Rattle.xxhsum_program.specs.Progress.{ShowsSometime, bytes_expected, bytes_read, is_shown}
 use Rattle.xxhsum_files.specs.Rules.{StoreRules}
 
 -- what gives the bytes
@@ -31,9 +31,16 @@ abbrev pub ShowsRead : {E : Type 0} → SinkRules E → Meter E → Meter E → 
 ShowsRead telling old new (Ok count) = ShowsSometime telling count old new
 ShowsRead telling old new (Err e) = ShowsSometime telling 0 old new
 
--- the meter of a file that is not read yet
-abbrev pub IsFresh : {S W E : Type 0} → WatchedFiles S W → Meter E → Type 0
-IsFresh files meter = (is_shown meter ≡ shows_reads files) × (bytes_read meter ≡ 0)
+-- the size of the file of this name, as the store says it, and none where nothing is shown
+abbrev pub IsExpected : {S F W : Type 0} → StoreRules S F → WatchedFiles S W → List ℕ → Option ℕ → Type 0
+IsExpected opening files name size =
+    MatchBool (shows_reads files) (opening.sizes (files_of files) name size) (size ≡ None)
+
+-- the meter of the file of this name, which is not read yet
+abbrev pub IsFresh : {S F W E : Type 0} → StoreRules S F → WatchedFiles S W → List ℕ → Meter E → Type 0
+IsFresh opening files name meter =
+    (is_shown meter ≡ shows_reads files) × (bytes_read meter ≡ 0)
+    × IsExpected opening files name (bytes_expected meter)
 
 -- ---- rules
 
@@ -48,7 +55,8 @@ watched_reading reading = record {
 -- watched files have those of the files, each with a meter of its own
 abbrev pub watched_opening : {S F T E : Type 0} → StoreRules S F → StoreRules (WatchedFiles S T) (Watched F E)
 watched_opening opening = record {
-  opens = λ files name file. opening.opens (files_of files) name (source_of file) × IsFresh files (meter_of file);
+  opens = λ files name file. opening.opens (files_of files) name (source_of file) × IsFresh opening files name (meter_of file);
   refuses = λ files name why. opening.refuses (files_of files) name why;
   holds_directory = λ files name answer. opening.holds_directory (files_of files) name answer;
+  sizes = λ files name size. opening.sizes (files_of files) name size;
 }

@@ -6,21 +6,20 @@ ghost use Rattle.xxhsum_program.specs.Findings.{Finding, Improper, IsFinding, co
 ghost use Rattle.xxhsum_program.specs.Lines.{PrintsLine, PrintsLines};
 ghost use Rattle.xxhsum_program.specs.ListEnd.{FailedRead, ListEnd};
 ghost use Rattle.xxhsum_program.specs.Report.{is_good, is_unverified, passes};
-ghost use Rattle.xxhsum_program.specs.Said.{count_text, found_text, is_silent, named_text, numbered, printed_finding, printed_list, printed_summary, summary_text, told_break, told_finding, told_lines, told_list, told_of_line, told_summary, unread_text, unverified_text};
+ghost use Rattle.xxhsum_program.specs.Said.{count_text, found_text, is_silent, numbered, printed_finding, printed_list, printed_summary, summary_text, told_break, told_finding, told_lines, told_list, told_of_line, told_summary, unread_text, unverified_text};
 ghost use Rattle.xxhsum_program.specs.Told.{TellsOn};
 
 use crate::entry::{Found, compare};
 use crate::lines::{Lines, Next};
 use crate::outcome::OFFERED;
-use crate::say::{print, say};
+use crate::say::{print, print_line, say_line};
 use crate::stop::Stop;
-use crate::tell::tell_parts;
+use crate::tell::tell_line;
 use itoa::Buffer;
 use std::alloc::Global;
 use xxh_io::ends::{Sink, Source};
 use xxhsum_files::store::Store;
 use xxhsum_line::entry::{Meaning, meaning_of};
-use xxhsum_line::escapes::{put_escaped, put_mark};
 use xxhsum_words::options::Options;
 
 /// What was found in a list: how many of its lines are of each kind.
@@ -251,8 +250,8 @@ impl<S: Store> ListCheck<'_, S> {
     {
         match found {
             Found::Same if self.options.is_quiet => Ok(()),
-            Found::Same => say_named(self.alloc, name, b": OK\n", out),
-            Found::Different => say_named(self.alloc, name, b": FAILED\n", out),
+            Found::Same => say_line(self.alloc, &[name, b": OK"], out),
+            Found::Different => say_line(self.alloc, &[name, b": FAILED"], out),
             Found::Unread(reason) => {
                 say_unread(self.alloc, self.name, number, name, reason.text(), out)
             }
@@ -302,8 +301,7 @@ impl<S: Store> ListCheck<'_, S> {
         ensures only { IfErr result (λ stop. stop ≡ Stop.WriteFailed) }
     {
         if report.is_unverified(self.options.ignores_missing) {
-            print(self.name, out)?;
-            return print(b": no file was verified\n", out);
+            return print_line(&[self.name, b": no file was verified"], out);
         }
         Ok(())
     }
@@ -323,10 +321,10 @@ impl<S: Store> ListCheck<'_, S> {
         ensures tells { TellsOn E.Sink (told_summary self.now.name.now report.now) err.old err.new }
     {
         if report.proper == 0 {
-            tell_parts(
+            tell_line(
                 &[
                     self.name,
-                    b": no properly formatted xxHash checksum lines found\n",
+                    b": no properly formatted xxHash checksum lines found",
                 ],
                 err,
             );
@@ -363,19 +361,6 @@ fn is_silent(options: Options, found: &Found) -> bool
     options.is_status_only || (options.ignores_missing && found.is_missing())
 }
 
-// Says a word of the file of this name, which stands as lists have it.
-fn say_named<W: Sink>(alloc: Global, name: &[u8], word: &[u8], out: &mut W) -> Result<(), Stop>
-    requires { W.has_failed out.old ≡ false }
-    ensures prints { PrintsLine W.Sink (named_text name.now word.now) out.old out.new result }
-    ensures works { IfOk result (λ _. W.has_failed out.new ≡ false) }
-{
-    let mut line = Vec::new(alloc);
-    put_mark(&mut line, name)?;
-    put_escaped(&mut line, name)?;
-    line.extend_from_slice(word)?;
-    print(&line, out)
-}
-
 // Says why the file of the line of this number in this list could not be read.
 fn say_unread<'a, W: Sink>(
     alloc: Global,
@@ -400,9 +385,9 @@ fn say_unread<'a, W: Sink>(
         name,
         b"': ",
         why,
-        b".\n",
+        b".",
     ];
-    say(alloc, &parts, out)
+    say_line(alloc, &parts, out)
 }
 
 // Tells what is wrong with the line of this number in this list.
@@ -411,8 +396,8 @@ fn tell_of_line<'a, E: Sink>(list: &'a [u8], number: u64, what: &'a [u8], err: &
 {
     let mut digits = Buffer::new();
     let digits = digits.format(number).as_bytes();
-    let parts: [&[u8]; 6] = [list, b":", digits, b": Error: ", what, b".\n"];
-    tell_parts(&parts, err);
+    let parts: [&[u8]; 6] = [list, b":", digits, b": Error: ", what, b"."];
+    tell_line(&parts, err);
 }
 
 // Says how many there are, in the singular or the plural, where there are any.
@@ -497,14 +482,8 @@ fn check_named<S: Store, W: Sink, E: Sink>(
             list.check(file, out, err)
         }
         Err(refusal) => {
-            tell_parts(
-                &[
-                    b"Error: Could not open '",
-                    name,
-                    b"': ",
-                    refusal.text(),
-                    b"\n",
-                ],
+            tell_line(
+                &[b"Error: Could not open '", name, b"': ", refusal.text()],
                 err,
             );
             Ok(false)

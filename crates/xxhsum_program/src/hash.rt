@@ -8,7 +8,7 @@ ghost use Rattle.xxhsum_program.specs.Told.{TellsOn};
 use crate::outcome::{MAX_READS, OFFERED, Outcome, Reason, outcome_of};
 use crate::say::print;
 use crate::stop::Stop;
-use crate::tell::tell_parts;
+use crate::tell::tell_line;
 use std::alloc::Global;
 use xxh_io::ends::{Sink, Source};
 use xxh_io::kind::Kind;
@@ -81,7 +81,7 @@ pub fn hash_input<R: Source, W: Sink, E: Sink>(
             Ok(true)
         }
         Err(error) => {
-            tell_parts(&[b"Error: ", Reason::from(error).text(), b".\n"], err);
+            tell_line(&[b"Error: ", Reason::from(error).text(), b"."], err);
             Ok(false)
         }
     }
@@ -116,7 +116,7 @@ pub fn tell_outcome<'a, E: Sink>(name: &'a [u8], outcome: &'a Outcome, err: &mut
 {
     match outcome {
         Outcome::Digested { .. } => {}
-        Outcome::IsDirectory => tell_parts(&[b"xxhsum: ", name, b": Is a directory \n"], err),
+        Outcome::IsDirectory => tell_line(&[b"xxhsum: ", name, b": Is a directory "], err),
         Outcome::Unread { reason } => {
             let parts: [&[u8]; 7] = [
                 b"Error: Could not ",
@@ -125,9 +125,9 @@ pub fn tell_outcome<'a, E: Sink>(name: &'a [u8], outcome: &'a Outcome, err: &mut
                 name,
                 b"': ",
                 reason.text(),
-                b". \n",
+                b". ",
             ];
-            tell_parts(&parts, err);
+            tell_line(&parts, err);
         }
     }
 }

@@ -15,5 +15,6 @@ pub mod say;
 pub mod screen;
 pub mod stop;
 pub mod tell;
+pub mod told_lines;
 mod usage;
 pub mod watched;

@@ -1,8 +1,9 @@
 //! The program over its arguments, a store of files and its ends.
 
-ghost use Rattle.std.specs.Prelude.{◌≡◌, false, Bool, List, ℕ, Option, Result, drop, map, IfSome};
+ghost use Rattle.std.specs.Prelude.{◌≡◌, false, Bool, List, ℕ, Option, Result, [], drop, get_or, map, IfSome};
+ghost use Rattle.xxhsum_program.specs.Joined.{joined};
 ghost use Rattle.xxhsum_program.specs.Run.{DoesTask, PerformsAs, PerformsWatched, end_text, status_of, stop_text, style_of};
-ghost use Rattle.xxhsum_program.specs.Task.{IsProgram, answer_text, has_none, is_well, run_asked, shows_progress, task_of, usage_text, waits_for_terminal};
+ghost use Rattle.xxhsum_program.specs.Task.{IsProgram, answer_text, has_none, is_well, run_asked, shows_progress, task_of, usage_text, waits_for_terminal, wrong_text};
 ghost use Rattle.xxhsum_program.specs.Told.{TellsOn};
 ghost use Rattle.xxhsum_program.specs.declared.stop.Stop.{Stop};
 
@@ -12,7 +13,7 @@ use crate::hash::{hash_input, hash_names};
 use crate::progress::{Meter, time_of};
 use crate::screen::Ticks;
 use crate::stop::Stop;
-use crate::tell::{tell, tell_parts};
+use crate::tell::{tell, tell_line};
 use crate::usage::{ABOUT, NO_BENCHMARK, OPTIONS, TITLE};
 use crate::watched::{Watched, WatchedFiles};
 use std::alloc::Global;
@@ -20,10 +21,14 @@ use xxh_io::ends::{Sink, Source};
 use xxhsum_files::store::Store;
 use xxhsum_line::printed::{Shape, Style};
 use xxhsum_words::name::default_kind;
-use xxhsum_words::options::{Asked, Options, asked_by};
+use xxhsum_words::options::{Asked, Options, asked_by, words_behind};
 
 // What standard input is called in lines.
 const INPUT: &[u8] = b"stdin";
+
+// What is told where `-` stands beside names or behind `--`.
+const INPUT_BESIDE_NAMES: &[u8] =
+    b"Error: '-' is standard input, which is read alone; a file of that name is './-'.\n";
 
 /// Which of the standard streams are terminals.
 #[derive(Clone, Copy, Debug, PartialEq, Eq)]
@@ -71,12 +76,13 @@ where
     let words = words_of(args);
     let asked = asked_by(default_kind(program), words);
     match run_asked(asked) {
-        None => Ok(tell_answer(program, asked, err)),
+        None => Ok(tell_answer(program, words, asked, err)),
         Some(found) => {
             let (options, place) = found;
-            let names = names_from(words, place);
+            let names = words_behind(words, place);
             if waits_for_terminal(terminals, options, names) {
-                return Ok(tell_answer(program, Asked::BadUsage, err));
+                tell_wrong(&[b"Wrong parameters"], program, err);
+                return Ok(false);
             }
             let shows = shows_progress(terminals, options);
             perform_watched(alloc, store, options, names, shows, input, out, err, screen)
@@ -93,8 +99,13 @@ fn run_asked(asked: Asked) -> Option<(Options, usize)>
             options,
             names_from,
         } => Some((options, names_from)),
-        Asked::Benchmark | Asked::Version | Asked::Help | Asked::BadUsage | Asked::NumberTooLarge =>
-            None,
+        Asked::Benchmark
+        | Asked::Version
+        | Asked::Help
+        | Asked::WrongOption { .. }
+        | Asked::NulsInList
+        | Asked::InputBesideNames
+        | Asked::NumberTooLarge => None,
     }
 }
 
@@ -119,18 +130,6 @@ pub fn words_of(args: &[Vec<u8>]) -> &[Vec<u8>]
     }
 }
 
-/// The names from this place on.
-pub fn names_from(words: &[Vec<u8>], place: usize) -> &[Vec<u8>]
-    ensures { map (λ name. name.items) result.now
-        ≡ drop place (map (λ word. word.items) words.now) }
-{
-    if place < words.len() {
-        &words[place..]
-    } else {
-        &[]
-    }
-}
-
 // Whether progress is to be shown.
 fn shows_progress(terminals: Terminals, options: Options) -> bool
     ensures { result ≡ shows_progress terminals options }
@@ -146,25 +145,42 @@ fn waits_for_terminal(terminals: Terminals, options: Options, names: &[Vec<u8>])
 }
 
 // Tells what is asked for where that is no run, and answers whether all is well. Of a run nothing is told.
-fn tell_answer<E: Sink>(program: &[u8], asked: Asked, err: &mut E) -> bool
+fn tell_answer<E: Sink>(program: &[u8], words: &[Vec<u8>], asked: Asked, err: &mut E) -> bool
     ensures well { result ≡ is_well asked }
-    ensures tells { TellsOn E.Sink (answer_text program.now asked) err.old err.new }
+    ensures tells { TellsOn E.Sink
+        (answer_text program.now (map (λ word. word.items) words.now) asked) err.old err.new }
 {
     match asked {
         Asked::Version => {
-            tell_parts(&[program, TITLE], err);
+            tell_line(&[program, TITLE], err);
             true
         }
         Asked::Help => {
-            tell_usage(program, b"", err);
+            tell_usage(program, err);
             true
         }
         Asked::Benchmark => {
-            tell_parts(&[program, NO_BENCHMARK], err);
+            tell_line(&[program, NO_BENCHMARK], err);
             false
         }
-        Asked::BadUsage => {
-            tell_usage(program, b"Wrong parameters\n\n", err);
+        Asked::WrongOption { at } => {
+            tell_wrong(
+                &[b"Wrong parameters: '", word_at(words, at), b"'"],
+                program,
+                err,
+            );
+            false
+        }
+        Asked::NulsInList => {
+            tell_wrong(
+                &[b"Wrong parameters: '-z' beside '-c' or '--audit'"],
+                program,
+                err,
+            );
+            false
+        }
+        Asked::InputBesideNames => {
+            tell(INPUT_BESIDE_NAMES, err);
             false
         }
         Asked::Run { .. } => false,
@@ -175,12 +191,33 @@ fn tell_answer<E: Sink>(program: &[u8], asked: Asked, err: &mut E) -> bool
     }
 }
 
-// Tells how the program is used, after these words.
-fn tell_usage<'a, E: Sink>(program: &'a [u8], before: &'a [u8], err: &mut E)
-    ensures { TellsOn E.Sink (usage_text before.now program.now) err.old err.new }
+// The word of this index.
+fn word_at(words: &[Vec<u8>], at: usize) -> &[u8]
+    ensures { result.now ≡ get_or (map (λ word. word.items) words.now) at [] }
 {
-    let parts: [&[u8]; 6] = [before, program, TITLE, ABOUT, program, OPTIONS];
-    tell_parts(&parts, err);
+    match words.get(at) {
+        Some(word) => word,
+        None => b"",
+    }
+}
+
+// Tells what is wrong with the words, in these parts of a line, and how the program is used.
+fn tell_wrong<E: Sink>(line: &[&[u8]], program: &[u8], err: &mut E)
+    ensures { TellsOn E.Sink (wrong_text (joined line.now) program.now) err.old err.new }
+{
+    tell_line(line, err);
+    tell(b"\n", err);
+    tell_usage(program, err);
+}
+
+// Tells how the program is used.
+fn tell_usage<E: Sink>(program: &[u8], err: &mut E)
+    ensures { TellsOn E.Sink (usage_text program.now) err.old err.new }
+{
+    tell_line(&[program, TITLE], err);
+    tell(ABOUT, err);
+    tell_line(&[b"Usage: ", program, b" [OPTION].. [FILE].."], err);
+    tell(OPTIONS, err);
 }
 
 // Does what is asked for over the files and the input, whose reads are shown on the screen or not.

@@ -16,9 +16,15 @@ const MIB: u64 = 1048576;
 
 const KIB: u64 = 1024;
 
-// An empty line, with the cursor at its beginning.
-const CLEARED: &[u8] =
-    b"\r                                                                      \r";
+// An empty line, with the cursor at its beginning: a carriage return, and ECMA-48's EL, which erases from there on.
+const CLEARED: &[u8] = b"\r\x1b[K";
+
+// DECAWM of the VT100, off: what doesn't fit into the terminal's width overwrites the last column, so that a line stays
+// one line, however narrow the terminal is.
+const ONE_ROW: &[u8] = b"\x1b[?7l";
+
+// The same on again, and the cursor at the line's beginning.
+const ENDED: &[u8] = b"\x1b[?7h\r";
 
 /// Counts what is read of a file, and shows it on an end at each 64 MiB, with how fast it is read and, where its size is
 /// known, how long that will last; or nowhere.
@@ -112,7 +118,7 @@ fn show_between<E: Sink>(before: u64, count: u64, size: Option<u64>, millis: u64
         let rate = rate_of(count, millis);
         show_rate(count, rate, end);
         show_left(size, count, rate, end);
-        tell(b"\r", end);
+        tell(ENDED, end);
     }
 }
 
@@ -124,7 +130,8 @@ fn show_rate<E: Sink>(count: u64, rate: u64, end: &mut E)
     let mut rate_digits = Buffer::new();
     let number = digits.format(count / MIB).as_bytes();
     let speed = rate_digits.format(rate / KIB).as_bytes();
-    tell_parts(&[CLEARED, number, b" MiB, ", speed, b" MiB/s"], end);
+    let parts: [&[u8]; 6] = [CLEARED, ONE_ROW, number, b" MiB, ", speed, b" MiB/s"];
+    tell_parts(&parts, end);
 }
 
 // Shows how many seconds the rest will last, where the size is known.

@@ -1,10 +1,13 @@
 //! Lines for the standard error, which takes what it can: a line that it refuses stops nothing.
 
+ghost use Rattle.std.specs.Prelude.{◌≡◌};
+ghost use Rattle.xxhsum_line.specs.Escapes.{escaped, mark_of, needs_escape, one_line};
 ghost use Rattle.xxhsum_program.specs.Joined.{joined};
 ghost use Rattle.xxhsum_program.specs.Told.{TellsOn};
 
 use xxh_io::ends::Sink;
 use xxh_io::write::write_all;
+use xxhsum_line::escapes::{escape, needs_escape};
 
 /// Writes the bytes, unless a write has failed before.
 pub fn tell<E: Sink>(bytes: &[u8], err: &mut E)
@@ -16,7 +19,58 @@ pub fn tell<E: Sink>(bytes: &[u8], err: &mut E)
     }
 }
 
-/// Writes the parts of a line, one after another.
+/// Writes the parts as one line, whatever names are among them: escaped as names in lists are, with a backslash before
+/// them where one of them needs it, and with a line feed.
+pub fn tell_line<E: Sink>(parts: &[&[u8]], err: &mut E)
+    ensures { TellsOn E.Sink (one_line (joined parts.now)) err.old err.new }
+{
+    tell_mark(parts, err);
+    tell_escaped_parts(parts, err);
+    tell(b"\n", err);
+}
+
+// Writes what a line of these parts begins with: a backslash where one of them has a byte that is escaped.
+fn tell_mark<E: Sink>(parts: &[&[u8]], err: &mut E)
+    ensures { TellsOn E.Sink (mark_of (joined parts.now)) err.old err.new }
+{
+    if need_escape(parts) {
+        tell(b"\\", err);
+    }
+}
+
+// Whether one of the parts has a byte that is escaped.
+fn need_escape(parts: &[&[u8]]) -> bool
+    ensures { result ≡ needs_escape (joined parts.now) }
+{
+    match parts.split_first() {
+        Some((part, rest)) => needs_escape(part) || need_escape(rest),
+        None => false,
+    }
+}
+
+fn tell_escaped_parts<E: Sink>(parts: &[&[u8]], err: &mut E)
+    ensures { TellsOn E.Sink (escaped (joined parts.now)) err.old err.new }
+{
+    if let Some((part, rest)) = parts.split_first() {
+        tell_escaped(part, err);
+        tell_escaped_parts(rest, err);
+    }
+}
+
+// Writes a text as it stands where none of its bytes is escaped, and else byte by byte.
+fn tell_escaped<E: Sink>(text: &[u8], err: &mut E)
+    ensures { TellsOn E.Sink (escaped text.now) err.old err.new }
+{
+    if !needs_escape(text) {
+        tell(text, err);
+        return;
+    }
+    for byte in text {
+        tell(escape(byte), err);
+    }
+}
+
+/// Writes the parts, one after another.
 pub fn tell_parts<E: Sink>(parts: &[&[u8]], err: &mut E)
     ensures { TellsOn E.Sink (joined parts.now) err.old err.new }
 {

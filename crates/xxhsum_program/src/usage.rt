@@ -1,13 +1,13 @@
 //! The help and the version.
 
 // The first line of both, after the program's name.
-pub(crate) const TITLE: &[u8] = b" 0.1.0 of twox_hash, with the words and lines of xxhsum 0.8.1\n";
+pub(crate) const TITLE: &[u8] =
+    b" 0.1.0 of twox_hash, with the words of xxhsum 0.8.1 and the lines of 0.8.3";
 
 pub(crate) const ABOUT: &[u8] =
-    b"Prints or checks the digests of files by xxHash: XXH32, XXH64, XXH3.\n\nUsage: ";
+    b"Prints or checks the digests of files by xxHash: XXH32, XXH64, XXH3.\n\n";
 
-pub(crate) const OPTIONS: &[u8] = b" [OPTION].. [FILE]..
-
+pub(crate) const OPTIONS: &[u8] = b"
 Without a file, or with -, standard input is read.
 
   -H#                 the digest: 0 or 32, 1 or 64 (as without it), 2 or 128, 3 (XXH3 of 64 bits)
@@ -33,4 +33,4 @@ Where standard error is a terminal, it shows how much of a long file was read.
 The exit status is 0 where every file was digested, or is as its line says, and else 1.
 ";
 
-pub(crate) const NO_BENCHMARK: &[u8] = b": this xxhsum has no benchmark\n";
+pub(crate) const NO_BENCHMARK: &[u8] = b": this xxhsum has no benchmark";

@@ -92,7 +92,7 @@ impl<'a, S: Store, W: Sink + Ticks + Copy + Drop> WatchedFiles<'a, S, W> {
 impl<S: Store, W: Sink + Ticks + Copy + Drop> WatchedFiles<'_, S, W> {
     // The meter of the file of this name, of which nothing is read yet.
     fn meter_of(&self, name: &[u8]) -> Meter<W>
-        ensures { IsFresh self.now result }
+        ensures { IsFresh S.Store self.now name.now result }
     {
         let size = if self.is_on {
             self.files.size(name)
@@ -108,11 +108,13 @@ impl<S: Store, W: Sink + Ticks + Copy + Drop> Store for WatchedFiles<'_, S, W> {
     type File = Watched<S::File, W>;
 
     ghost opens = { λ files name file. S.opens (files_of files) name (source_of file)
-        × IsFresh files (meter_of file) };
+        × IsFresh S.Store files name (meter_of file) };
 
     ghost refuses = { λ files name why. S.refuses (files_of files) name why };
 
     ghost holds_directory = { λ files name answer. S.holds_directory (files_of files) name answer };
+
+    ghost sizes = { λ files name size. S.sizes (files_of files) name size };
 
     fn is_directory(&self, name: &[u8]) -> bool {
         self.files.is_directory(name)

@@ -19,14 +19,14 @@ const READS: &[(&[(usize, u64)], Option<u64>, bool, &str)] = &[
         &[(63 * MIB, 600), (1048575, 700), (1, 756), (0, 800)],
         None,
         true,
-        "\r                                                                      \r64 MiB, 250 MiB/s\r\r                                                                      \r",
+        "\r\x1b[K\x1b[?7l64 MiB, 250 MiB/s\x1b[?7h\r\r\x1b[K",
     ),
     (&[(63 * MIB, 600), (1048575, 700), (0, 800)], None, true, ""),
     (
         &[(200 * MIB, 1500), (1, 1501), (56 * MIB, 2500), (0, 2600)],
         Some(1073741824),
         true,
-        "\r                                                                      \r200 MiB, 200 MiB/s, 4 s left\r\r                                                                      \r256 MiB, 128 MiB/s, 5 s left\r\r                                                                      \r",
+        "\r\x1b[K\x1b[?7l200 MiB, 200 MiB/s, 4 s left\x1b[?7h\r\r\x1b[K\x1b[?7l256 MiB, 128 MiB/s, 5 s left\x1b[?7h\r\r\x1b[K",
     ),
     (
         &[(64 * MIB, 600), (64 * MIB, 700), (0, 800)],
@@ -38,7 +38,7 @@ const READS: &[(&[(usize, u64)], Option<u64>, bool, &str)] = &[
         &[(usize::MAX, 500), (MIB, 501), (0, 502)],
         Some(5),
         true,
-        "\r                                                                      \r17592186044415 MiB, 17592186044415999 MiB/s, 0 s left\r\r                                                                      \r",
+        "\r\x1b[K\x1b[?7l17592186044415 MiB, 17592186044415999 MiB/s, 0 s left\x1b[?7h\r\r\x1b[K",
     ),
 ];
 

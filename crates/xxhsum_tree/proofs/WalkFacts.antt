@@ -10,7 +10,8 @@ use Rattle.xxhsum_program.specs.declared.stop.Stop.{Stop}
 use Rattle.xxhsum_tree.specs.Audits.{Audits}
 use Rattle.xxhsum_tree.specs.Finds.{GoesOn}
 use Rattle.xxhsum_tree.specs.Names.{ListNames, ListNone, end_of}
-use Rattle.xxhsum_tree.specs.Run.{AuditsWords, DoesAsked, Walks, WalksNames, are_listed}
+use Rattle.xxhsum_tree.specs.Run.{AuditsWords, DoesAsked, Walks, WalksNames}
+use Rattle.xxhsum_words.specs.Options.{are_listed}
 use Rattle.xxhsum_words.specs.declared.options.Options.{Options}
 
 module _ {S F R W E : Type 0} (opening : StoreRules S F) (reading : SourceRules F) (input_reading : SourceRules R) (writing : SinkRules W) (telling : SinkRules E)

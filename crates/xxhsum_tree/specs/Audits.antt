@@ -11,6 +11,7 @@ use Rattle.xxhsum_audit.specs.Item.{Item, Says}
 use Rattle.xxhsum_audit.specs.Merge.{Found, merged}
 use Rattle.xxhsum_audit.specs.Order.{IsOrder, clash_in}
 use Rattle.xxhsum_files.specs.Rules.{StoreRules}
+use Rattle.xxhsum_line.specs.Escapes.{one_line}
 use Rattle.xxhsum_program.specs.declared.stop.Stop.{Stop}
 use Rattle.xxhsum_program.specs.declared.stop.Stop.TheVariants.{OutOfMemory}
 use Rattle.xxhsum_program.specs.Told.{TellsOn}
@@ -22,7 +23,7 @@ use Rattle.xxhsum_words.specs.declared.options.Options.{Options}
 
 -- the name stands twice, among what this names
 abbrev pub twice_text : List ℕ → List ℕ → List ℕ
-twice_text among name = concat (among ∷ codes ": '" ∷ name ∷ codes "' stands twice.\n" ∷ [])
+twice_text among name = one_line (concat (among ∷ codes ": '" ∷ name ∷ codes "' stands twice." ∷ []))
 
 -- it is told which name stands twice, where one does
 abbrev pub TellsTwice : {E : Type 0} → SinkRules E → List ℕ → Option (List ℕ) → E → E → Bool → Type 0

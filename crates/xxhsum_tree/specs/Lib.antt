@@ -7,3 +7,4 @@ pub mod Rows
 pub mod Run
 pub mod Said
 pub mod Texts
+pub mod ToldLines

@@ -13,18 +13,10 @@ use Rattle.xxhsum_tree.specs.Audits.{Audits}
 use Rattle.xxhsum_tree.specs.Finds.{GoesOn, OnlyTells}
 use Rattle.xxhsum_tree.specs.Names.{ListNames, ListNone, end_of}
 use Rattle.xxhsum_words.specs.Name.{kind_of_program}
-use Rattle.xxhsum_words.specs.Options.{asked_of}
+use Rattle.xxhsum_words.specs.Options.{are_listed, asked_of}
 use Rattle.xxhsum_words.specs.declared.options.Asked.{Asked}
-use Rattle.xxhsum_words.specs.declared.options.Asked.TheVariants.{Run, Benchmark, Version, Help, BadUsage, NumberTooLarge}
-use Rattle.xxhsum_words.specs.declared.options.NamesFrom.{NamesFrom}
-use Rattle.xxhsum_words.specs.declared.options.NamesFrom.TheVariants.{Words, Lines, Nuls}
+use Rattle.xxhsum_words.specs.declared.options.Asked.TheVariants.{Run, Benchmark, Version, Help, WrongOption, NulsInList, InputBesideNames, NumberTooLarge}
 use Rattle.xxhsum_words.specs.declared.options.Options.{Options}
-
--- the names stand in lists of names
-abbrev pub are_listed : NamesFrom → Bool
-are_listed Words = false
-are_listed Lines = true
-are_listed Nuls = true
 
 -- a tree is asked for: an audit, or names that stand in lists of names
 abbrev pub is_tree : Options → Bool
@@ -36,7 +28,9 @@ tree_asked (Run options place) = if is_tree options then Some (options, place) e
 tree_asked Benchmark = None
 tree_asked Version = None
 tree_asked Help = None
-tree_asked BadUsage = None
+tree_asked (WrongOption at) = None
+tree_asked NulsInList = None
+tree_asked InputBesideNames = None
 tree_asked NumberTooLarge = None
 
 -- Without an audit, the names that stand in lists are digested, or taken for lists and checked.

@@ -6,6 +6,7 @@ use Rattle.xxhsum_audit.specs.Read.{BreaksOff, GivesAll}
 use Rattle.xxhsum_files.specs.Refusal.{refusal_text}
 use Rattle.xxhsum_files.specs.Rules.{StoreRules}
 use Rattle.xxhsum_files.specs.declared.refusal.Refusal.{Refusal}
+use Rattle.xxhsum_line.specs.Escapes.{one_line}
 use Rattle.xxhsum_program.specs.EachHas.{EachHas}
 use Rattle.xxhsum_program.specs.Run.{input_name}
 
@@ -19,11 +20,11 @@ Breaks {R} reading source = (end : R) × BreaksOff reading source end
 
 abbrev pub unopened_text : List ℕ → Refusal → List ℕ
 unopened_text name why =
-    concat (codes "Error: Could not open '" ∷ name ∷ codes "': " ∷ refusal_text why ∷ codes ".\n" ∷ [])
+    one_line (concat (codes "Error: Could not open '" ∷ name ∷ codes "': " ∷ refusal_text why ∷ codes "." ∷ []))
 
 abbrev pub unread_text : List ℕ → List ℕ
 unread_text name =
-    concat (codes "Error: Could not read '" ∷ name ∷ codes "': a failure occurred reading the list.\n" ∷ [])
+    one_line (concat (codes "Error: Could not read '" ∷ name ∷ codes "': a failure occurred reading the list." ∷ []))
 
 -- the name leads to a file of this text
 abbrev pub GivesText : {S F : Type 0} → StoreRules S F → SourceRules F → S → List ℕ → List ℕ → Type 0

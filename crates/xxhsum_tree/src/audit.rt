@@ -25,7 +25,7 @@ use xxhsum_audit::outcome::Outcome;
 use xxhsum_files::store::Store;
 use xxhsum_line::entry::Entry as Line;
 use xxhsum_program::stop::Stop;
-use xxhsum_program::tell::tell_parts;
+use xxhsum_program::tell::tell_line;
 use xxhsum_words::options::Options;
 
 /// Puts the names beside the lines of the list of this name, and says of each what became of it. Answers whether all
@@ -153,8 +153,8 @@ fn tell_twice<E: Sink>(among: &[u8], entries: &[Entry<'_>], err: &mut E) -> bool
 fn tell_name<'a, E: Sink>(among: &'a [u8], name: &'a [u8], err: &mut E)
     ensures { TellsOn E.Sink (twice_text among.now name.now) err.old err.new }
 {
-    let parts: [&[u8]; 4] = [among, b": '", name, b"' stands twice.\n"];
-    tell_parts(&parts, err);
+    let parts: [&[u8]; 4] = [among, b": '", name, b"' stands twice."];
+    tell_line(&parts, err);
 }
 
 // Digests the names that stand beside lines, and says what became of both.

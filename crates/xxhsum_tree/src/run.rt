@@ -6,9 +6,9 @@ ghost use Rattle.xxhsum_program.specs.Run.{PerformsWatched, end_text, status_of}
 ghost use Rattle.xxhsum_program.specs.Task.{IsProgram};
 ghost use Rattle.xxhsum_program.specs.Told.{TellsOn};
 ghost use Rattle.xxhsum_program.specs.declared.stop.Stop.{Stop};
-ghost use Rattle.xxhsum_tree.specs.Run.{AuditsWords, DoesArguments, Walks, WalksNames, are_listed, is_tree, tree_asked};
+ghost use Rattle.xxhsum_tree.specs.Run.{AuditsWords, DoesArguments, Walks, WalksNames, is_tree, tree_asked};
 ghost use Rattle.xxhsum_words.specs.Name.{kind_of_program};
-ghost use Rattle.xxhsum_words.specs.Options.{asked_of};
+ghost use Rattle.xxhsum_words.specs.Options.{are_listed, asked_of};
 
 use crate::audit::audit_names;
 use crate::names::names_listed;
@@ -19,13 +19,13 @@ use xxhsum_program::arguments::{Arguments, all_arguments};
 use xxhsum_program::check::check_lists;
 use xxhsum_program::hash::hash_names;
 use xxhsum_program::process::{
-    Terminals, conclude, names_from, program_of, run_words, style_of, words_of,
+    Terminals, conclude, program_of, run_words, style_of, words_of,
 };
 use xxhsum_program::screen::Ticks;
 use xxhsum_program::stop::Stop;
 use xxhsum_program::tell::tell;
 use xxhsum_words::name::default_kind;
-use xxhsum_words::options::{Asked, NamesFrom, Options, asked_by};
+use xxhsum_words::options::{Asked, Options, asked_by, words_behind};
 
 /// Does what the arguments ask for, over a store of files and these ends. Progress is shown on the screen, which is
 /// standard error too. Answers the exit status: 0 where every file was digested, or is as its line says, and else 1.
@@ -99,7 +99,7 @@ where
         Some(tree) => {
             let (options, place) = tree;
             let words = words_of(args);
-            let names = names_from(words, place);
+            let names = words_behind(words, place);
             walk(alloc, store, options, names, input, out, err)
         }
         None => run_words(alloc, args, store, terminals, input, out, err, screen),
@@ -131,24 +131,20 @@ fn tree_asked(asked: Asked) -> Option<(Options, usize)>
                 None
             }
         }
-        Asked::Benchmark | Asked::Version | Asked::Help | Asked::BadUsage | Asked::NumberTooLarge =>
-            None,
+        Asked::Benchmark
+        | Asked::Version
+        | Asked::Help
+        | Asked::WrongOption { .. }
+        | Asked::NulsInList
+        | Asked::InputBesideNames
+        | Asked::NumberTooLarge => None,
     }
 }
 
 fn is_tree(options: Options) -> bool
     ensures { result ≡ is_tree options }
 {
-    options.audits || are_listed(options.names_from)
-}
-
-fn are_listed(names: NamesFrom) -> bool
-    ensures { result ≡ are_listed names }
-{
-    match names {
-        NamesFrom::Words => false,
-        NamesFrom::Lines | NamesFrom::Nuls => true,
-    }
+    options.audits || options.names_from.are_listed()
 }
 
 // Audits the names, or digests or checks those that stand in lists of names.
@@ -192,7 +188,7 @@ fn walk_audit<S: Store, R: Source + Drop, W: Sink, E: Sink>(
         tell(b"Error: --audit needs a list.\n", err);
         return Ok(false);
     };
-    if !are_listed(options.names_from) {
+    if !options.names_from.are_listed() {
         return audit_names(alloc, store, options, list, rest, out, err);
     }
     let Some(names) = names_listed(alloc, store, options.names_from, rest, input, err)? else {

@@ -15,7 +15,7 @@ use xxhsum_audit::parts::parts_of;
 use xxhsum_files::store::Store;
 use xxhsum_line::entry::Entry;
 use xxhsum_program::stop::Stop;
-use xxhsum_program::tell::tell_parts;
+use xxhsum_program::tell::tell_line;
 
 // What the lines of the list of this name say. `None` where it can't be opened or read, or a line says nothing, which is
 // told.
@@ -56,7 +56,7 @@ fn tell_improper<'a, E: Sink>(list: &'a [u8], number: usize, err: &mut E)
         digits,
         b": Error: ",
         b"Improperly formatted checksum line",
-        b".\n",
+        b".",
     ];
-    tell_parts(&parts, err);
+    tell_line(&parts, err);
 }

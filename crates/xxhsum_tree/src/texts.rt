@@ -12,7 +12,7 @@ use xxh_io::ends::{Sink, Source};
 use xxhsum_audit::read::{ReadError, read_all};
 use xxhsum_files::store::Store;
 use xxhsum_program::stop::Stop;
-use xxhsum_program::tell::tell_parts;
+use xxhsum_program::tell::tell_line;
 
 // What standard input is called.
 const INPUT: &[u8] = b"stdin";
@@ -40,9 +40,9 @@ pub fn text_named<S: Store, E: Sink>(
                 name,
                 b"': ",
                 refusal.text(),
-                b".\n",
+                b".",
             ];
-            tell_parts(&parts, err);
+            tell_line(&parts, err);
             Ok(None)
         }
     }
@@ -71,9 +71,9 @@ pub fn text_of<R: Source + Drop, E: Sink>(
             let parts: [&[u8]; 3] = [
                 b"Error: Could not read '",
                 name,
-                b"': a failure occurred reading the list.\n",
+                b"': a failure occurred reading the list.",
             ];
-            tell_parts(&parts, err);
+            tell_line(&parts, err);
             Ok(None)
         }
     }

@@ -7,11 +7,10 @@ use Rattle.xxh_io.specs.declared.kind.Kind.{Kind}
 use Rattle.xxh_io.specs.declared.kind.Kind.TheVariants.{X32, X64, X3_64, X3_128}
 use Rattle.xxhsum_words.specs.declared.letters.Letter.{Letter}
 use Rattle.xxhsum_words.specs.declared.number.Number.{Number}
-use Rattle.xxhsum_words.specs.declared.options.Asked.{Asked}
-use Rattle.xxhsum_words.specs.declared.options.Asked.TheVariants.{Benchmark, Version, Help, BadUsage, NumberTooLarge}
+use Rattle.xxhsum_words.specs.declared.options.Asked.TheVariants.{Benchmark, Version, Help, NumberTooLarge}
 use Rattle.xxhsum_words.specs.declared.options.Options.{Options}
 use Rattle.xxhsum_words.specs.declared.options.Step.{Step}
-use Rattle.xxhsum_words.specs.declared.options.Step.TheVariants.{Takes, Settles}
+use Rattle.xxhsum_words.specs.declared.options.Step.TheVariants.{Takes, IsWrong, Settles}
 use Rattle.xxhsum_words.specs.Number.{number_of}
 
 -- the kind of this number of -H
@@ -24,36 +23,36 @@ numbered_kind number =
     else None
 
 -- a letter with no others that belong to it
-abbrev pub alone : Options → Result Letter Asked
+abbrev pub alone : Options → Result Letter Step
 alone options = Ok (record { options = options; taken = 0 })
 
 -- H: its number names the kind
-abbrev pub with_kind : Options → ℕ → Option Kind → Result Letter Asked
+abbrev pub with_kind : Options → ℕ → Option Kind → Result Letter Step
 with_kind options taken (Some kind) = Ok (record { options = record options { kind = kind }; taken = taken })
-with_kind options taken None = Err BadUsage
+with_kind options taken None = Err IsWrong
 
-abbrev pub with_number : Options → Option Number → Result Letter Asked
+abbrev pub with_number : Options → Option Number → Result Letter Step
 with_number options (Some number) = with_kind options number.letters (numbered_kind number.value)
-with_number options None = Err NumberTooLarge
+with_number options None = Err (Settles NumberTooLarge)
 
-abbrev pub kind_step : Options → List ℕ → Result Letter Asked
+abbrev pub kind_step : Options → List ℕ → Result Letter Step
 kind_step options after = with_number options (number_of after)
 
 -- i and B: their number changes nothing
-abbrev pub past_number : Options → Option Number → Result Letter Asked
+abbrev pub past_number : Options → Option Number → Result Letter Step
 past_number options (Some number) = Ok (record { options = options; taken = number.letters })
-past_number options None = Err NumberTooLarge
+past_number options None = Err (Settles NumberTooLarge)
 
-abbrev pub skipped_number : Options → List ℕ → Result Letter Asked
+abbrev pub skipped_number : Options → List ℕ → Result Letter Step
 skipped_number options after = past_number options (number_of after)
 
 -- what a letter does that stands before these others
-abbrev pub letter_of : Options → ℕ → List ℕ → Result Letter Asked
+abbrev pub letter_of : Options → ℕ → List ℕ → Result Letter Step
 letter_of options letter after =
     -- V, h, b
-    if letter == 86 then Err Version
-    else if letter == 104 then Err Help
-    else if letter == 98 then Err Benchmark
+    if letter == 86 then Err (Settles Version)
+    else if letter == 104 then Err (Settles Help)
+    else if letter == 98 then Err (Settles Benchmark)
     -- H
     else if letter == 72 then kind_step options after
     -- i, B
@@ -63,12 +62,12 @@ letter_of options letter after =
     else if letter == 113 then alone (record options { is_quiet = true })
     else if letter == 119 then alone (record options { warns = true })
     else if letter == 122 then alone (record options { ends_in_nul = true })
-    else Err BadUsage
+    else Err IsWrong
 
 -- the letters that belong to this one are passed over
-abbrev pub after_letter : Result Letter Asked → (ℕ → Options → Step) → Step
+abbrev pub after_letter : Result Letter Step → (ℕ → Options → Step) → Step
 after_letter (Ok read) go_on = go_on read.taken read.options
-after_letter (Err asked) go_on = Settles asked
+after_letter (Err step) go_on = step
 
 -- what the letters do, but for this many of them, which belong to the letter before
 abbrev pub letters_step : ℕ → Options → List ℕ → Step

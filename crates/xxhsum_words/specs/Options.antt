@@ -1,12 +1,13 @@
 -- What the words of the command line ask for.
-use Rattle.std.specs.Prelude.{ℕ, ◌+◌, List, [], ◌∷◌, drop, true, false, bytes_eq, ◌&&◌, ◌||◌, codes, if◌then◌else◌}
+use Rattle.std.specs.Prelude.{ℕ, ◌+◌, Bool, List, [], ◌∷◌, drop, length, true, false, bytes_eq, nat_lt, ◌&&◌, ◌||◌, codes, if◌then◌else◌}
 use Rattle.xxh_io.specs.declared.kind.Kind.{Kind}
 use Rattle.xxhsum_words.specs.declared.options.Asked.{Asked}
-use Rattle.xxhsum_words.specs.declared.options.Asked.TheVariants.{Run, Benchmark, Version, Help, BadUsage}
+use Rattle.xxhsum_words.specs.declared.options.Asked.TheVariants.{Run, Benchmark, Version, Help, WrongOption, NulsInList, InputBesideNames}
+use Rattle.xxhsum_words.specs.declared.options.NamesFrom.{NamesFrom}
 use Rattle.xxhsum_words.specs.declared.options.NamesFrom.TheVariants.{Words, Lines, Nuls}
 use Rattle.xxhsum_words.specs.declared.options.Options.{Options}
 use Rattle.xxhsum_words.specs.declared.options.Step.{Step}
-use Rattle.xxhsum_words.specs.declared.options.Step.TheVariants.{Takes, EndsBefore, EndsAfter, Settles}
+use Rattle.xxhsum_words.specs.declared.options.Step.TheVariants.{Takes, EndsBefore, EndsAfter, IsWrong, Settles}
 use Rattle.xxhsum_words.specs.Letters.{letters_step}
 use Rattle.xxhsum_words.specs.Number.{begins_with}
 
@@ -35,7 +36,7 @@ long_end name =
     else if bytes_eq name (codes "help") then Settles Help
     else if bytes_eq name (codes "version") then Settles Version
     else if bytes_eq name (codes "bench-all") then Settles Benchmark
-    else Settles BadUsage
+    else IsWrong
 
 -- what `--` and this name do, where it is of missing files or of how lines end; files are read as they are, so `--binary`
 -- does nothing
@@ -76,23 +77,47 @@ word_step options word =
     else if begins_with (codes "-") word then letters_step 0 options (drop 1 word)
     else EndsBefore
 
--- the run by these options, of the names from this word on; `-z` is refused beside `-c` and `--audit`
-abbrev pub run_from : Options → ℕ → Asked
-run_from options at =
-    if options.ends_in_nul && (options.checks || options.audits) then BadUsage else Run options at
+-- the names stand in lists of names
+abbrev pub are_listed : NamesFrom → Bool
+are_listed Words = false
+are_listed Lines = true
+are_listed Nuls = true
+
+-- one of the names is `-`
+abbrev pub have_input : List (List ℕ) → Bool
+have_input [] = false
+have_input (name ∷ names) = bytes_eq name (codes "-") || have_input names
+
+-- how many lists stand before the names: that of an audit whose names are listed
+abbrev pub lists_before : Options → ℕ
+lists_before options = if options.audits && are_listed options.names_from then 1 else 0
+
+-- `-` is among the names, or was given before names, beside which standard input is not read
+abbrev pub leaves_input : Options → List (List ℕ) → Bool
+leaves_input options names =
+    have_input names || (options.takes_terminal && nat_lt (lists_before options) (length names))
+
+-- the run by these options, of these names, which are the words from this one on; `-z` is refused beside `-c` and
+-- `--audit`, and `-` beside names
+abbrev pub run_from : Options → ℕ → List (List ℕ) → Asked
+run_from options at names =
+    if options.ends_in_nul && (options.checks || options.audits) then NulsInList
+    else if leaves_input options names then InputBesideNames
+    else Run options at
 
 -- a word that is no option ends them
-abbrev pub after_word : Step → ℕ → Options → (Options → Asked) → Asked
-after_word (Takes next) at options go_on = go_on next
-after_word EndsBefore at options go_on = run_from options at
-after_word EndsAfter at options go_on = run_from options (at + 1)
-after_word (Settles asked) at options go_on = asked
+abbrev pub after_word : Step → ℕ → Options → List ℕ → List (List ℕ) → (Options → Asked) → Asked
+after_word (Takes next) at options word words go_on = go_on next
+after_word EndsBefore at options word words go_on = run_from options at (word ∷ words)
+after_word EndsAfter at options word words go_on = run_from options (at + 1) words
+after_word IsWrong at options word words go_on = WrongOption at
+after_word (Settles asked) at options word words go_on = asked
 
 -- what the words ask for that stand after this many others, which made these options
 abbrev pub asked_after : ℕ → Options → List (List ℕ) → Asked
-asked_after at options [] = run_from options at
+asked_after at options [] = run_from options at []
 asked_after at options (word ∷ words) =
-    after_word (word_step options word) at options (λ next. asked_after (at + 1) next words)
+    after_word (word_step options word) at options word words (λ next. asked_after (at + 1) next words)
 
 -- what the words after the program's name ask for
 abbrev pub asked_of : Kind → List (List ℕ) → Asked

@@ -25,39 +25,39 @@ pub(crate) fn letters(word: &[u8], mut options: Options) -> Step
                 options = read.options;
                 rest = &after[read.taken..];
             }
-            Err(asked) => return Step::Settles(asked),
+            Err(step) => return step,
         }
     }
     Step::Takes(options)
 }
 
-// What a letter does that stands before these others. An error is what it asks for, whatever follows.
-fn letter_at(letter: u8, after: &[u8], mut options: Options) -> Result<Letter, Asked>
+// What a letter does that stands before these others. An error is what its word does, whatever follows.
+fn letter_at(letter: u8, after: &[u8], mut options: Options) -> Result<Letter, Step>
     ensures letter { result ≡ letter_of options letter after.now }
     ensures within { IfOk result (λ read. read.taken ≤ length after.now) }
 {
     match letter {
-        b'V' => return Err(Asked::Version),
-        b'h' => return Err(Asked::Help),
-        b'b' => return Err(Asked::Benchmark),
+        b'V' => return Err(Step::Settles(Asked::Version)),
+        b'h' => return Err(Step::Settles(Asked::Help)),
+        b'b' => return Err(Step::Settles(Asked::Benchmark)),
         b'H' => return kind_letter(after, options),
         b'i' | b'B' => return skipped_letter(after, options),
         b'c' => options.checks = true,
         b'q' => options.is_quiet = true,
         b'w' => options.warns = true,
         b'z' => options.ends_in_nul = true,
-        _ => return Err(Asked::BadUsage),
+        _ => return Err(Step::IsWrong),
     }
     Ok(Letter { options, taken: 0 })
 }
 
 // `H`: the number after it names the kind.
-fn kind_letter(after: &[u8], options: Options) -> Result<Letter, Asked>
+fn kind_letter(after: &[u8], options: Options) -> Result<Letter, Step>
     ensures letter { result ≡ kind_step options after.now }
     ensures within { IfOk result (λ read. read.taken ≤ length after.now) }
 {
-    let number = number_at(after).ok_or(Asked::NumberTooLarge)?;
-    let kind = numbered_kind(number.value).ok_or(Asked::BadUsage)?;
+    let number = number_at(after).ok_or(Step::Settles(Asked::NumberTooLarge))?;
+    let kind = numbered_kind(number.value).ok_or(Step::IsWrong)?;
     Ok(Letter {
         options: Options { kind, ..options },
         taken: number.letters,
@@ -65,11 +65,11 @@ fn kind_letter(after: &[u8], options: Options) -> Result<Letter, Asked>
 }
 
 // `i` and `B`: the number after it belongs to benchmarks, and changes nothing.
-fn skipped_letter(after: &[u8], options: Options) -> Result<Letter, Asked>
+fn skipped_letter(after: &[u8], options: Options) -> Result<Letter, Step>
     ensures letter { result ≡ skipped_number options after.now }
     ensures within { IfOk result (λ read. read.taken ≤ length after.now) }
 {
-    let number = number_at(after).ok_or(Asked::NumberTooLarge)?;
+    let number = number_at(after).ok_or(Step::Settles(Asked::NumberTooLarge))?;
     Ok(Letter {
         options,
         taken: number.letters,

@@ -1,7 +1,7 @@
 //! The words of the command line.
 
-ghost use Rattle.std.specs.Prelude.{◌≡◌, bytes_eq, map};
-ghost use Rattle.xxhsum_words.specs.Options.{asked_of, further_step, long_end, long_step, run_from, tree_step, word_step};
+ghost use Rattle.std.specs.Prelude.{◌≡◌, bytes_eq, drop, map};
+ghost use Rattle.xxhsum_words.specs.Options.{asked_of, further_step, have_input, leaves_input, lists_before, long_end, long_step, run_from, tree_step, word_step};
 
 use crate::letters::letters;
 use xxh_io::kind::Kind;
@@ -15,6 +15,20 @@ pub enum NamesFrom {
     Lines,
     /// `--files0-from`: the words are files of names, each ended by a NUL.
     Nuls,
+}
+
+impl NamesFrom {
+    ghost use Rattle.xxhsum_words.specs.Options.{are_listed};
+
+    /// Whether the names stand in lists.
+    pub fn are_listed(self) -> bool
+        ensures { result ≡ are_listed self }
+    {
+        match self {
+            NamesFrom::Words => false,
+            NamesFrom::Lines | NamesFrom::Nuls => true,
+        }
+    }
 }
 
 /// What the options say.
@@ -59,8 +73,12 @@ pub enum Asked {
     Version,
     /// The help.
     Help,
-    /// Words that ask for nothing: they have an unknown option, or `-z` beside `-c` or `--audit`.
-    BadUsage,
+    /// Nothing: the word of this index is no option.
+    WrongOption { at: usize },
+    /// Nothing: `-z` stands beside `-c` or `--audit`.
+    NulsInList,
+    /// Nothing: `-` stands beside names, or behind `--`, where standard input is not read.
+    InputBesideNames,
     /// Words in which an option has a number that is too large.
     NumberTooLarge,
 }
@@ -74,6 +92,8 @@ pub(crate) enum Step {
     EndsBefore,
     /// It is `--`: the names are the words after it.
     EndsAfter,
+    /// It is no option, though it looks like one.
+    IsWrong,
     /// It asks for this, whatever follows.
     Settles(Asked),
 }
@@ -100,26 +120,73 @@ pub fn asked_by(kind: Kind, words: &[Vec<u8>]) -> Asked
     for (at, word) in words.iter().enumerate() {
         match word_step(word.as_slice(), options) {
             Step::Takes(next) => options = next,
-            Step::EndsBefore => return run_from(options, at),
-            Step::EndsAfter => return run_from(options, at + 1),
+            Step::EndsBefore => return run_from(options, at, words),
+            Step::EndsAfter => return run_from(options, at + 1, words),
+            Step::IsWrong => return Asked::WrongOption { at },
             Step::Settles(asked) => return asked,
         }
     }
-    run_from(options, words.len())
+    run_from(options, words.len(), words)
 }
 
 // The run by these options, of the names from this word on. What is compared or audited is no list, so its lines end with
-// no NUL.
-fn run_from(options: Options, names_from: usize) -> Asked
-    ensures { result ≡ run_from options names_from }
+// no NUL; and standard input is never left unread where it is asked for.
+fn run_from(options: Options, names_from: usize, words: &[Vec<u8>]) -> Asked
+    ensures { result ≡ run_from options names_from
+        (drop names_from (map (λ word. word.items) words.now)) }
 {
     if options.ends_in_nul && (options.checks || options.audits) {
-        return Asked::BadUsage;
+        return Asked::NulsInList;
+    }
+    if leaves_input(options, words_behind(words, names_from)) {
+        return Asked::InputBesideNames;
     }
     Asked::Run {
         options,
         names_from,
     }
+}
+
+/// The words from this place on.
+pub fn words_behind(words: &[Vec<u8>], place: usize) -> &[Vec<u8>]
+    ensures { map (λ word. word.items) result.now
+        ≡ drop place (map (λ word. word.items) words.now) }
+{
+    if place < words.len() {
+        &words[place..]
+    } else {
+        &[]
+    }
+}
+
+// Whether `-` is among the names, or was given before names beside which standard input is not read.
+fn leaves_input(options: Options, names: &[Vec<u8>]) -> bool
+    ensures { result ≡ leaves_input options (map (λ name. name.items) names.now) }
+{
+    have_input(names) || (options.takes_terminal && names.len() > lists_before(options))
+}
+
+// How many lists stand before the names: that of an audit whose names are listed.
+fn lists_before(options: Options) -> usize
+    ensures { result ≡ lists_before options }
+{
+    if options.audits && options.names_from.are_listed() {
+        1
+    } else {
+        0
+    }
+}
+
+// Whether one of the names is `-`.
+fn have_input(names: &[Vec<u8>]) -> bool
+    ensures { result ≡ have_input (map (λ name. name.items) names.now) }
+{
+    for name in names {
+        if is(name, "-") {
+            return true;
+        }
+    }
+    false
 }
 
 // What the word does after words that made these options.
@@ -206,7 +273,7 @@ fn long_end(name: &[u8]) -> Step
     } else if is(name, "bench-all") {
         Step::Settles(Asked::Benchmark)
     } else {
-        Step::Settles(Asked::BadUsage)
+        Step::IsWrong
     }
 }
 

@@ -10,4 +10,4 @@ returns-in-Ok-clause-checks g c =
 
 pub returns-in-Err-clause-checks : goal.returns-in-Err-clause-checks
 returns-in-Err-clause-checks g c =
-    (Unopened c.in-Err.refusal, c.in-Err.ensures.refuses, (tt, refl), ([], refl, refl), rw c.text.ensures at c.tell_parts.ensures)
+    (Unopened c.in-Err.refusal, c.in-Err.ensures.refuses, (tt, refl), ([], refl, refl), rw c.text.ensures at c.tell_line.ensures)

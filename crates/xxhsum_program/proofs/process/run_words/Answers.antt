@@ -1,12 +1,11 @@
-use Rattle.std.proofs.Common.{◌≡◌, ℕ, true, false, List, Option, Some, None, drop, refl, Ok, map, sym, ap, ◌∙◌}
+use Rattle.std.proofs.Common.{◌≡◌, ℕ, true, false, List, Option, Some, None, codes, drop, refl, Ok, map, sym, ap, ◌∙◌}
 use Rattle.xxh_io.specs.declared.kind.Kind.{Kind}
 use Rattle.xxhsum_words.specs.Name.{kind_of_program}
 use Rattle.xxhsum_words.specs.Options.{asked_of}
 use Rattle.xxhsum_words.specs.declared.options.Asked.{Asked}
-use Rattle.xxhsum_words.specs.declared.options.Asked.TheVariants.{BadUsage}
 use Rattle.xxhsum_words.specs.declared.options.Options.{Options}
 use Rattle.xxhsum_program.specs.declared.process.Terminals.{Terminals}
-use Rattle.xxhsum_program.specs.Task.{Tells, answer_text, is_well, run_asked, task_from, task_of, waits_for_terminal}
+use Rattle.xxhsum_program.specs.Task.{Tells, answer_text, is_well, run_asked, task_from, task_of, waits_for_terminal, wrong_text}
 use Rattle.xxhsum_program.proofs.process.run_words.Goals as goal
 
 -- What the words ask for is the task.
@@ -15,10 +14,10 @@ use Rattle.xxhsum_program.proofs.process.run_words.Goals as goal
 task-is : (terminals : Terminals) (program : List ℕ) (arguments words : List (List ℕ)) (kind : Kind) (asked : Asked) (run : Option (Options × ℕ)) → words ≡ drop 1 arguments → kind ≡ kind_of_program program → asked ≡ asked_of kind words → run ≡ run_asked asked → task_of terminals program (drop 1 arguments) ≡ task_from terminals program words asked run
 task-is terminals program arguments words kind asked run same kinds is runs = rw (runs, is, kinds, same) refl
 
-task-told : (terminals : Terminals) (program : List ℕ) (words : List (List ℕ)) (asked : Asked) (run : Option (Options × ℕ)) → run ≡ None → task_from terminals program words asked run ≡ Tells (answer_text program asked) (is_well asked)
+task-told : (terminals : Terminals) (program : List ℕ) (words : List (List ℕ)) (asked : Asked) (run : Option (Options × ℕ)) → run ≡ None → task_from terminals program words asked run ≡ Tells (answer_text program words asked) (is_well asked)
 task-told terminals program words asked run is = rw is refl
 
-task-waits : (terminals : Terminals) (program : List ℕ) (words names : List (List ℕ)) (asked : Asked) (run : Option (Options × ℕ)) (options : Options) (place : ℕ) → run ≡ Some (options, place) → names ≡ drop place words → waits_for_terminal terminals options names ≡ true → task_from terminals program words asked run ≡ Tells (answer_text program BadUsage) false
+task-waits : (terminals : Terminals) (program : List ℕ) (words names : List (List ℕ)) (asked : Asked) (run : Option (Options × ℕ)) (options : Options) (place : ℕ) → run ≡ Some (options, place) → names ≡ drop place words → waits_for_terminal terminals options names ≡ true → task_from terminals program words asked run ≡ Tells (wrong_text (codes "Wrong parameters") program) false
 task-waits terminals program words names asked run options place is same waits =
     let still : waits_for_terminal terminals options (drop place words) ≡ true = rw same at waits in
     rw (is, still) refl
@@ -39,6 +38,6 @@ returns-then-waits_for_terminal g c =
     let words = map (λ word. word.items) c.words_of-words.result.now in
     let asked = c.asked_by-asked.result in
     let task = task-is c.args.terminals program arguments words c.default_kind.result asked c.run_asked.result c.words_of-words.ensures c.default_kind.ensures c.asked_by-asked.ensures c.run_asked.ensures in
-    let names = map (λ name. name.items) c.names_from-names.result.now in
+    let names = map (λ name. name.items) c.words_behind-names.result.now in
     let run = c.in-Some.found in
-    (program, c.program_of-program.ensures, rw (task ∙ task-waits c.args.terminals program words names asked c.run_asked.result run.0 run.1 c.in-Some.is c.names_from-names.ensures (sym c.waits_for_terminal.ensures ∙ c.if-waits_for_terminal.true)) (ap Ok c.tell_answer-then-waits_for_terminal.ensures.well, refl, c.tell_answer-then-waits_for_terminal.ensures.tells))
+    (program, c.program_of-program.ensures, rw (task ∙ task-waits c.args.terminals program words names asked c.run_asked.result run.0 run.1 c.in-Some.is c.words_behind-names.ensures (sym c.waits_for_terminal.ensures ∙ c.if-waits_for_terminal.true)) (refl, refl, c.tell_wrong.ensures))

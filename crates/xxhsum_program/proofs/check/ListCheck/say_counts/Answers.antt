@@ -27,4 +27,4 @@ returns-clause-prints g c =
 
 pub returns-then-report-eq0-clause-tells : goal.returns-then-report-eq0-clause-tells
 returns-then-report-eq0-clause-tells g c =
-    subst (λ bytes. TellsOn g.E.Sink bytes c.args.err.now c.tell_parts.new.err) (sym (none-is c.args.self.now.name.now c.args.report.now c.if-report-eq0.true)) c.tell_parts.ensures
+    subst (λ bytes. TellsOn g.E.Sink bytes c.args.err.now c.tell_line.new.err) (sym (none-is c.args.self.now.name.now c.args.report.now c.if-report-eq0.true)) c.tell_line.ensures

@@ -1,0 +1,19 @@
+-- Texts that are one line, or nothing.
+use Rattle.std.proofs.Common.{ℕ, Bool, true, false, List, [], inl, inr, refl, if◌then◌else◌}
+use Rattle.xxhsum_line.specs.Escapes.{one_line}
+use Rattle.xxhsum_line.proofs.PrintedFacts.{told_is_one_line}
+use Rattle.xxhsum_program.specs.ToldLines.{IsLineOrNothing}
+
+pub one : (text : List ℕ) → IsLineOrNothing (one_line text)
+one text = inr (told_is_one_line text)
+
+pub nothing : IsLineOrNothing []
+nothing = inl refl
+
+pub unless : (test : Bool) (text : List ℕ) → IsLineOrNothing text → IsLineOrNothing (if test then [] else text)
+unless true text is = nothing
+unless false text is = is
+
+pub only : (test : Bool) (text : List ℕ) → IsLineOrNothing text → IsLineOrNothing (if test then text else [])
+only true text is = is
+only false text is = nothing

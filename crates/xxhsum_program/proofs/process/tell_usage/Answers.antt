@@ -1,0 +1,7 @@
+use Rattle.xxhsum_program.proofs.ToldFacts.{tells-more}
+use Rattle.xxhsum_program.proofs.process.tell_usage.Goals as goal
+
+pub returns : goal.returns
+returns g c =
+    let title = tells-more g.E.Sink _ _ _ _ _ c.tell_line.ensures c.tell.ensures in
+    tells-more g.E.Sink _ _ _ _ _ (tells-more g.E.Sink _ _ _ _ _ title c.tell_line-2.ensures) c.tell-2.ensures

@@ -1,0 +1,23 @@
+use Rattle.std.proofs.Common.{◌≡◌, ◌++◌, take, get_or, subst, sym, ap, ◌∙◌}
+use Rattle.std.proofs.lemmas.List.{take_all}
+use Rattle.xxhsum_line.specs.Escapes.{escape, escaped}
+use Rattle.xxhsum_line.proofs.EscapeFacts.{escaped_more, plain_names_stay}
+use Rattle.xxhsum_program.specs.Told.{TellsOn}
+use Rattle.xxhsum_program.proofs.ToldFacts.{tells-more}
+use Rattle.xxhsum_program.proofs.tell.tell_escaped.Goals as goal
+
+pub returns-then-not-needs_escape : goal.returns-then-not-needs_escape
+returns-then-not-needs_escape g c =
+    subst (λ bytes. TellsOn g.E.Sink bytes c.args.err.now c.tell.new.err) (sym (plain_names_stay c.args.text.now (sym c.needs_escape.ensures ∙ c.if-not-needs_escape.true))) c.tell.ensures
+
+pub loop-byte-preserved : goal.loop-byte-preserved
+loop-byte-preserved g c =
+    let text = c.args.text.now in
+    let i = c.loop-byte.byte-index in
+    let more : escaped (take i text) ++ c.escape.result.now ≡ escaped (take i text) ++ escape (get_or text i 0) = ap (λ byte. escaped (take i text) ++ byte) c.escape.ensures in
+    subst (λ bytes. TellsOn g.E.Sink bytes c.args.err.now c.tell-in-loop-byte.new.err) (more ∙ sym (escaped_more text i c.loop-byte-test.true))
+    (tells-more g.E.Sink _ _ _ _ _ c.loop-byte.invariant c.tell-in-loop-byte.ensures)
+
+pub returns : goal.returns
+returns g c =
+    subst (λ bytes. TellsOn g.E.Sink (escaped bytes) c.args.err.now c.loop-byte.err) (take_all c.loop-byte.byte-index c.args.text.now c.loop-byte-test.false) c.loop-byte.invariant

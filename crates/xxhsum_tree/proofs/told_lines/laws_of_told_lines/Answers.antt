@@ -1,0 +1,32 @@
+use Rattle.std.proofs.Common.{[], ◌∷◌, ◌++◌, codes, decimal}
+use Rattle.std.specs.List.{concat}
+use Rattle.xxhsum_audit.specs.Item.{name_of}
+use Rattle.xxhsum_audit.specs.Merge.{Changed, Missing, Moved, New, Same}
+use Rattle.xxhsum_files.specs.Refusal.{refusal_text}
+use Rattle.xxhsum_line.proofs.PrintedFacts.{told_is_one_line}
+use Rattle.xxhsum_tree.specs.ToldLines.{AuditsAreSaidInLines, ListsAreToldInLines, TwiceIsToldInLines}
+use Rattle.xxhsum_tree.proofs.told_lines.laws_of_told_lines.Goals as goal
+
+lists : ListsAreToldInLines
+lists list number why = (
+  told_is_one_line (concat (codes "Error: Could not open '" ∷ list ∷ codes "': " ∷ refusal_text why ∷ codes "." ∷ [])),
+  told_is_one_line (concat (codes "Error: Could not read '" ∷ list ∷ codes "': a failure occurred reading the list." ∷ [])),
+  told_is_one_line (concat (list ∷ codes ":" ∷ decimal number ∷ codes ": Error: " ∷ codes "Improperly formatted checksum line" ∷ codes "." ∷ [])),
+)
+
+twice : TwiceIsToldInLines
+twice among name = told_is_one_line (concat (among ∷ codes ": '" ∷ name ∷ codes "' stands twice." ∷ []))
+
+audits : AuditsAreSaidInLines
+audits (Same line name) = told_is_one_line (name_of name ++ codes ": same")
+audits (Changed line name) = told_is_one_line (name_of name ++ codes ": changed")
+audits (Moved line name) = told_is_one_line (name_of name ++ codes ": moved from " ++ name_of line)
+audits (New name) = told_is_one_line (name_of name ++ codes ": new")
+audits (Missing line) = told_is_one_line (name_of line ++ codes ": missing")
+
+pub returns : goal.returns
+returns c = record {
+  lists = lists;
+  twice = twice;
+  audits = audits;
+}
