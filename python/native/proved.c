@@ -1,4 +1,4 @@
-/* Which set of proved calls runs. setup.py puts a prefix before each name of a set's text: v2_, v3_ or arm_. */
+/* Which set of proved calls runs. backend.py puts a prefix before each name of a set's text: v2_, v3_ or arm_. */
 #include "proved.h"
 
 #include <string.h>

@@ -31,13 +31,6 @@ pub one_more : (vs : List Value) (bs : List ℕ) (i b : ℕ) (v : Value) → i <
 one_more vs bs i b v within room is was =
     rw (was, drop_more vs i v within, is, take_more_set bs i b room) (append_more (item_bytes (items_view (drop (i + 1) vs))) (take i bs) b)
 
--- an item is no byte
-pub none_more : (n : ℕ) (vs : List Value) (bs : List ℕ) (i : ℕ) (v : Value) (d : Data) → Some (items_view vs) ≡ as_array d → length vs ≡ n → i < length vs → whole_number 256 (view (get_or vs i v)) ≡ None
-    → item_bytes (items_view vs) ≡ option_map (λ rest. take i bs ++ rest) (item_bytes (items_view (drop i vs)))
-    → None ≡ bytes_of_data n d
-none_more n vs bs i v d is long within bad was =
-    sym (sym (bytes_whole n vs d is long) ∙ rw (was, drop_more vs i v within, bad) refl)
-
 -- all are read
 pub all_read : (n : ℕ) (vs : List Value) (bs : List ℕ) (i : ℕ) (d : Data) → Some (items_view vs) ≡ as_array d → length vs ≡ n → length bs ≡ n → i ≤ n → n ≤ i
     → item_bytes (items_view vs) ≡ option_map (λ rest. take i bs ++ rest) (item_bytes (items_view (drop i vs)))

@@ -8,10 +8,6 @@ use Rattle.twox_words.specs.Word.{word_at}
 use Rattle.twox_plain.specs.Units.{after_units}
 use Rattle.twox_words.proofs.WordFacts.{word_at-drop, word_at-append, word_at-part}
 
-pub after_units_none : (step : ℕ → ℕ → ℕ) (unit : ℕ → ℕ) (a : ℕ) → after_units step unit a 0 ≡ a
-unfolding after_units
-after_units_none step unit a = refl
-
 pub after_units_next : (step : ℕ → ℕ → ℕ) (unit : ℕ → ℕ) (a k : ℕ) → after_units step unit a (k + 1) ≡ step (after_units step unit a k) (unit k)
 unfolding after_units
 after_units_next step unit a k = rw add-one refl
