@@ -11,11 +11,14 @@ Lines are written as they come, to MANIFEST.parts. A run that was killed leaves 
 it: files that are as they were when they were hashed aren't read again.
 
 With --indexes FOLDER each file of at least --large bytes also gets a file FOLDER/NAME.blocks, with the lines of
-`xxh blocks SIZE`.
+`xxh blocks SIZE`, and FOLDER/NAME.state beside it, which says of what: SIZE, and the file's length, time of change and
+inode. An index of another state or of blocks of another size is made anew.
 
-A file that can't be hashed has no line; standard error names it and says why. The status is 0 where each file has its
-line, 1 where one has none, or where there is no manifest, and 2 where the words are at fault."""
+A file that can't be hashed has no line; standard error names it and says why, and so of an index that can't be written.
+The status is 0 where each file has its line and its index, 1 where one has none, or where there is no manifest, and 2 where
+the words are at fault."""
 import argparse
+import contextlib
 import logging
 import os
 import sys
@@ -134,12 +137,40 @@ class Run:
         """The bytes of a block of a file that gets an index, or 0."""
         return self.words.block if self.words.indexes and entry.length >= self.words.large else 0
 
-    def index_of(self, entry):
-        return os.path.join(os.fsencode(self.words.indexes), entry.name + b'.blocks')
+    def index_of(self, entry, end='.blocks'):
+        return os.path.join(self.words.indexes, os.fsdecode(entry.name) + end)
+
+    def state_of_index(self, entry):
+        """What stands beside the file's index: the bytes of a block, and the file's state."""
+        return b'%d %d %d %d\n' % (self.words.block, entry.length, entry.changed, entry.inode)
 
     def has_index(self, entry):
-        """Whether the file has the index that it should have, if any."""
-        return not self.block_of(entry) or os.path.exists(self.index_of(entry))
+        """Whether the file has the index that it should have, if any: of its bytes, and of blocks of this size."""
+        if not self.block_of(entry):
+            return True
+        try:
+            with open(self.index_of(entry, '.state'), 'rb') as file:
+                return file.read() == self.state_of_index(entry) and os.path.exists(self.index_of(entry))
+        except OSError:
+            return False
+
+    def remove_index(self, entry):
+        """The state goes first, so that none stands beside an index of another one."""
+        for end in ('.state', '.blocks'):
+            with contextlib.suppress(FileNotFoundError, NotADirectoryError):
+                os.remove(self.index_of(entry, end))
+
+    def renew_index(self, entry, lines):
+        """Writes the index of a file that was hashed, or removes that of one which should have none."""
+        try:
+            self.remove_index(entry)
+            if lines is not None:
+                write(self.index_of(entry), [lines.encode()])
+                write(self.index_of(entry, '.state'), [self.state_of_index(entry)])
+                self.indexes += 1
+        except OSError as fault:
+            if lines is not None:
+                self.fail(entry.name, f'its index: {fault.strerror}')
 
     def take(self, task, answer):
         """What one task answered: what a worker found, or the error that ended it."""
@@ -157,9 +188,8 @@ class Run:
 
     def taken(self, entry, block, digest, lines, length):
         """The entry with its digest. Its index is there before its line is."""
-        if block:
-            write(os.fsdecode(self.index_of(entry)), [lines.encode()])
-            self.indexes += 1
+        if self.words.indexes:
+            self.renew_index(entry, lines if block else None)
         self.hashed, self.bytes = self.hashed + 1, self.bytes + length
         return entry._replace(digest=digest)
 
