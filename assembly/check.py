@@ -283,6 +283,8 @@ def check_texts(report, library, target, sysroot=None):
                 report.attempt(f'{shown} by {assembler.name}', is_same, assembler, text, proved, room)
             report.attempt(f'{shown} made wrong is noticed', wrong_texts_are_noticed, text, proved, target, room)
             check_frames(report, library, target, text, room)
+            if (library, target) == ('rust', 'aarch64'):
+                check_frames(report, library, target, text.replace('.s', '-android.s'), room)
             if (library, target) == ('rust', 'x86-64') and shutil.which('clang'):
                 report.attempt(f'{shown} with the directives of macOS', is_same_for_macos, text, proved,
                                os.path.join(out, 'asm', target), room)
