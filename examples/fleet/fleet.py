@@ -145,9 +145,11 @@ class Run:
         return b'%d %d %d %d\n' % (self.words.block, entry.length, entry.changed, entry.inode)
 
     def has_index(self, entry):
-        """Whether the file has the index that it should have, if any: of its bytes, and of blocks of this size."""
-        if not self.block_of(entry):
+        """Whether the file has the index that it should have: of its bytes and of blocks of this size, or none."""
+        if not self.words.indexes:
             return True
+        if not self.block_of(entry):
+            return not os.path.isfile(self.index_of(entry))
         try:
             with open(self.index_of(entry, '.state'), 'rb') as file:
                 return file.read() == self.state_of_index(entry) and os.path.exists(self.index_of(entry))

@@ -392,12 +392,12 @@ const TESTS = {
     const whole = twox.xxh3_64(new Uint8Array(1_000_003).fill(7));
     return { ok: ok && twox.xxh3_64(long) === whole && other.digest() === before };
   },
-  "a million streams that are never freed": () => {
+  "200,000 streams that are never freed": () => {
     const times = [];
     let value;
     for (let part = 0; part < 4; part += 1) {
       const start = Date.now();
-      for (let i = 0; i < 250_000; i += 1) value = new twox.Stream("xxh3_64").update(BYTES).digest();
+      for (let i = 0; i < 50_000; i += 1) value = new twox.Stream("xxh3_64").update(BYTES).digest();
       times.push(Date.now() - start);
     }
     const isLevel = times[3] < 5 * Math.min(...times);

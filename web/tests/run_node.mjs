@@ -39,9 +39,9 @@ function largeNumbersCross({ Stream }) {
 function memoryIsLevel({ Stream, KINDS }) {
   const sizes = () => instances.map(({ exports }) => exports.memory.buffer.byteLength).join();
   const [before, heap] = [sizes(), process.memoryUsage().rss];
-  for (let i = 0; i < 400_000; i += 1) new Stream(KINDS[i % 4]).update("some bytes").digest();
+  for (let i = 0; i < 200_000; i += 1) new Stream(KINDS[i % 4]).update("some bytes").digest();
   const grown = Math.round((process.memoryUsage().rss - heap) / 1e6);
-  return { name: "400,000 streams that are never freed, in level memory", ok: sizes() === before && grown < 200, words: `${before}, ${sizes()}; ${grown} MB more of the engine's` };
+  return { name: "200,000 streams that are never freed, in level memory", ok: sizes() === before && grown < 200, words: `${before}, ${sizes()}; ${grown} MB more of the engine's` };
 }
 
 const readTable = () => readFile(new URL("../../oracle/vectors.txt", import.meta.url), "utf8");

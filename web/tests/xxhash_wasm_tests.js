@@ -34,10 +34,10 @@ export async function runXxhashWasmTests(xxhash, table) {
     calls.h32(text, -1) === calls.h32(text, 2 ** 32 - 1), calls.create64().update(text).digest() === calls.h64(text),
   ];
   const times = Array.from({ length: 4 }, () => timeOf(() => {
-    for (let i = 0; i < 500_000; i += 1) calls.create64().update(bytes).digest();
+    for (let i = 0; i < 100_000; i += 1) calls.create64().update(bytes).digest();
   }));
   return [
-    { name: "xxhash-wasm's names: two million streams, which nothing frees, take level time", ok: times[3] < 5 * Math.min(...times), words: `${times.join(", ")} ms` },
+    { name: "xxhash-wasm's names: 400,000 streams, which nothing frees, take level time", ok: times[3] < 5 * Math.min(...times), words: `${times.join(", ")} ms` },
     { name: "xxhash-wasm's names: rows of the reference library", ok: rows.length > 100 && wrong.length === 0, words: wrong[0]?.line ?? `${rows.length} rows` },
     { name: "xxhash-wasm's names: text, seeds and digits", ok: known.every(Boolean), words: known.join(" ") },
   ];
