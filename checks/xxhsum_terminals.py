@@ -174,38 +174,47 @@ def does(program, words, terminals, given, wanted):
     return '' if had == wanted else f'wanted {wanted!r}, found {had!r}'
 
 
-def rows_on_terminals(program):
+def rows_over(program, short, long):
+    """Each row by its name: what to do, and with what. The files have `hello`, and LONG bytes."""
+    of_short, refused = (b'26c7827d889f6da3  stdin\n', b'', 0), (b'', b'Wrong parameters\n', 1)
+    return {
+        'progress of input': (shows, program, ['-'], OF_INPUT, long),
+        'progress of input, -H2': (shows, program, ['-H2', '-'], OF_INPUT, long),
+        'progress of a file': (shows, program, ['-H3', long], OF_FILE, short),
+        'no progress under -q': (shows, program, ['-q', '-'], NOTHING, long),
+        'no progress of a file under -q': (shows, program, ['-qH3', long], NOTHING, short),
+        'no progress under --status': (shows, program, ['--status', '-'], NOTHING, long),
+        'no progress of a short file': (shows, program, [short], NOTHING, short),
+        'the rate and the time left': (keeps_time, program),
+        'nobody types': (does, program, [], ('in',), short, refused),
+        'nobody types, and all are terminals': (does, program, [], ('in', 'out', 'err'), short, refused),
+        'a file as input, and errors are a terminal': (does, program, [], ('err',), short, of_short),
+        'a file as input, and the output is a terminal': (does, program, [], ('out',), short, of_short),
+        'a file as input, and both are terminals': (does, program, [], ('out', 'err'), short, of_short),
+        'no progress into a file': (does, program, ['-H3', long], ('in', 'out'), short,
+                                    (run(program, ['-H3', long], ())[0], b'', 0)),
+    }
+
+
+def rows_on_terminals(program, names=None):
+    """The rows, or those of these names: each by its name, with what is wrong, or nothing."""
     with tempfile.TemporaryDirectory() as room:
         short, long = os.path.join(room, 'short'), os.path.join(room, 'long')
         with open(short, 'wb') as file:
             file.write(b'hello')
         with open(long, 'wb') as file:
             file.truncate(LONG)
-        of_short = b'26c7827d889f6da3  stdin\n'
-        of_long = run(program, [long], ())[0]
-        refused = (b'', b'Wrong parameters\n', 1)
-        yield 'progress of input', shows(program, ['-'], OF_INPUT, long)
-        yield 'progress of input, -H2', shows(program, ['-H2', '-'], OF_INPUT, long)
-        yield 'progress of a file', shows(program, ['-H3', long], OF_FILE, short)
-        yield 'no progress under -q', shows(program, ['-q', '-'], NOTHING, long)
-        yield 'no progress of a file under -q', shows(program, ['-qH3', long], NOTHING, short)
-        yield 'no progress under --status', shows(program, ['--status', '-'], NOTHING, long)
-        yield 'no progress of a short file', shows(program, [short], NOTHING, short)
-        yield 'the rate and the time left', keeps_time(program)
-        yield 'nobody types', does(program, [], ('in',), short, refused)
-        yield 'nobody types, and all are terminals', does(program, [], ('in', 'out', 'err'), short, refused)
-        yield 'a file as input, and errors are a terminal', does(program, [], ('err',), short, (of_short, b'', 0))
-        yield 'a file as input, and the output is a terminal', does(program, [], ('out',), short, (of_short, b'', 0))
-        yield 'a file as input, and both are terminals', does(program, [], ('out', 'err'), short, (of_short, b'', 0))
-        yield 'errors in a file', does(program, [long], ('in', 'out'), short, (of_long, b'', 0))
+        for name, (check, *given) in rows_over(program, short, long).items():
+            if names is None or name in names:
+                yield name, check(*given)
 
 
 # Programs that do one thing wrong with the real one, and the rows that have to notice it.
 PLANTED_ON_TERMINALS = {
     'a line that nobody wants': ('echo seen >&2; exec "$REAL" "$@"', {
         'no progress under -q', 'no progress of a file under -q', 'no progress under --status', 'no progress of a short file',
-        'errors in a file'}),
+        'no progress into a file'}),
     'a line that comes late': ('"$REAL" "$@"; status=$?; sleep 0.3; echo late >&2; exit $status', {
         'no progress under -q', 'no progress of a file under -q', 'no progress under --status'}),
-    'a file that takes ten seconds more than is told': ('sleep 10; exec "$REAL" "$@"', {'the rate and the time left'}),
+    'a rate that no machine has': ('printf "2048 MiB, 4000000000 MiB/s, 0 s left" >&2', {'the rate and the time left'}),
 }

@@ -9,6 +9,8 @@ mod files;
 #[cfg(test)]
 mod lines;
 #[cfg(test)]
+mod many;
+#[cfg(test)]
 mod program;
 #[cfg(test)]
 mod progress;

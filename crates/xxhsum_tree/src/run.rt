@@ -18,9 +18,7 @@ use xxhsum_files::store::Store;
 use xxhsum_program::arguments::{Arguments, all_arguments};
 use xxhsum_program::check::check_lists;
 use xxhsum_program::hash::hash_names;
-use xxhsum_program::process::{
-    Terminals, conclude, program_of, run_words, style_of, words_of,
-};
+use xxhsum_program::process::{Terminals, conclude, program_of, run_words, style_of, words_of};
 use xxhsum_program::screen::Ticks;
 use xxhsum_program::stop::Stop;
 use xxhsum_program::tell::tell;
