@@ -6,6 +6,7 @@ import tempfile
 import threading
 import time
 import unittest
+import warnings
 from concurrent.futures import ThreadPoolExecutor
 
 from .both import NAMES, bytes_of, ours
@@ -127,7 +128,9 @@ class Threads(unittest.TestCase):
         thread = threading.Thread(target=hasher.update, args=(bytes(1 << 30),))
         thread.start()
         time.sleep(0.03)
-        child = os.fork()
+        with warnings.catch_warnings():
+            warnings.simplefilter('ignore')
+            child = os.fork()
         if not child:
             signal.alarm(2)
             call()
@@ -141,7 +144,9 @@ class Threads(unittest.TestCase):
         for make in (hashlib.sha256, ours.xxh64):
             hasher = make()
             hasher.update(LONG)
-            self.assertEqual(self.status_of_a_child(hasher, lambda: hasher.update(b'a')), -signal.SIGALRM)
+            # On a busy machine the update may be over before the fork.
+            waits = (self.status_of_a_child(hasher, lambda: hasher.update(b'a')) for _ in range(20))
+            self.assertIn(-signal.SIGALRM, waits)
             self.assertEqual(self.status_of_a_child(hasher, lambda: make(LONG).copy().update(LONG)), 0)
 
     def test_an_input_that_is_held_can_not_move(self):
