@@ -57,6 +57,13 @@ function chosen(table) {
   return rowsOf(table).filter(({ length }, i) => i % STRIDE === 0 || length >= LONG);
 }
 
+/** The time that was worked, where the engine says it, so that what else the machine does counts little. */
+export function milliseconds() {
+  if (typeof globalThis.process?.cpuUsage !== "function") return Date.now();
+  const { user, system } = process.cpuUsage();
+  return (user + system) / 1000;
+}
+
 /** An input of several chunks: the bytes 0 to 250 over and over. */
 const MANY = 1_000_003;
 
@@ -396,11 +403,11 @@ const TESTS = {
     const times = [];
     let value;
     for (let part = 0; part < 4; part += 1) {
-      const start = Date.now();
+      const start = milliseconds();
       for (let i = 0; i < 50_000; i += 1) value = new twox.Stream("xxh3_64").update(BYTES).digest();
-      times.push(Date.now() - start);
+      times.push(Math.ceil(milliseconds() - start));
     }
-    const isLevel = times[3] < 5 * Math.min(...times);
+    const isLevel = times[3] < 10 * Math.min(...times);
     return { ok: isLevel && value === twox.xxh3_64(BYTES), words: times.map((time) => `${time} ms`).join(", ") };
   },
   "a stream of XXH3 answers both widths, and goes on afterwards": (table) => {
