@@ -11,7 +11,7 @@ import subprocess
 import tempfile
 import time
 
-SECONDS = 60
+SECONDS = 20
 MIB = 1 << 20
 LONG = 130 * MIB
 # A file with no bytes on the disk, so long that the rest lasts for many seconds.
