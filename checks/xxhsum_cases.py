@@ -302,7 +302,10 @@ def plain_lines():
     return [
         of_list('three lengths of digits', X32 + b'  a\n' + GOOD + X128 + b'  a\n'),
         of_list('no line feed at the end', X64 + b'  a'),
-        of_list('carriage returns', X64 + b'  a\r\n' + EMPTY + b'  e\r\n', '-cw'),
+        # The originals tell a carriage return as it is.
+        of_list('carriage returns', X64 + b'  a\r\n' + EMPTY + b'  e\r\n', '-cw', wanted={
+            'out': b''.join(one_line(b"L:%d: Could not open or read '%s\r': No such file or directory." % row)
+                            for row in ((1, b'a'), (2, b'e'))) + b'2 listed files could not be read\n', 'err': b'', 'status': 1}),
         of_list('capital digits', X64.upper() + b'  a\n' + X64[:8].upper() + X64[8:] + b'  a\n'),
         of_list('a star, a letter, a NUL before the name', X64 + b' *a\n' + X64 + b' xa\n' + X64 + b' \0a\n', '-cw'),
         of_list('one space before the name', X64 + b' a\n', '-cw'),

@@ -9,9 +9,10 @@ import pty
 import re
 import subprocess
 import tempfile
+import threading
 import time
 
-SECONDS = 60
+SECONDS = 20
 MIB = 1 << 20
 LONG = 130 * MIB
 # A file with no bytes on the disk, so long that the rest lasts for many seconds.
@@ -126,34 +127,38 @@ def shows(program, words, wanted, given):
     return ''.join(rows_left(sent, columns) for columns in WIDTHS)
 
 
-def lines_in_time(program, words):
-    """The lines of progress of a run, each with the seconds that have gone by when it comes, up to a settled one."""
+def settled_lines(program, words):
+    """The numbers of the settled lines of progress of a run, which is ended at the first, and its seconds by our clock."""
     ours, theirs = pty.openpty()
-    began, sent = time.monotonic(), b''
+    began, sent, found = time.monotonic(), b'', []
     process = subprocess.Popen([program, *words], stdin=subprocess.DEVNULL, stdout=subprocess.DEVNULL, stderr=theirs,
                                env=SETTINGS)
     os.close(theirs)
+    limit = threading.Timer(SECONDS, process.kill)
+    limit.start()
     with contextlib.suppress(OSError):
-        while time.monotonic() < began + SECONDS and (part := os.read(ours, 65536)):
+        while part := os.read(ours, 65536):
             sent += part
             for count, rate, left in re.findall(rb'([0-9]+) MiB, ([0-9]+) MiB/s, ([0-9]+) s left', sent):
                 if int(count) >= SETTLED:
                     process.kill()
-                    yield int(count), int(rate), int(left), time.monotonic() - began
+                    found.append((int(count), int(rate), int(left), time.monotonic() - began))
             sent = sent[sent.rfind(b'\r') + 1:]
+    limit.cancel()
     process.kill()
     process.wait()
     os.close(ours)
+    return found
 
 
 def keeps_time(program):
     """What is wrong with the rate of a long file and with the time left: beside our clock, and beside its size."""
     with tempfile.NamedTemporaryFile() as file:
         file.truncate(VAST)
-        line = next(lines_in_time(program, ['-H3', file.name]), None)
-    if line is None:
+        found = settled_lines(program, ['-H3', file.name])
+    if not found:
         return 'no line of progress'
-    count, rate, left, seconds = line
+    count, rate, left, seconds = found[0]
     by_clock, rest = count / seconds, (VAST // MIB - count) / max(rate, 1)
     if not by_clock / 4 < rate < by_clock * 4:
         return f'{rate} MiB/s are told, and by the clock it is {by_clock:.0f}'
