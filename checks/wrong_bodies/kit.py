@@ -98,6 +98,9 @@ def check(crate, texts, kept, only=()):
     """Checks the crate with these texts in place of its own, over the kept work, if there is any: its status and its lines."""
     words = [*one_job(), *(word for name in only for word in ("--only", name))]
     ran = rt.checked(crate, texts, words, kept)
+    # An error of the machine's own is no refusal of anything.
+    if unusable := UNUSABLE.search(ran.stdout):
+        sys.exit(f"wrong-bodies: {crate.name}: a library that was built can't be used, so nothing is known: {unusable[0][:200]}")
     return ran.returncode, ran.stdout.rstrip("\n").split("\n")
 
 
@@ -173,6 +176,8 @@ def is_front_end_error(line, texts):
     return rt.unread(line, texts)
 
 
+# What a check says where it can't take what was built of a library.
+UNUSABLE = re.compile(rf"{rt.rtlib.STALE.pattern}|checked file .* cannot be used.*")
 LINE = re.compile(r"(fn|impl|closure|struct|enum|trait) (\S+): (.*)")
 PLACE = re.compile(r"(?:\./)?(\S+?):(\d+):\d+: error(.*)")
 OPEN_GOAL = re.compile(r"note: (?:\./)?(\S+?):(\d+):\d+: it is not proved (.*)")
