@@ -118,6 +118,7 @@ def crate(root):
         manifest = file.read().split('# The one line')[0]
     patch, = re.findall(r'```toml\n(\[patch.*?)```', printed.text_of(printed.RELEASES), re.S)
     root.write('program/Cargo.toml', (manifest + patch.replace('"twox-hash', '"../twox-hash')).encode())
+    root.copy(LICENSE, 'LICENSE')
     out = root.must('cd program; rm -f Cargo.lock; cargo run -q --offline --release ../LICENSE')
     want(out == four_hashes(LICENSE), f'the four hashes are not printed, but {out[-200:]}')
     return root.must('rustc --version').strip()
