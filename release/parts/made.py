@@ -115,11 +115,18 @@ def members(path):
     return {name: data for name, data in found.items() if os.path.basename(name) not in ('PROVENANCE', 'RECORD')}
 
 
+def commit_of(folder):
+    """The commit that a release names."""
+    with open(os.path.join(folder, 'PROVENANCE'), encoding='utf-8') as file:
+        return re.search(r'^  commit (\w+)$', file.read(), re.M)[1]
+
+
 def plain_one_is_the_same(folder):
     """release/make --without-rt in a clone, by a user who may install nothing and has no rt: all that it makes is as in the
     whole release, but for PROVENANCE."""
     with tempfile.TemporaryDirectory(prefix='twox-plain-') as place:
         must(['git', 'clone', '-q', TOP, f'{place}/clone'])
+        must(['git', '-C', f'{place}/clone', 'checkout', '-q', commit_of(folder)])
         must(['chown', '-R', 'nobody', place])
         must(['runuser', '-u', 'nobody', '--', 'env', f'HOME={place}', f'TMPDIR={place}', PLAIN_PATH,
               f'{place}/clone/release/make', '--without-rt', f'{place}/made'])
