@@ -15,6 +15,8 @@ each text it wants that
 - it says the frame at each instruction, and wrong directives are noticed; of the library for C on x86-64 the unwinder of
   libgcc comes to the caller from each instruction that runs.
 
+With the crate's texts for x86-64 it looks at the frames of those for RISC-V, macOS, Android and Windows, too.
+
 It needs rt, and takes what assemblers there are. One line a check; the status is 1 where one failed."""
 import argparse
 import filecmp
@@ -32,6 +34,7 @@ sys.path[:0] = [ASSEMBLY, os.path.join(TOP, 'c', 'checks')]
 sys.dont_write_bytecode = True
 
 import compile as compiling
+import frames_of_text
 import macho
 import prefetch
 import unwinding
@@ -283,8 +286,6 @@ def check_texts(report, library, target, sysroot=None):
                 report.attempt(f'{shown} by {assembler.name}', is_same, assembler, text, proved, room)
             report.attempt(f'{shown} made wrong is noticed', wrong_texts_are_noticed, text, proved, target, room)
             check_frames(report, library, target, text, room)
-            if (library, target) == ('rust', 'aarch64'):
-                check_frames(report, library, target, text.replace('.s', '-android.s'), room)
             if (library, target) == ('rust', 'x86-64') and shutil.which('clang'):
                 report.attempt(f'{shown} with the directives of macOS', is_same_for_macos, text, proved,
                                os.path.join(out, 'asm', target), room)
@@ -297,6 +298,18 @@ def check_frames(report, library, target, text, room):
                    lambda out: unwinding.differences(out)[1])
     if (library, target) == ('c', 'x86-64'):
         report.attempt(f'{shown}: unwound at each instruction', unwinding.unwinds, assembler, text, room)
+
+
+def check_frames_elsewhere(report):
+    """The crate's texts of targets that the toolchain doesn't compile for."""
+    folder = os.path.join(TOP, 'rust', 'asm')
+    texts = {'riscv64': frames_of_text.of_riscv, 'aarch64-macos': frames_of_text.of_arm, 'aarch64-android': frames_of_text.of_arm,
+             'x86-64-windows': frames_of_text.of_windows, 'x86-64-v3-windows': frames_of_text.of_windows}
+    texts.update((f'{name}-macos', frames_of_text.as_on_linux(os.path.join(folder, f'{name}.s'))) for name in SETS['rust', 'x86-64'])
+    for name, read in texts.items():
+        path = os.path.join(folder, f'{name}.s')
+        report.attempt(f'rust/asm/{name}.s: the frames', frames_of_text.are_right, path, read)
+        report.attempt(f'rust/asm/{name}.s: wrong frames are noticed', frames_of_text.wrong_ones_are_noticed, path, read)
 
 
 def has_sums(assembler, text, room):
@@ -326,6 +339,8 @@ def main():
             words.error(f'{library} is neither c nor rust')
         report.attempt(f'{BUILDS[library]} --target {chosen.target}', is_built, library, chosen.target, chosen.of_ci)
         check_texts(report, library, chosen.target)
+        if (library, chosen.target) == ('rust', 'x86-64'):
+            check_frames_elsewhere(report)
     sys.exit(report.end())
 
 

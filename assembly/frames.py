@@ -37,6 +37,7 @@ class Processor:
 
 
 class X86(Processor):
+    """x86-64, as objdump and as clang write it."""
     entry = 8                                  # the address to return to
     returns, ends, jumps = re.compile(r'repz? ret|ret'), re.compile(r'jmp|ud2|int3|hlt'), re.compile(r'j\w+ ')
     numbers = {'rbx': 3, 'rbp': 6, 'r12': 12, 'r13': 13, 'r14': 14, 'r15': 15}
@@ -44,19 +45,31 @@ class X86(Processor):
                         r'|(inc|dec|neg|not|pop|bswap|set\w+) %[er]?spl?$')
 
     def moved(self, text, depth, saved):
-        if found := re.fullmatch(r'push %(\w+)', text):
+        if found := re.fullmatch(r'pushq? %(\w+)', text):
             self.keep(saved, found[1], -depth - 8)
             return depth + 8
-        if (found := re.fullmatch(r'pop %(\w+)', text)) and found[1] != 'rsp':
+        if (found := re.fullmatch(r'popq? %(\w+)', text)) and found[1] != 'rsp':
             if found[1] in self.numbers and saved.get(self.numbers[found[1]]) != -depth:
                 raise ValueError(f'{text}: it was not pushed there')
             self.take_back(saved, found[1], -depth)
             return depth - 8
-        if found := re.fullmatch(r'(add|sub) \$(-?0x[0-9a-f]+),%rsp', text):
-            return depth + int(found[2], 16) * (1 if found[1] == 'sub' else -1)
-        if self.writes.match(text):
+        if found := re.fullmatch(r'(add|sub)q? \$(-?\w+), ?%rsp', text):
+            return depth + int(found[2], 0) * (1 if found[1] == 'sub' else -1)
+        if self.writes.match(text.replace(', ', ',')):
             raise ValueError(f'{text}: it moves the stack pointer')
         return depth
+
+
+class Windows(X86):
+    """x86-64 in Windows' convention, as clang writes it: six registers more are kept by their whole 16 bytes."""
+    numbers = {name: name for name in ('rbx', 'rbp', 'rdi', 'rsi', 'r12', 'r13', 'r14', 'r15', *(f'xmm{n}' for n in range(6, 16)))}
+
+    def moved(self, text, depth, saved):
+        if found := re.fullmatch(r'v?mov(?:[au]ps|dq[au]) %(xmm\d+), (\d*)\(%rsp\)', text):
+            self.keep(saved, found[1], int(found[2] or '0') - depth)
+        elif found := re.fullmatch(r'v?mov(?:[au]ps|dq[au]) (\d*)\(%rsp\), %(xmm\d+)', text):
+            self.take_back(saved, found[2], int(found[1] or '0') - depth)
+        return super().moved(text, depth, saved)
 
 
 class Arm(Processor):
@@ -99,7 +112,7 @@ class RiscV(Processor):
 
 
 # By the machine's number in ELF, or by what clang calls it.
-X86_64, ARM, RISCV = X86(), Arm(), RiscV()
+X86_64, WINDOWS, ARM, RISCV = X86(), Windows(), Arm(), RiscV()
 BY_MACHINE = {62: X86_64, 183: ARM, 243: RISCV}
 
 
@@ -180,19 +193,21 @@ def is_instruction(line):
     return line.startswith('\t') and not line.startswith('\t.')
 
 
+def steps_of(processor, lines):
+    """The instructions of a function's lines."""
+    code, labels = [], {}
+    for line in lines:
+        if label := NAME.match(line):
+            labels[label[1]] = len(code)
+        elif is_instruction(line):
+            code.append(' '.join(line.split()))
+    return [step_of(processor, text, labels) for text in code]
+
+
 def framed(processor, lines):
     """A function's lines, of which the first is its name."""
     code = [number for number, line in enumerate(lines) if is_instruction(line)]
-    following = {number: turn for turn, number in enumerate(code)}
-    labels, waiting = {}, []
-    for number, line in enumerate(lines):
-        if label := NAME.match(line):
-            waiting.append(label[1])
-        elif number in following:
-            labels.update((name, following[number]) for name in waiting)
-            waiting = []
-    steps = [step_of(processor, ' '.join(lines[number].split()), labels) for number in code]
-    said = dict(zip(code, directives(processor, steps)))
+    said = dict(zip(code, directives(processor, steps_of(processor, lines))))
     yield from (lines[0], '\t.cfi_startproc')
     for number, line in enumerate(lines[1:], 1):
         yield from said.get(number, ())

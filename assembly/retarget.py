@@ -107,6 +107,12 @@ def with_signs(module):
     return re.sub(r'^define weak_odr hidden .*$', signed, module, flags=re.M)
 
 
+def with_plain_epilogues(made):
+    """The text whose epilogues Windows' unwinder knows, where clang puts a vzeroupper among their instructions: it stands before
+    them, since it changes nothing of what they read."""
+    return re.sub(r'((?:\taddq\t\$\d+, %rsp\n)?(?:\tpopq\t%\w+\n)*)\tvzeroupper\n(?=\t(?:retq|jmp))', r'\tvzeroupper\n\1', made)
+
+
 def as_text(made, comment, tag):
     """Clang's text with no comment, no word of where it comes from, and labels that no other text has."""
     # What COFF says of a whole object, and to its linker of exports, is rustc's to say.
@@ -132,6 +138,7 @@ def main():
     module = with_unwinding(module) if is_windows else module
     generic = [] if given.target.startswith('x86_64') or is_riscv else ['-mcpu=generic']
     made = clang(f'--target={given.target}', *generic, *words_of(given.module), '-x', 'ir', '-', text=module)
+    made = with_plain_epilogues(made) if is_windows else made
     print(f'/* {given.title} Generated of what is proved: not to be changed by hand. SPDX-License-Identifier: MIT */')
     # A second text with weak names, which an optimizer has put into the same module, has nothing to add.
     print(f'\t.ifndef {"_" if is_apple else ""}{guard}')

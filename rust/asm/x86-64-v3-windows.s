@@ -1414,12 +1414,12 @@ twox_core.width_128.oneshot_long.i4_v3:
 	vmovaps	(%rsp), %xmm6
 	vmovaps	16(%rsp), %xmm7
 	vmovaps	32(%rsp), %xmm8
+	vzeroupper
 	addq	$56, %rsp
 	popq	%rbx
 	popq	%rdi
 	popq	%rsi
 	popq	%r14
-	vzeroupper
 	retq
 	.seh_endproc
 	.def	twox_core.xxhash3.stripes.take_many_stripes.i4_v3;
@@ -1814,6 +1814,7 @@ twox_core.xxhash3.stripes.take_many_stripes.i4_v3:
 	vmovups	%ymm1, 32(%rsi)
 	vmovups	%ymm0, (%rsi)
 	vmovaps	512(%rsp), %xmm6
+	vzeroupper
 	addq	$536, %rsp
 	popq	%rbx
 	popq	%rbp
@@ -1823,7 +1824,6 @@ twox_core.xxhash3.stripes.take_many_stripes.i4_v3:
 	popq	%r13
 	popq	%r14
 	popq	%r15
-	vzeroupper
 	retq
 	.seh_endproc
 	.def	twox_core.xxhash3.stripes.take_stripes.i4_v3;
@@ -2060,11 +2060,11 @@ twox_core.xxhash3.stripes.blocks.take_many_blocks.i4_v3:
 	vmovaps	(%rsp), %xmm6
 	vmovaps	16(%rsp), %xmm7
 	vmovaps	32(%rsp), %xmm8
+	vzeroupper
 	addq	$48, %rsp
 	popq	%rbx
 	popq	%rdi
 	popq	%rsi
-	vzeroupper
 	retq
 	.seh_endproc
 	.def	twox_core.width_128.oneshot_many.i4_v3;
@@ -2275,13 +2275,13 @@ twox_core.width_128.oneshot_many.i4_v3:
 	xorq	%r8, %rcx
 .LBB10_16.i4_v3:
 	movq	%rcx, %rdx
+	vzeroupper
 	addq	$192, %rsp
 	popq	%rbx
 	popq	%rdi
 	popq	%rsi
 	popq	%r14
 	popq	%r15
-	vzeroupper
 	retq
 .LBB10_17.i4_v3:
 	ud2
@@ -2652,6 +2652,7 @@ twox_core.width_128.oneshot_long_of_any_length.i4_v3:
 	vmovaps	(%rsp), %xmm6
 	vmovaps	16(%rsp), %xmm7
 	vmovaps	32(%rsp), %xmm8
+	vzeroupper
 	addq	$56, %rsp
 	popq	%rbx
 	popq	%rdi
@@ -2659,7 +2660,6 @@ twox_core.width_128.oneshot_long_of_any_length.i4_v3:
 	popq	%r12
 	popq	%r14
 	popq	%r15
-	vzeroupper
 	retq
 .LBB11_30.i4_v3:
 	ud2
@@ -3304,6 +3304,7 @@ twox_exports.stream_3.finish_far.i4_v3:
 .LBB12_38.i4_v3:
 	vmovaps	96(%rsp), %xmm6
 	vmovaps	112(%rsp), %xmm7
+	vzeroupper
 	addq	$128, %rsp
 	popq	%rbx
 	popq	%rdi
@@ -3312,7 +3313,6 @@ twox_exports.stream_3.finish_far.i4_v3:
 	popq	%r13
 	popq	%r14
 	popq	%r15
-	vzeroupper
 	retq
 .LBB12_39.i4_v3:
 	movabsq	$7507096552062056628, %rax
@@ -4043,11 +4043,11 @@ twox_core.width_128.oneshot_long_derived.i4_v3:
 	vmovaps	224(%rsp), %xmm6
 	vmovaps	240(%rsp), %xmm7
 	vmovaps	256(%rsp), %xmm8
+	vzeroupper
 	addq	$272, %rsp
 	popq	%rbx
 	popq	%rdi
 	popq	%rsi
-	vzeroupper
 	retq
 	.seh_endproc
 	.def	twox_core.width_64.impl_129_to_240_bytes.i4_v3;
@@ -4515,12 +4515,12 @@ twox_core.width_64.oneshot_long.i4_v3:
 	vmovaps	(%rsp), %xmm6
 	vmovaps	16(%rsp), %xmm7
 	vmovaps	32(%rsp), %xmm8
+	vzeroupper
 	addq	$56, %rsp
 	popq	%rbx
 	popq	%rdi
 	popq	%rsi
 	popq	%r14
-	vzeroupper
 	retq
 	.seh_endproc
 	.def	twox_core.width_64.oneshot_many.i4_v3;
@@ -4692,13 +4692,13 @@ twox_core.width_64.oneshot_many.i4_v3:
 	shrq	$32, %rax
 	xorq	%rdx, %rax
 .LBB18_14.i4_v3:
+	vzeroupper
 	addq	$192, %rsp
 	popq	%rbx
 	popq	%rdi
 	popq	%rsi
 	popq	%r14
 	popq	%r15
-	vzeroupper
 	retq
 .LBB18_15.i4_v3:
 	ud2
@@ -5031,6 +5031,7 @@ twox_core.width_64.oneshot_long_of_any_length.i4_v3:
 	vmovaps	(%rsp), %xmm6
 	vmovaps	16(%rsp), %xmm7
 	vmovaps	32(%rsp), %xmm8
+	vzeroupper
 	addq	$56, %rsp
 	popq	%rbx
 	popq	%rdi
@@ -5038,7 +5039,6 @@ twox_core.width_64.oneshot_long_of_any_length.i4_v3:
 	popq	%r12
 	popq	%r14
 	popq	%r15
-	vzeroupper
 	retq
 .LBB19_28.i4_v3:
 	ud2
@@ -5404,6 +5404,7 @@ twox_exports.stream_3.finish_far.2.i4_v3:
 .LBB20_33.i4_v3:
 	vmovaps	112(%rsp), %xmm6
 	vmovaps	128(%rsp), %xmm7
+	vzeroupper
 	addq	$144, %rsp
 	popq	%rbx
 	popq	%rdi
@@ -5412,7 +5413,6 @@ twox_exports.stream_3.finish_far.2.i4_v3:
 	popq	%r13
 	popq	%r14
 	popq	%r15
-	vzeroupper
 	retq
 .LBB20_6.i4_v3:
 	movabsq	$-4417276706812531889, %rcx
@@ -5764,11 +5764,11 @@ twox_core.width_64.oneshot_long_derived.i4_v3:
 	vmovaps	224(%rsp), %xmm6
 	vmovaps	240(%rsp), %xmm7
 	vmovaps	256(%rsp), %xmm8
+	vzeroupper
 	addq	$272, %rsp
 	popq	%rbx
 	popq	%rdi
 	popq	%rsi
-	vzeroupper
 	retq
 	.seh_endproc
 	.def	twox_exports.stream_3.write_far.i4_v3;
@@ -5968,11 +5968,11 @@ twox_exports.stream_3.write_far.i4_v3:
 .LBB22_39.i4_v3:
 	xorl	%eax, %eax
 .LBB22_40.i4_v3:
+	vzeroupper
 	addq	$48, %rsp
 	popq	%rbx
 	popq	%rdi
 	popq	%rsi
-	vzeroupper
 	retq
 .LBB22_34.i4_v3:
 	xorl	%eax, %eax
@@ -6278,6 +6278,7 @@ twox_core.xxhash3.streaming.core_state.CoreState.write_through.i4_v3:
 	movb	%dl, (%rax)
 .LBB23_42.i4_v3:
 	movq	%rsi, 656(%rcx)
+	vzeroupper
 	popq	%rbx
 	popq	%rdi
 	popq	%rsi
@@ -6285,7 +6286,6 @@ twox_core.xxhash3.streaming.core_state.CoreState.write_through.i4_v3:
 	popq	%r13
 	popq	%r14
 	popq	%r15
-	vzeroupper
 	retq
 	.seh_endproc
 	.def	twox_core.xxhash3.streaming.core_state.CoreState.write_through.2.i4_v3;
@@ -6569,6 +6569,7 @@ twox_core.xxhash3.streaming.core_state.CoreState.write_through.2.i4_v3:
 	movb	%al, (%rcx)
 .LBB24_35.i4_v3:
 	movq	%r13, 656(%rsi)
+	vzeroupper
 	addq	$216, %rsp
 	popq	%rbx
 	popq	%rbp
@@ -6578,7 +6579,6 @@ twox_core.xxhash3.streaming.core_state.CoreState.write_through.2.i4_v3:
 	popq	%r13
 	popq	%r14
 	popq	%r15
-	vzeroupper
 	retq
 	.seh_endproc
 	.def	twox_plain.xxhash64.rounds.impl_long.i4_v3;
@@ -11062,9 +11062,9 @@ twox_rust_4_xxh3_write_v3:
 .LBB48_22.i4_v3:
 	movq	%rax, 664(%rdi)
 	xorl	%eax, %eax
+	vzeroupper
 	addq	$48, %rsp
 	popq	%rbx
-	vzeroupper
 	retq
 	.seh_endproc
 	.def	twox_rust_4_xxh3_write_192_v3;
@@ -11115,8 +11115,8 @@ twox_rust_4_xxh3_write_192_v3:
 .LBB49_8.i4_v3:
 	movq	%rax, 664(%rdi)
 	xorl	%eax, %eax
-	addq	$40, %rsp
 	vzeroupper
+	addq	$40, %rsp
 	retq
 .LBB49_9.i4_v3:
 	cmpq	$17, %rcx
