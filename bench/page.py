@@ -200,7 +200,7 @@ Instructions of the reference's header, by gcc 12 -O3, over ours for one call, c
 #SAID
 - One process measures all peers in turns. A figure is the median of eight rounds apart in time, and a round the best of many turns of 0.025 ms or of one call, in three passes over all rows.
 - *By best times* is a peer's best of all rounds over our best: a virtual machine slows for minutes, and a median mixes both. *Spread* is how far the rounds of a ratio lie apart.
-- Each peer is called through a pointer to one function of the same signature, and compares the length with the room of 64 MiB, as ours does. Debian's library is one call further away, and built for plain x86-64.
+- Each peer is called through a pointer to one function of the same signature, and compares the length with the buffer of 64 MiB, as ours does. Debian's library is one call further away, and built for plain x86-64.
 """
     drawn = {"SUMMARY": summary(parts, best), "TWOX_HASH": twox_hash(parts), "LOWEST": lowest(parts), "SHARED": shared(parts["c"]),
              "DISPATCH": dispatch(), "PROGRAMS": programs(parts["program"]), "XXHSUM": xxhsum(),

@@ -25,9 +25,9 @@ int main(void)
 }
 '''
 # Programs of Debian that load nothing by themselves or all they like, and what is said of them.
-LISTED = {'/usr/bin/gdb': "can't tell", '/usr/sbin/lighttpd': "can't tell", '/usr/bin/python3': "can't tell",
-          '/usr/bin/perl': "can't tell", '/bin/true': 'yes'}
-STATUS = {'yes': 0, 'no': 1, 'its source tells': 3, "can't tell": 3}
+LISTED = {'/usr/bin/gdb': 'unknown', '/usr/sbin/lighttpd': 'unknown', '/usr/bin/python3': 'unknown',
+          '/usr/bin/perl': 'unknown', '/bin/true': 'yes'}
+STATUS = {'yes': 0, 'no': 1, 'unknown': 3}
 # What dpkg-query answers in a room where rsync is of some release.
 DPKG = '''#!/bin/sh
 case $1 in -S) case $2 in */rsync) echo "rsync: $2" ;; *) exec /usr/bin/dpkg-query "$@" ;; esac ;;
@@ -101,7 +101,7 @@ def loading(room):
     script = os.path.join(room, 'a script')
     with open(script, 'w') as file:
         file.write(f'#!{shutil.which("env")} python3\n')
-    verdict_is("can't tell", program)
+    verdict_is('unknown', program)
     status, out = said_of(script)
     want(status == 3 and f'{script}: a script, which {shutil.which("python3")} runs' in out, f'of a script: {out}')
     return 'a program that loads, and a script'
@@ -113,12 +113,12 @@ def of_known_source(room):
                                          name='rsync')
     tools = os.path.join(room, 'tools')
     os.mkdir(tools)
-    for release, words in (('3.5.0+ds1-0+deb13u2', 'yes'), ('9.9-1', 'its source tells')):
+    for release, words in (('3.5.0+ds1-0+deb13u2', 'yes'), ('9.9-1', 'unknown')):
         with open(os.path.join(tools, 'dpkg-query'), 'w') as file:
             file.write(DPKG.replace('RELEASE', release))
         os.chmod(file.name, 0o755)
         verdict_is(words, program, PATH=f'{tools}:{os.environ["PATH"]}')
-    verdict_is('its source tells', program)
+    verdict_is('unknown', program)
     return 'a release that was read, another, and a file of no package'
 
 
