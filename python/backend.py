@@ -3,6 +3,7 @@
 
 The proved code is assembly text. In the repository that is c/asm; a source package has copies in its folder proved/.
 CC, CFLAGS and LDFLAGS of the environment are heeded. What CC compiles for is what the wheel is for."""
+import ast
 import base64
 import csv
 import gzip
@@ -15,7 +16,6 @@ import subprocess
 import sysconfig
 import tarfile
 import tempfile
-import tomllib
 import zipfile
 
 HERE = os.path.dirname(os.path.abspath(__file__))
@@ -32,8 +32,18 @@ ASSERTIONS = [] if sysconfig.get_config_var('Py_DEBUG') else ['-DNDEBUG']
 # No name or number of the build's own stays in the file, so that one source makes one file.
 LINKS = ['-s', '-Wl,--build-id=none', '-Wl,-z,noexecstack']
 
-with open(os.path.join(HERE, 'pyproject.toml'), 'rb') as _file:
-    PROJECT = tomllib.load(_file)['project']
+
+
+def project():
+    """The table [project] of pyproject.toml, whose values Python writes alike, but for inline tables: Python has tomllib
+    from 3.11 on, and a build takes no other package."""
+    with open(os.path.join(HERE, 'pyproject.toml'), encoding='utf-8') as file:
+        table = file.read().partition('[project]\n')[2].partition('\n[')[0]
+    rows = re.findall(r'^([\w-]+) = (\[\n.*?^\]|.*?)$', table, re.M | re.S)
+    return {name: ast.literal_eval(re.sub(r'^\{ (\w+) = ', r'{"\1": ', value)) for name, value in rows}
+
+
+PROJECT = project()
 STEM = f'{PROJECT["name"].replace("-", "_")}-{PROJECT["version"]}'
 
 

@@ -6,7 +6,7 @@
 
 #include <stdlib.h>
 
-/* Chooses the set of proved calls. TWOX_HASH_INSTRUCTIONS may name one, for measurements and tests. */
+/* Chooses the instruction set of the proved calls. TWOX_HASH_INSTRUCTIONS may name one, for measurements and tests. */
 static int choose(void)
 {
     const char *wanted = getenv("TWOX_HASH_INSTRUCTIONS");
@@ -24,7 +24,15 @@ static int fill(PyObject *module)
     return is_filled ? 0 : -1;
 }
 
-static PyModuleDef_Slot slots[] = {{Py_mod_exec, (void *)fill}, {0}};
+/* All that changes belongs to a module or an object, but the set, which is the process's: so interpreters may have locks of
+ * their own. Without any lock it was never run. */
+static PyModuleDef_Slot slots[] = {
+    {Py_mod_exec, (void *)fill},
+#ifdef Py_mod_multiple_interpreters
+    {Py_mod_multiple_interpreters, Py_MOD_PER_INTERPRETER_GIL_SUPPORTED},
+#endif
+    {0},
+};
 
 static struct PyModuleDef definition = {
     PyModuleDef_HEAD_INIT, .m_name = "twox_hash._native", .m_methods = functions, .m_slots = slots,

@@ -1,9 +1,12 @@
 /* Which set of proved calls runs. backend.py puts a prefix before each name of a set's text: v2_, v3_ or arm_. */
 #include "proved.h"
 
+#include <pthread.h>
 #include <string.h>
 
 struct proved proved;
+/* Interpreters with locks of their own may import the module at once. */
+static pthread_mutex_t choice = PTHREAD_MUTEX_INITIALIZER;
 
 /* A set: whether the processor has its instructions, and its calls. */
 struct set {
@@ -70,7 +73,7 @@ static const struct set sets[] = {{is_always, {EACH_PROVED_CALL(IN_ARM).instruct
 #error "twox_hash has proved code for Linux on x86-64 and on 64-bit ARM, and for no other machine"
 #endif
 
-const char *choose_proved(const char *wanted)
+static const char *choose(const char *wanted)
 {
     const char *fault = wanted ? "there is no such set of instructions" : "this processor lacks x86-64-v2";
     for (size_t i = 0; i < sizeof(sets) / sizeof(*sets); i++) {
@@ -81,5 +84,14 @@ const char *choose_proved(const char *wanted)
         }
         if (wanted) fault = "this processor lacks it";
     }
+    return fault;
+}
+
+const char *choose_proved(const char *wanted)
+{
+    pthread_mutex_lock(&choice);
+    const char *fault = !proved.instructions ? choose(wanted)
+                        : wanted && strcmp(wanted, proved.instructions) ? "this process runs another" : NULL;
+    pthread_mutex_unlock(&choice);
     return fault;
 }

@@ -41,8 +41,8 @@ struct proved {
 /* The calls that are made. choose_proved fills it before any is. */
 extern struct proved proved;
 
-/* Takes the best set that the processor has, or the one that is named where `wanted` isn't null. Answers null, or what
- * is at fault: the processor has no such set, or there is none of that name. */
+/* Takes the best set that the processor has, or the one that is named where `wanted` isn't null: once in a process. Returns
+ * null, or what is at fault: the processor has no such set, there is none of that name, or another one was taken. */
 const char *choose_proved(const char *wanted);
 
 #endif

@@ -5,6 +5,16 @@
 #define PY_SSIZE_T_CLEAN
 #include <Python.h>
 
+/* CPython 3.9 has neither. */
+#if PY_VERSION_HEX < 0x030A0000
+#define Py_TPFLAGS_IMMUTABLETYPE 0
+static inline PyObject *Py_NewRef(PyObject *object)
+{
+    Py_INCREF(object);
+    return object;
+}
+#endif
+
 /* From how many bytes on other threads may run meanwhile. */
 #define LONG_INPUT (64 << 10)
 

@@ -2,6 +2,8 @@
 import hashlib
 import os
 import signal
+import subprocess
+import sys
 import tempfile
 import threading
 import time
@@ -12,6 +14,22 @@ from concurrent.futures import ThreadPoolExecutor
 from .both import NAMES, bytes_of, ours
 
 LONG = bytes_of(1 << 25)
+# Interpreters with locks of their own, each in a thread, import the package at once in a process that hadn't.
+INTERPRETERS = """
+import threading
+try:
+    import _interpreters as interpreters
+except ImportError:
+    import _xxsubinterpreters as interpreters
+CODE = 'import twox_hash; assert twox_hash.xxh64_hexdigest(b"some bytes", 1234) == "eab55659a496d78b"; import os; os.write(1, b"hashed ")'
+made, start = [interpreters.create() for _ in range(8)], threading.Barrier(8)
+def run(each):
+    start.wait()
+    interpreters.run_string(each, CODE)
+threads = [threading.Thread(target=run, args=(each,)) for each in made]
+[thread.start() for thread in threads]
+[thread.join() for thread in threads]
+"""
 
 
 class Clock:
@@ -149,6 +167,12 @@ class Threads(unittest.TestCase):
             waits = (self.status_of_a_child(hasher, lambda: hasher.update(b'a'), 2) for _ in range(20))
             self.assertIn(-signal.SIGALRM, waits)
             self.assertEqual(self.status_of_a_child(hasher, lambda: make(piece).copy().update(piece), 100), 0)
+
+    @unittest.skipIf(sys.version_info < (3, 12), 'before 3.12 all interpreters of a process have one lock')
+    def test_first_imports_in_many_interpreters(self):
+        for _ in range(10):
+            done = subprocess.run([sys.executable, '-c', INTERPRETERS], capture_output=True, text=True)
+            self.assertEqual((done.returncode, done.stdout.split()), (0, ['hashed'] * 8), done.stderr)
 
     def test_an_input_that_is_held_can_not_move(self):
         data = bytearray(LONG)
