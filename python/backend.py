@@ -20,13 +20,15 @@ import zipfile
 
 HERE = os.path.dirname(os.path.abspath(__file__))
 C = os.path.join(os.path.dirname(HERE), 'c')
-# The sets of instructions of each machine, and what is put before a set's names.
+# The instruction sets of each machine, and what is put before a set's names.
 SETS = {'x86_64': {'x86-64-v2': 'v2_', 'x86-64-v3': 'v3_'}, 'aarch64': {'aarch64': 'arm_'}}
 PROVED = [*(f'asm/{name}.s' for sets in SETS.values() for name in sets), 'asm/state_sizes.h', 'include/xxhash.h']
 FLAGS = ['-std=c11', '-O2', '-g0', '-fPIC', '-fvisibility=hidden', '-Wall', '-Wextra', '-Wno-cast-function-type',
          '-Wno-missing-field-initializers']
-# The interface of this Python, as tags of wheels name it: cp311, or cp311d of a debug build.
+# The interface of this Python, as tags of wheels name it: cp311, or cp311d of a debug build. And the limited one, by which a
+# file that this Python makes serves each CPython from 3.11 on, more slowly in calls.
 ABI = 'cp' + sysconfig.get_config_var('SOABI').split('-')[1]
+LIMITED, LIMITED_FLAG = 'abi3', '-DPy_LIMITED_API=0x030B0000'
 # A debug build of Python tests in its own macros too.
 ASSERTIONS = [] if sysconfig.get_config_var('Py_DEBUG') else ['-DNDEBUG']
 # No name or number of the build's own stays in the file, so that one source makes one file.
@@ -97,18 +99,20 @@ def texts(room, name):
     return paths
 
 
-def library(name):
+def library(name, abi=ABI):
     """The extension's place in a package for a machine: Python finds the file by the end of its name."""
+    if abi == LIMITED:
+        return f'twox_hash/_native.{LIMITED}.so'
     return 'twox_hash/_native' + sysconfig.get_config_var('EXT_SUFFIX').replace(os.uname().machine, name)
 
 
-def compile_extension(path):
-    """Compiles the extension to a file, and answers the machine that it is for."""
+def compile_extension(path, abi=ABI):
+    """Compiles the extension to a file, and returns the machine that it is for."""
     name = machine()
     native = os.path.join(HERE, 'native')
     sources = sorted(os.path.join(native, file) for file in os.listdir(native) if file.endswith('.c'))
     includes = [sysconfig.get_path('include'), *dict.fromkeys(os.path.dirname(proved(file)) for file in PROVED)]
-    flags = [*FLAGS, *ASSERTIONS, *shlex.split(os.environ.get('CFLAGS', ''))]
+    flags = [*FLAGS, *ASSERTIONS, *[LIMITED_FLAG] * (abi == LIMITED), *shlex.split(os.environ.get('CFLAGS', ''))]
     with tempfile.TemporaryDirectory() as room:
         done = subprocess.run([*compiler(), '-shared', *flags, *(f'-I{folder}' for folder in includes), *sources,
                                *texts(room, name), *LINKS,
@@ -143,10 +147,10 @@ def documents():
     return {'LICENSE': read(licence), **({'PROVENANCE': read(provenance)} if os.path.exists(provenance) else {})}
 
 
-def write_wheel(folder, name, files):
-    """A wheel of the files by name, whose bytes depend on theirs alone. Answers its name."""
+def write_wheel(folder, name, files, abi=ABI):
+    """A wheel of the files by name, whose bytes depend on theirs alone. Returns its name."""
     about = f'{STEM}.dist-info'
-    tag = f'{ABI.rstrip("dt")}-{ABI}-linux_{name}'
+    tag = f'{"cp311" if abi == LIMITED else ABI.rstrip("dt")}-{abi}-linux_{name}'
     wheel = f'Wheel-Version: 1.0\nGenerator: twox-hash\nRoot-Is-Purelib: false\nTag: {tag}\n'
     files |= {f'{about}/METADATA': metadata(), f'{about}/WHEEL': wheel.encode()}
     files |= {f'{about}/{file}': text for file, text in documents().items()}
@@ -166,10 +170,15 @@ def write_wheel(folder, name, files):
 
 
 def build_wheel(wheel_directory, config_settings=None, metadata_directory=None):
+    """With the setting `abi=abi3` by the limited interface."""
+    abi = (config_settings or {}).get('abi', ABI)
+    if abi not in (ABI, LIMITED):
+        raise SystemExit(f'twox-hash: the interface is {ABI} or {LIMITED}, not {abi}')
     with tempfile.TemporaryDirectory() as room:
         path = os.path.join(room, 'library.so')
-        name = compile_extension(path)
-        return write_wheel(wheel_directory, name, sources('src/twox_hash', 'twox_hash') | {library(name): read(path)})
+        name = compile_extension(path, abi)
+        files = sources('src/twox_hash', 'twox_hash') | {library(name, abi): read(path)}
+        return write_wheel(wheel_directory, name, files, abi)
 
 
 def build_editable(wheel_directory, config_settings=None, metadata_directory=None):

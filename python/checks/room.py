@@ -51,9 +51,9 @@ def copied(folder):
     return os.path.join(folder, 'python')
 
 
-def packed(folder, python=PYTHON, **more):
-    """The source package and the wheel that python/build makes in a copy."""
-    must([os.path.join(folder, 'build'), python], **more)
+def packed(folder, *words, **more):
+    """The source package and the wheel that python/build makes in a copy, called with these words."""
+    must([os.path.join(folder, 'build'), *(words or [PYTHON])], **more)
     names = sorted(os.listdir(os.path.join(folder, 'out')), key=lambda name: name.endswith('.whl'))
     want(len(names) == 2, f'python/build made {names}')
     return [os.path.join(folder, 'out', name) for name in names]

@@ -69,11 +69,9 @@ def of_clang(built):
     return pass_all(site(built.room, 'clang', wheel), 'values', 'objects')
 
 
-def of_another_python(built, python):
-    """The tests pass in another Python, over what it builds. The package stands in for the original there: of values
-    that leaves the reference library's table, and of the interface nothing."""
-    name = os.path.abspath(python).strip('/').replace('/', '-')
-    path = site(built.room, name, packed(copied(os.path.join(built.room, name)), python)[1])
+def in_another_python(built, path, python):
+    """The tests pass in another Python. The package stands in for the original there: of values that leaves the reference
+    library's table, and of the interface nothing."""
     folder = os.path.join(built.room, 'stand-in')
     if not os.path.exists(folder):
         os.makedirs(folder)
@@ -81,6 +79,21 @@ def of_another_python(built, python):
             file.write('import sys\n\nimport twox_hash\n\nsys.modules["xxhash"] = twox_hash\n')
     names = [name for name in ALL if name != 'interface']
     return pass_all(f'{path}:{folder}', *names, python=(python,), TWOX_HASH_OBJECTS='200000')
+
+
+def of_another_python(built, python):
+    """The tests pass in another Python, over what it builds."""
+    name = os.path.abspath(python).strip('/').replace('/', '-')
+    return in_another_python(built, site(built.room, name, packed(copied(os.path.join(built.room, name)), python)[1]), python)
+
+
+def of_limited_interface(built, pythons):
+    """The tests pass over the wheel of the limited interface, in this Python and in others that it is for."""
+    path = site(built.room, 'limited', packed(copied(os.path.join(built.room, 'limited')), '--limited')[1])
+    found = must([PYTHON, '-c', 'import twox_hash; print(twox_hash._native.__file__)'], PYTHONPATH=path).strip()
+    want(found.endswith('_native.abi3.so'), f'{found} runs')
+    later = [python for python in pythons if run([python, '-c', 'import sys; sys.exit(sys.version_info < (3, 11))']).returncode == 0]
+    return ', '.join([pass_all(path, TWOX_HASH_OBJECTS='200000'), *(in_another_python(built, path, it) for it in later)])
 
 
 def with_xxh(built, xxh):

@@ -59,6 +59,23 @@ static int is_count_right(const struct given *given, const char *function, Py_ss
     return 0;
 }
 
+static void refuse_seed(const char *function, PyObject *seed)
+{
+    static const char words[] = "%s() argument 2 must be int, not %s";
+    if (seed == Py_None) {
+        PyErr_Format(PyExc_TypeError, words, function, "None");
+        return;
+    }
+#ifdef Py_LIMITED_API
+    PyObject *name = PyType_GetName(Py_TYPE(seed));
+    const char *text = name ? PyUnicode_AsUTF8AndSize(name, NULL) : NULL;
+    if (text) PyErr_Format(PyExc_TypeError, words, function, text);
+    Py_XDECREF(name);
+#else
+    PyErr_Format(PyExc_TypeError, words, function, Py_TYPE(seed)->tp_name);
+#endif
+}
+
 /* A seed: an integer, of which the lowest bits count. */
 static int read_seed(struct key *key, const struct kind *kind, const char *function, PyObject *seed)
 {
@@ -67,8 +84,7 @@ static int read_seed(struct key *key, const struct kind *kind, const char *funct
     else if (PyLong_Check(seed))
         key->seed = PyLong_AsUnsignedLongLongMask(seed);
     else {
-        PyErr_Format(PyExc_TypeError, "%s() argument 2 must be int, not %s", function,
-                     seed == Py_None ? "None" : Py_TYPE(seed)->tp_name);
+        refuse_seed(function, seed);
         return 0;
     }
     key->has_seed = 1;

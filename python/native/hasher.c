@@ -93,7 +93,19 @@ static int hasher_init(struct hasher *hasher, PyObject *args, PyObject *keywords
     return begun ? 0 : -1;
 }
 
-/* What a call of a type answers, made and begun at once. */
+/* A call of a type makes an object and begins it at once, where a type has a place for that: the limited interface calls
+ * new, and then init. */
+#ifdef Py_LIMITED_API
+#define FAST_CALL(kind)
+#define SET_FAST_CALL(type, kind)
+#else
+#define FAST_CALL(kind) \
+    static PyObject *kind##_call(PyObject *type, PyObject *const *args, size_t count, PyObject *names) \
+    { \
+        return begun_of((PyTypeObject *)type, &kind##_kind, args, count, names); \
+    }
+#define SET_FAST_CALL(type, kind) (type)->tp_vectorcall = kind##_call
+
 static PyObject *begun_of(PyTypeObject *type, const struct kind *kind, PyObject *const *args, size_t count,
                           PyObject *names)
 {
@@ -104,6 +116,7 @@ static PyObject *begun_of(PyTypeObject *type, const struct kind *kind, PyObject 
     close_arguments(&arguments);
     return (PyObject *)hasher;
 }
+#endif
 
 static void hasher_dealloc(struct hasher *hasher)
 {
@@ -261,10 +274,7 @@ static PyGetSetDef attributes[] = {
         (void)args, (void)keywords; \
         return new_of(type, &kind##_kind); \
     } \
-    static PyObject *kind##_call(PyObject *type, PyObject *const *args, size_t count, PyObject *names) \
-    { \
-        return begun_of((PyTypeObject *)type, &kind##_kind, args, count, names); \
-    } \
+    FAST_CALL(kind) \
     static PyType_Slot kind##_slots[] = { \
         {Py_tp_new, (void *)kind##_new}, \
         {Py_tp_init, (void *)hasher_init}, \
@@ -277,25 +287,23 @@ static PyGetSetDef attributes[] = {
     static PyType_Spec kind##_spec = { \
         .name = "twox_hash." #kind, .basicsize = sizeof(struct hasher) + (bytes), \
         .flags = Py_TPFLAGS_DEFAULT | Py_TPFLAGS_IMMUTABLETYPE, .slots = kind##_slots, \
-    };
+    }; \
+    static int add_##kind(PyObject *module) \
+    { \
+        PyTypeObject *type = (PyTypeObject *)PyType_FromModuleAndSpec(module, &kind##_spec, NULL); \
+        if (!type) return 0; \
+        SET_FAST_CALL(type, kind); \
+        const int is_added = !PyModule_AddType(module, type); \
+        Py_DECREF(type); \
+        return is_added; \
+    }
 
 TYPE(xxh32, XXH32_STATE_BYTES, "(input=b'', seed=0)", NO_SECRET)
 TYPE(xxh64, XXH64_STATE_BYTES, "(input=b'', seed=0)", NO_SECRET)
 TYPE(xxh3_64, XXH3_STATE_BYTES, "(input=b'', seed=0, *, secret=None)", SECRET)
 TYPE(xxh3_128, XXH3_STATE_BYTES, "(input=b'', seed=0, *, secret=None)", SECRET)
 
-static int add_type(PyObject *module, PyType_Spec *spec, vectorcallfunc call)
-{
-    PyTypeObject *type = (PyTypeObject *)PyType_FromModuleAndSpec(module, spec, NULL);
-    if (!type) return 0;
-    type->tp_vectorcall = call;
-    const int is_added = !PyModule_AddType(module, type);
-    Py_DECREF(type);
-    return is_added;
-}
-
 int add_types(PyObject *module)
 {
-    return add_type(module, &xxh32_spec, xxh32_call) && add_type(module, &xxh64_spec, xxh64_call)
-        && add_type(module, &xxh3_64_spec, xxh3_64_call) && add_type(module, &xxh3_128_spec, xxh3_128_call);
+    return add_xxh32(module) && add_xxh64(module) && add_xxh3_64(module) && add_xxh3_128(module);
 }

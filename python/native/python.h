@@ -1,4 +1,5 @@
-/* Python's header, with lengths as Py_ssize_t, and what is long. */
+/* Python's header, with lengths as Py_ssize_t, and what is long. With Py_LIMITED_API one file serves each CPython from 3.11
+ * on, and each of these macros is a call. */
 #ifndef TWOX_HASH_PYTHON_H
 #define TWOX_HASH_PYTHON_H
 
@@ -13,6 +14,13 @@ static inline PyObject *Py_NewRef(PyObject *object)
     Py_INCREF(object);
     return object;
 }
+#endif
+
+#ifdef Py_LIMITED_API
+#define PyBytes_AS_STRING PyBytes_AsString
+#define PyBytes_GET_SIZE PyBytes_Size
+#define PyTuple_GET_SIZE PyTuple_Size
+#define PyTuple_GET_ITEM PyTuple_GetItem
 #endif
 
 /* From how many bytes on other threads may run meanwhile. */

@@ -56,27 +56,43 @@ static inline char *write_digits(char *digits, uint32_t number)
     return digits + 8;
 }
 
-PyObject *as_hexdigest(const struct kind *kind, hash_value value)
+/* Writes all hexadecimal digits of a value. */
+static inline void write_hexdigest(char *digits, const struct kind *kind, hash_value value)
 {
-    PyObject *text = PyUnicode_New(2 * kind->digest_bytes, 127);
-    if (!text) return NULL;
-    char *digits = (char *)PyUnicode_1BYTE_DATA(text);
     if (kind->digest_bytes == 16) {
         digits = write_digits(digits, value.high64 >> 32);
         digits = write_digits(digits, (uint32_t)value.high64);
     }
     if (kind->digest_bytes >= 8) digits = write_digits(digits, value.low64 >> 32);
     write_digits(digits, (uint32_t)value.low64);
+}
+
+PyObject *as_hexdigest(const struct kind *kind, hash_value value)
+{
+#ifdef Py_LIMITED_API
+    char digits[32];
+    write_hexdigest(digits, kind, value);
+    return PyUnicode_FromStringAndSize(digits, 2 * kind->digest_bytes);
+#else
+    PyObject *text = PyUnicode_New(2 * kind->digest_bytes, 127);
+    if (text) write_hexdigest((char *)PyUnicode_1BYTE_DATA(text), kind, value);
     return text;
+#endif
 }
 
 PyObject *as_intdigest(const struct kind *kind, hash_value value)
 {
     if (kind->digest_bytes <= 8) return PyLong_FromUnsignedLongLong(value.low64);
+#ifdef Py_LIMITED_API
+    char digits[33] = {0};
+    write_hexdigest(digits, kind, value);
+    return PyLong_FromString(digits, NULL, 16);
+#else
     const uint64_t halves[2] = {value.low64, value.high64};
 #if PY_VERSION_HEX >= 0x030D0000
     return PyLong_FromUnsignedNativeBytes(halves, sizeof halves, Py_ASNATIVEBYTES_LITTLE_ENDIAN);
 #else
     return _PyLong_FromByteArray((const unsigned char *)halves, sizeof halves, 1, 0);
+#endif
 #endif
 }

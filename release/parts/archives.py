@@ -1,5 +1,6 @@
 """The archives of a release. Each function makes a part of a commit in a folder, and answers its files' names."""
 import glob
+import itertools
 import json
 import os
 import re
@@ -127,11 +128,11 @@ def python_machines(commit):
 
 
 def python(commit, made):
-    """The source package, and a wheel for each machine."""
+    """The source package, and for each machine a wheel for Debian's Python and one for each from 3.11 on."""
     shutil.copy(os.path.join(made, 'PROVENANCE'), commit.path('python'))
     names = set()
-    for variables in python_machines(commit):
-        must([commit.path('python', 'build'), '/usr/bin/python3'], env={**os.environ, **variables})
+    for variables, options in itertools.product(python_machines(commit), ([], ['--limited'])):
+        must([commit.path('python', 'build'), *options, '/usr/bin/python3'], env={**os.environ, **variables})
         for path in glob.glob(commit.path('python', 'out', '*')):
             shutil.copy(path, made)
             names.add(os.path.basename(path))

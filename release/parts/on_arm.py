@@ -54,15 +54,17 @@ def package(room, folder, stem):
 
 def wheel(room, folder, stem):
     root = debian_root(os.path.join(room, 'python-arm'), 'libc6', 'python3')
-    path, = glob.glob(os.path.join(folder, f'{stem}-*_aarch64.whl'))
-    site = os.path.join(room, 'site-arm')
-    must(['python3', '-m', 'zipfile', '-e', path, site])
-    out = run([f'{root}/usr/bin/python3.11', '-c', VALUE], root, PYTHONPATH=site)
-    want(out.split() == ['aarch64', 'eab55659a496d78b'], tail(out))
-    return os.path.basename(path)
+    paths = sorted(glob.glob(os.path.join(folder, f'{stem}-*_aarch64.whl')))
+    want(len(paths) == 2, f'there are {paths}')
+    for path in paths:
+        site = os.path.join(room, f'site-of-{os.path.basename(path)}')
+        must(['python3', '-m', 'zipfile', '-e', path, site])
+        out = run([f'{root}/usr/bin/python3.11', '-c', VALUE], root, PYTHONPATH=site)
+        want(out.split() == ['aarch64', 'eab55659a496d78b'], tail(out))
+    return ', '.join(map(os.path.basename, paths))
 
 
 def check_all(report, room, folder, stem):
     install_packages(PACKAGES)
-    for name, check in (('the library for C', library), ('the Debian package', package), ('the wheel', wheel)):
+    for name, check in (('the library for C', library), ('the Debian package', package), ('the wheels', wheel)):
         report.attempt(f'{NAME}: {name}', check, room, folder, stem)

@@ -124,13 +124,8 @@ def crate(root):
     return root.must('rustc --version').strip()
 
 
-def wheel(root):
-    typed(root, 'The Python package')
-    return removed_by_pip(root)
-
-
-def python_source(root):
-    typed(root, 'Python from source')
+def python(heading, root):
+    typed(root, heading)
     return removed_by_pip(root)
 
 
@@ -225,8 +220,10 @@ TRIALS = (
     Trial('the Debian package', BOTH, 'The Debian package', package),
     Trial('the programs', BOTH, 'The programs', programs),
     Trial('the crate, with cargo', BOTH, 'The crate for cargo', crate),
-    Trial('the wheel, with no compiler', ('bookworm',), 'The Python package', wheel),
-    Trial('the source package for Python', BOTH, 'Python from source', python_source),
+    *(Trial(name, suites, heading, functools.partial(python, heading)) for name, suites, heading in (
+        ('the wheel, with no compiler', ('bookworm',), 'The Python package'),
+        ('the wheel for each version, with no compiler', BOTH, 'Python of any version'),
+        ('the source package for Python', BOTH, 'Python from source'))),
     Trial('the package for Node, with npm', BOTH, 'The package for Node', node),
     Trial('the page', ('bookworm',), 'The page', static_page),
     *(Trial(f'{page} as it is printed', (suite,), None, functools.partial(page_as_printed, page))
