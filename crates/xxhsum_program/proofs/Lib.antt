@@ -1,5 +1,6 @@
 mod CheckFacts
 pub mod EachFacts
+mod GoodListFacts
 pub mod HashFacts
 mod LineEndFacts
 mod LineFacts

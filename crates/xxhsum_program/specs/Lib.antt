@@ -3,6 +3,7 @@ pub mod CheckList
 pub mod EachHas
 pub mod Findings
 pub mod Found
+pub mod GoodList
 pub mod HashNames
 pub mod Joined
 pub mod Lines

@@ -5,6 +5,7 @@
 pub mod arguments;
 pub mod check;
 mod entry;
+pub mod good_lists;
 pub mod hash;
 mod lines;
 pub mod outcome;
