@@ -517,9 +517,9 @@ def trees():
             'out': b'a: same\n1 same, 0 changed, 0 moved, 0 new, 0 missing\n',
             'err': b"Error: Could not open 'gone': No such file or directory. \n", 'status': 1}),
         Case('an audit of a line that stands twice', ('--audit', 'lines', 'a'), files={'lines': GOOD * 2}, wanted={
-            'out': b'', 'err': b"lines: 'a' stands twice.\n", 'status': 1}),
+            'out': b'', 'err': b"lines: duplicate name 'a'.\n", 'status': 1}),
         Case('an audit of a name that stands twice', ('--audit', 'lines', 'a', 'a'), files={'lines': GOOD}, wanted={
-            'out': b'', 'err': b"Error: 'a' stands twice.\n", 'status': 1}),
+            'out': b'', 'err': b"Error: duplicate name 'a'.\n", 'status': 1}),
         Case('an audit of a list that breaks off', ('--audit', 'lines', 'a'), files={'lines': GOOD + X64}, wanted={
             'out': b'', 'err': b'lines:2: Error: Improperly formatted checksum line.\n', 'status': 1}),
         Case('an audit without a list', ('--audit',), wanted={
@@ -560,9 +560,9 @@ def told_names():
         Case('an audit of a list of an odd name', **in_folder('"$X" --audit l*L a', **fails([
             b'l\nL:1: Error: Improperly formatted checksum line.']))),
         Case('an audit of an odd name that stands twice', ('--audit', 'good', 'line\nfeed', 'line\nfeed'), wanted=fails([
-            b"Error: 'line\nfeed' stands twice."])),
+            b"Error: duplicate name 'line\nfeed'."])),
         Case('an audit of a line of an odd name that stands twice', ('--audit', 'L', 'a'), files={'L': escaped * 2},
-             wanted=fails([b"L: '" + odd + b"' stands twice."])),
+             wanted=fails([b"L: duplicate name '" + odd + b"'."])),
         Case('an audit of odd names', ('--audit', 'L', 'line\nfeed'), files={'L': escaped}, wanted={
             'out': one_line(b'line\nfeed: moved from ' + odd) + b'0 same, 0 changed, 1 moved, 0 new, 0 missing\n',
             'err': b'', 'status': 1}),

@@ -8,29 +8,29 @@ pub(crate) const ABOUT: &[u8] =
     b"Prints or checks the digests of files by xxHash: XXH32, XXH64, XXH3.\n\n";
 
 pub(crate) const OPTIONS: &[u8] = b"
-Without a file, or with -, standard input is read.
+With no FILE, or when FILE is -, read standard input.
 
-  -H#                 the digest: 0 or 32, 1 or 64 (as without it), 2 or 128, 3 (XXH3 of 64 bits)
-  -c, --check         the files are lists of digests, whose files are compared
-  --audit             the first file is a list, and the files behind it are put beside its lines
+  -H#                 the algorithm: 0 or 32, 1 or 64 (default), 2 or 128, 3 (XXH3 of 64 bits)
+  -c, --check         read checksums from the FILEs and check them
+  --audit             compare FILES with the checksum list that is the first FILE
   --files-from, --filelist
-                      the files are lists of names, a name a line
+                      read the names of files from the FILEs, one name a line
   --files0-from       the same, each name ended by a NUL
-  --tag               lines as BSD's programs write them
+  --tag               print BSD-style checksum lines
   --little-endian     digests with their lowest byte first
-  -z, --zero          lines end with a NUL, and names stand as they are; not with -c or --audit
-  --binary            nothing: files are read as they are
-  -q, --quiet         no progress; with -c: no line for a file that is as it should be
-  --status            no progress; with -c: no lines, the exit status alone
-  --ignore-missing    with -c: nothing is said or counted of a file that isn't there
-  --strict            with -c: a line that is none makes the list a bad one
-  -w, --warn          with -c: each such line is told
-  -h, --help          this text
-  -V, --version       the version
+  -z, --zero          end each line with NUL, and disable escaping; not with -c or --audit
+  --binary            ignored: files are read as they are
+  -q, --quiet         no progress; with -c: don't print OK for each successfully verified file
+  --status            no progress; with -c: don't print anything, the exit status shows success
+  --ignore-missing    with -c: don't fail or report status for missing files
+  --strict            with -c: exit non-zero for improperly formatted checksum lines
+  -w, --warn          with -c: warn about improperly formatted checksum lines
+  -h, --help          print this help
+  -V, --version       print the version
 
-Where standard error is a terminal, it shows how much of a long file was read.
+When standard error is a terminal, the progress of long files is shown there.
 
-The exit status is 0 where every file was digested, or is as its line says, and else 1.
+The exit status is 0 if every file was read and matches its checksum, if there is one, and else 1.
 ";
 
 pub(crate) const NO_BENCHMARK: &[u8] = b": this xxhsum has no benchmark";

@@ -23,7 +23,7 @@ use Rattle.xxhsum_words.specs.declared.options.Options.{Options}
 
 -- the name stands twice, among what this names
 abbrev pub twice_text : List ℕ → List ℕ → List ℕ
-twice_text among name = one_line (concat (among ∷ codes ": '" ∷ name ∷ codes "' stands twice." ∷ []))
+twice_text among name = one_line (concat (among ∷ codes ": duplicate name '" ∷ name ∷ codes "'." ∷ []))
 
 -- it is told which name stands twice, where one does
 abbrev pub TellsTwice : {E : Type 0} → SinkRules E → List ℕ → Option (List ℕ) → E → E → Bool → Type 0

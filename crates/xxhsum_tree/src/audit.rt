@@ -153,7 +153,7 @@ fn tell_twice<E: Sink>(among: &[u8], entries: &[Entry<'_>], err: &mut E) -> bool
 fn tell_name<'a, E: Sink>(among: &'a [u8], name: &'a [u8], err: &mut E)
     ensures { TellsOn E.Sink (twice_text among.now name.now) err.old err.new }
 {
-    let parts: [&[u8]; 4] = [among, b": '", name, b"' stands twice."];
+    let parts: [&[u8]; 4] = [among, b": duplicate name '", name, b"'."];
     tell_line(&parts, err);
 }
 

@@ -15,7 +15,7 @@ lists list number why = (
 )
 
 twice : TwiceIsToldInLines
-twice among name = told_is_one_line (concat (among ∷ codes ": '" ∷ name ∷ codes "' stands twice." ∷ []))
+twice among name = told_is_one_line (concat (among ∷ codes ": duplicate name '" ∷ name ∷ codes "'." ∷ []))
 
 audits : AuditsAreSaidInLines
 audits (Same line name) = told_is_one_line (name_of name ++ codes ": same")

@@ -1,0 +1,74 @@
+-- A report with none different and none unread is one of lines that are well.
+use Rattle.std.proofs.Common.{◌≡◌, ◌⊎◌, ◌&&◌, ◌||◌, ℕ, ◌+◌, ◌<◌, Bool, true, false, not, List, [], ◌∷◌, Option, Some, None, min, nat_eq, nat_lt, refl, sym, ap, ◌∙◌, subst, arith, if◌then◌else◌, inl, inr}
+use Rattle.std.specs.List.{AllByRecursion}
+use Rattle.xxh_io.specs.Rules.{SourceRules}
+use Rattle.xxhsum_files.specs.Refusal.{is_missing}
+use Rattle.xxhsum_files.specs.Rules.{StoreRules}
+use Rattle.xxhsum_words.specs.declared.options.Options.{Options}
+use Rattle.xxhsum_program.specs.declared.check.Report.{Report}
+use Rattle.xxhsum_program.specs.declared.entry.Found.TheVariants.{Same, Different, Unread}
+use Rattle.xxhsum_program.specs.declared.outcome.Reason.{Reason}
+use Rattle.xxhsum_program.specs.declared.outcome.Reason.TheVariants as Why
+use Rattle.xxhsum_program.specs.CheckList.{is_good_list}
+use Rattle.xxhsum_program.specs.EachHas.{EachHas}
+use Rattle.xxhsum_program.specs.Findings.{Finding, Ignored, Improper, IsFinding, Proper, add_up, count_one, no_findings, one_more}
+use Rattle.xxhsum_program.specs.GoodList.{GoodMeansEqual, IsPassedOver, IsWell}
+use Rattle.xxhsum_program.specs.ListEnd.{ListEnd, Whole, TooMany, LongLine, FailedRead, report_at}
+use Rattle.xxhsum_program.specs.Outcomes.{HasNoValue, has_no_file}
+use Rattle.xxhsum_program.specs.Report.{passes}
+
+-- none different, and none unread
+abbrev Clean : Report → Type 0
+Clean report = (report.different ≡ 0) × (report.unread ≡ 0)
+
+more-than-none : (count : ℕ) → one_more count ≡ 0 → ⊥
+more-than-none count is = grind (arith, is)
+
+-- what is not counted as unread is passed over
+ignored : (is_ignored : Bool) (report : Report) → Clean (if is_ignored then report else record report { unread = one_more report.unread }) → Clean report × (is_ignored ≡ true)
+ignored true report clean = (clean, refl)
+ignored false report clean = absurd (more-than-none report.unread clean.1)
+
+passed_over : {S F : Type 0} (opening : StoreRules S F) (reading : SourceRules F) (store : S) (name : List ℕ) (ignores : Bool) (reason : Reason)
+    → HasNoValue opening reading store name reason → (ignores && has_no_file reason) ≡ true → IsPassedOver opening store ignores name
+passed_over opening reading store name false reason none is = let no : false ≡ true = is in cc
+passed_over opening reading store name true (Why.Unopened refusal) none is = (refl, refusal, none, is)
+passed_over opening reading store name true Why.ReadFailed none is = let no : false ≡ true = is in cc
+passed_over opening reading store name true Why.TooLong none is = let no : false ≡ true = is in cc
+
+one-well : {S F : Type 0} (opening : StoreRules S F) (reading : SourceRules F) (store : S) (options : Options) (line : List ℕ) (report : Report) (finding : Finding)
+    → IsFinding opening reading store options.is_little_endian line finding → Clean (count_one options.ignores_missing report finding)
+    → Clean report × IsWell opening reading store options line
+one-well opening reading store options line report Ignored is clean = (clean, inl is)
+one-well opening reading store options line report Improper is clean = (clean, inr (inl is))
+one-well opening reading store options line report (Proper name Same) (kind, value, says, is) clean = (clean, inr (inr (kind, value, name, says, inl is)))
+one-well opening reading store options line report (Proper name Different) is clean = absurd (more-than-none report.different clean.0)
+one-well opening reading store options line report (Proper name (Unread reason)) (kind, value, says, none) clean =
+    let rest = ignored (options.ignores_missing && has_no_file reason) (record report { proper = one_more report.proper }) clean in
+    (rest.0, inr (inr (kind, value, name, says, inr (passed_over opening reading store name options.ignores_missing reason none rest.1))))
+
+all-well : {S F : Type 0} (opening : StoreRules S F) (reading : SourceRules F) (store : S) (options : Options) (report : Report) (lines : List (List ℕ)) (findings : List Finding)
+    → EachHas (IsFinding opening reading store options.is_little_endian) lines findings → Clean (add_up options.ignores_missing report findings)
+    → Clean report × AllByRecursion (IsWell opening reading store options) lines
+all-well opening reading store options report [] [] has clean = (clean, tt)
+all-well opening reading store options report [] (f ∷ fs) has clean = absurd has
+all-well opening reading store options report (line ∷ lines) [] has clean = absurd has
+all-well opening reading store options report (line ∷ lines) (f ∷ fs) has clean =
+    let rest = all-well opening reading store options (count_one options.ignores_missing report f) lines fs has.1 clean in
+    let one = one-well opening reading store options line report f has.0 rest.0 in
+    (one.0, (one.1, rest.1))
+
+passes-clean : (options : Options) (report : Report) → passes options report ≡ true → Clean report
+passes-clean options report is = grind (arith, is)
+
+at-clean : (ignores : Bool) (end : ListEnd) (findings : List Finding) → Clean (report_at ignores end findings) → Clean (add_up ignores no_findings findings)
+at-clean ignores Whole findings clean = clean
+at-clean ignores TooMany findings clean = clean
+at-clean ignores LongLine findings clean = clean
+at-clean ignores FailedRead findings clean = clean
+
+pub good-means-equal : {S F R : Type 0} (opening : StoreRules S F) (reading : SourceRules F) (list_reading : SourceRules R) → GoodMeansEqual opening reading list_reading
+good-means-equal opening reading list_reading store options source findings None finds is = let no : false ≡ true = is in cc
+good-means-equal opening reading list_reading store options source findings (Some end) (lines, has, meets) is =
+    let clean = at-clean options.ignores_missing end findings (passes-clean options (report_at options.ignores_missing end findings) is) in
+    (lines, meets, (all-well opening reading store options no_findings lines findings has clean).1)

@@ -1,0 +1,36 @@
+-- What a good list says of its files.
+use Rattle.std.specs.Prelude.{◌≡◌, ◌⊎◌, ℕ, Bool, true, List, Option}
+use Rattle.std.specs.List.{AllByRecursion}
+use Rattle.xxh_io.specs.declared.kind.Kind.{Kind}
+use Rattle.xxh_io.specs.Rules.{SourceRules}
+use Rattle.xxhsum_files.specs.Refusal.{is_missing}
+use Rattle.xxhsum_files.specs.Rules.{StoreRules}
+use Rattle.xxhsum_files.specs.declared.refusal.Refusal.{Refusal}
+use Rattle.xxhsum_line.specs.Entry.{Says, SaysNothing, is_comment}
+use Rattle.xxhsum_words.specs.declared.options.Options.{Options}
+use Rattle.xxhsum_program.specs.CheckList.{FindsLines, MeetsLines, is_good_list}
+use Rattle.xxhsum_program.specs.Findings.{Finding, IsFinding}
+use Rattle.xxhsum_program.specs.ListEnd.{ListEnd}
+use Rattle.xxhsum_program.specs.Outcomes.{IsValueOf}
+
+-- there is no file of this name, and that is passed over
+abbrev pub IsPassedOver : {S F : Type 0} → StoreRules S F → S → Bool → List ℕ → Type 0
+IsPassedOver opening store ignores name =
+    (ignores ≡ true) × (refusal : Refusal) × opening.refuses store name refusal × (is_missing refusal ≡ true)
+
+-- a comment; a malformed line; or a line whose file has its value, or isn't there where that is passed over
+abbrev pub IsWell : {S F : Type 0} → StoreRules S F → SourceRules F → S → Options → List ℕ → Type 0
+IsWell opening reading store options line =
+    (is_comment line ≡ true)
+    ⊎ (SaysNothing options.is_little_endian line
+    ⊎ ((kind : Kind) × (value : ℕ) × (name : List ℕ) × Says options.is_little_endian line kind value name
+    × (IsValueOf opening reading store kind name value ⊎ IsPassedOver opening store options.ignores_missing name)))
+
+-- The lines of a list were found, and it is good. Then each line is well.
+abbrev pub GoodMeansEqual : {S F R : Type 0} → StoreRules S F → SourceRules F → SourceRules R → Type 0
+GoodMeansEqual {S} {F} {R} opening reading list_reading =
+    (store : S) (options : Options) (source : R) (findings : List Finding) (end : Option ListEnd)
+    → FindsLines (IsFinding opening reading store options.is_little_endian) list_reading source findings end
+    → is_good_list options findings end ≡ true
+    → (lines : List (List ℕ)) × MeetsLines list_reading source lines end
+    × AllByRecursion (IsWell opening reading store options) lines
