@@ -138,14 +138,14 @@ def main():
     module = with_unwinding(module) if is_windows else module
     generic = [] if given.target.startswith('x86_64') or is_riscv else ['-mcpu=generic']
     made = clang(f'--target={given.target}', *generic, *words_of(given.module), '-x', 'ir', '-', text=module)
-    made = with_plain_epilogues(made) if is_windows else made
     print(f'/* {given.title} Generated of what is proved: not to be changed by hand. SPDX-License-Identifier: MIT */')
     # A second text with weak names, which an optimizer has put into the same module, has nothing to add.
     print(f'\t.ifndef {"_" if is_apple else ""}{guard}')
     print('\t.option push\n\t.option arch, rv64gc' if is_riscv else '', end='\n' if is_riscv else '')
     lines = as_text(made, {'x': '#', 'r': '#'}.get(given.target[0], ';' if is_apple else '//'), given.tag)
     # Windows' frames are clang's own.
-    print(*(lines if is_windows else frames.with_directives(frames.RISCV if is_riscv else frames.ARM, lines)), sep='\n')
+    print(with_plain_epilogues('\n'.join(lines)) if is_windows else
+          '\n'.join(frames.with_directives(frames.RISCV if is_riscv else frames.ARM, lines)))
     print('\t.option pop\n' if is_riscv else '', '\t.endif\n', '\t.section __TEXT,__text' if is_apple else '\t.text', sep='')
 
 
