@@ -19,17 +19,17 @@ Place = namedtuple('Place', 'function callees bytes lines ahead apart within', d
 
 STRIPES = 'xxhash3::stripes::StripeAccumulator::'
 BLOCKS = 'xxhash3::stripes::blocks::'
-ACCUMULATE = ['xxhash3::large::lanes4::ImplVector::accumulate']
+FOUR_STRIPES = ['xxhash3::large::lanes4::ImplVector::accumulate_four_stripes']
 BYTES_OF_SINGLE_STRIPES, BYTES_OF_MANY = 320, 1024
 EVERYWHERE = [
     Place(STRIPES + 'process_stripes', [STRIPES + 'process_stripe'], 1, 1, BYTES_OF_SINGLE_STRIPES),
-    Place(STRIPES + 'process_four', [STRIPES + 'process_within', STRIPES + 'process_stripe'], 1, 1, BYTES_OF_MANY),
+    Place(STRIPES + 'process_four', FOUR_STRIPES, 2, 4, BYTES_OF_MANY),
     Place('xxhash64::Core::write_many', ['xxhash64::Core::write'], 1, 1, BYTES_OF_MANY),
     Place('xxhash32::Core::write_blocks', ['xxhash32::Core::write_block'], 1, 2, BYTES_OF_MANY),
 ]
 # By the processor that a module is for. In few blocks a prefetch costs at x86-64-v2 what it has to gain.
-IN_MANY_BLOCKS = Place(BLOCKS + 'process_four_stripes', ACCUMULATE, 2, 1, BYTES_OF_MANY, within=BLOCKS + 'take_many_blocks')
-IN_BLOCKS = Place(BLOCKS + 'process_four_stripes', ACCUMULATE, 2, 1, BYTES_OF_MANY, apart=True)
+IN_MANY_BLOCKS = Place(BLOCKS + 'process_block', FOUR_STRIPES, 2, 4, BYTES_OF_MANY, within=BLOCKS + 'take_many_blocks')
+IN_BLOCKS = Place(BLOCKS + 'process_block', FOUR_STRIPES, 2, 4, BYTES_OF_MANY, apart=True)
 PLACES = {
     'x86-64': [*EVERYWHERE, IN_MANY_BLOCKS],
     'x86-64-v2': [*EVERYWHERE, IN_MANY_BLOCKS],

@@ -7,8 +7,8 @@ MODULE is a folder that `annotated` has kept. The toolchain's clang compiles its
 four things are other than there. All but the first are no step of a computation:
 
 - The product of two words of 64 bits is made of four products of their halves, in place of a call that gives it by memory.
-- The bodies of exports, which are functions of their own, and what INLINED and CALLS_INLINED name are inlined. Elsewhere
-  they are calls for the registers that a function has to keep, and WebAssembly has none. APART stays a function.
+- The bodies of exports, which are functions of their own, and what INLINED, CALLS_INLINED and OF_TRAIT name are inlined.
+  Elsewhere they are calls for the registers that a function has to keep, and WebAssembly has none. APART stays a function.
 - A line that hands a number on as it is stands between the loop of XXH64 and the product that follows it. Without it clang
   joins that product with the loop's last one, and engines keep four more words in the loop.
 - With --vectors each function has the feature simd128. The kit itself compiles for WebAssembly without."""
@@ -30,6 +30,9 @@ APART = 'rattle::export twox_xxh32'
 INLINED = re.compile(r'^(define internal .*@"(?:rattle::export [^"]*|twox_core::width_128::oneshot_from_65)"\(.*) (#\d+) \{$', re.M)
 CALLS_INLINED = [('twox_core::width_128::oneshot_from_65', 'twox_core::width_128::impl_129_to_240_bytes'),
                  ('twox_core::width_64::oneshot_with_secret', 'twox_core::width_64::impl_129_to_240_bytes')]
+# What stands for a body that a kernel has of its trait: a call of it, which the toolchain gives no hint.
+OF_TRAIT = re.compile(r'^(define internal void @"twox_core::xxhash3::large::halves4::ImplVector::accumulate_four_stripes"'
+                      r'\(.*) #\d+ \{$', re.M)
 # The function that multiplies, and its body by halves, the steps of `product_by_halves` in crates/symbolic_rules. A number
 # is handed on as it is in the midst: clang would find the product, and make the call of it.
 PRODUCT = re.compile(r'^(define internal noundef i128 @"twox_core::xxhash3::mixing::full_product"'
@@ -99,6 +102,9 @@ def with_functions_inlined(module):
     module, count = INLINED.subn(inlined, module)
     if count != module.count('"wasm-export-name"=') + 1 or module.count(' optsize {') != 1:
         stop(f'this module has {count} functions that are to be inlined')
+    module, count = OF_TRAIT.subn(rf'\1 {always} {{', module)
+    if count != 1:
+        stop(f'this module has {count} functions that stand for a body of a trait')
     return module
 
 

@@ -4,42 +4,58 @@ use Rattle.std.proofs.lemmas.Bool.Decides.{nat_tests}
 use Rattle.twox_core.specs.Parts.{stripe_at}
 use Rattle.twox_core.specs.Long.{stripes_of}
 use Rattle.twox_core.specs.Kernel.{accumulate, round_scramble}
-use Rattle.twox_core.specs.Stripes.{at_start, after_stripe, after_stripes}
+use Rattle.twox_core.specs.Stripes.{at_start, current_stripe_of, after_stripe, after_stripes}
 use Rattle.twox_core.specs.Ending.{accumulate_block}
 use Rattle.twox_core.specs.declared.xxhash3.stripes.StripeAccumulator.{StripeAccumulator}
-use Rattle.twox_core.proofs.EndingFacts.{block_taken}
+use Rattle.twox_core.proofs.PartFacts.{stripe_at-drop}
 use Rattle.twox_core.proofs.StripeFacts.{after_stripes-take, after_stripes-more}
+
+-- ---- stripes up to a place in the secret, and to its last one
+
+before_end : (s a t : List ℕ) (k : ℕ) → k + 1 < stripes_of s
+    → after_stripe s (record { accumulator = a; current_stripe = k }) t ≡ record { accumulator = accumulate a t (stripe_at s (8 * k)); current_stripe = k + 1 }
+unfolding after_stripe
+before_end s a t k h =
+    let test : (k + 1 == stripes_of s) ≡ false = grind (arith, nat_tests) in
+    rw test refl
+
+at_end : (s a t : List ℕ) (k : ℕ) → k + 1 ≡ stripes_of s
+    → after_stripe s (record { accumulator = a; current_stripe = k }) t ≡ at_start (round_scramble (accumulate a t (stripe_at s (8 * k))) (stripe_at s (length s - 64)))
+unfolding after_stripe
+at_end s a t k h =
+    let test : (k + 1 == stripes_of s) ≡ true = grind (arith, nat_tests) in
+    rw test refl
+
+pub stripes_within : (s xs : List ℕ) (a : StripeAccumulator) (k : ℕ) → a.current_stripe + k < stripes_of s
+    → after_stripes s a xs k ≡ record { accumulator = accumulate_block (drop (8 * a.current_stripe) s) a.accumulator xs k; current_stripe = a.current_stripe + k }
+unfolding after_stripes accumulate_block
+stripes_within s xs a zero h = rw (add-zero a.current_stripe) refl
+stripes_within s xs a (suc k) h =
+    let j = a.current_stripe in
+    let next : j + k + 1 ≡ j + suc k = omega arith in
+    ap (λ x. after_stripe s x (stripe_at xs (64 * k))) (stripes_within s xs a k (omega arith))
+    ∙ before_end s (accumulate_block (drop (8 * j) s) a.accumulator xs k) (stripe_at xs (64 * k)) (j + k) (omega arith)
+    ∙ rw (next, stripe_at-drop s (8 * j) (8 * k) (8 * (j + k)) (omega arith)) refl
+
+pub stripes_to_end : (s xs : List ℕ) (a : StripeAccumulator) (k : ℕ) → a.current_stripe + suc k ≡ stripes_of s
+    → after_stripes s a xs (suc k) ≡ at_start (round_scramble (accumulate_block (drop (8 * a.current_stripe) s) a.accumulator xs (suc k)) (stripe_at s (length s - 64)))
+unfolding after_stripes accumulate_block
+stripes_to_end s xs a k h =
+    let j = a.current_stripe in
+    ap (λ x. after_stripe s x (stripe_at xs (64 * k))) (stripes_within s xs a k (omega arith))
+    ∙ at_end s (accumulate_block (drop (8 * j) s) a.accumulator xs k) (stripe_at xs (64 * k)) (j + k) (omega arith)
+    ∙ rw (stripe_at-drop s (8 * j) (8 * k) (8 * (j + k)) (omega arith)) refl
 
 -- ---- the place in the secret
 
-goes_on : (s t : List ℕ) (a : StripeAccumulator) → a.current_stripe + 1 < stripes_of s → (after_stripe s a t).current_stripe ≡ a.current_stripe + 1
-unfolding after_stripe
-goes_on s t a h =
-    let test : (a.current_stripe + 1 == stripes_of s) ≡ false = grind (arith, nat_tests) in
-    rw test refl
-
-begins_anew : (s t : List ℕ) (a : StripeAccumulator) → a.current_stripe + 1 ≡ stripes_of s → (after_stripe s a t).current_stripe ≡ 0
-unfolding after_stripe
-begins_anew s t a h =
-    let test : (a.current_stripe + 1 == stripes_of s) ≡ true = grind (arith, nat_tests) in
-    rw test refl
-
 place_within : (s xs : List ℕ) (a : StripeAccumulator) (k : ℕ) → a.current_stripe + k < stripes_of s
     → (after_stripes s a xs k).current_stripe ≡ a.current_stripe + k
-unfolding after_stripes
-place_within s xs a zero h = sym (add-zero a.current_stripe)
-place_within s xs a (suc k) h =
-    let before = place_within s xs a k (omega arith) in
-    let next : a.current_stripe + k + 1 ≡ a.current_stripe + suc k = omega arith in
-    goes_on s (stripe_at xs (64 * k)) (after_stripes s a xs k) (rw before (omega arith)) ∙ rw before next
+place_within s xs a k h = ap current_stripe_of (stripes_within s xs a k h)
 
 -- stripes to the end of a block
 place_at_end : (s xs : List ℕ) (a : StripeAccumulator) (k : ℕ) → 0 < k → a.current_stripe + k ≡ stripes_of s → (after_stripes s a xs k).current_stripe ≡ 0
-unfolding after_stripes
 place_at_end s xs a zero some h = absurd (omega arith)
-place_at_end s xs a (suc k) some h =
-    let before = place_within s xs a k (omega arith) in
-    begins_anew s (stripe_at xs (64 * k)) (after_stripes s a xs k) (rw before (omega arith))
+place_at_end s xs a (suc k) some h = ap current_stripe_of (stripes_to_end s xs a k h)
 
 place_in : (b : Bool) (s xs : List ℕ) (a : StripeAccumulator) (k : ℕ) → (a.current_stripe + k == 16) ≡ b → stripes_of s ≡ 16 → 0 < k
     → a.current_stripe + k ≤ 16 → (after_stripes s a xs k).current_stripe ≡ (a.current_stripe + k) % 16
@@ -73,20 +89,6 @@ at_start-same a e = rw (sym e) refl
 
 -- ---- blocks of 16 stripes
 
-last_of_block : (s a t : List ℕ) (k : ℕ) → k + 1 ≡ stripes_of s
-    → after_stripe s (record { accumulator = a; current_stripe = k }) t ≡ at_start (round_scramble (accumulate a t (stripe_at s (8 * k))) (stripe_at s (length s - 64)))
-unfolding after_stripe
-last_of_block s a t k h =
-    let test : (k + 1 == stripes_of s) ≡ true = grind (arith, nat_tests) in
-    rw test refl
-
-whole_block : (s a b : List ℕ) (k : ℕ) → k + 1 ≡ stripes_of s
-    → after_stripes s (at_start a) b (suc k) ≡ at_start (round_scramble (accumulate_block s a b (suc k)) (stripe_at s (length s - 64)))
-unfolding after_stripes accumulate_block
-whole_block s a b k h =
-    ap (λ x. after_stripe s x (stripe_at b (64 * k))) (block_taken s a b k (omega arith))
-    ∙ last_of_block s (accumulate_block s a b k) (stripe_at b (64 * k)) k h
-
 -- one block more of m
 pub next_block : (s a t b m : List ℕ) (i : ℕ) → stripes_of s ≡ 16 → at_start t ≡ after_stripes s (at_start a) m (16 * i)
     → b ≡ take 1024 (drop (i * 1024) m)
@@ -94,6 +96,6 @@ pub next_block : (s a t b m : List ℕ) (i : ℕ) → stripes_of s ≡ 16 → at
 next_block s a t b m i all before here =
     let place : i * 1024 ≡ 64 * (16 * i) = omega arith in
     let next : 16 * i + 16 ≡ 16 * (i + 1) = omega arith in
-    sym (whole_block s t b 15 (omega (arith, all)))
+    sym (stripes_to_end s b (at_start t) 15 (omega (arith, all)))
     ∙ rw here (after_stripes-take s (at_start t) (drop (i * 1024) m) 1024 16 (omega arith))
     ∙ rw (sym before, sym place, next) at (after_stripes-more s (at_start a) m (16 * i) 16)

@@ -11,31 +11,53 @@ use Rattle.twox_core.specs.Steps.{word64, sum_below}
 use Rattle.twox_core.specs.Parts.{stripe_at}
 use Rattle.twox_core.specs.Long.{accumulator_after, last_accumulator, stripes_of, pair_fold, merge_accumulators, low_above_240, high_above_240}
 use Rattle.twox_core.specs.Kernel.{eight, accumulate}
-use Rattle.twox_core.specs.Stripes.{at_start, after_stripe, after_stripes}
 use Rattle.twox_core.specs.Ending.{accumulators_after, stripes_before, block_accumulators, last_block, stream_accumulators, stream_block, last_stripe, accumulate_block, final_accumulators, finalize_64, finalize_high, finalize_128}
+use Rattle.twox_core.proofs.PartFacts.{stripe_at-take, stripe_at-drop}
 use Rattle.twox_core.proofs.AccumulatorFacts.{accumulates, same_accumulators, stripe_done, next_without}
 
--- ---- a block short of the secret's last place takes no scramble
-
-short : (s a t : List ℕ) (k : ℕ) → k + 1 < stripes_of s
-    → after_stripe s (record { accumulator = a; current_stripe = k }) t ≡ record { accumulator = accumulate a t (stripe_at s (8 * k)); current_stripe = suc k }
-unfolding after_stripe
-short s a t k h =
-    let test : (k + 1 == stripes_of s) ≡ false = grind (arith, nat_tests) in
-    rw (test, add-one k) refl
-
-pub block_taken : (s a b : List ℕ) (k : ℕ) → k < stripes_of s
-    → after_stripes s (at_start a) b k ≡ record { accumulator = accumulate_block s a b k; current_stripe = k }
-unfolding after_stripes accumulate_block
-block_taken s a b zero h = refl
-block_taken s a b (suc k) h =
-    ap (λ x. after_stripe s x (stripe_at b (64 * k))) (block_taken s a b k (omega arith))
-    ∙ short s (accumulate_block s a b k) (stripe_at b (64 * k)) k (omega arith)
+-- ---- stripes of a block
 
 pub accumulate_block-next : (s a b t u : List ℕ) (k : ℕ) → t ≡ stripe_at b (64 * k) → u ≡ stripe_at s (8 * k)
     → accumulate (accumulate_block s a b k) t u ≡ accumulate_block s a b (k + 1)
 unfolding accumulate_block
 accumulate_block-next s a b t u k e f = rw (e, f, add-one k) refl
+
+-- n stripes read no more of the secret, and of the block
+accumulate_block-key : (s a b : List ℕ) (w n : ℕ) → 8 * n + 56 ≤ w → accumulate_block (take w s) a b n ≡ accumulate_block s a b n
+unfolding accumulate_block
+accumulate_block-key s a b w zero fits = refl
+accumulate_block-key s a b w (suc n) fits =
+    ap₂ (λ (x u : List ℕ). accumulate x (stripe_at b (64 * n)) u) (accumulate_block-key s a b w n (omega arith)) (stripe_at-take s w (8 * n) (omega arith))
+
+accumulate_block-take : (s a b : List ℕ) (w n : ℕ) → 64 * n ≤ w → accumulate_block s a (take w b) n ≡ accumulate_block s a b n
+unfolding accumulate_block
+accumulate_block-take s a b w zero fits = refl
+accumulate_block-take s a b w (suc n) fits =
+    ap₂ (λ (x t : List ℕ). accumulate x t (stripe_at s (8 * n))) (accumulate_block-take s a b w n (omega arith)) (stripe_at-take b w (64 * n) (omega arith))
+
+-- k stripes, and then n of what follows them
+accumulate_block-more : (s a b : List ℕ) (k n : ℕ) → accumulate_block (drop (8 * k) s) (accumulate_block s a b k) (drop (64 * k) b) n ≡ accumulate_block s a b (k + n)
+unfolding accumulate_block
+accumulate_block-more s a b k zero = rw (add-zero k) refl
+accumulate_block-more s a b k (suc n) =
+    let next : k + suc n ≡ suc (k + n) = omega arith in
+    let here : stripe_at (drop (64 * k) b) (64 * n) ≡ stripe_at b (64 * (k + n)) = stripe_at-drop b (64 * k) (64 * n) (64 * (k + n)) (omega arith) in
+    let key : stripe_at (drop (8 * k) s) (8 * n) ≡ stripe_at s (8 * (k + n)) = stripe_at-drop s (8 * k) (8 * n) (8 * (k + n)) (omega arith) in
+    rw (next, here, key) (ap (λ (x : List ℕ). accumulate x (stripe_at b (64 * (k + n))) (stripe_at s (8 * (k + n)))) (accumulate_block-more s a b k n))
+
+-- four stripes under the 88 bytes of the secret for them
+pub four_under_key : (s a b u : List ℕ) → u ≡ take 88 s → accumulate_block u a b 4 ≡ accumulate_block s a b 4
+four_under_key s a b u e = rw e (accumulate_block-key s a b 88 4 (omega arith))
+
+-- four stripes more of a block
+pub accumulate_block-four : (s a b x t u : List ℕ) (i : ℕ) → x ≡ accumulate_block s a b (4 * i) → t ≡ take 256 (drop (256 * i) b) → u ≡ take 88 (drop (8 * (4 * i)) s)
+    → accumulate_block u x t 4 ≡ accumulate_block s a b (4 * (i + 1))
+accumulate_block-four s a b x t u i before here key =
+    let place : 256 * i ≡ 64 * (4 * i) = omega arith in
+    let next : 4 * i + 4 ≡ 4 * (i + 1) = omega arith in
+    four_under_key (drop (8 * (4 * i)) s) x t u key
+    ∙ rw (before, here, place)
+    (accumulate_block-take (drop (8 * (4 * i)) s) (accumulate_block s a b (4 * i)) (drop (64 * (4 * i)) b) 256 4 (omega arith) ∙ accumulate_block-more s a b (4 * i) 4 ∙ ap (accumulate_block s a b) next)
 
 -- ---- the accumulators of m after a block that begins where a scramble went by
 

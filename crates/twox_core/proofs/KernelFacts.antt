@@ -1,4 +1,5 @@
--- A product of a word of 64 bits from two products of 32 bits by 32 bits.
+-- What kernels compute otherwise than the definition: a product of a word of 64 bits from two of 32 bits by 32 bits, and
+-- the sums of four stripes.
 use Rattle.std.proofs.Common.{◌≡◌, ℕ, ◌+◌, ◌-◌, ◌*◌, ◌/◌, ◌%◌, ◌^◌, bit_and, arith, ap, ◌∙◌}
 use Rattle.std.proofs.lemmas.Nat.{and_mask}
 
@@ -12,3 +13,10 @@ split_product x f =
     let out : x / 2 ^ 32 * f * 2 ^ 32 + x % 2 ^ 32 * f ≡ x * f = omega arith in
     ap (λ (z : ℕ). (z * f % 2 ^ 64 + x / 2 ^ 32 * f % 2 ^ 64 * 2 ^ 32 % 2 ^ 64) % 2 ^ 64) (and_mask x 32)
     ∙ parts (x % 2 ^ 32 * f) (x / 2 ^ 32 * f) ∙ ap (λ (z : ℕ). z % 2 ^ 64) out
+
+-- ---- one accumulator a and four stripes, of which it gains the words w, x, y, z and the products p, q, r, s
+
+pub four_sums : (a w x y z p q r s : ℕ)
+    → (((((a + p % 2 ^ 64) % 2 ^ 64 + q % 2 ^ 64) % 2 ^ 64 + r % 2 ^ 64) % 2 ^ 64 + s % 2 ^ 64) % 2 ^ 64 + (((w + x) % 2 ^ 64 + y) % 2 ^ 64 + z) % 2 ^ 64) % 2 ^ 64
+    ≡ ((((a + w + p) % 2 ^ 64 + x + q) % 2 ^ 64 + y + r) % 2 ^ 64 + z + s) % 2 ^ 64
+four_sums a w x y z p q r s = omega arith

@@ -1,9 +1,9 @@
--- Chunks and pairs of chunks of a list, cut together and read one by one.
+-- Stripes, chunks and pairs of chunks of a list, cut together and read one by one.
 use Rattle.std.proofs.Common.{◌≡◌, ℕ, zero, suc, ◌+◌, ◌-◌, ◌*◌, ◌<◌, ◌≤◌, List, ◌∷◌, length, take, drop, get_or, refl, sym, ap, ap₂, ◌∙◌, arith}
-use Rattle.std.proofs.lemmas.List.{drop-drop}
+use Rattle.std.proofs.lemmas.List.{drop-drop, drop-take, take-take}
 use Rattle.std.specs.Simd.{first_chunks}
 use Rattle.twox_words.proofs.WordFacts.{first_chunks_at, first_chunks_take}
-use Rattle.twox_core.specs.Parts.{chunk_at, chunks_at, pair_at, pairs_at}
+use Rattle.twox_core.specs.Parts.{chunk_at, chunks_at, pair_at, pairs_at, stripe_at}
 
 -- ---- chunks of n items
 
@@ -71,5 +71,18 @@ pairs_at-pair m ps i n c j d e low at =
 -- the two chunks cs of the last 32 bytes c
 pub last-pair : (m c : List ℕ) (cs : List (List ℕ)) (k : ℕ) → 32 ≤ length m → c ≡ drop (length m - 32) m → cs ≡ first_chunks 16 k c → k ≡ 2 → cs ≡ pair_at m (length m - 32)
 last-pair m c cs k enough e chunks count = chunks ∙ ap₂ (first_chunks 16) count e ∙ pair_at-part m (length m - 32)
+
+-- ---- stripes of 64 bytes
+
+-- of the first w bytes
+pub stripe_at-take : (m : List ℕ) (w i : ℕ) → i + 64 ≤ w → stripe_at (take w m) i ≡ stripe_at m i
+stripe_at-take m w i fits =
+    let there : i + (w - i) ≡ w = omega arith in
+    let cut : drop i (take w m) ≡ take (w - i) (drop i m) = rw there at (drop-take i (w - i) m) in
+    rw cut (take-take 64 (w - i) (drop i m) (omega arith))
+
+-- of those that follow the first i
+pub stripe_at-drop : (m : List ℕ) (i j k : ℕ) → i + j ≡ k → stripe_at (drop i m) j ≡ stripe_at m k
+stripe_at-drop m i j k e = ap (take 64) (drop-drop j i m ∙ ap (λ (n : ℕ). drop n m) e)
 
 pub ruleset part_laws = (chunks_at-part, pairs_at-eight)

@@ -2,13 +2,14 @@
 use Rattle.std.proofs.Common.{◌≡◌, ℕ, zero, suc, ◌+◌, ◌-◌, ◌*◌, ◌/◌, ◌%◌, ◌<◌, ◌≤◌, ◌==◌, Bool, true, false, List, [], ◌++◌, length, take, drop, refl, sym, ap, ap₂, ◌∙◌, arith, add-zero, add-one, length-drop}
 use Rattle.std.proofs.Math.Nat.{zero-mod}
 use Rattle.std.proofs.lemmas.Bool.Decides.{nat_tests}
-use Rattle.std.proofs.lemmas.List.{append-nil, drop-append-le, drop-drop, drop-take, take-append-le, take-take}
+use Rattle.std.proofs.lemmas.List.{append-nil, drop-append-le, drop-drop, take-append-le}
 use Rattle.std.proofs.lemmas.Nat.{div-add-mod', mod-mul-add, mod_below}
 use Rattle.twox_core.specs.Parts.{stripe_at}
 use Rattle.twox_core.specs.Long.{accumulate_one, scramble_one, accumulator_after, stripes_of}
 use Rattle.twox_core.specs.Kernel.{eight}
 use Rattle.twox_core.specs.Stripes.{sum_at_place, no_stripe, after_stripe, after_stripes, HasTaken}
 use Rattle.twox_core.specs.declared.xxhash3.stripes.StripeAccumulator.{StripeAccumulator}
+use Rattle.twox_core.proofs.PartFacts.{stripe_at-take, stripe_at-drop}
 use Rattle.twox_core.proofs.AccumulatorFacts.{accumulates, scrambles, same_accumulators, stripe_done, next_with, next_without, accumulator_after-append}
 
 -- ---- stripes of a list of bytes
@@ -24,9 +25,7 @@ pub after_stripes-take : (s : List ℕ) (a : StripeAccumulator) (xs : List ℕ) 
 unfolding after_stripes
 after_stripes-take s a xs w zero fits = refl
 after_stripes-take s a xs w (suc n) fits =
-    let there : 64 * n + (w - 64 * n) ≡ w = omega arith in
-    let cut : drop (64 * n) (take w xs) ≡ take (w - 64 * n) (drop (64 * n) xs) = rw there at (drop-take (64 * n) (w - 64 * n) xs) in
-    ap₂ (after_stripe s) (after_stripes-take s a xs w n (omega arith)) (rw cut (take-take 64 (w - 64 * n) (drop (64 * n) xs) (omega arith)))
+    ap₂ (after_stripe s) (after_stripes-take s a xs w n (omega arith)) (stripe_at-take xs w (64 * n) (omega arith))
 
 -- n stripes, and then k of what follows them
 pub after_stripes-more : (s : List ℕ) (a : StripeAccumulator) (xs : List ℕ) (n k : ℕ) → after_stripes s (after_stripes s a xs n) (drop (64 * n) xs) k ≡ after_stripes s a xs (n + k)
@@ -34,8 +33,7 @@ unfolding after_stripes
 after_stripes-more s a xs n zero = rw (add-zero n) refl
 after_stripes-more s a xs n (suc k) =
     let next : n + suc k ≡ suc (n + k) = omega arith in
-    let place : 64 * (n + k) ≡ 64 * n + 64 * k = omega arith in
-    rw next (ap₂ (after_stripe s) (after_stripes-more s a xs n k) (rw place (ap (take 64) (drop-drop (64 * k) (64 * n) xs))))
+    rw next (ap₂ (after_stripe s) (after_stripes-more s a xs n k) (stripe_at-drop xs (64 * n) (64 * k) (64 * (n + k)) (omega arith)))
 
 -- four stripes more of xs
 pub next_four : (s : List ℕ) (a t : StripeAccumulator) (f xs : List ℕ) (i : ℕ) → t ≡ after_stripes s a xs (4 * i) → f ≡ take 256 (drop (i * 256) xs)

@@ -1,11 +1,12 @@
 -- The stripes that a stream has taken, and the last of them.
 use Rattle.std.proofs.Common.{◌≡◌, ℕ, zero, suc, ◌+◌, ◌-◌, ◌*◌, ◌<◌, ◌≤◌, List, ◌++◌, length, take, drop, refl, sym, ap, ◌∙◌, arith, add-zero, length-drop}
-use Rattle.std.proofs.lemmas.List.{drop-append-le, take-append-le, drop-drop, drop-take, take-take}
+use Rattle.std.proofs.lemmas.List.{drop-append-le, take-append-le, drop-drop}
 use Rattle.twox_core.specs.Parts.{stripe_at}
 use Rattle.twox_core.specs.Long.{stripes_of}
 use Rattle.twox_core.specs.AfterWrite.{newest_stripe, after_taking, none_taken}
 use Rattle.twox_core.specs.StandsFor.{TookStripes}
 use Rattle.twox_core.specs.declared.xxhash3.streaming.taken_stripes.TakenStripes.{TakenStripes}
+use Rattle.twox_core.proofs.PartFacts.{stripe_at-take}
 use Rattle.twox_core.proofs.StripeFacts.{after_stripes-take, folded_none, folded_more, folded_longer}
 
 -- ---- the last of n stripes
@@ -25,11 +26,7 @@ newest_stripe-none old xs n e = rw e refl
 newest_stripe-take : (old xs : List ℕ) (w n : ℕ) → 64 * n ≤ w → newest_stripe old (take w xs) n ≡ newest_stripe old xs n
 unfolding newest_stripe
 newest_stripe-take old xs w zero fits = refl
-newest_stripe-take old xs w (suc n) fits =
-    let there : 64 * n + (w - 64 * n) ≡ w = omega arith in
-    let cut : drop (64 * n) (take w xs) ≡ take (w - 64 * n) (drop (64 * n) xs) =
-    rw there at (drop-take (64 * n) (w - 64 * n) xs) in
-    rw cut (take-take 64 (w - 64 * n) (drop (64 * n) xs) (omega arith))
+newest_stripe-take old xs w (suc n) fits = stripe_at-take xs w (64 * n) (omega arith)
 
 pub after_taking-take : (s : List ℕ) (t : TakenStripes) (xs : List ℕ) (w n : ℕ) → 64 * n ≤ w → after_taking s t (take w xs) n ≡ after_taking s t xs n
 unfolding after_taking

@@ -1,10 +1,11 @@
 -- The two operations of a kernel on the eight accumulators at once, each accumulator by the functions that the long
 -- definition follows it with: the xxHash specification, "XXH3 algorithm description (for large inputs)",
 -- step 2.
-use Rattle.std.specs.Prelude.{ℕ, ◌+◌, ◌%◌, ◌^◌, List, [], ◌∷◌, slice_index, bit_xor}
+use Rattle.std.specs.Prelude.{ℕ, ◌+◌, ◌*◌, ◌%◌, ◌^◌, List, [], ◌∷◌, slice_index, bit_xor}
 use Rattle.twox_words.specs.Word.{xor_shift}
 use Rattle.twox_core.specs.Primes.{prime32_1}
-use Rattle.twox_core.specs.Steps.{mul64}
+use Rattle.twox_core.specs.Steps.{mul64, word64}
+use Rattle.twox_core.specs.Parts.{stripe_at}
 use Rattle.twox_core.specs.Long.{accumulate_one, halves_product, scramble_one}
 
 -- the eight values f 0 to f 7
@@ -22,6 +23,16 @@ round_scramble a u = eight (λ i. scramble_one i (slice_index a i) u 0)
 -- one accumulator of value a from its own word, its neighbour's and the secret's
 abbrev pub sum_with_words : ℕ → ℕ → ℕ → ℕ → ℕ
 sum_with_words a own other key = (a + other + halves_product (bit_xor own key)) % 2 ^ 64
+
+-- one accumulator of value a after stripe k of the bytes t, under the secret u: its own word begins at byte p of the
+-- stripe, and its neighbour's at byte q
+abbrev pub sum_with_stripe : ℕ → List ℕ → List ℕ → ℕ → ℕ → ℕ → ℕ
+sum_with_stripe a t u p q k = sum_with_words a (word64 (stripe_at t (64 * k)) p) (word64 (stripe_at t (64 * k)) q) (word64 (stripe_at u (8 * k)) p)
+
+-- and after the first four
+abbrev pub sum_with_four_stripes : ℕ → List ℕ → List ℕ → ℕ → ℕ → ℕ
+sum_with_four_stripes a t u p q =
+    sum_with_stripe (sum_with_stripe (sum_with_stripe (sum_with_stripe a t u p q 0) t u p q 1) t u p q 2) t u p q 3
 
 -- one accumulator of value a scrambled under a word of the secret
 abbrev pub scramble_with_word : ℕ → ℕ → ℕ

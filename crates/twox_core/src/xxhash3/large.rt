@@ -7,6 +7,7 @@ ghost use Rattle.twox_core.specs.Ending.{accumulate_block, block_accumulators, l
 ghost use Rattle.twox_core.specs.SecretBytes.{secret_bytes};
 ghost use Rattle.twox_core.specs.Steps.{fold};
 
+mod four;
 pub mod halves4;
 pub mod lanes2;
 pub mod lanes4;

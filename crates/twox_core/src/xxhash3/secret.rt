@@ -55,7 +55,7 @@ impl fmt::Display for OneshotWithSecretError {
 impl error::Error for OneshotWithSecretError {}
 
 impl<'a> Secret<'a> {
-    ghost use Rattle.std.specs.Prelude.{◌≡◌, ◌-◌, ◌*◌, ◌<◌, ◌≤◌, length, take, true, MatchResult};
+    ghost use Rattle.std.specs.Prelude.{◌≡◌, ◌+◌, ◌-◌, ◌*◌, ◌<◌, ◌≤◌, length, take, drop, true, MatchResult};
     ghost use Rattle.twox_core.specs.Long.{stripes_of};
     ghost use Rattle.twox_core.specs.Parts.{chunks_at, stripe_at};
     ghost use Rattle.twox_core.specs.SecretBytes.{secret_bytes, viewed_by_64, viewed_by_128};
@@ -117,6 +117,15 @@ impl<'a> Secret<'a> {
         ensures { result.now ≡ stripe_at (secret_bytes self.entry) (8 * i) }
     {
         array_at(self.bytes, 8 * i)
+    }
+
+    // The 88 bytes from byte `8 * i` on: four stripes are taken under them.
+    #[inline(always)]
+    pub(crate) fn four_stripes(self, i: usize) -> &'a [u8; 88]
+        requires { i + 4 ≤ stripes_of (secret_bytes self) }
+        ensures { result.now ≡ take 88 (drop (8 * i) (secret_bytes self.entry)) }
+    {
+        array_at(self.bytes, i * 8)
     }
 
     /// The last 64 bytes.

@@ -1,10 +1,10 @@
 //! The kernel that works on four accumulators at a time and multiplies the halves of a word as words of 32 bits, by
 //! `std::simd`: WebAssembly has an instruction for that product, and its product of words of 64 bits is made of many.
 
-ghost use Rattle.std.specs.Prelude.{◌≡◌, ◌+◌, ◌/◌, ◌%◌, ◌^◌, [], ◌∷◌, slice_index};
-ghost use Rattle.twox_core.specs.Kernel.{sum_with_words, scramble_with_word};
-ghost use Rattle.twox_core.specs.Long.{halves_product};
+ghost use Rattle.std.specs.Prelude.{◌≡◌, ◌/◌, ◌%◌, ◌^◌, [], ◌∷◌, slice_index};
+ghost use Rattle.twox_core.specs.Kernel.{scramble_with_word};
 
+use super::four::{HalvesProducts, accumulate_four};
 use super::word::words;
 use crate::xxhash3::Vector;
 use crate::xxhash3::primes::PRIME32_1;
@@ -28,50 +28,43 @@ impl Vector for Impl {
     #[inline(always)]
     fn accumulate(&self, acc: &mut [u64; 8], stripe: &[u8; 64], secret: &[u8; 64]) {
         let [a, b, c, d, e, f, g, h] = *acc;
-        let [a, b, c, d] = accumulate_four([a, b, c, d], words(stripe, 0), words(secret, 0));
-        let [e, f, g, h] = accumulate_four([e, f, g, h], words(stripe, 4), words(secret, 4));
+        let [a, b, c, d] = accumulate_four(
+            Products {},
+            [a, b, c, d],
+            words(stripe, 0),
+            words(secret, 0),
+        );
+        let [e, f, g, h] = accumulate_four(
+            Products {},
+            [e, f, g, h],
+            words(stripe, 4),
+            words(secret, 4),
+        );
         *acc = [a, b, c, d, e, f, g, h];
     }
 }
 
-// Four accumulators: each gains its neighbour's word and the product of the halves of its own word under its key.
-#[inline]
-fn accumulate_four(acc: [u64; 4], words: [u64; 4], keys: [u64; 4]) -> [u64; 4]
-    ensures a { slice_index result 0
-        ≡ sum_with_words (slice_index acc 0) (slice_index words 0) (slice_index words 1) (slice_index keys 0) }
-    ensures b { slice_index result 1
-        ≡ sum_with_words (slice_index acc 1) (slice_index words 1) (slice_index words 0) (slice_index keys 1) }
-    ensures c { slice_index result 2
-        ≡ sum_with_words (slice_index acc 2) (slice_index words 2) (slice_index words 3) (slice_index keys 2) }
-    ensures d { slice_index result 3
-        ≡ sum_with_words (slice_index acc 3) (slice_index words 3) (slice_index words 2) (slice_index keys 3) }
-{
-    let [a0, a1, a2, a3] = acc;
-    let [w0, w1, w2, w3] = words;
-    let [k0, k1, k2, k3] = keys;
-    let words = u64x4::from_array([w0, w1, w2, w3]);
-    let sums = u64x4::from_array([a0, a1, a2, a3]) + words.swizzle([1, 0, 3, 2]);
-    let [p0, p1, p2, p3] = products((words ^ u64x4::from_array([k0, k1, k2, k3])).to_array());
-    (sums + u64x4::from_array([p0, p1, p2, p3])).to_array()
-}
+// Products of words of 32 bits.
+#[derive(Clone, Copy)]
+struct Products;
 
-// The product of each word's halves. The halves of two vectors are put together before they are made wide: of the halves
-// of one LLVM makes a mask and a shift again, and of these no product of words of 32 bits.
-#[inline]
-fn products(words: [u64; 4]) -> [u64; 4]
-    ensures a { slice_index result 0 ≡ halves_product (slice_index words 0) % 2 ^ 64 }
-    ensures b { slice_index result 1 ≡ halves_product (slice_index words 1) % 2 ^ 64 }
-    ensures c { slice_index result 2 ≡ halves_product (slice_index words 2) % 2 ^ 64 }
-    ensures d { slice_index result 3 ≡ halves_product (slice_index words 3) % 2 ^ 64 }
-{
-    let [w0, w1, w2, w3] = words;
-    let [l0, h0, l1, h1] = halves_of([w0, w1]);
-    let [l2, h2, l3, h3] = halves_of([w2, w3]);
-    let front = u32x4::from_array([l0, h0, l1, h1]);
-    let back = u32x4::from_array([l2, h2, l3, h3]);
-    let low = front.shuffle(back, [0, 2, 4, 6]).cast::<u64>();
-    let high = front.shuffle(back, [1, 3, 5, 7]).cast::<u64>();
-    (low * high).to_array()
+impl HalvesProducts for Products {
+    // The halves of two vectors are put together before they are made wide: of the halves of one LLVM makes a mask and a
+    // shift again, and of these no product of words of 32 bits.
+    #[inline(always)]
+    fn halves_products(&self, words: [u64; 4], keys: [u64; 4]) -> [u64; 4] {
+        let [w0, w1, w2, w3] = words;
+        let [k0, k1, k2, k3] = keys;
+        let values = u64x4::from_array([w0, w1, w2, w3]) ^ u64x4::from_array([k0, k1, k2, k3]);
+        let [v0, v1, v2, v3] = values.to_array();
+        let [l0, h0, l1, h1] = halves_of([v0, v1]);
+        let [l2, h2, l3, h3] = halves_of([v2, v3]);
+        let front = u32x4::from_array([l0, h0, l1, h1]);
+        let back = u32x4::from_array([l2, h2, l3, h3]);
+        let low = front.shuffle(back, [0, 2, 4, 6]).cast::<u64>();
+        let high = front.shuffle(back, [1, 3, 5, 7]).cast::<u64>();
+        (low * high).to_array()
+    }
 }
 
 // The halves of two words, the lower one first.

@@ -1,9 +1,10 @@
 //! The kernel that works on four accumulators at a time, by `std::simd`.
 
 ghost use Rattle.std.specs.Prelude.{◌≡◌, ◌+◌, ◌*◌, ◌/◌, ◌%◌, ◌^◌, [], ◌∷◌, slice_index};
-ghost use Rattle.twox_core.specs.Kernel.{sum_with_words, scramble_with_word};
+ghost use Rattle.twox_core.specs.Kernel.{scramble_with_word};
 ghost use Rattle.twox_core.specs.Primes.{prime32_1};
 
+use super::four::{HalvesProducts, accumulate_four, accumulate_four_by_four};
 use super::word::words;
 use crate::xxhash3::Vector;
 use crate::xxhash3::primes::PRIME32_1;
@@ -27,34 +28,45 @@ impl Vector for Impl {
     #[inline(always)]
     fn accumulate(&self, acc: &mut [u64; 8], stripe: &[u8; 64], secret: &[u8; 64]) {
         let [a, b, c, d, e, f, g, h] = *acc;
-        let [a, b, c, d] = accumulate_four([a, b, c, d], words(stripe, 0), words(secret, 0));
-        let [e, f, g, h] = accumulate_four([e, f, g, h], words(stripe, 4), words(secret, 4));
+        let [a, b, c, d] = accumulate_four(
+            Products {},
+            [a, b, c, d],
+            words(stripe, 0),
+            words(secret, 0),
+        );
+        let [e, f, g, h] = accumulate_four(
+            Products {},
+            [e, f, g, h],
+            words(stripe, 4),
+            words(secret, 4),
+        );
+        *acc = [a, b, c, d, e, f, g, h];
+    }
+
+    #[tactic(auto, unfolding(crate::specs::Long::accumulate_one, crate::specs::Ending::accumulate_block))]
+    #[inline(always)]
+    fn accumulate_four_stripes(&self, acc: &mut [u64; 8], stripes: &[u8; 256], secret: &[u8; 88]) {
+        let [a, b, c, d, e, f, g, h] = *acc;
+        let [a, b, c, d] = accumulate_four_by_four(Products {}, [a, b, c, d], stripes, secret, 0);
+        let [e, f, g, h] = accumulate_four_by_four(Products {}, [e, f, g, h], stripes, secret, 4);
         *acc = [a, b, c, d, e, f, g, h];
     }
 }
 
-// Four accumulators: each gains its neighbour's word and the product of the halves of its own word under its key.
-// The neighbours come first, so that the accumulators before are done with and their registers are free.
-#[inline]
-fn accumulate_four(acc: [u64; 4], words: [u64; 4], keys: [u64; 4]) -> [u64; 4]
-    ensures a { slice_index result 0
-        ≡ sum_with_words (slice_index acc 0) (slice_index words 0) (slice_index words 1) (slice_index keys 0) }
-    ensures b { slice_index result 1
-        ≡ sum_with_words (slice_index acc 1) (slice_index words 1) (slice_index words 0) (slice_index keys 1) }
-    ensures c { slice_index result 2
-        ≡ sum_with_words (slice_index acc 2) (slice_index words 2) (slice_index words 3) (slice_index keys 2) }
-    ensures d { slice_index result 3
-        ≡ sum_with_words (slice_index acc 3) (slice_index words 3) (slice_index words 2) (slice_index keys 3) }
-{
-    let [a0, a1, a2, a3] = acc;
-    let [w0, w1, w2, w3] = words;
-    let [k0, k1, k2, k3] = keys;
-    let words = u64x4::from_array([w0, w1, w2, w3]);
-    let sums = u64x4::from_array([a0, a1, a2, a3]) + words.swizzle([1, 0, 3, 2]);
-    let values = words ^ u64x4::from_array([k0, k1, k2, k3]);
-    let high = values >> u64x4::splat(32);
-    let low = values & u64x4::splat(0xffff_ffff);
-    (sums + low * high).to_array()
+// Products of words of 64 bits, whose upper halves are 0.
+#[derive(Clone, Copy)]
+struct Products;
+
+impl HalvesProducts for Products {
+    #[inline(always)]
+    fn halves_products(&self, words: [u64; 4], keys: [u64; 4]) -> [u64; 4] {
+        let [w0, w1, w2, w3] = words;
+        let [k0, k1, k2, k3] = keys;
+        let values = u64x4::from_array([w0, w1, w2, w3]) ^ u64x4::from_array([k0, k1, k2, k3]);
+        let high = values >> u64x4::splat(32);
+        let low = values & u64x4::splat(0xffff_ffff);
+        (low * high).to_array()
+    }
 }
 
 #[inline]

@@ -1,7 +1,7 @@
 //! Whole blocks under a secret of 192 bytes, the length of the default secret and of all derived ones: a block has
 //! 16 stripes then, which are taken four at a time.
 
-ghost use Rattle.std.specs.Prelude.{◌≡◌, ℕ, List, ◌+◌, ◌*◌, ◌/◌, ◌≤◌, length};
+ghost use Rattle.std.specs.Prelude.{◌≡◌, ◌*◌, ◌/◌, length};
 ghost use Rattle.twox_core.specs.Ending.{accumulate_block};
 ghost use Rattle.twox_core.specs.Long.{stripes_of};
 ghost use Rattle.twox_core.specs.SecretBytes.{secret_bytes};
@@ -69,42 +69,11 @@ fn process_block<V: Vector, const MANY: bool>(
 {
     let mut taken = acc;
     'fours: for i in 0..4 {
-        let sums = process_four_stripes::<V, MANY>(taken, v, block, 4 * i, secret);
-        taken = sums;
+        v.accumulate_four_stripes(
+            &mut taken,
+            array_at(block, 256 * i),
+            secret.four_stripes(4 * i),
+        );
     }
     taken
-}
-
-// The accumulators with stripe `i` of a block and the three after it.
-#[inline(always)]
-fn process_four_stripes<V: Vector, const MANY: bool>(
-    acc: [u64; 8],
-    v: V,
-    block: &[u8; 1024],
-    i: usize,
-    secret: Secret<'_>,
-) -> [u64; 8]
-    requires all { stripes_of (secret_bytes secret) ≡ 16 }
-    requires there { i + 4 ≤ 16 }
-    ensures { (from : List ℕ) → acc ≡ accumulate_block (secret_bytes secret.entry) from block.now i
-        → result ≡ accumulate_block (secret_bytes secret.entry) from block.now (i + 4) }
-{
-    let mut acc = acc;
-    v.accumulate(&mut acc, array_at(block, 64 * i), secret.stripe(i));
-    v.accumulate(
-        &mut acc,
-        array_at(block, 64 * (i + 1)),
-        secret.stripe(i + 1),
-    );
-    v.accumulate(
-        &mut acc,
-        array_at(block, 64 * (i + 2)),
-        secret.stripe(i + 2),
-    );
-    v.accumulate(
-        &mut acc,
-        array_at(block, 64 * (i + 3)),
-        secret.stripe(i + 3),
-    );
-    acc
 }

@@ -4,10 +4,9 @@
 ghost use Rattle.std.specs.Prelude.{◌≡◌, ◌+◌, ◌*◌, ◌/◌, ◌%◌, ◌<◌, ◌≤◌, length};
 ghost use Rattle.twox_core.specs.Long.{stripes_of};
 ghost use Rattle.twox_core.specs.SecretBytes.{secret_bytes};
-ghost use Rattle.twox_core.specs.Stripes.{AfterStripes, current_stripe_of, after_stripe, after_stripes};
+ghost use Rattle.twox_core.specs.Stripes.{AfterStripes, current_stripe_of, after_stripes};
 
 use super::{STRIPES_IN_BLOCK, StripeAccumulator};
-use crate::xxhash3::parts::array_at;
 use crate::xxhash3::{Secret, Vector};
 use twox_words::words::bp_as_chunks;
 
@@ -56,25 +55,15 @@ impl StripeAccumulator {
             ≡ after_stripes (secret_bytes secret.entry) self.old stripes.now 4 }
         ensures place { current_stripe_of self.new ≡ (current_stripe_of self.old + 4) % 16 }
     {
-        self.process_within(v, array_at(stripes, 0), secret);
-        self.process_within(v, array_at(stripes, 64), secret);
-        self.process_within(v, array_at(stripes, 128), secret);
-        self.process_stripe(v, array_at(stripes, 192), STRIPES_IN_BLOCK, secret);
-    }
-
-    // Takes a stripe that doesn't end the block.
-    #[tactic(auto, using(std::proofs::lemmas::Bool::Decides::nat_tests), unfolding(crate::specs::Stripes::after_stripe))]
-    #[inline(always)]
-    fn process_within<V: Vector>(&mut self, v: V, stripe: &[u8; 64], secret: Secret<'_>)
-        requires { current_stripe_of self.old + 1 < stripes_of (secret_bytes secret) }
-        ensures exact { self.new ≡ after_stripe (secret_bytes secret.entry) self.old stripe.now }
-        ensures place { current_stripe_of self.new ≡ current_stripe_of self.old + 1 }
-    {
-        v.accumulate(
+        v.accumulate_four_stripes(
             &mut self.accumulator,
-            stripe,
-            secret.stripe(self.current_stripe),
+            stripes,
+            secret.four_stripes(self.current_stripe),
         );
-        self.current_stripe += 1;
+        self.current_stripe += 4;
+        if self.current_stripe == STRIPES_IN_BLOCK {
+            v.round_scramble(&mut self.accumulator, secret.last_stripe());
+            self.current_stripe = 0;
+        }
     }
 }

@@ -1,22 +1,21 @@
-use Rattle.std.proofs.Common.{◌≡◌, ◌∙◌, ap, arith}
+use Rattle.std.proofs.Common.{◌≡◌, ◌+◌, ◌*◌, drop, sym, arith}
+use Rattle.twox_core.specs.Long.{stripes_of}
 use Rattle.twox_core.specs.SecretBytes.{secret_bytes}
-use Rattle.twox_core.specs.Stripes.{current_stripe_of, after_stripes}
-use Rattle.twox_core.proofs.BlockFacts.{place_after}
-use Rattle.twox_core.proofs.StripeFacts.{after_stripes-next}
+use Rattle.twox_core.proofs.BlockFacts.{stripes_within, stripes_to_end}
+use Rattle.twox_core.proofs.EndingFacts.{four_under_key}
 use Rattle.twox_core.proofs.xxhash3.stripes.StripeAccumulator.process_four.Goals as goal
 
-pub returns : goal.returns
-unfolding after_stripes
-returns g c =
+pub returns-then-self-eq-STRIPES_IN_BLOCK-clause-exact : goal.returns-then-self-eq-STRIPES_IN_BLOCK-clause-exact
+returns-then-self-eq-STRIPES_IN_BLOCK-clause-exact g c =
     let s = secret_bytes c.args.secret in
     let a = c.args.self.now in
-    let xs = c.args.stripes.now in
-    let one : c.process_within.new.self ≡ after_stripes s a xs 1 =
-    c.process_within.ensures.exact ∙ after_stripes-next s a xs _ 0 c.array_at.ensures in
-    let two : c.process_within-2.new.self ≡ after_stripes s a xs 2 =
-    rw one at c.process_within-2.ensures.exact ∙ after_stripes-next s a xs _ 1 c.array_at-2.ensures in
-    let three : c.process_within-3.new.self ≡ after_stripes s a xs 3 =
-    rw two at c.process_within-3.ensures.exact ∙ after_stripes-next s a xs _ 2 c.array_at-3.ensures in
-    let exact : c.process_stripe.new.self ≡ after_stripes s a xs 4 =
-    rw three at c.process_stripe.ensures.exact ∙ after_stripes-next s a xs _ 3 c.array_at-4.ensures in
-    record { exact = exact; place = ap current_stripe_of exact ∙ place_after s xs a 4 c.requires.all (omega arith) c.requires.place }
+    let full : a.current_stripe + 4 ≡ stripes_of s = omega arith in
+    rw (c.round_scramble.ensures, c.last_stripe.ensures, c.accumulate_four_stripes.ensures, four_under_key (drop (8 * a.current_stripe) s) a.accumulator c.args.stripes.now _ c.four_stripes.ensures)
+    (sym (stripes_to_end s c.args.stripes.now a 3 full))
+
+pub returns-else-self-eq-STRIPES_IN_BLOCK-clause-exact : goal.returns-else-self-eq-STRIPES_IN_BLOCK-clause-exact
+returns-else-self-eq-STRIPES_IN_BLOCK-clause-exact g c =
+    let s = secret_bytes c.args.secret in
+    let a = c.args.self.now in
+    rw (c.accumulate_four_stripes.ensures, four_under_key (drop (8 * a.current_stripe) s) a.accumulator c.args.stripes.now _ c.four_stripes.ensures)
+    (sym (stripes_within s c.args.stripes.now a 4 (omega arith)))

@@ -1,5 +1,7 @@
-use Rattle.std.proofs.Common.{◌≡◌, ◌+◌, ◌*◌, refl, arith}
+use Rattle.std.proofs.Common.{◌≡◌, ◌*◌, ◌∙◌, refl, arith}
+use Rattle.twox_core.specs.SecretBytes.{secret_bytes}
 use Rattle.twox_core.specs.Ending.{accumulate_block}
+use Rattle.twox_core.proofs.EndingFacts.{accumulate_block-four}
 use Rattle.twox_core.proofs.xxhash3.stripes.blocks.process_block.Goals as goal
 
 pub fours-init : goal.fours-init
@@ -8,8 +10,8 @@ fours-init g c = refl
 
 pub fours-preserved : goal.fours-preserved
 fours-preserved g c =
-    let next : 4 * c.fours.i + 4 ≡ 4 * (c.fours.i + 1) = omega arith in
-    rw next at c.process_four_stripes-sums.ensures c.args.acc c.fours.invariant
+    c.accumulate_four_stripes.ensures
+    ∙ accumulate_block-four (secret_bytes c.args.secret) c.args.acc c.args.block.now c.fours.taken _ _ c.fours.i c.fours.invariant c.array_at.ensures c.four_stripes.ensures
 
 pub returns : goal.returns
 returns g c =

@@ -1,0 +1,106 @@
+//! What the kernels of four accumulators at a time share: all but how they multiply and scramble.
+
+ghost use Rattle.std.specs.Prelude.{◌≡◌, ◌+◌, ◌*◌, ◌%◌, ◌^◌, ◌≤◌, [], ◌∷◌, slice_index, bit_xor};
+ghost use Rattle.twox_core.specs.Kernel.{sum_with_words, sum_with_four_stripes};
+ghost use Rattle.twox_core.specs.Long.{halves_product};
+
+use super::word::words;
+use crate::xxhash3::parts::array_at;
+use std::simd::u64x4;
+
+// A kernel that multiplies the halves of four words at a time.
+pub(super) trait HalvesProducts: Copy {
+    // The product of the halves of each word under its key.
+    fn halves_products(&self, words: [u64; 4], keys: [u64; 4]) -> [u64; 4]
+        ensures { result ≡ halves_product (bit_xor (slice_index words 0) (slice_index keys 0)) % 2 ^ 64
+            ∷ halves_product (bit_xor (slice_index words 1) (slice_index keys 1)) % 2 ^ 64
+            ∷ halves_product (bit_xor (slice_index words 2) (slice_index keys 2)) % 2 ^ 64
+            ∷ halves_product (bit_xor (slice_index words 3) (slice_index keys 3)) % 2 ^ 64 ∷ [] };
+}
+
+// Four accumulators: each gains its neighbour's word and the product of the halves of its own word under its key.
+// The neighbours come first, so that the accumulators before are done with and their registers are free.
+#[inline]
+pub(super) fn accumulate_four<K: HalvesProducts>(
+    kernel: K,
+    acc: [u64; 4],
+    words: [u64; 4],
+    keys: [u64; 4],
+) -> [u64; 4]
+    ensures a { slice_index result 0
+        ≡ sum_with_words (slice_index acc 0) (slice_index words 0) (slice_index words 1) (slice_index keys 0) }
+    ensures b { slice_index result 1
+        ≡ sum_with_words (slice_index acc 1) (slice_index words 1) (slice_index words 0) (slice_index keys 1) }
+    ensures c { slice_index result 2
+        ≡ sum_with_words (slice_index acc 2) (slice_index words 2) (slice_index words 3) (slice_index keys 2) }
+    ensures d { slice_index result 3
+        ≡ sum_with_words (slice_index acc 3) (slice_index words 3) (slice_index words 2) (slice_index keys 3) }
+{
+    let [a0, a1, a2, a3] = acc;
+    let [w0, w1, w2, w3] = words;
+    let others = u64x4::from_array([w0, w1, w2, w3]).swizzle([1, 0, 3, 2]);
+    let sums = u64x4::from_array([a0, a1, a2, a3]) + others;
+    let [p0, p1, p2, p3] = kernel.halves_products(words, keys);
+    (sums + u64x4::from_array([p0, p1, p2, p3])).to_array()
+}
+
+// Four accumulators, from accumulator `i` on, after four stripes. The words are summed where they stand, so that
+// neighbours exchange them once. Each stripe is read behind the product of the one before: of words that were all read
+// first, LLVM adds the sum first and keeps four products in registers meanwhile.
+#[tactic(auto, using(crate::proofs::KernelFacts::four_sums))]
+#[inline(always)]
+pub(super) fn accumulate_four_by_four<K: HalvesProducts>(
+    kernel: K,
+    acc: [u64; 4],
+    stripes: &[u8; 256],
+    secret: &[u8; 88],
+    i: usize,
+) -> [u64; 4]
+    requires { i + 4 ≤ 8 }
+    ensures a { slice_index result 0
+        ≡ sum_with_four_stripes (slice_index acc 0) stripes.now secret.now (8 * i) (8 * (i + 1)) }
+    ensures b { slice_index result 1
+        ≡ sum_with_four_stripes (slice_index acc 1) stripes.now secret.now (8 * (i + 1)) (8 * i) }
+    ensures c { slice_index result 2
+        ≡ sum_with_four_stripes (slice_index acc 2) stripes.now secret.now (8 * (i + 2)) (8 * (i + 3)) }
+    ensures d { slice_index result 3
+        ≡ sum_with_four_stripes (slice_index acc 3) stripes.now secret.now (8 * (i + 3)) (8 * (i + 2)) }
+{
+    let first = words(array_at(stripes, 0), i);
+    let first_product = kernel.halves_products(first, words(array_at(secret, 0), i));
+    let second = words(array_at(stripes, 64), i);
+    let second_product = kernel.halves_products(second, words(array_at(secret, 8), i));
+    let third = words(array_at(stripes, 128), i);
+    let third_product = kernel.halves_products(third, words(array_at(secret, 16), i));
+    let fourth = words(array_at(stripes, 192), i);
+    let fourth_product = kernel.halves_products(fourth, words(array_at(secret, 24), i));
+    let front = sum(sum(acc, first_product), second_product);
+    let own = sum(sum(front, third_product), fourth_product);
+    sum_with_exchange(own, sum(sum(sum(first, second), third), fourth))
+}
+
+#[inline]
+fn sum(a: [u64; 4], b: [u64; 4]) -> [u64; 4]
+    ensures { result ≡ (slice_index a 0 + slice_index b 0) % 2 ^ 64
+        ∷ (slice_index a 1 + slice_index b 1) % 2 ^ 64
+        ∷ (slice_index a 2 + slice_index b 2) % 2 ^ 64
+        ∷ (slice_index a 3 + slice_index b 3) % 2 ^ 64 ∷ [] }
+{
+    let [a0, a1, a2, a3] = a;
+    let [b0, b1, b2, b3] = b;
+    (u64x4::from_array([a0, a1, a2, a3]) + u64x4::from_array([b0, b1, b2, b3])).to_array()
+}
+
+// Four accumulators, each with its neighbour's word.
+#[inline]
+fn sum_with_exchange(acc: [u64; 4], words: [u64; 4]) -> [u64; 4]
+    ensures { result ≡ (slice_index acc 0 + slice_index words 1) % 2 ^ 64
+        ∷ (slice_index acc 1 + slice_index words 0) % 2 ^ 64
+        ∷ (slice_index acc 2 + slice_index words 3) % 2 ^ 64
+        ∷ (slice_index acc 3 + slice_index words 2) % 2 ^ 64 ∷ [] }
+{
+    let [a0, a1, a2, a3] = acc;
+    let [w0, w1, w2, w3] = words;
+    let words = u64x4::from_array([w0, w1, w2, w3]);
+    (u64x4::from_array([a0, a1, a2, a3]) + words.swizzle([1, 0, 3, 2])).to_array()
+}
