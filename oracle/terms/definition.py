@@ -146,8 +146,9 @@ class Named(antt.Definitions):
         return self.modules[path].definitions[own]
 
 
-def program():
-    return antt.Program(Named(table.TOP, table.CRATES), ENTRIES)
+def program(crates=(), entries=()):
+    """The definitions, with those of further crates."""
+    return antt.Program(Named(table.TOP, [*table.CRATES, *crates]), [*ENTRIES, *entries])
 
 
 def value(entries, hash_name, kind, seed, secret, message):

@@ -32,22 +32,25 @@ class Words(Memory):
 
     def load(self, at, n):
         cell = self.cells.get(at)
-        if cell is None or cell[0] != n:
-            self.make_bytes(at, n)
-        return super().load(at, n)
+        near = self.cells_near(at, n) if isinstance(at, int) and (cell is None or cell[0] != n) else []
+        if all(isinstance(self.cells[first][1], (int, Node)) for first in near):
+            return super().load(at, n)
+        return Memory(self.name, self.length, self.in_bits(near)).load(at, n)
+
+    def in_bits(self, firsts):
+        """Some of the cells, those that have bits: (offset, size, number or term)."""
+        for first in firsts:
+            size, value = self.cells[first]
+            if isinstance(value, (int, Node, Poly)):
+                yield first, size, lifted(value)
 
     def clear(self, at, n):
-        self.make_bytes(at, n)
+        near = self.cells_near(at, n)
+        parts = list(self.in_bits(near))
+        for first in near:
+            del self.cells[first]
+        self.cells.update({first: (size, value) for first, size, value in parts})
         super().clear(at, n)
-
-    def make_bytes(self, at, n):
-        """The cells that have some of the bytes, as numbers and terms. An address among them is given up."""
-        for first in self.cells_near(at, n) if isinstance(at, int) else ():
-            size, value = self.cells[first]
-            if isinstance(value, Poly):
-                self.cells[first] = size, lifted(value)
-            elif not isinstance(value, (int, Node)):
-                del self.cells[first]
 
 
 class Constants(Words):
