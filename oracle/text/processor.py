@@ -22,6 +22,7 @@ KEPT = "rbx", "rbp", "r12", "r13", "r14", "r15"          # of the caller, which 
 ARGUMENTS = "rdi", "rsi", "rdx", "rcx", "r8", "r9"
 OUT = "return"
 LANES = 4                         # of 64 bits, which a vector has
+NO_LIMIT = 1 << 24                # instructions of a call
 
 
 class Processor:
@@ -35,16 +36,19 @@ class Processor:
                      for section, code in program.sections.items()}
         for outer in OUTER:
             self.code[outer] = {0: (functools.partial(call_of_outer, outer == "memmove"), None)}
-        self.not_zero, self.loops, self.used, self.made, self.limit, self.count = [], None, set(), 0, 1 << 24, 0
+        self.not_zero, self.loops, self.used, self.made, self.limit, self.count = [], None, set(), 0, NO_LIMIT, 0
 
     def change(self, instruction):
         """Puts an instruction in the place of the one there."""
         self.code[instruction.section][instruction.at] = known(instruction, self.name), instruction
 
+    def new_name(self, prefix):
+        self.made += 1
+        return f"{prefix}#{self.made}"
+
     def fresh(self, prefix, width=WORD):
         """A symbol of a new name."""
-        self.made += 1
-        return symbol(f"{prefix}#{self.made}", width)
+        return symbol(self.new_name(prefix), width)
 
     # ---- calls
 
@@ -137,7 +141,8 @@ class Processor:
         memory, at = found.place()
         if memory is self.stack and not (isinstance(at, int) and at >= self.registers["rsp"].place()[1] - RED):
             raise Unsupported("a place below the stack")
-        if memory.alignment % alignment or not isinstance(at, int) and alignment > 1 or alignment > 1 and at % alignment:
+        is_aligned = alignment == 1 or not memory.alignment % alignment and isinstance(at, int) and not at % alignment
+        if not is_aligned:
             raise Unsupported(f"a place in {memory.name} that may not be a multiple of {alignment}")
         return memory, at
 
