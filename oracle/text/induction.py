@@ -193,11 +193,10 @@ class Proof:
         now.update({cell: values[j] for cell, j in self.words.items()})
         cpu.forget_flags()
         for cell, x in now.items():
-            x = cpu.fresh("unset") if cell in self.unset else x
             if cell[0] == "register":
-                cpu.registers[cell[1]] = x
+                cpu.registers[cell[1]] = cpu.fresh("unset") if cell in self.unset else x
             elif cell[0] == "lane":
-                cpu.vectors[cell[1]][cell[2]] = x
+                cpu.vectors[cell[1]][cell[2]] = None if cell in self.unset else x
         cpu.stack.cells = {cell[1]: (cell[2], x) for cell, x in now.items()
                            if cell[0] == "stack" and cell not in self.unset}
 

@@ -25,7 +25,7 @@ def is_new(x):
 
 def read(cpu, operand, x, count, alignment=1):
     if is_vector(operand):
-        return cpu.vector(operand)[:count]
+        return cpu.lanes(operand, count)
     memory, at = cpu.place(operand, x, alignment)
     return [cpu.load(memory, plus(at, LANE * k), LANE) for k in range(count)]
 
@@ -36,7 +36,7 @@ def write(cpu, operand, x, lanes, alignment=1):
         for k, lane in enumerate(lanes):
             cpu.store(memory, plus(at, LANE * k), LANE, lane)
         return
-    register = cpu.vector(operand)
+    register = cpu.vectors[VECTORS[operand.name]]
     register[:len(lanes)] = lanes
     if is_new(x):
         register[len(lanes):] = [0] * (4 - len(lanes))
@@ -77,7 +77,7 @@ def move(cpu, x):
 def move_low(cpu, x):
     """64 bits; into a vector the rest of 128 becomes 0."""
     source, to = x.operands
-    word = cpu.vector(source)[0] if is_vector(source) else cpu.get(source, WORD, x)
+    word = cpu.lanes(source)[0] if is_vector(source) else cpu.get(source, WORD, x)
     if is_vector(to):
         write(cpu, to, x, [word, 0])
     else:
@@ -94,27 +94,27 @@ def move_narrow(cpu, x):
 @form(V3, "vpextrq", "ixq")
 def extract(cpu, x):
     k, source, to = x.operands
-    cpu.put(to, WORD, cpu.vector(source)[k.value & 1], x)
+    cpu.put(to, WORD, cpu.lanes(source, 1, k.value & 1)[0], x)
 
 
 @form(V3, "vextracti128", "iyx")
 def extract_half(cpu, x):
     k, source, to = x.operands
-    write(cpu, to, x, cpu.vector(source)[2 * (k.value & 1):][:2])
+    write(cpu, to, x, cpu.lanes(source, 2, 2 * (k.value & 1)))
 
 
 @form(V3, "vinserti128", "ixyy")
 def insert_half(cpu, x):
     k, source, other, to = x.operands
-    lanes, at = list(cpu.vector(other)), 2 * (k.value & 1)
-    lanes[at:at + 2] = read(cpu, source, x, 2)
-    write(cpu, to, x, lanes)
+    at = 2 * (k.value & 1)
+    half, kept = read(cpu, source, x, 2), cpu.lanes(other, 2, 2 - at)
+    write(cpu, to, x, half + kept if not at else kept + half)
 
 
 @form(V3, "vpbroadcastq", "mx my xy xx")
 def broadcast(cpu, x):
     source, to = x.operands
-    word = cpu.vector(source)[0] if is_vector(source) else cpu.get(source, WORD, x)
+    word = cpu.lanes(source)[0] if is_vector(source) else cpu.get(source, WORD, x)
     write(cpu, to, x, [word] * lanes_count(x))
 
 

@@ -32,7 +32,9 @@ class Words(Memory):
 
     def load(self, at, n):
         cell = self.cells.get(at)
-        near = self.cells_near(at, n) if isinstance(at, int) and (cell is None or cell[0] != n) else []
+        if cell is not None and cell[0] == n:
+            return cell[1]
+        near = self.cells_near(at, n) if isinstance(at, int) else []
         if all(isinstance(self.cells[first][1], (int, Node)) for first in near):
             return super().load(at, n)
         return Memory(self.name, self.length, self.in_bits(near)).load(at, n)

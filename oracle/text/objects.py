@@ -50,6 +50,8 @@ class Program:
         if set(self.sections) != {name for name, head in self.heads.items() if head.flags == CODE}:
             raise Unsupported("a section that objdump doesn't list")
         self.functions, self.exports = self.names()
+        self.labels = {symbol.name: self.place_of(symbol) for symbol in self.object.symbols
+                       if symbol.section and symbol.section < len(self.object.heads)}
 
     # ---- sections and names
 

@@ -56,7 +56,7 @@ class Processor:
         """Calls a function as C does, and gives what rax and rdx hold. An argument is a number, a term or an address;
         or (value, 32), where the upper half of its register may be anything."""
         self.registers = {name: self.fresh(name) for name in WIDE}
-        self.vectors = [[self.fresh(f"xmm{k}") for _ in range(LANES)] for k in range(16)]
+        self.forget_vectors()
         self.flags = self.carry = None
         self.stack, self.count = Stack(), 0
         self.registers["rsp"] = address(self.stack, ENTRY)
@@ -74,6 +74,10 @@ class Processor:
         if self.registers["rsp"].place() != (self.stack, ENTRY):
             raise Unsupported("the stack isn't the caller's at the end")
         return self.registers["rax"], self.registers["rdx"]
+
+    def forget_vectors(self):
+        """No lane may be read before it is written."""
+        self.vectors = [[None] * LANES for _ in range(16)]
 
     def run(self, place):
         """From a place to the return out of the first call."""
@@ -191,8 +195,12 @@ class Processor:
             x = joined((x, width), (above, WORD - width))
         self.registers[name] = x
 
-    def vector(self, operand):
-        return self.vectors[VECTORS[operand.name]]
+    def lanes(self, operand, count=1, first=0):
+        """Some lanes of a vector, which have to be there."""
+        found = self.vectors[VECTORS[operand.name]][first:first + count]
+        if any(x is None for x in found):
+            raise Unsupported(f"%{operand.name}, which isn't set")
+        return found
 
     # ---- flags
 
@@ -222,6 +230,6 @@ def call_of_outer(may_overlap, cpu, _):
         if register not in KEPT and register != "rsp":
             cpu.registers[register] = cpu.fresh(register)
     cpu.registers["rax"] = to
-    cpu.vectors = [[cpu.fresh("lane") for _ in range(LANES)] for _ in cpu.vectors]
+    cpu.forget_vectors()
     cpu.forget_flags()
     return cpu.pop()

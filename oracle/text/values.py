@@ -61,6 +61,8 @@ def address(memory, at=0):
 
 def combined(a, b, sign):
     """a + sign * b, where one is an address."""
+    if isinstance(b, int):
+        return Address(a.bases, near_zero(plus(a.offset, sign * b)))
     bases = {}
     for x, count in ((a, 1), (b, sign)):
         for base, often in x.bases if isinstance(x, Address) else ():
