@@ -15,6 +15,7 @@ from .values import address, arithmetic, bits, low
 
 WIDTHS = {"XXH32": 32, "XXH64": 64, "XXH128": 128}
 SHORTEST, LONGEST_KEPT = 136, 256       # bytes of a secret: that a call takes, that a state keeps
+MOST_NODES = 500_000                    # between two cases
 LIMITS = {32: (1 << 32) - 1, 64: (1 << 64) - 1}
 
 
@@ -161,9 +162,11 @@ def refused_resets(cpu):
 def short_secrets(cpu, hash_name, lengths):
     """A secret that is too short gives 0 where it is needed, which is at each length, or above 240 bytes where there
     is a seed too; up to there the seed's value. A null secret is one of no bytes."""
-    nodes.forget()
     entries, count = definition.program().run(), 0
     for n in lengths:
+        if len(nodes.NODES) > MOST_NODES:
+            nodes.forget()
+            entries = definition.program().run()
         for size in range(SHORTEST):
             for kind in ("secret", "both"):
                 request = Request(hash_name, kind, n, size)
@@ -176,7 +179,6 @@ def short_secrets(cpu, hash_name, lengths):
 
 def null_pointers(cpu):
     """An input of no bytes and a secret of none may be null."""
-    nodes.forget()
     entries, count = definition.program().run(), 0
     for hash_name, kind in (("32", "seed"), ("64", "seed"), *((name, kind) for name in ("3-64", "3-128")
                                                                 for kind in one_shots.WAYS)):
@@ -193,7 +195,6 @@ def null_pointers(cpu):
 
 def updates_of_nothing(cpu):
     """A null piece of no bytes, before, between and after others, leaves what a state answers."""
-    nodes.forget()
     entries, count = definition.program().run(), 0
     for hash_name, kind in (("32", "seed"), ("64", "seed"), ("3-64", "default"), ("3-128", "default")):
         for n in (0, 5, 33, 300, 700):
@@ -209,7 +210,6 @@ def updates_of_nothing(cpu):
 
 def derived_secret(cpu):
     """The 192 bytes of the secret that a seed derives."""
-    nodes.forget()
     entries = definition.program().run()
     for seed in (symbol("seed64", 64), 0):
         cpu.not_zero = []
@@ -222,9 +222,12 @@ def derived_secret(cpu):
 
 def made_secrets(cpu, asked):
     """Secrets of some lengths, of custom seeds of some lengths; too short ones are refused, and nothing is written."""
-    nodes.forget()
-    entries = definition.program(["twox_c"], ["generated_secret"]).run()
+    program = definition.program(["twox_c"], ["generated_secret"])
+    entries = program.run()
     for size, length in asked:
+        if len(nodes.NODES) > MOST_NODES:
+            nodes.forget()
+            entries = program.run()
         room = Words("secret", size, [(k, 1, cpu.fresh("a byte", 8)) for k in range(size)], alignment=1)
         before, source = [room.load(k, 1) for k in range(size)], Input("m", length)
         answer = cpu.call("proved_XXH3_generateSecret", address(room), size, address(source) if length else 0, length)

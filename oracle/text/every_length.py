@@ -10,7 +10,7 @@ import table
 from terms import definition, nodes
 from terms.definition import Bytes, suppositions
 from terms.every_length import LONGEST
-from terms.loops import NotShown
+from terms.loops import REFUSALS, NotShown
 from terms.memory import Input
 from terms.polynomials import at_most, given, minus, names_of, plus, times, value_at, variable
 from terms.sides import seed_symbol
@@ -117,6 +117,8 @@ class EveryLength:
         self.cpu.loops, self.cpu.limit = Loops(self.cpu.program, family), LIMIT
         try:
             return value_of(self.hash_name, self.cpu.call(name_of(self.hash_name, self.way), *arguments))
+        except REFUSALS as error:
+            raise NotShown("; ".join([str(error), *self.cpu.loops.refused])) from error
         finally:
             self.told.update({line.split(", ", 1)[1].split(":")[0]: line for line in self.cpu.loops.told})
             self.cpu.loops, self.cpu.limit = None, NO_LIMIT

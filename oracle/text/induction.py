@@ -86,7 +86,7 @@ class Loops:
     """Asked wherever a loop may begin: at each place that its section jumps back to."""
 
     def __init__(self, program, family):
-        self.program, self.family, self.told, self.known = program, family, [], {}
+        self.program, self.family, self.told, self.refused, self.known = program, family, [], [], {}
         self.running, self.stop, self.is_guessing, self.given_up = {}, None, False, set()
 
     def heads(self, section):
@@ -133,9 +133,11 @@ class Proof:
         """Shows the loop, and leaves the processor at its head before the last turn: from there it runs on. False, and
         the state as it was, where it isn't one of the family: then it is run, turn by turn."""
         for first in self.firsts():
-            with contextlib.suppress(*REFUSALS):
+            try:
                 if self.by_turns(first):
                     return True
+            except REFUSALS as error:
+                self.loops.refused.append(f"{self.head[0]} {self.head[1]:x} from {first}: {error}")
             self.forget()
             self.enter(0)
             self.cpu.flags, self.cpu.carry = self.flags

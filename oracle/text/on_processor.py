@@ -40,20 +40,24 @@ SNIPPETS = [*([f"cmp %{other},%rax", f"j{name} 1f", "not %rax", "1: not %rcx"] f
 # ---- the instructions
 
 def asked(programs, each):
-    """Text -> mnemonic: each instruction of the programs, or one of each form; and one of each form of the table that
+    """Text -> form: each instruction of the programs, or one of each form; and one of each form of the table that
     no program has."""
     out, forms = {}, set()
     for program in programs:
         for code in program.sections.values():
             for x in code.values():
-                key = x.mnemonic, letters(x)
+                key = form_of(x)
                 if not x.mnemonic.startswith(BEHIND) and (each or key not in forms):
-                    out[written(x.mnemonic, x.operands)] = x.mnemonic
+                    out[written(x.mnemonic, x.operands)] = key
                 forms.add(key)
     for mnemonic, form in TABLE:
         if (mnemonic, form) not in forms and not mnemonic.startswith(BEHIND):
-            out[written(mnemonic, sample(form))] = mnemonic
+            out[written(mnemonic, sample(form))] = mnemonic, form
     return out
+
+
+def form_of(x):
+    return x.mnemonic, letters(x)
 
 
 def sample(form):
@@ -63,7 +67,7 @@ def sample(form):
             used[letter] = used.get(letter, -1) + 1
             out.append(Register(SAMPLE[letter][used[letter]]))
         else:
-            out.append(Immediate(1) if letter == "i" else Place(0, "rax", None, 1))
+            out.append(Immediate(5) if letter == "i" else Place(0, "rax", None, 1))
     return out
 
 
@@ -184,7 +188,10 @@ def compare(programs, room, each):
     whole = ctypes.create_string_buffer(SIZE + 64)
     first = -ctypes.addressof(whole) % 64
     state = (ctypes.c_ubyte * SIZE).from_buffer(whole, first)
-    for number, lines in enumerate(snippets):
+    for number, (lines, form) in enumerate(zip(snippets, [*texts.values(), *[None] * len(SNIPPETS)])):
+        section, at = program.labels[f"b{number}"]
+        if form not in (None, form_of(program.sections[section][at])):
+            wrong.append(f"{lines[0]} isn't of the form {' '.join(form)}")
         run = getattr(library, f"t{number}")
         for _ in range(ROUNDS):
             data = inputs(lines[0].split()[0], lines, draw)

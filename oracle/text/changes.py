@@ -1,0 +1,251 @@
+"""Changes of single instructions of a text, each of which has to be noticed: another register, operand, number,
+condition or shift, an instruction left out, or two neighbours in the other order.
+
+A change is asked of questions that run the instruction: one-shots and streams, compared with the definition's terms,
+and the other calls, which compare by themselves. It is noticed where a question finds another term, or where the text
+does what no call may do. Those that aren't are listed in equal_changes.txt with their reasons. A crash of this program
+isn't counted as noticed."""
+import collections
+import os
+import random
+
+from terms import definition, nodes
+from terms.loops import REFUSALS, NotShown
+from terms.nodes import WrongRule, is_same
+from terms.sides import Request
+
+from . import calls, one_shots, streams
+from .instructions import PARTS, SETS, TABLE, VECTORS, letters
+from .objects import Immediate, Place, Register
+from .processor import Processor
+
+EQUAL = os.path.join(os.path.dirname(os.path.abspath(__file__)), "equal_changes.txt")
+LIMIT = 300_000                   # instructions of a changed text's call
+MOST = 200                        # questions that a change is asked
+MANY, FEW, EACH = 1000, 50, 7     # changes of a text with --all and else, and then the requests: each so manieth
+IDLE = "nop", "prefetcht0", "vzeroupper", "ud2"
+UNNOTICED, CRASH = "unnoticed", "A CRASH"
+ALIKE = [("je", "jne"), ("jb", "jbe"), ("ja", "jae"), ("jb", "jae"), ("sete", "setne"), ("cmovb", "cmovae"),
+         ("add", "sub"), ("xor", "or"), ("and", "or"), ("inc", "dec"), ("neg", "not"), ("shl", "shr"), ("paddq", "psubq"),
+         ("paddq", "pxor"), ("psrlq", "psllq"), ("punpcklqdq", "punpckhqdq"), ("pmuludq", "paddq"), ("pmulld", "paddd"),
+         ("movzbl", "movsbl"), ("imul", "add"), ("movq", "movl"), ("vpslldq", "vpsrldq"), ("mul", "div")]
+
+
+# ---- questions
+
+class Question:
+    """A request of the text, with the definition's term; or a call that compares by itself. `run` gives what is
+    noticed, or None."""
+
+    def __init__(self, title, ask, said=None):
+        self.title, self.ask, self.said = title, ask, said
+
+    def run(self, cpu):
+        try:
+            ours = self.ask(cpu)
+            return None if self.said is None or is_same(self.said, ours) else "another term"
+        except (*REFUSALS, WrongRule) as error:
+            return f"{type(error).__name__}"
+        except Exception as error:
+            return f"{CRASH}: {error!r}"
+
+
+def requests():
+    kinds = [("32", "seed", None), ("64", "seed", None)]
+    kinds += [(name, kind, 136 if kind in ("secret", "both") else None) for name in ("3-64", "3-128")
+              for kind in one_shots.WAYS]
+    for hash_name, kind, secret in kinds:
+        for n in ONE_SHOTS:
+            yield Request(hash_name, kind, n, secret)
+        for n, *cuts in STREAMS:
+            yield Request(hash_name, kind, n, secret, cuts=cuts)
+    for hash_name in ("3-64", "3-128"):
+        for n, secret in BY_SECRETS:
+            yield Request(hash_name, "secret", n, secret)
+
+
+ONE_SHOTS = [*range(0, 34), 36, 40, 45, 52, 63, 64, 65, 70, 80, 96, 97, 112, 113, 127, 128, 129, 130, 144, 145, 160, 177,
+             192, 208, 224, 240, 241, 255, 256, 257, 300, 319, 320, 321, 384, 447, 512, 513, 576, 640, 700, 1024, 1025,
+             1088, 1400, 2049]
+STREAMS = [(0,), (5, 2), (16, 7), (33, 1), (40, 20, 39), (64, 32), (70, 33, 64), (100, 3, 99), (200, 31, 160), (240, 239),
+           (241, 240), (257, 256), (300, 64, 128, 192), (320, 129, 256), (513, 512), (600, 512, 599), (700, 1, 520),
+           (1025, 512, 1024), (1100, 64), (1500, 600), (1500, 40, 1100), (2200, 513, 1500), (2600, 1, 513, 2561)]
+BY_SECRETS = [(300, 137), (700, 143), (900, 192), (1100, 195), (1025, 192), (1300, 200), (2000, 256), (600, 1000),
+              (1100, 144)]
+
+
+def of_request(request, entries):
+    said = request.of_definition(entries)
+    side = one_shots if request.cuts is None else streams
+    return Question(repr(request), lambda cpu: side.of_text(cpu, request), said)
+
+
+def questions(entries, each):
+    """Each so manieth request with its twins, and the other calls."""
+    asked = [twin for request in list(requests())[::each] for twin in [request, *request.with_seed_0()]]
+    others = [calls.canonical_forms, calls.is_equal, calls.compare, calls.version, calls.copies, calls.forgotten,
+              calls.without_mark, calls.refused_resets, calls.updates_of_nothing, calls.null_pointers, calls.derived_secret,
+              some_secrets]
+    return [*(of_request(request, entries) for request in asked), *(Question(call.__name__, silent(call)) for call in others)]
+
+
+def some_secrets(cpu):
+    calls.made_secrets(cpu, [(135, 3), (136, 0), (143, 3), (200, 17), (256, 241)])
+
+
+def silent(call):
+    """A call that compares by itself, as what gives no value."""
+    def ask(cpu):
+        call(cpu)
+    return ask
+
+
+# ---- which questions run an instruction
+
+def reaching(cpu, asked):
+    """Place -> the questions that run the instruction there, as bits of a number. Each has to be answered as it
+    should be: else the text itself is wrong."""
+    found = collections.defaultdict(int)
+    for k, question in enumerate(asked):
+        cpu.used, known = set(), nodes.mark()
+        told = question.run(cpu)
+        nodes.release(known)
+        if told:
+            raise NotShown(f"{question.title}: {told}")
+        for place in cpu.used:
+            found[place] |= 1 << k
+    return {place: bits for place, bits in found.items() if place[0] in cpu.program.sections}
+
+
+def outcome(cpu, instructions, asked, bits, draw):
+    """What becomes of a change, by the questions that run it: some at random, in the end all of them."""
+    before = [cpu.code[x.section][x.at][1] for x in instructions]
+    waiting = [k for k in range(len(asked)) if bits >> k & 1]
+    draw.shuffle(waiting)
+    try:
+        for x in instructions:
+            cpu.change(x)
+        for k in waiting[:MOST]:
+            known = nodes.mark()
+            told = asked[k].run(cpu)
+            nodes.release(known)
+            if told:
+                return told
+    finally:
+        for x in before:
+            cpu.change(x)
+    return UNNOTICED
+
+
+# ---- changes
+
+def other_register(name, draw):
+    if name in VECTORS:
+        return f"{name[:3]}{(VECTORS[name] + draw.randrange(1, 16)) % 16}"
+    whole, first, width = PARTS[name]
+    return draw.choice([other for other, (to, at, n) in PARTS.items() if (at, n) == (first, width) and
+                        to not in (whole, "rsp")] or [name])
+
+
+def with_operand(x, k, operand):
+    return x._replace(operands=(*x.operands[:k], operand, *x.operands[k + 1:]))
+
+
+def of_operand(x, k, draw):
+    """Other operands in the place of one: (what, instruction)."""
+    operand = x.operands[k]
+    if isinstance(operand, Register):
+        yield "register", with_operand(x, k, Register(other_register(operand.name, draw)))
+    elif isinstance(operand, Immediate):
+        yield "number", with_operand(x, k, Immediate(operand.value + draw.choice((1, -1))))
+        if operand.value > 255:
+            yield "number", with_operand(x, k, Immediate(operand.value ^ 1 << draw.randrange(operand.value.bit_length())))
+    elif operand.base == "rip":
+        yield "constant", x._replace(target=(x.target[0], x.target[1] + 8))
+    else:
+        further = operand.displacement + draw.choice((1, -1, 8, -8, 16))
+        yield "displacement", with_operand(x, k, operand._replace(displacement=further))
+        if operand.base:
+            yield "base", with_operand(x, k, operand._replace(base=other_register(operand.base, draw)))
+        if operand.index:
+            yield "scale", with_operand(x, k, operand._replace(scale=operand.scale % 8 * 2 or 1))
+
+
+def of_instruction(x, draw):
+    """All ways to change one instruction: (what, instructions)."""
+    yield "left out", [x._replace(mnemonic="nop", operands=(), target=None)]
+    for pair in ALIKE:
+        for name, other in (pair, pair[::-1]):
+            for prefix in ("", "v"):
+                if x.mnemonic == prefix + name:
+                    yield f"{prefix}{other}", [x._replace(mnemonic=prefix + other)]
+    for k in range(len(x.operands)):
+        yield from ((what, [changed]) for what, changed in of_operand(x, k, draw))
+
+
+def swapped(x, y):
+    """Two neighbours in the other order, where the second takes what the first makes."""
+    is_plain = all(z.target is None and z.operands and z.mnemonic not in ("push", "pop") for z in (x, y))
+    made = x.operands[-1] if is_plain else None
+    if isinstance(made, Register) and made in y.operands[:-1] and made != y.operands[-1]:
+        yield "after the next", [y._replace(at=x.at, end=x.end), x._replace(at=y.at, end=y.end)]
+
+
+def is_form(x, name):
+    return TABLE.get((x.mnemonic, letters(x)), (None,))[0] in SETS[name]
+
+
+def drawn(cpu, places, draw):
+    """(place, text, instructions) of random changes, without end. What computes nothing isn't changed."""
+    while True:
+        section, at = draw.choice(places)
+        x = cpu.program.sections[section][at]
+        if x.mnemonic in IDLE:
+            continue
+        ways = list(of_instruction(x, draw))
+        if x.end in cpu.program.sections[section]:
+            ways += swapped(x, cpu.program.sections[section][x.end])
+        what, instructions = draw.choice(ways)
+        if all(is_form(y, cpu.name) for y in instructions) and instructions != [x]:
+            yield (section, at), f"{section[6:]} {written(x)}: {what} {'; '.join(map(written, instructions))}", instructions
+
+
+def written(x):
+    """An instruction as objdump says it, without its place."""
+    parts = []
+    for y in x.operands:
+        if isinstance(y, Place):
+            index = f",%{y.index},{y.scale}" if y.index else ""
+            parts.append(f"{y.displacement:#x}({'%' + y.base if y.base else ''}{index})")
+        else:
+            parts.append(f"%{y.name}" if isinstance(y, Register) else f"${y.value:#x}")
+    return f"{x.mnemonic} {','.join(parts)}".strip()
+
+
+# ---- the row
+
+def reasons():
+    """The changes that change nothing that is promised: words that all stand in the change's text, and the reason."""
+    with open(EQUAL, encoding="utf-8") as file:
+        return dict(line.strip().split(" | ") for line in file if line.strip() and not line.startswith("#"))
+
+
+def is_equal(text, known):
+    return any(all(word in text for word in words.split(" & ")) for words in known)
+
+
+def noticed(name, program, is_all):
+    """(changes that were tried, those that aren't noticed and have no reason)."""
+    nodes.forget()
+    cpu, draw = Processor(program, name), random.Random(1)
+    cpu.limit = LIMIT
+    asked = questions(definition.program().run(), 1 if is_all else EACH)
+    found = reaching(cpu, asked)
+    known, bad, told = reasons(), [], collections.Counter()
+    changes = drawn(cpu, sorted(found), draw)
+    for place, text, instructions in (next(changes) for _ in range(MANY if is_all else FEW)):
+        what = outcome(cpu, instructions, asked, found[place], draw)
+        told[what.split(":")[0]] += 1
+        if what.startswith((CRASH, "WrongRule")) or what == UNNOTICED and not is_equal(text, known):
+            bad.append(f"{what}: {text}")
+    return sum(told.values()), bad

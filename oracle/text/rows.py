@@ -1,0 +1,197 @@
+"""The rows of oracle/machine-text: what is asked of the texts, and the least number of cases that each has."""
+import functools
+import os
+import subprocess
+import tempfile
+
+from terms import comparison, nodes
+from terms.loops import REFUSALS
+from terms.nodes import WrongRule
+from terms.processes import Row
+from terms.sides import TOP
+
+from . import calls, changes, every_length, exports, lanes, on_processor, one_shots, planted, scalar, streams
+from .instructions import TABLE, V2, V3
+from .objects import Program
+from .processor import Processor
+
+NAMES = V2, V3
+FOLDER = os.path.join(TOP, "c", "asm")
+ONE_BY_ONE, MORE = range(301), range(301, 1101)     # lengths asked one by one: always, and with --all
+SECRETS, EVERY_SECRET = (136,), (136, 137, 143, 144, 192, 193, 199, 200, 256)
+FEW_STREAMED = [0, 5, 17, 33, 70, 241, 513]         # lengths of streams, of which those of `comparison` are more
+MOST_NODES = 400_000                                # of the cases of a proof
+SMALL = [0, 1, 3, 4, 8, 9, 16, 17, 128, 129, 240, 241, 1000]
+assert scalar and lanes                             # which fill the table
+
+
+def programs():
+    """The texts as gcc assembles them, which is how users do it."""
+    with tempfile.TemporaryDirectory(prefix="machine-text-") as room:
+        return {name: assembled(f"{FOLDER}/{name}.s", f"{room}/{name}.o") for name in NAMES}
+
+
+def assembled(source, to):
+    subprocess.run(["gcc", "-c", source, "-o", to], check=True)
+    return Program(to)
+
+
+def processors(texts):
+    return {name: Processor(program, name) for name, program in texts.items()}
+
+
+def counted(title, least, ask):
+    """A row that has at least so many cases: `ask` gives their number, and what there is to say of others."""
+    def outcome():
+        count, bad = ask()
+        few = [f"{count} cases, and {least} at least are wanted"] if count < least and not bad else []
+        return f"{count} cases", bad + few
+    return Row(title, outcome)
+
+
+def choose(options, texts):
+    rows = one_shot_rows(texts, options.all) + secret_rows(texts, options.all) + every_length_rows(texts, options.all)
+    rows += stream_rows(texts, options.all) + call_rows(texts, options.all) + machine_rows(texts, options.all)
+    rows.insert(0, export_row(texts, [row.title for row in rows]))
+    return [row for row in rows if options.only in row.title]
+
+
+def export_row(texts, titles):
+    return counted("each export has its row", 54 * len(texts),
+                   lambda: (sum(exports.expect_all(program, titles) for program in texts.values()), []))
+
+
+# ---- one-shots and streams, by comparison with the definition's terms
+
+def title_of(hash_name, kind, secret):
+    return f"XXH{hash_name}, {kind}" + (f" of {secret} bytes" if secret else "")
+
+
+def compared(texts, title, kind, asked, side=one_shots):
+    """A row of requests, each of all texts: the definition's term is made once."""
+    def ask():
+        sides = {name: functools.partial(side.of_text, cpu) for name, cpu in processors(texts).items()}
+        return comparison.compare(sides, *kind, asked, side is streams)
+    first, last = min(asked), max(asked)
+    return counted(f"{title}: {first} to {last} bytes" if last > first else f"{title}: {first} bytes",
+                   len(asked) * len(texts), ask)
+
+
+def one_shot_rows(texts, is_all):
+    out = [compared(texts, title_of(*kind), kind, ONE_BY_ONE) for kind in comparison.kinds(SECRETS)]
+    if is_all:
+        for kind in comparison.kinds(EVERY_SECRET):
+            if kind[2] not in (None, *SECRETS):
+                out.append(compared(texts, title_of(*kind), kind, ONE_BY_ONE))
+            out.append(compared(texts, title_of(*kind), kind, MORE))
+            out.append(compared(texts, f"{title_of(*kind)}, at edges", kind, comparison.edges(kind[2])))
+        out += [compared(texts, title_of(*kind), kind, [every_length.PREFETCHED]) for kind in comparison.kinds(())
+                if kind[0].startswith("3-")]
+    return out
+
+
+def secret_rows(texts, is_all):
+    """Secrets of each length to 1,000: too short ones are refused."""
+    out = []
+    for hash_name in ("3-64", "3-128"):
+        lengths = SMALL if is_all else [0, 17, 241]
+        out.append(of_each(texts, f"XXH{hash_name}, secrets that are too short", 2 * 136 * len(lengths),
+                           functools.partial(calls.short_secrets, hash_name=hash_name, lengths=lengths)))
+        asked = range(calls.SHORTEST, 1001) if is_all else [*range(136, 144), *range(190, 202), 256, 257, 576, 999, 1000]
+        lengths = [0, 16, 17, 129, 240, 241, 1025] if is_all else [240, 700]
+        out.append(counted(f"XXH{hash_name}, secrets of {asked[0]} to {asked[-1]} bytes", len(asked) * len(lengths),
+                           functools.partial(secrets, texts, hash_name, asked, lengths)))
+    return out
+
+
+def secrets(texts, hash_name, asked, lengths):
+    found = [compared(texts, "", (hash_name, kind, size), lengths).ask for size in asked for kind in ("secret", "both")]
+    return len(found) * len(lengths), [line for ask in found for line in ask()[1]]
+
+
+def stream_rows(texts, is_all):
+    kinds = comparison.kinds((136, 192, 193, 256) if is_all else SECRETS)
+    asked = [*comparison.STREAMED, *MANY_STREAMED] if is_all else FEW_STREAMED
+    out = [compared(texts, f"streams of {title_of(*kind)}", kind, asked, streams) for kind in kinds]
+    return out
+
+
+MANY_STREAMED = [1500, 2200, 3000, 4200]
+
+
+# ---- every length
+
+def every_length_rows(texts, is_all):
+    kinds = ["32", "64"] + ["3-64:default", "3-64:seed", "3-128:default", "3-128:seed"] * is_all
+    out = [counted("every length has its row", len(kinds), functools.partial(lengths_left_out, kinds))]
+    for kind in kinds:
+        for name, program in texts.items():
+            for seed in [None, 0] if kind.endswith("seed") else [None]:
+                title = f"XXH{kind.replace(':', ', ')}{' 0' if seed == 0 else ''}: every length to 2^64 - 1, {name}"
+                out.append(counted(title, len(every_length.cases(kind)),
+                                   functools.partial(shown, name, program, kind, seed)))
+    return out
+
+
+def lengths_left_out(kinds):
+    """Of XXH3 the row of one length stands for that one."""
+    bad = []
+    for kind in kinds:
+        first = MORE.stop if ":" in kind else ONE_BY_ONE.stop
+        others = set(every_length.left_out(kind, first)) - ({every_length.PREFETCHED} if ":" in kind else set())
+        bad += [f"XXH{kind}: no row has {sorted(others)[:5]}"] if others else []
+    return len(kinds), bad
+
+
+def shown(name, program, kind, seed):
+    count, bad, proof = 0, [], every_length.EveryLength(Processor(program, name), kind)
+    for case in every_length.cases(kind):
+        if len(nodes.NODES) > MOST_NODES:
+            proof = every_length.EveryLength(Processor(program, name), kind)
+        try:
+            proof.show(case, seed)
+            count += 1
+        except (*REFUSALS, WrongRule) as error:
+            bad.append(f"{case.length} bytes: {type(error).__name__}: {error}")
+    return count, bad
+
+
+# ---- the other calls
+
+def of_each(texts, title, least, call):
+    """A row of a function of a processor, which gives the number of its cases, or raises."""
+    return counted(title, least * len(texts), lambda: (sum(call(cpu) for cpu in processors(texts).values()), []))
+
+
+def call_rows(texts, is_all):
+    sizes = [0, 1, 135, 136, 137, 143, 144, 191, 192, 256, 1000] if not is_all else [*range(0, 301), 1000]
+    seeds = [0, 1, 17, 136, 241, 300] if is_all else [0, 3, 241]
+    made = [(size, length) for size in sizes for length in seeds]
+    of = functools.partial(of_each, texts)
+    return [of("canonical forms and back", 6, calls.canonical_forms), of("equal hashes", 4, calls.is_equal),
+            of("the order of hashes", 9, calls.compare), of("the version", 1, calls.version),
+            of("copies of states", 3, calls.copies), of("freed states are refused", 4, calls.forgotten),
+            of("streams: memory without the mark of a reset", 8, calls.without_mark),
+            of("streams: secrets that a state doesn't keep", 80, calls.refused_resets),
+            of("streams: null pieces of no bytes", 20, calls.updates_of_nothing),
+            of("null inputs and secrets of no bytes", 14, calls.null_pointers),
+            of("the derived secret", 2, calls.derived_secret),
+            of("made secrets", len(made), functools.partial(calls.made_secrets, asked=made)),
+            counted("names of another's code", 9 * len(texts),
+                    lambda: (sum(exports.expect_twins(program) for program in texts.values()), []))]
+
+
+# ---- the machine, and what has to be noticed
+
+def machine_rows(texts, is_all):
+    return [counted("the table of instructions beside the processor", len(TABLE) - 40,
+                    functools.partial(beside_processor, texts, is_all)),
+            counted("wrong texts of each kind are refused", len(planted.WRONG), planted.refused),
+            *(counted(f"changes of one instruction, {name}", 1000 if is_all else 50,
+                      functools.partial(changes.noticed, name, program, is_all)) for name, program in texts.items())]
+
+
+def beside_processor(texts, is_all):
+    on_processor.expect_processor()
+    with tempfile.TemporaryDirectory(prefix="machine-text-") as room:
+        return on_processor.compare(texts.values(), room, each=is_all)
