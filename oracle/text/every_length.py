@@ -78,10 +78,13 @@ class EveryLength:
     """A kind of call of a text, its cases one by one: 32, 64, or of XXH3 as 3-64:seed."""
 
     def __init__(self, cpu, kind):
-        nodes.forget()
-        suppositions.clear()
         self.cpu, self.told, self.kind = cpu, {}, kind
         self.hash_name, _, self.way = kind.partition(":")
+        self.forget()
+
+    def forget(self):
+        nodes.forget()
+        suppositions.clear()
         self.texts = definition.program().run(traced=suppositions)
 
     def show(self, case, seed=None):

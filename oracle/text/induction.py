@@ -1,6 +1,6 @@
 """Loops of a text of any number of turns, shown by induction, as terms/loops.py does it for LLVM's text.
 
-A cell is a register, a lane of a vector, or a cell of the stack. At a loop's head after k turns some cells hold the
+A cell is a register, a lane of a vector, or a cell of the stack or of another object that may be written to. At a loop's head after k turns some cells hold the
 words that the definition says of so many stripes. Which ones isn't said: they are those that hold the definition's
 words at the start, and those of some stripes more after a first turn. Of the other cells that the turn changes some go
 on by a step, and what is left may be anything at the head. All of that is a guess, which a turn from k = any number
@@ -65,15 +65,18 @@ def same(a, b):
 
 
 def cells_of(cpu):
-    """All that a processor holds: cell -> value. Of the stack a cell's size counts as well."""
+    """All that a processor holds, and the objects that live: cell -> value. Of memory a cell's size counts as well."""
     out = {("register", name): x for name, x in cpu.registers.items()}
     out.update({("lane", k, lane): x for k, lanes in enumerate(cpu.vectors) for lane, x in enumerate(lanes)})
-    out.update({("stack", at, size): x for at, (size, x) in cpu.stack.cells.items()})
+    for memory in [cpu.stack, *cpu.live]:
+        out.update({(memory, at, size): x for at, (size, x) in memory.cells.items()})
     return out
 
 
 def name_of(cell):
-    return {"register": "{1}", "lane": "v{1}[{2}]", "stack": "stack[{1}]"}[cell[0]].format(*cell)
+    if cell[0] == "register":
+        return cell[1]
+    return f"v{cell[1]}[{cell[2]}]" if cell[0] == "lane" else f"{cell[0].name}[{cell[1]}]"
 
 
 # ---- where loops begin
@@ -150,7 +153,8 @@ class Proof:
         for x in self.cpu.registers.values():
             if isinstance(x, Address) and len(x.bases) == 1 and isinstance(x.bases[0][0], Input):
                 with contextlib.suppress(Undecided):
-                    k, _ = divided(x.offset, self.family.stripe)
+                    memory, at = x.place()
+                    k, _ = divided(memory.origin(at)[1], self.family.stripe)
                     guesses += [plus(k, d) for d in NEAR if not any(is_same_number(plus(k, d), x) for x in guesses)]
         values = self.start.values()
         numbers = {x for x in values if isinstance(x, int)}
@@ -199,8 +203,9 @@ class Proof:
                 cpu.registers[cell[1]] = cpu.fresh("unset") if cell in self.unset else x
             elif cell[0] == "lane":
                 cpu.vectors[cell[1]][cell[2]] = None if cell in self.unset else x
-        cpu.stack.cells = {cell[1]: (cell[2], x) for cell, x in now.items()
-                           if cell[0] == "stack" and cell not in self.unset}
+        for memory in [cpu.stack, *cpu.live]:
+            memory.cells = {cell[1]: (cell[2], x) for cell, x in now.items()
+                            if cell[0] is memory and cell not in self.unset}
 
     def supposed(self, first, k):
         """New symbols, which are the definition's words after k turns."""

@@ -89,8 +89,6 @@ def copy(to, source, n, may_overlap):
     if not n:
         return
     (memory, at), (source, first) = to.place(), source.place()
-    if not isinstance(memory, Words):
-        raise Unsupported(f"a copy to {memory.name}")
     if memory is source and not may_overlap and not is_apart(at, first, n):
         raise Unsupported("a copy of bytes onto themselves")
     parts = list(taken(source, first, n))

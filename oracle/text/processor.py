@@ -26,8 +26,9 @@ NO_LIMIT = 1 << 24                # instructions of a call
 
 
 class Processor:
-    """A program, by a processor of a name. `not_zero` has terms that are supposed not to be 0, `loops` is
-    asked wherever a loop may begin, `used` has the instructions that ran, and `limit` how many may in a call."""
+    """A program, by a processor of a name. `not_zero` has terms that are supposed not to be 0; `loops` is asked
+    wherever a loop may begin, and `live` has the objects that calls may write to then; `used` has the instructions that
+    ran, and `limit` how many may in a call."""
 
     def __init__(self, program, name):
         self.program, self.name = program, name
@@ -36,7 +37,8 @@ class Processor:
                      for section, code in program.sections.items()}
         for outer in OUTER:
             self.code[outer] = {0: (functools.partial(call_of_outer, outer == "memmove"), None)}
-        self.not_zero, self.loops, self.used, self.made, self.limit, self.count = [], None, set(), 0, NO_LIMIT, 0
+        self.not_zero, self.loops, self.live = [], None, []
+        self.used, self.made, self.limit, self.count = set(), 0, NO_LIMIT, 0
 
     def change(self, instruction):
         """Puts an instruction in the place of the one there."""
@@ -156,9 +158,14 @@ class Processor:
             raise Unsupported("a place to return to as a value")
         return x
 
-    def store(self, memory, at, n, x):
-        if not isinstance(memory, Words):
+    def expect_writable(self, memory):
+        """What is written while loops are shown has to be among what is looked at for that."""
+        is_known = not self.loops or memory is self.stack or any(memory is other for other in self.live)
+        if not isinstance(memory, Words) or not is_known:
             raise Unsupported(f"a store to {memory.name}")
+
+    def store(self, memory, at, n, x):
+        self.expect_writable(memory)
         memory.store(at, n, x)
 
     # ---- operands
@@ -222,9 +229,11 @@ def call_of_outer(may_overlap, cpu, _):
     if (at + 8) % 16:
         raise Unsupported("a call with the stack at no multiple of 16")
     memory.forget_below(at)
-    if not is_same(n, 0) and isinstance(to, Address) and to.place()[0] is memory and not is_natural(
-            minus(to.place()[1], at + 8)):
-        raise Unsupported("a copy to what lies below the stack")
+    if not is_same(n, 0):
+        room, first = to.place()
+        cpu.expect_writable(room)
+        if room is memory and not is_natural(minus(first, at + 8)):
+            raise Unsupported("a copy to what lies below the stack")
     copy(to, source, n, may_overlap)
     for register in WIDE:
         if register not in KEPT and register != "rsp":

@@ -7,10 +7,11 @@ import tempfile
 from terms import comparison, nodes
 from terms.loops import REFUSALS
 from terms.nodes import WrongRule
+from terms.polynomials import variable
 from terms.processes import Row
 from terms.sides import TOP
 
-from . import calls, changes, every_length, exports, lanes, on_processor, one_shots, planted, scalar, streams
+from . import any_updates, calls, changes, every_length, exports, lanes, on_processor, one_shots, planted, scalar, streams
 from .instructions import TABLE, V2, V3
 from .objects import Program
 from .processor import Processor
@@ -19,7 +20,8 @@ NAMES = V2, V3
 FOLDER = os.path.join(TOP, "c", "asm")
 ONE_BY_ONE, MORE = range(301), range(301, 1101)     # lengths asked one by one: always, and with --all
 SECRETS, EVERY_SECRET = (136,), (136, 137, 143, 144, 192, 193, 199, 200, 256)
-FEW_STREAMED = [0, 5, 17, 33, 70, 241, 513]         # lengths of streams, of which those of `comparison` are more
+FEW_STREAMED, MANY_STREAMED = [0, 5, 17, 33, 70, 241, 513], [1500, 2200, 3000, 4200]      # lengths of streams
+SOME_UPDATES, UPDATE_PARTS = 97, 4                  # updates of streams, in a sample and in parts
 MOST_NODES = 400_000                                # of the cases of a proof
 SMALL = [0, 1, 3, 4, 8, 9, 16, 17, 128, 129, 240, 241, 1000]
 assert scalar and lanes                             # which fill the table
@@ -113,10 +115,46 @@ def stream_rows(texts, is_all):
     kinds = comparison.kinds((136, 192, 193, 256) if is_all else SECRETS)
     asked = [*comparison.STREAMED, *MANY_STREAMED] if is_all else FEW_STREAMED
     out = [compared(texts, f"streams of {title_of(*kind)}", kind, asked, streams) for kind in kinds]
+    out.append(counted("each update of XXH32 and XXH64 has its row", 2, updates_left_out))
+    for hash_name in any_updates.LAYOUTS:
+        count = len(list(any_updates.updates(hash_name)))
+        for name, program in texts.items():
+            parts = range(UPDATE_PARTS) if is_all else [None]
+            for part in parts:
+                words = f"part {part + 1} of {UPDATE_PARTS}" if is_all else f"each {SOME_UPDATES}th case"
+                least = count // (UPDATE_PARTS if is_all else SOME_UPDATES)
+                out.append(counted(f"streams of XXH{hash_name}: any updates, to 2^64 - 1 bytes, {name}, {words}", least,
+                                   functools.partial(any_streams, name, program, hash_name, part)))
     return out
 
 
-MANY_STREAMED = [1500, 2200, 3000, 4200]
+def updates_left_out():
+    bad = [f"XXH{name}: no case has {left[:5]}" for name in any_updates.LAYOUTS if (left := any_updates.left_out(name))]
+    return len(any_updates.LAYOUTS) - len(bad), bad
+
+
+def any_streams(name, program, hash_name, part):
+    """Reset, digests, and the updates of a part, or a sample of them."""
+    proof = any_updates.AnyUpdates(Processor(program, name), hash_name)
+    cases = list(any_updates.updates(hash_name))
+    asked = [functools.partial(proof.update, one) for one in
+             (cases[::SOME_UPDATES] if part is None else cases[part::UPDATE_PARTS])]
+    asked += [proof.reset, *(functools.partial(proof.digest, a, r) for r in range(int(hash_name) // 2)
+                             for a in (0, variable("a")))] if not part else []
+    return count_shown(proof, asked)
+
+
+def count_shown(proof, asked):
+    """(how many of the cases are shown, what there is to say of the others)."""
+    bad = []
+    for ask in asked:
+        if len(nodes.NODES) > MOST_NODES:
+            proof.forget()
+        try:
+            ask()
+        except (*REFUSALS, WrongRule) as error:
+            bad.append(f"{type(error).__name__}: {error}")
+    return len(asked) - len(bad), bad
 
 
 # ---- every length
@@ -144,16 +182,8 @@ def lengths_left_out(kinds):
 
 
 def shown(name, program, kind, seed):
-    count, bad, proof = 0, [], every_length.EveryLength(Processor(program, name), kind)
-    for case in every_length.cases(kind):
-        if len(nodes.NODES) > MOST_NODES:
-            proof = every_length.EveryLength(Processor(program, name), kind)
-        try:
-            proof.show(case, seed)
-            count += 1
-        except (*REFUSALS, WrongRule) as error:
-            bad.append(f"{case.length} bytes: {type(error).__name__}: {error}")
-    return count, bad
+    proof = every_length.EveryLength(Processor(program, name), kind)
+    return count_shown(proof, [functools.partial(proof.show, case, seed) for case in every_length.cases(kind)])
 
 
 # ---- the other calls

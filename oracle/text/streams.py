@@ -41,9 +41,9 @@ def contents(memory, size=8):
     return [memory.load(at, size) for at in range(0, memory.length, size)]
 
 
-def expect_same(what, before, memory):
+def expect_same(what, before, memory, size=8):
     """That the memory holds what it held."""
-    if not all(is_same(x, y) or is_same_number(x, y) for x, y in zip(before, contents(memory), strict=True)):
+    if not all(is_same(x, y) or is_same_number(x, y) for x, y in zip(before, contents(memory, size), strict=True)):
         raise Unsupported(f"{what} changes the state")
 
 
