@@ -107,7 +107,7 @@ class AnyUpdates:
         for at, size, x in self.parts(a, r, [self.accumulator(j, a) for j in range(4)]):
             found = state.load(at, size)
             if not (is_same(found, x) or is_same_number(found, x)):
-                raise NotShown(f"{what}: the state at {at} is {found} and not {x}, of {self.stripe} * ({a}) + {r} bytes")
+                raise NotShown(f"{what}: the state at {at} is {found} and not {x}, of {self.stripe} * ({a}) + {r}")
 
     def call(self, name, state, *arguments):
         self.cpu.not_zero, self.cpu.live = [], [state]

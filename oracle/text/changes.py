@@ -26,9 +26,10 @@ MANY, FEW, EACH = 1000, 50, 7     # changes of a text with --all and else, and t
 IDLE = "nop", "prefetcht0", "vzeroupper", "ud2"
 UNNOTICED, CRASH = "unnoticed", "A CRASH"
 ALIKE = [("je", "jne"), ("jb", "jbe"), ("ja", "jae"), ("jb", "jae"), ("sete", "setne"), ("cmovb", "cmovae"),
-         ("add", "sub"), ("xor", "or"), ("and", "or"), ("inc", "dec"), ("neg", "not"), ("shl", "shr"), ("paddq", "psubq"),
-         ("paddq", "pxor"), ("psrlq", "psllq"), ("punpcklqdq", "punpckhqdq"), ("pmuludq", "paddq"), ("pmulld", "paddd"),
-         ("movzbl", "movsbl"), ("imul", "add"), ("movq", "movl"), ("vpslldq", "vpsrldq"), ("mul", "div")]
+         ("add", "sub"), ("xor", "or"), ("and", "or"), ("inc", "dec"), ("neg", "not"), ("shl", "shr"), ("mul", "div"),
+         ("movzbl", "movsbl"), ("imul", "add"), ("movq", "movl"), ("paddq", "psubq"), ("paddq", "pxor"),
+         ("psrlq", "psllq"), ("punpcklqdq", "punpckhqdq"), ("pmuludq", "paddq"), ("pmulld", "paddd"),
+         ("pslldq", "psrldq")]
 
 
 # ---- questions
@@ -64,12 +65,13 @@ def requests():
             yield Request(hash_name, "secret", n, secret)
 
 
-ONE_SHOTS = [*range(0, 34), 36, 40, 45, 52, 63, 64, 65, 70, 80, 96, 97, 112, 113, 127, 128, 129, 130, 144, 145, 160, 177,
+ONE_SHOTS = [*range(34), 36, 40, 45, 52, 63, 64, 65, 70, 80, 96, 97, 112, 113, 127, 128, 129, 130, 144, 145, 160, 177,
              192, 208, 224, 240, 241, 255, 256, 257, 300, 319, 320, 321, 384, 447, 512, 513, 576, 640, 700, 1024, 1025,
              1088, 1400, 2049]
-STREAMS = [(0,), (5, 2), (16, 7), (33, 1), (40, 20, 39), (64, 32), (70, 33, 64), (100, 3, 99), (200, 31, 160), (240, 239),
-           (241, 240), (257, 256), (300, 64, 128, 192), (320, 129, 256), (513, 512), (600, 512, 599), (700, 1, 520),
-           (1025, 512, 1024), (1100, 64), (1500, 600), (1500, 40, 1100), (2200, 513, 1500), (2600, 1, 513, 2561)]
+STREAMS = [(0,), (5, 2), (16, 7), (33, 1), (40, 20, 39), (64, 32), (70, 33, 64), (100, 3, 99), (200, 31, 160),
+           (240, 239), (241, 240), (257, 256), (300, 64, 128, 192), (320, 129, 256), (513, 512), (600, 512, 599),
+           (700, 1, 520), (1025, 512, 1024), (1100, 64), (1500, 600), (1500, 40, 1100), (2200, 513, 1500),
+           (2600, 1, 513, 2561)]
 BY_SECRETS = [(300, 137), (700, 143), (900, 192), (1100, 195), (1025, 192), (1300, 200), (2000, 256), (600, 1000),
               (1100, 144)]
 
@@ -84,9 +86,10 @@ def questions(entries, each):
     """Each so manieth request with its twins, and the other calls."""
     asked = [twin for request in list(requests())[::each] for twin in [request, *request.with_seed_0()]]
     others = [calls.canonical_forms, calls.is_equal, calls.compare, calls.version, calls.copies, calls.forgotten,
-              calls.without_mark, calls.refused_resets, calls.updates_of_nothing, calls.null_pointers, calls.derived_secret,
-              some_secrets]
-    return [*(of_request(request, entries) for request in asked), *(Question(call.__name__, silent(call)) for call in others)]
+              calls.without_mark, calls.refused_resets, calls.updates_of_nothing, calls.null_pointers,
+              calls.derived_secret, some_secrets]
+    return [*(of_request(request, entries) for request in asked),
+            *(Question(call.__name__, silent(call)) for call in others)]
 
 
 def some_secrets(cpu):
@@ -159,7 +162,8 @@ def of_operand(x, k, draw):
     elif isinstance(operand, Immediate):
         yield "number", with_operand(x, k, Immediate(operand.value + draw.choice((1, -1))))
         if operand.value > 255:
-            yield "number", with_operand(x, k, Immediate(operand.value ^ 1 << draw.randrange(operand.value.bit_length())))
+            bit = 1 << draw.randrange(operand.value.bit_length())
+            yield "number", with_operand(x, k, Immediate(operand.value ^ bit))
     elif operand.base == "rip":
         yield "constant", x._replace(target=(x.target[0], x.target[1] + 8))
     else:
@@ -207,7 +211,8 @@ def drawn(cpu, places, draw):
             ways += swapped(x, cpu.program.sections[section][x.end])
         what, instructions = draw.choice(ways)
         if all(is_form(y, cpu.name) for y in instructions) and instructions != [x]:
-            yield (section, at), f"{section[6:]} {written(x)}: {what} {'; '.join(map(written, instructions))}", instructions
+            text = f"{section[6:]} {written(x)}: {what} {'; '.join(map(written, instructions))}"
+            yield (section, at), text, instructions
 
 
 def written(x):

@@ -1,11 +1,12 @@
 """Loops of a text of any number of turns, shown by induction, as terms/loops.py does it for LLVM's text.
 
-A cell is a register, a lane of a vector, or a cell of the stack or of another object that may be written to. At a loop's head after k turns some cells hold the
-words that the definition says of so many stripes. Which ones isn't said: they are those that hold the definition's
-words at the start, and those of some stripes more after a first turn. Of the other cells that the turn changes some go
-on by a step, and what is left may be anything at the head. All of that is a guess, which a turn from k = any number
-then shows: the words have to be there, whatever is said to go on has to go on, and a cell that does anything else may
-be anything, and the turn is run once more. A cell that has a word is never let go. The flags are unset at a head."""
+A cell is a register, a lane of a vector, or a cell of the stack or of another object that may be written to. At a
+loop's head after k turns some cells hold the words that the definition says of so many stripes. Which ones isn't said:
+they are those that hold the definition's words at the start, and those of some stripes more after a first turn. Of the
+other cells that the turn changes some go on by a step, and what is left may be anything at the head. All of that is a
+guess, which a turn from k = any number then shows: the words have to be there, whatever is said to go on has to go on,
+and a cell that does anything else may be anything, and the turn is run once more. A cell that has a word is never let
+go. The flags are unset at a head."""
 import contextlib
 
 from terms.loops import REFUSALS, NotShown, agree

@@ -127,7 +127,7 @@ class Program:
         if self.heads[name].flags != MERGEABLE:
             return name, value + addend
         if symbol.info & 15 == SECTION or addend or f"{name}+{value}" not in self.constants:
-            raise Unsupported(f"a place inside of the constant at {value + addend:#x} of {name}, which a linker may move")
+            raise Unsupported(f"a place in the constant at {value + addend:#x} of {name}, which a linker may move")
         return f"{name}+{value}", 0
 
     # ---- instructions

@@ -97,7 +97,7 @@ TEXTS = [
     Wrong("bytes that objdump leaves out", begun(VERSION, ".zero 16"), calls.version, "the instruction add bm"),
     Wrong("a jump into an instruction", begun(VERSION, "jmp 1f+1", "1: mov $0x1234,%eax"), calls.version,
           "no instruction at"),
-    Wrong("a function that goes on behind its end", begun(VERSION, "jmp 1f", ".section .text.elsewhere,\"ax\"", "1: nop",
+    Wrong("a function that goes on behind its end", begun(VERSION, "jmp 1f", '.section .text.elsewhere,"ax"', "1: nop",
                                                           ".section .text.XXH_versionNumber"), calls.version,
           "no instruction at"),
     Wrong("another place of a mergeable constant", other_constant, calls.version, "a linker may move"),
@@ -110,10 +110,12 @@ TEXTS = [
     Wrong("what the caller left in a register", hidden_register, request("64", "seed", 5, cuts=[2]), "another value"),
     Wrong("a load that is done where a condition doesn't hold", begun(VERSION, "xor %eax,%eax", "cmovne (%rax),%rax"),
           calls.version, "as an address"),
-    Wrong("a register of 512 bits", begun(VERSION, "vpxorq %zmm0,%zmm0,%zmm0"), calls.version, "the instruction vpxorq"),
+    Wrong("a register of 512 bits", begun(VERSION, "vpxorq %zmm0,%zmm0,%zmm0"), calls.version,
+          "the instruction vpxorq"),
     Wrong("an instruction of another set", begun(VERSION, "rorx $0x1,%rax,%rax"), calls.version, "hasn't here"),
     Wrong("the red zone over a call", begun("XXH3_copyState", *SAVED, "sub $0x8,%rsp", "mov $0x10,%edx",
-                                            "call memmove@PLT", "add $0x8,%rsp", *TAKEN), calls.copies, "byte .* of stack"),
+                                            "call memmove@PLT", "add $0x8,%rsp", *TAKEN), calls.copies,
+          "byte .* of stack"),
     Wrong("a call with the stack at no multiple of 16", begun("XXH3_copyState", "mov $0x3c0,%edx", "call memmove@PLT",
                                                               "ret"), calls.copies, "no multiple of 16"),
     Wrong("a copy of bytes onto themselves", begun("XXH3_copyState", "push %rdi", "push %rsi", "mov %rdi,%rsi",
@@ -154,8 +156,10 @@ def lacks_a_case(_):
 
 def has_a_wrong_sum(_):
     """A polynomial as a word that is one more."""
+    def one_more(x, width):
+        return operations.add_at(width, (1, word(x, width)), (1, 1))
     word = values.as_word
-    with unittest.mock.patch.object(values, "as_word", lambda x, width: operations.add_at(width, (1, word(x, width)), (1, 1))):
+    with unittest.mock.patch.object(values, "as_word", one_more):
         return raises(WrongRule, lambda: values.low(variable("t"), 32))
 
 

@@ -11,7 +11,8 @@ from terms.polynomials import variable
 from terms.processes import Row
 from terms.sides import TOP
 
-from . import any_updates, calls, changes, every_length, exports, lanes, on_processor, one_shots, planted, scalar, streams
+from . import (any_updates, calls, changes, every_length, exports, lanes, on_processor, one_shots, planted, scalar,
+               streams)
 from .instructions import TABLE, V2, V3
 from .objects import Program
 from .processor import Processor
@@ -22,6 +23,7 @@ ONE_BY_ONE, MORE = range(301), range(301, 1101)     # lengths asked one by one: 
 SECRETS, EVERY_SECRET = (136,), (136, 137, 143, 144, 192, 193, 199, 200, 256)
 FEW_STREAMED, MANY_STREAMED = [0, 5, 17, 33, 70, 241, 513], [1500, 2200, 3000, 4200]      # lengths of streams
 SOME_UPDATES, UPDATE_PARTS = 97, 4                  # updates of streams, in a sample and in parts
+SOME_SECRETS = [*range(136, 144), *range(190, 202), 256, 257, 576, 999, 1000]
 MOST_NODES = 400_000                                # of the cases of a proof
 SMALL = [0, 1, 3, 4, 8, 9, 16, 17, 128, 129, 240, 241, 1000]
 assert scalar and lanes                             # which fill the table
@@ -99,7 +101,7 @@ def secret_rows(texts, is_all):
         lengths = SMALL if is_all else [0, 17, 241]
         out.append(of_each(texts, f"XXH{hash_name}, secrets that are too short", 2 * 136 * len(lengths),
                            functools.partial(calls.short_secrets, hash_name=hash_name, lengths=lengths)))
-        asked = range(calls.SHORTEST, 1001) if is_all else [*range(136, 144), *range(190, 202), 256, 257, 576, 999, 1000]
+        asked = range(calls.SHORTEST, 1001) if is_all else SOME_SECRETS
         lengths = [0, 16, 17, 129, 240, 241, 1025] if is_all else [240, 700]
         out.append(counted(f"XXH{hash_name}, secrets of {asked[0]} to {asked[-1]} bytes", len(asked) * len(lengths),
                            functools.partial(secrets, texts, hash_name, asked, lengths)))
