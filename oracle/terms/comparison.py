@@ -58,18 +58,18 @@ def complaint(request, name, ours, theirs):
     return f"{request}: {x:#x} by the definition and {y:#x} by {name}, where {shown}"
 
 
-def compare(sides, *row):
-    """Compares a row of requests: how many answers of the other sides, name -> a function of a request, came to the
-    definition's term, and what there is to say of those that didn't."""
+def compare(sides, asked):
+    """Compares requests: how many answers of the other sides, name -> a function of a request, came to the definition's
+    term, and what there is to say of those that didn't."""
     texts, equal, complaints = {}, 0, []
     nodes.forget()
     entries = definition.program().run()
-    for request in requests(*row):
+    for request in asked:
         if len(nodes.NODES) > MOST_NODES:
             nodes.forget()
             texts.clear()
             entries = definition.program().run()
-        key = request.length, request.fixed_seed
+        key = request.length, request.secret_length, request.kind, request.fixed_seed
         if key not in texts:          # a stream's is that of the whole message
             texts = {key: request.of_definition(entries)}
         told = [found for name, ask in sides.items() if (found := difference(request, name, texts[key], ask))]

@@ -63,7 +63,7 @@ def vector_lengths(vectors):
 def compared(title, kind, asked, vector, streams=False):
     def ask(module):
         sides = {"the reference": lambda request: request.of_reference(module)}
-        equal, complaints = comparison.compare(sides, *kind, asked, streams)
+        equal, complaints = comparison.compare(sides, comparison.requests(*kind, asked, streams))
         return f"{equal} requests, each one term", complaints
     first, last = min(asked), max(asked)
     return Row(f"{title}: {first} to {last} bytes", ask, vector)

@@ -4,12 +4,12 @@ import os
 import subprocess
 import tempfile
 
-from terms import comparison, nodes
+from terms import comparison, definition, nodes
 from terms.loops import REFUSALS
 from terms.nodes import WrongRule
 from terms.polynomials import variable
 from terms.processes import Row
-from terms.sides import TOP
+from terms.sides import TOP, Request
 
 from . import (any_updates, calls, changes, every_length, exports, lanes, on_processor, one_shots, planted, scalar,
                streams)
@@ -20,8 +20,12 @@ from .processor import Processor
 NAMES = V2, V3
 FOLDER = os.path.join(TOP, "c", "asm")
 ONE_BY_ONE, MORE = range(301), range(301, 1101)     # lengths asked one by one: always, and with --all
-SECRETS, EVERY_SECRET = (136,), (136, 137, 143, 144, 192, 193, 199, 200, 256)
-FEW_STREAMED, MANY_STREAMED = [0, 5, 17, 33, 70, 241, 513], [1500, 2200, 3000, 4200]      # lengths of streams
+SECRETS, MORE_SECRETS = (136,), (136, 137, 143, 144, 192, 193, 199, 200, 256)
+STREAM_SECRETS = 136, 192, 193, 256
+# Streams: their lengths, with how each is cut in a sample; and those of a few more.
+FEW_STREAMS = [(0,), (5, 2), (33, 1), (70, 33, 64), (200, 31, 160), (240, 239), (257, 256), (300, 64, 192), (600, 512, 599),
+               (1100, 64), (1500, 40, 1100)]
+MANY_STREAMED = [1500, 2200, 3000, 4200]
 SOME_UPDATES, UPDATE_PARTS = 97, 4                  # updates of streams, in a sample and in parts
 SOME_SECRETS = [*range(136, 144), *range(190, 202), 256, 257, 576, 999, 1000]
 MOST_NODES = 400_000                                # of the cases of a proof
@@ -71,63 +75,66 @@ def title_of(hash_name, kind, secret):
     return f"XXH{hash_name}, {kind}" + (f" of {secret} bytes" if secret else "")
 
 
-def compared(texts, title, kind, asked, side=one_shots):
+def compared(texts, title, requests, side=one_shots):
     """A row of requests, each of all texts: the definition's term is made once."""
+    requests = list(requests)
+    lengths = [request.length for request in requests]
+
     def ask():
         sides = {name: functools.partial(side.of_text, cpu) for name, cpu in processors(texts).items()}
-        return comparison.compare(sides, *kind, asked, side is streams)
-    first, last = min(asked), max(asked)
-    return counted(f"{title}: {first} to {last} bytes" if last > first else f"{title}: {first} bytes",
-                   len(asked) * len(texts), ask)
+        return comparison.compare(sides, requests)
+    return counted(f"{title}: {min(lengths)} to {max(lengths)} bytes", len(requests) * len(texts), ask)
+
+
+def one_by_one(texts, kind, lengths, more=""):
+    return compared(texts, title_of(*kind) + more, comparison.requests(*kind, lengths))
 
 
 def one_shot_rows(texts, is_all):
-    out = [compared(texts, title_of(*kind), kind, ONE_BY_ONE) for kind in comparison.kinds(SECRETS)]
-    if is_all:
-        for kind in comparison.kinds(EVERY_SECRET):
-            if kind[2] not in (None, *SECRETS):
-                out.append(compared(texts, title_of(*kind), kind, ONE_BY_ONE))
-            out.append(compared(texts, title_of(*kind), kind, MORE))
-            out.append(compared(texts, f"{title_of(*kind)}, at edges", kind, comparison.edges(kind[2])))
-        out += [compared(texts, title_of(*kind), kind, [every_length.PREFETCHED]) for kind in comparison.kinds(())
-                if kind[0].startswith("3-")]
+    out = [one_by_one(texts, kind, ONE_BY_ONE) for kind in comparison.kinds(SECRETS)]
+    for kind in comparison.kinds(MORE_SECRETS) if is_all else ():
+        if kind[2] not in (None, *SECRETS):
+            out.append(one_by_one(texts, kind, ONE_BY_ONE))
+        out += [one_by_one(texts, kind, MORE), one_by_one(texts, kind, comparison.edges(kind[2]), ", at edges")]
+        if kind[2] is None and kind[0].startswith("3-"):
+            out.append(one_by_one(texts, kind, [every_length.PREFETCHED]))
     return out
 
 
 def secret_rows(texts, is_all):
     """Secrets of each length to 1,000: too short ones are refused."""
-    out = []
+    out, lengths = [], SMALL if is_all else [0, 17, 241]
+    sizes = range(calls.SHORTEST, 1001) if is_all else SOME_SECRETS
     for hash_name in ("3-64", "3-128"):
-        lengths = SMALL if is_all else [0, 17, 241]
-        out.append(of_each(texts, f"XXH{hash_name}, secrets that are too short", 2 * 136 * len(lengths),
+        out.append(of_each(texts, f"XXH{hash_name}, secrets that are too short", 2 * calls.SHORTEST * len(lengths),
                            functools.partial(calls.short_secrets, hash_name=hash_name, lengths=lengths)))
-        asked = range(calls.SHORTEST, 1001) if is_all else SOME_SECRETS
-        lengths = [0, 16, 17, 129, 240, 241, 1025] if is_all else [240, 700]
-        out.append(counted(f"XXH{hash_name}, secrets of {asked[0]} to {asked[-1]} bytes", len(asked) * len(lengths),
-                           functools.partial(secrets, texts, hash_name, asked, lengths)))
+        asked = [Request(hash_name, kind, n, size) for size in sizes for kind in ("secret", "both")
+                 for n in (lengths if is_all else [240, 700])]
+        out.append(compared(texts, f"XXH{hash_name}, secrets of {sizes[0]} to {sizes[-1]} bytes", asked))
     return out
 
 
-def secrets(texts, hash_name, asked, lengths):
-    found = [compared(texts, "", (hash_name, kind, size), lengths).ask for size in asked for kind in ("secret", "both")]
-    return len(found) * len(lengths), [line for ask in found for line in ask()[1]]
-
-
 def stream_rows(texts, is_all):
-    kinds = comparison.kinds((136, 192, 193, 256) if is_all else SECRETS)
-    asked = [*comparison.STREAMED, *MANY_STREAMED] if is_all else FEW_STREAMED
-    out = [compared(texts, f"streams of {title_of(*kind)}", kind, asked, streams) for kind in kinds]
+    out = []
+    for kind in comparison.kinds(STREAM_SECRETS if is_all else SECRETS):
+        asked = comparison.requests(*kind, [*comparison.STREAMED, *MANY_STREAMED], True) if is_all else few_streams(*kind)
+        out.append(compared(texts, f"streams of {title_of(*kind)}", asked, streams))
     out.append(counted("each update of XXH32 and XXH64 has its row", 2, updates_left_out))
     for hash_name in any_updates.LAYOUTS:
         count = len(list(any_updates.updates(hash_name)))
         for name, program in texts.items():
-            parts = range(UPDATE_PARTS) if is_all else [None]
-            for part in parts:
+            for part in range(UPDATE_PARTS) if is_all else [None]:
                 words = f"part {part + 1} of {UPDATE_PARTS}" if is_all else f"each {SOME_UPDATES}th case"
                 least = count // (UPDATE_PARTS if is_all else SOME_UPDATES)
                 out.append(counted(f"streams of XXH{hash_name}: any updates, to 2^64 - 1 bytes, {name}, {words}", least,
                                    functools.partial(any_streams, name, program, hash_name, part)))
     return out
+
+
+def few_streams(hash_name, kind, secret):
+    for n, *cuts in FEW_STREAMS:
+        request = Request(hash_name, kind, n, secret, cuts=cuts)
+        yield from [request, *request.with_seed_0()]
 
 
 def updates_left_out():
