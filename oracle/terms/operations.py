@@ -17,7 +17,8 @@ MEANINGS = {
     "quotient": NATURALS["div"], "xor": lambda a, b: a ^ b, "either": lambda a, b: a | b, "both": lambda a, b: a & b,
     "shift_right": lambda a, k: a >> k, "bits": window, "multiply_at": lambda width, a, b: a * b % (1 << width),
     "add_at": lambda width, coefficients, *values: sum(c * x for c, x in zip(coefficients, values)) % (1 << width),
-    "complement": lambda width, a: a ^ rules.ones(width), "side_by_side": lambda widths, *values: joined(widths, values),
+    "complement": lambda width, a: a ^ rules.ones(width),
+    "side_by_side": lambda widths, *values: joined(widths, values),
 }
 
 

@@ -6,6 +6,7 @@ and the other calls, which compare by themselves. It is noticed where a question
 does what no call may do. Those that aren't are listed in equal_changes.txt with their reasons. A crash of this program
 isn't counted as noticed."""
 import collections
+import itertools
 import os
 import random
 
@@ -21,7 +22,7 @@ from .processor import Processor
 
 EQUAL = os.path.join(os.path.dirname(os.path.abspath(__file__)), "equal_changes.txt")
 LIMIT = 300_000                   # instructions of a changed text's call
-MOST = 200                        # questions that a change is asked
+MOST, NEAR = 200, 60              # questions that a change is asked, and requests near to them
 MANY, FEW, EACH = 1000, 50, 7     # changes of a text with --all and else, and then the requests: each so manieth
 IDLE = "nop", "prefetcht0", "vzeroupper", "ud2"
 UNNOTICED, CRASH = "unnoticed", "A CRASH"
@@ -38,8 +39,8 @@ class Question:
     """A request of the text, with the definition's term; or a call that compares by itself. `run` gives what is
     noticed, or None."""
 
-    def __init__(self, title, ask, said=None):
-        self.title, self.ask, self.said = title, ask, said
+    def __init__(self, title, ask, said=None, request=None):
+        self.title, self.ask, self.said, self.request = title, ask, said, request
 
     def run(self, cpu):
         try:
@@ -79,7 +80,7 @@ BY_SECRETS = [(300, 137), (700, 143), (900, 192), (1100, 195), (1025, 192), (130
 def of_request(request, entries):
     said = request.of_definition(entries)
     side = one_shots if request.cuts is None else streams
-    return Question(repr(request), lambda cpu: side.of_text(cpu, request), said)
+    return Question(repr(request), lambda cpu: side.of_text(cpu, request), said, request)
 
 
 def questions(entries, each):
@@ -120,17 +121,26 @@ def reaching(cpu, asked):
     return {place: bits for place, bits in found.items() if place[0] in cpu.program.sections}
 
 
-def outcome(cpu, instructions, asked, bits, draw):
-    """What becomes of a change, by the questions that run it: some at random, in the end all of them."""
+def near(asked, entries, draw):
+    """Requests of lengths beside those of some questions, and streams that are cut elsewhere, at random."""
+    requests = [question.request for question in asked if question.request]
+    for one in draw.choices(requests, k=NEAR if requests else 0):
+        n = max(0, one.length + draw.randrange(-2, 3))
+        cuts = None if one.cuts is None else [max(0, min(n, cut + draw.randrange(-2, 3))) for cut in one.cuts]
+        request = Request(one.hash_name, one.kind, n, one.secret_length, cuts=cuts and sorted(cuts))
+        yield from (of_request(twin, entries) for twin in [request, *request.with_seed_0()])
+
+
+def outcome(cpu, instructions, asked, entries, draw):
+    """What becomes of a change, by the questions that run it, and by some that lie near to them."""
     before = [cpu.code[x.section][x.at][1] for x in instructions]
-    waiting = [k for k in range(len(asked)) if bits >> k & 1]
-    draw.shuffle(waiting)
+    draw.shuffle(asked)
     try:
         for x in instructions:
             cpu.change(x)
-        for k in waiting[:MOST]:
+        for question in itertools.chain(asked[:MOST], near(asked, entries, draw)):
             known = nodes.mark()
-            told = asked[k].run(cpu)
+            told = question.run(cpu)
             nodes.release(known)
             if told:
                 return told
@@ -244,12 +254,14 @@ def noticed(name, program, is_all):
     nodes.forget()
     cpu, draw = Processor(program, name), random.Random(1)
     cpu.limit = LIMIT
-    asked = questions(definition.program().run(), 1 if is_all else EACH)
+    entries = definition.program().run()
+    asked = questions(entries, 1 if is_all else EACH)
     found = reaching(cpu, asked)
     known, bad, told = reasons(), [], collections.Counter()
     changes = drawn(cpu, sorted(found), draw)
     for place, text, instructions in (next(changes) for _ in range(MANY if is_all else FEW)):
-        what = outcome(cpu, instructions, asked, found[place], draw)
+        reached = [question for k, question in enumerate(asked) if found[place] >> k & 1]
+        what = outcome(cpu, instructions, reached, entries, draw)
         told[what.split(":")[0]] += 1
         if what.startswith((CRASH, "WrongRule")) or what == UNNOTICED and not is_equal(text, known):
             bad.append(f"{what}: {text}")

@@ -40,12 +40,14 @@ def with_lines(text, place, before, lines):
 
 
 def in_loop(text):
-    """XXH64's loop over stripes, where an accumulator changes after 2 ^ 40 bytes."""
+    """XXH64's loop over stripes, where an accumulator is another one 2 ^ 40 bytes behind the beginning and before the
+    end: the first turns and the last one are right."""
     name = "twox_plain.xxhash64.rounds.impl_long"
     function = text[text.index(f"\n{name}:"):]
     head = re.search(r"^\.L\w+:\n", function, re.M)[0]
     return with_lines(text, re.escape(head), "\tmov %rsi,-0x10(%rsp)\n",
-                      ("mov %rsi,%r8", "sub -0x10(%rsp),%r8", "shr $0x28,%r8", "add %r8,%r12"))
+                      ("mov %rsi,%r8", "sub -0x10(%rsp),%r8", "shr $0x28,%r8", "mov %r9,%r10", "shr $0x28,%r10",
+                       "and %r10,%r8", "add %r8,%r12"))
 
 
 def hidden_register(text):
@@ -77,8 +79,8 @@ def request(*words, **more):
     return ask
 
 
-def of_every_length(cpu):
-    every_length.EveryLength(cpu, "64").show(every_length.cases("64")[0])
+def of_every_length(kind, seed=None):
+    return lambda cpu: every_length.EveryLength(cpu, kind).show(every_length.cases(kind)[0], seed)
 
 
 def exported(cpu):
@@ -91,10 +93,11 @@ SAVED = "mov %rdi,-0x40(%rsp)", "mov %rsi,-0x48(%rsp)"
 TAKEN = "mov -0x40(%rsp),%rdi", "mov -0x48(%rsp),%rsi"
 
 TEXTS = [
-    Wrong("an accumulator that fails the step of the induction", in_loop, of_every_length, "r12 is .* and not"),
+    Wrong("an accumulator that fails the step of the induction", in_loop, of_every_length("64"), "r12 is .* and not"),
     Wrong("another value of the seed 0, up to 240 bytes", SEED_0, request("3-64", "seed", 17), "== 0"),
     Wrong("another value of the seed 0, above", SEED_0, request("3-64", "seed", 300), "another value"),
-    Wrong("bytes that objdump leaves out", begun(VERSION, ".zero 16"), calls.version, "the instruction add bm"),
+    Wrong("another value of the seed 0, at every length", SEED_0, of_every_length("3-64:seed", 0), "== 0"),
+    Wrong("bytes that objdump leaves out", begun(VERSION, "nop", ".zero 16"), calls.version, "the instruction add bm"),
     Wrong("a jump into an instruction", begun(VERSION, "jmp 1f+1", "1: mov $0x1234,%eax"), calls.version,
           "no instruction at"),
     Wrong("a function that goes on behind its end", begun(VERSION, "jmp 1f", '.section .text.elsewhere,"ax"', "1: nop",
@@ -106,7 +109,8 @@ TEXTS = [
     Wrong("an address in the constants", ended('.section .rodata.more,"a",@progbits', ".quad XXH32"), calls.version,
           "a relocation at"),
     Wrong("a section that is written to", ended(".data", ".quad 1"), calls.version, "isn't only read or run"),
-    Wrong("a call that another library may answer", begun(VERSION, "jmp XXH32@PLT"), calls.version, "another library"),
+    Wrong("a call that another library may answer", begun("XXH128", "jmp XXH3_128bits_withSeed@PLT"),
+          calls.version, "another library"),
     Wrong("what the caller left in a register", hidden_register, request("64", "seed", 5, cuts=[2]), "another value"),
     Wrong("a load that is done where a condition doesn't hold", begun(VERSION, "xor %eax,%eax", "cmovne (%rax),%rax"),
           calls.version, "as an address"),

@@ -4,7 +4,7 @@ import os
 import subprocess
 import tempfile
 
-from terms import comparison, definition, nodes
+from terms import comparison, nodes
 from terms.loops import REFUSALS
 from terms.nodes import WrongRule
 from terms.polynomials import variable
@@ -23,8 +23,8 @@ ONE_BY_ONE, MORE = range(301), range(301, 1101)     # lengths asked one by one: 
 SECRETS, MORE_SECRETS = (136,), (136, 137, 143, 144, 192, 193, 199, 200, 256)
 STREAM_SECRETS = 136, 192, 193, 256
 # Streams: their lengths, with how each is cut in a sample; and those of a few more.
-FEW_STREAMS = [(0,), (5, 2), (33, 1), (70, 33, 64), (200, 31, 160), (240, 239), (257, 256), (300, 64, 192), (600, 512, 599),
-               (1100, 64), (1500, 40, 1100)]
+FEW_STREAMS = [(0,), (5, 2), (33, 1), (70, 33, 64), (200, 31, 160), (240, 239), (257, 256), (300, 64, 192),
+               (600, 512, 599), (1100, 64), (1500, 40, 1100)]
 MANY_STREAMED = [1500, 2200, 3000, 4200]
 SOME_UPDATES, UPDATE_PARTS = 97, 4                  # updates of streams, in a sample and in parts
 SOME_SECRETS = [*range(136, 144), *range(190, 202), 256, 257, 576, 999, 1000]
@@ -116,8 +116,9 @@ def secret_rows(texts, is_all):
 
 def stream_rows(texts, is_all):
     out = []
+    lengths = [*comparison.STREAMED, *MANY_STREAMED]
     for kind in comparison.kinds(STREAM_SECRETS if is_all else SECRETS):
-        asked = comparison.requests(*kind, [*comparison.STREAMED, *MANY_STREAMED], True) if is_all else few_streams(*kind)
+        asked = comparison.requests(*kind, lengths, True) if is_all else few_streams(*kind)
         out.append(compared(texts, f"streams of {title_of(*kind)}", asked, streams))
     out.append(counted("each update of XXH32 and XXH64 has its row", 2, updates_left_out))
     for hash_name in any_updates.LAYOUTS:

@@ -180,6 +180,8 @@ def bits(x, first, n):
 
 def high_and_low(a, b):
     """The product of two words."""
+    if not all(isinstance(x, (int, Poly, Node)) for x in (a, b)):
+        raise Undecided(f"the product of {a} and {b}")
     product = a * b if isinstance(a, int) and isinstance(b, int) else operations.multiply(lifted(a), lifted(b))
     return operations.bits(product, WORD, WORD), operations.bits(product, 0, WORD)
 
