@@ -69,7 +69,7 @@ def compare(sides, asked):
             nodes.forget()
             texts.clear()
             entries = definition.program().run()
-        key = request.length, request.secret_length, request.kind, request.fixed_seed
+        key = request.hash_name, request.kind, request.length, request.secret_length, request.fixed_seed
         if key not in texts:          # a stream's is that of the whole message
             texts = {key: request.of_definition(entries)}
         told = [found for name, ask in sides.items() if (found := difference(request, name, texts[key], ask))]

@@ -43,6 +43,7 @@ class Question:
         self.title, self.ask, self.said, self.request = title, ask, said, request
 
     def run(self, cpu):
+        cpu.not_zero = []
         try:
             ours = self.ask(cpu)
             return None if self.said is None or is_same(self.said, ours) else "another term"

@@ -1,10 +1,12 @@
 """The one-shots of a text of every length, by induction over its loops.
 
 XXH32 and XXH64: stripe * (u b + c) + r bytes, where a text takes u stripes at once, b is any number from 1 on, c below
-u and r below a stripe. XXH3, default and with a seed: 1,024 B + 64 J + t + 1 bytes, B any number from 1 on, J below 16,
-and t below 64. Shorter ones, and one between two cases, are asked alone; `left_out` computes that there are no
-others."""
+u and r below a stripe. XXH3, above what is asked one by one: 64 (q B + J) + t + 1 bytes, q stripes in a block, B blocks,
+J below q, and t below 64. With the default secret and one that a seed derives q is 16; a secret that is given has
+64 + 8 q + u bytes, u below 8, and q is a number from 9 to 24. The texts have ways of their own from 31,744 bytes on, and
+where the stripes come to 2 ^ 32; `left_out` computes that the cases have all lengths but those that it gives."""
 import collections
+import itertools
 
 import table
 from terms import definition, nodes
@@ -12,7 +14,7 @@ from terms.definition import Bytes, suppositions
 from terms.every_length import LONGEST
 from terms.loops import REFUSALS, NotShown
 from terms.memory import Input
-from terms.polynomials import at_most, given, minus, names_of, plus, times, value_at, variable
+from terms.polynomials import Poly, at_most, given, minus, parts_of, plus, times, value_at, variable
 from terms.sides import seed_symbol
 
 from .induction import Family, Loops
@@ -23,11 +25,12 @@ from .values import address
 UNROLLED = {"32": 8, "64": 2}     # stripes that a text takes at once, or a part of them
 PREFETCHED = 31_744               # bytes from which on the texts of XXH3 have loops of their own
 LIMIT = 30_000                    # instructions that a case may run: else a loop is run that should be shown
-WINDOW = 64 * 1024                # lengths that are looked at one by one, whether a case has them
-TURNS = "turns"
+TURNS, FAR, MANY = "turns", 496, 1 << 32      # stripes from which on a text takes other ways
+DERIVED, KEPT = 16, range(9, 25)  # stripes of a block: by default, and with the secrets that streams take too
 
-# A case: its length, and the stripes in it that are accumulated, in the variable `turns` and others; and facts.
-Case = collections.namedtuple("Case", "length stripes facts")
+# A case: its length, and the stripes in it that are accumulated, in the variable `turns` and others; facts; the values
+# of the others; the stripes of a block; and how many blocks there are, where a loop may count the stripes of one.
+Case = collections.namedtuple("Case", "length stripes facts others block blocks rest", defaults=(None, None, 0))
 
 
 # ---- the cases
@@ -37,39 +40,118 @@ def plain_cases(hash_name):
     for c in range(UNROLLED[hash_name]):
         for r in range(stripe):
             stripes = plus(times(UNROLLED[hash_name], turns), c)
-            yield Case(plus(times(stripe, stripes), r), stripes, [minus(turns, 1)])
+            yield Case(plus(times(stripe, stripes), r), stripes, [minus(turns, 1)], {})
 
 
-def xxh3_cases():
-    turns, t, far = variable(TURNS), variable("t"), PREFETCHED // 1024
-    for J in range(16):
-        stripes = plus(times(16, turns), J)
-        n = plus(times(64, stripes), t, 1)
-        yield Case(n, stripes, [minus(turns, 1), at_most(t, 63), at_most(n, PREFETCHED - 1)])
-        yield Case(n, stripes, [minus(turns, far), at_most(t, 63)])
+def xxh3_case(q, blocks, J, *facts, is_near=False):
+    """A case of so many blocks and stripes more, below PREFETCHED bytes where it is near."""
+    stripes, t = plus(times(q, blocks), J), variable("t")
+    n = plus(times(64, stripes), t, 1)
+    others = {"t": range(64), **({"J": range(q)} if isinstance(J, Poly) else {})}
+    of_n = [at_most(n, PREFETCHED - 1)] if is_near else []
+    return Case(n, stripes, [at_most(t, 63), *of_n, *facts], others, q, blocks)
+
+
+def derived_cases(q=DERIVED):
+    turns = variable(TURNS)
+    for J in range(q):
+        yield xxh3_case(q, turns, J, minus(turns, 1), is_near=True)
+        yield xxh3_case(q, turns, J, minus(turns, FAR // q))
+
+
+def own_cases(q):
+    """With a secret that is given, of q stripes a block, above 240 bytes."""
+    turns, J, far, many = variable(TURNS), variable("J"), FAR // q, MANY // q
+    yield xxh3_case(q, 0, J, minus(J, 4), at_most(J, q - 1))
+    for more, of_J in ((0, []), (J, [minus(J, 1), at_most(J, q - 1)])):
+        yield xxh3_case(q, turns, more, *of_J, minus(turns, 1), is_near=True)
+        yield xxh3_case(q, turns, more, *of_J, minus(turns, far + 1), at_most(turns, many - 1))
+        yield xxh3_case(q, turns, more, *of_J, minus(turns, many + 1))
+    yield from (xxh3_case(q, turns, more, minus(turns, many), at_most(turns, many)) for more in range(q))
+    least = FAR - q * far          # stripes behind these blocks, from which on the other way is taken
+    here = [minus(turns, far), at_most(turns, far)]
+    yield between(q)
+    yield from [] if least else [xxh3_case(q, turns, 0, *here)]
+    yield xxh3_case(q, turns, J, *here, minus(J, max(1, least)), at_most(J, q - 1))
 
 
 def cases(kind):
-    return list(plain_cases(kind) if kind in UNROLLED else xxh3_cases())
+    name, _, way = kind.partition(":")
+    if not way:
+        return list(plain_cases(name))
+    if way in ("default", "seed"):
+        return list(derived_cases())
+    return [with_rest(case, rest) for q in KEPT for case in of_secret(q) for rest in (False, True)]
 
 
-def lengths_of(case, turns):
-    points = ({TURNS: turns, "t": t} for t in range(64 if "t" in names_of(case.length) else 1))
-    return {value_at(case.length, point) for point in points if all(value_at(fact, point) >= 0 for fact in case.facts)}
+def between(q):
+    """PREFETCHED bytes, which have one stripe less than FAR, and no byte more would be near."""
+    turns, (blocks, J) = variable(TURNS), divmod(FAR - 1, q)
+    stripes = plus(times(q, turns), J)
+    return Case(plus(times(64, stripes), 64), stripes, [minus(turns, blocks), at_most(turns, blocks)], {}, q, turns)
 
 
-def left_out(kind, first):
-    """The lengths from `first` on that no case has: of those in the window each, and of those behind it the first.
-    What holds for some turns in a case without an upper bound holds for more."""
-    found, behind = set(), set()
-    turn = value_at(cases(kind)[0].length, {TURNS: 1, "t": 0}) - value_at(cases(kind)[0].length, {TURNS: 0, "t": 0})
-    for case in cases(kind):
-        is_bounded = any(c < 0 for fact in case.facts for names, c in fact.parts.items() if TURNS in names)
-        for turns in range(WINDOW // turn + 1):
-            lengths = lengths_of(case, turns)
-            found |= lengths
-            behind |= set() if is_bounded else {n + turn * ((WINDOW - n) // turn + 1) for n in lengths if n < WINDOW}
-    return sorted({*range(first, WINDOW + 1)} - found) + sorted({*range(WINDOW + 1, WINDOW + turn + 1)} - behind)
+def of_secret(q):
+    """Above 240 bytes. The texts ask whether a secret has 192 bytes."""
+    yield xxh3_case(q, 0, 3, minus(variable("t"), 48))
+    if q != DERIVED:
+        yield from own_cases(q)
+        return
+    yield from (xxh3_case(q, 0, J) for J in range(4, q))
+    yield from derived_cases()
+    yield between(q)
+
+
+def with_rest(case, rest):
+    """With a secret of `rest` bytes more than its stripes ask for: 0, or 1 to 7."""
+    u = variable("u")
+    return case._replace(rest=u, facts=[*case.facts, minus(u, 1), at_most(u, 7)]) if rest else case._replace(rest=0)
+
+
+# ---- that these are all
+
+def turns_of(case, point):
+    """The least and the greatest number of turns, or None, that a case has where the others have some values."""
+    least, most = 0, None
+    for fact in case.facts:
+        c, step = value_at(fact, {TURNS: 0, **point}), parts_of(fact).get((TURNS,), 0)
+        if step > 0:
+            least = max(least, -(c // step))
+        elif step < 0:
+            most = c // -step if most is None else min(most, c // -step)
+        elif c < 0:
+            return 1, 0
+    return least, most
+
+
+def spans(found, period):
+    """For each rest by the period, the spans of quotients that the cases have."""
+    out = collections.defaultdict(list)
+    for case in found:
+        names, ranges = case.others.keys(), case.others.values()
+        for point in (dict(zip(names, values)) for values in itertools.product(*ranges)):
+            least, most = turns_of(case, point)
+            first, step = value_at(case.length, {TURNS: 0, **point}), parts_of(case.length).get((TURNS,), 0)
+            if most is None or least <= most:
+                at = first // period
+                out[first % period].append((at + least, most and at + most) if step else (at, at))
+    return out
+
+
+def left_out(found, first, period):
+    """The lengths from `first` on that no case has, one of each gap."""
+    out, known = [], spans(found, period)
+    for rest in range(period):
+        at = -(-(first - rest) // period)
+        for least, most in sorted(known[rest], key=lambda span: span[0]):
+            if least > at:
+                out.append(rest + period * at)
+            if most is None:
+                break
+            at = max(at, most + 1)
+        else:
+            out.append(rest + period * at)
+    return sorted(out)
 
 
 # ---- a case
@@ -105,18 +187,25 @@ class EveryLength:
         return ours, self.texts[f"xxh{width}"](seed, message)
 
     def xxh3(self, case, source, message, fixed):
-        seed = 0 if self.way == "default" else seed_symbol(self.hash_name) if fixed is None else fixed
-        secret = self.texts["effective_secret"](self.texts["derived_secret"](seed), message)
+        seed = seed_symbol(self.hash_name) if fixed is None else fixed
+        seed = [seed] if self.way in ("seed", "both") else []
+        if self.way in ("secret", "both"):
+            given_secret = Input("s", plus(64 + 8 * case.block, case.rest))
+            secret, handed = Bytes(given_secret, 0, given_secret.length), [address(given_secret), given_secret.length]
+        else:
+            secret = self.texts["effective_secret"](self.texts["derived_secret"](seed[0] if seed else 0), message)
+            handed = []
         after = self.texts["Long.accumulator_after"]
-        self.cpu.not_zero = [] if isinstance(seed, int) else [seed]
+        self.cpu.not_zero = [x for x in seed if not isinstance(x, int)] if self.way == "seed" else []
         ours = self.call(case, 64, 8, lambda k: lambda i: after(secret, message, i, k),
-                         address(source), case.length, *([seed] if self.way == "seed" else []))
-        return ours, self.texts[table.HASHES[self.hash_name]](seed, secret, message)
+                         address(source), case.length, *handed, *seed)
+        return ours, self.texts[table.HASHES[self.hash_name]](seed[0] if seed else 0, secret, message)
 
     def call(self, case, stripe, count, after, *arguments):
         name = f"XXH{self.kind} of {case.length} bytes"
         family = Family(name, stripe, case.stripes, count, after,
-                        lambda k, values: suppositions.suppose(after(k), values))
+                        lambda k, values: suppositions.suppose(after(k), values),
+                        (case.block, case.blocks) if isinstance(case.blocks, Poly) else None)
         self.cpu.loops, self.cpu.limit = Loops(self.cpu.program, family), LIMIT
         try:
             return value_of(self.hash_name, self.cpu.call(name_of(self.hash_name, self.way), *arguments))

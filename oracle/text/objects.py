@@ -30,6 +30,7 @@ UNLOADED = NONE, SYMTAB, STRTAB, RELA
 PC32, PLT32 = 2, 4                            # relocations: a distance from the next instruction
 OUTER = "memcpy", "memmove"                   # what the text calls and another library has
 PREFIXES = "data16", "cs"                     # of an instruction that does nothing
+RELOCATED = Place(0, "rip", None, 1)          # what a relocation at an instruction's end says
 LINE = re.compile(r" *([0-9a-f]+):\t((?:[0-9a-f]{2} )+) *(?:\t(.*))?")
 MEMORY = re.compile(r"(-?0x[0-9a-f]+|-?[0-9]+)?\((%\w+)?(?:,(%\w+),([1248]))?\)")
 TARGET = re.compile(r"([0-9a-f]+)(?: <.*>)?")
@@ -154,20 +155,19 @@ class Program:
                 raise Unsupported(f"{section} {at:#x}: a relocation in {text}")
             return Instruction(section, at, end, "nop", (), None)
         is_jump = mnemonic[0] == "j" or mnemonic == "call"
-        if not is_jump and bool(places) != ("(%rip)" in rest) or len(places) > 1:
-            raise Unsupported(f"{section} {at:#x}: {text} with {len(places)} relocations")
-        target = None
+        there = TARGET.fullmatch(rest) if is_jump else None
+        if is_jump and not there:
+            raise Unsupported(f"{section} {at:#x}: {text}, which leads to no one place")
+        if not is_jump and bool(places) != ("(%rip)" in rest) or places not in ([], [end - 4]):
+            raise Unsupported(f"{section} {at:#x}: {text} with relocations at {places}")
+        found = () if is_jump else operands(rest)
+        if places and any(x != RELOCATED for x in found if not isinstance(x, Register)):
+            raise Unsupported(f"{section} {at:#x}: {text}, of which another part is relocated")
+        target = (section, int(there[1], 16)) if is_jump else None
         if places:
             symbol, addend = self.relocations[section][places[0]]
-            if is_jump and places[0] != end - 4:
-                raise Unsupported(f"{section} {at:#x}: a relocation inside of {text}")
             target = self.target_of(symbol, addend + end - places[0])
-        elif is_jump:
-            found = TARGET.fullmatch(rest)
-            if not found:
-                raise Unsupported(f"{section} {at:#x}: {text}, which leads to no one place")
-            target = section, int(found[1], 16)
-        return Instruction(section, at, end, mnemonic, () if is_jump else operands(rest), target)
+        return Instruction(section, at, end, mnemonic, found, target)
 
 
 def listing(path):

@@ -32,12 +32,19 @@ class Address:
 
 
 class Either:
-    """The bits of two numbers, united, under a mask. All that is asked of it is whether there is one: a text asks that
-    before a division that has a shorter way for narrow numbers."""
-    __slots__ = "numbers", "mask"
+    """The bits of two numbers, united, under a mask, and moved down by some places. All that is asked of it is whether
+    there is one: a text asks that before a division that has a shorter way for narrow numbers."""
+    __slots__ = "numbers", "mask", "moved"
 
-    def __init__(self, numbers, mask):
-        self.numbers, self.mask = numbers, mask
+    def __init__(self, numbers, mask, moved=0):
+        self.numbers, self.mask, self.moved = numbers, mask, moved
+
+    def under(self, mask):
+        return Either(self.numbers, self.mask & mask << self.moved, self.moved)
+
+    def moved_down(self, k):
+        moved = self.moved + k
+        return Either(self.numbers, self.mask & ones(WORD) - ones(moved), moved)
 
     def is_zero(self):
         if not self.mask:
@@ -94,7 +101,7 @@ def low_bits(a, mask):
 def arithmetic(word, width, a, b):
     """An operation of a width on two values."""
     kinds = {a.__class__, b.__class__}
-    if word == "or" and width == WORD and kinds == {Poly}:
+    if word == "or" and width == WORD and kinds in ({Poly}, {Poly, int}):
         return Either([a, b], ones(WORD))
     if Either in kinds:
         return masked(word, a, b)
@@ -107,12 +114,12 @@ def arithmetic(word, width, a, b):
 
 def masked(word, a, b):
     """United bits, of which fewer count."""
-    a, b = (a, b) if isinstance(a, Either) else (b, a)
     if word == "lshr" and isinstance(b, int):
-        b = ones(WORD) - ones(b)
-    elif word != "and" or not isinstance(b, int):
+        return a.moved_down(b)
+    a, b = (a, b) if isinstance(a, Either) else (b, a)
+    if word != "and" or not isinstance(b, int):
         raise Undecided(f"{word} of united bits")
-    return Either(a.numbers, a.mask & b)
+    return a.under(b)
 
 
 def with_address(word, width, a, b):
@@ -167,7 +174,7 @@ def low(x, width):
     if isinstance(x, Address):
         return low_bits(x, ones(width))
     if isinstance(x, Either):
-        return Either(x.numbers, x.mask & ones(width))
+        return x.under(ones(width))
     return operations.remainder(x, 1 << width)
 
 
