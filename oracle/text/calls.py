@@ -103,6 +103,8 @@ def marked(cpu, hash_name):
     before = contents(state, 4)
     cpu.call(f"twox_c_forget_xxh{streams.state_name(hash_name)}", address(state))
     places = [4 * k for k, (x, y) in enumerate(zip(before, contents(state, 4))) if not is_same(x, y)]
+    if not places:
+        raise NotShown("forget changes nothing")
     return state, places, [before[place // 4] for place in places]
 
 

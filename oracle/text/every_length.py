@@ -11,7 +11,7 @@ import itertools
 import table
 from terms import definition, nodes
 from terms.definition import Bytes, suppositions
-from terms.every_length import LONGEST
+from terms.every_length import LONGEST, LONGEST_SECRET
 from terms.loops import REFUSALS, NotShown
 from terms.memory import Input
 from terms.polynomials import Poly, at_most, given, minus, parts_of, plus, times, value_at, variable
@@ -25,6 +25,7 @@ from .values import address
 UNROLLED = {"32": 8, "64": 2}     # stripes that a text takes at once, or a part of them
 PREFETCHED = 31_744               # bytes from which on the texts of XXH3 have loops of their own
 LIMIT = 30_000                    # instructions that a case may run: else a loop is run that should be shown
+SHORTEST = 136                    # bytes of a secret
 TURNS, FAR, MANY = "turns", 496, 1 << 32      # stripes from which on a text takes other ways
 DERIVED, KEPT = 16, range(9, 25)  # stripes of a block: by default, and with the secrets that streams take too
 
@@ -76,12 +77,12 @@ def own_cases(q):
 
 
 def cases(kind):
-    name, _, way = kind.partition(":")
-    if not way:
-        return list(plain_cases(name))
-    if way in ("default", "seed"):
-        return list(derived_cases())
-    return [with_rest(case, rest) for q in KEPT for case in of_secret(q) for rest in (False, True)]
+    """Of XXH32 and XXH64, and of XXH3 without a secret of its own."""
+    return list(plain_cases(kind) if kind in UNROLLED else derived_cases())
+
+
+def with_rests(q):
+    return [with_rest(case, rest) for case in of_secret(q) for rest in (False, True)]
 
 
 def between(q):
@@ -99,7 +100,7 @@ def of_secret(q):
         return
     yield from (xxh3_case(q, 0, J) for J in range(4, q))
     yield from derived_cases()
-    yield between(q)
+    yield Case(PREFETCHED, FAR - 1, [], {}, q)
 
 
 def with_rest(case, rest):
@@ -178,6 +179,19 @@ class EveryLength:
         if not nodes.is_same(ours, theirs):
             raise NotShown(f"XXH{self.kind} of {case.length} bytes: another value")
 
+    def show_short(self, n):
+        """n bytes, at most 240, with a secret of any length from 136 bytes on."""
+        source, secret = Input("m", n), Input("s", plus(SHORTEST, variable("more")))
+        seed = seed_symbol(self.hash_name) if self.way == "both" else 0
+        self.cpu.not_zero = []
+        with given(at_most(secret.length, LONGEST_SECRET)):
+            arguments = [address(source), n, address(secret), secret.length, *([seed] if self.way == "both" else [])]
+            ours = value_of(self.hash_name, self.cpu.call(name_of(self.hash_name, self.way), *arguments))
+            theirs = definition.value(self.texts, self.hash_name, self.way, seed, Bytes(secret, 0, secret.length),
+                                      Bytes(source, 0, n))
+        if not nodes.is_same(ours, theirs):
+            raise NotShown(f"XXH{self.kind} of {n} bytes: another value")
+
     def plain(self, case, source, message, _):
         width, seed = int(self.hash_name), seed_symbol(self.hash_name)
         accumulator = self.texts[f"Xxh{width}.accumulator"]
@@ -206,11 +220,13 @@ class EveryLength:
         family = Family(name, stripe, case.stripes, count, after,
                         lambda k, values: suppositions.suppose(after(k), values),
                         (case.block, case.blocks) if isinstance(case.blocks, Poly) else None)
-        self.cpu.loops, self.cpu.limit = Loops(self.cpu.program, family), LIMIT
+        loops = Loops(self.cpu.program, family)
+        if isinstance(case.length, Poly):
+            self.cpu.loops, self.cpu.limit = loops, LIMIT
         try:
             return value_of(self.hash_name, self.cpu.call(name_of(self.hash_name, self.way), *arguments))
         except REFUSALS as error:
-            raise NotShown("; ".join([str(error), *self.cpu.loops.refused])) from error
+            raise NotShown("; ".join([str(error), *loops.refused])) from error
         finally:
-            self.told.update({line.split(", ", 1)[1].split(":")[0]: line for line in self.cpu.loops.told})
+            self.told.update({line.split(", ", 1)[1].split(":")[0]: line for line in loops.told})
             self.cpu.loops, self.cpu.limit = None, NO_LIMIT

@@ -229,6 +229,8 @@ def call_of_outer(may_overlap, cpu, _):
     if (at + 8) % 16:
         raise Unsupported("a call with the stack at no multiple of 16")
     memory.forget_below(at)
+    if not (isinstance(to, Address) and isinstance(source, Address)) and not is_same(n, 0):
+        raise Undecided("a copy from or to no place")
     if not is_same(n, 0):
         room, first = to.place()
         cpu.expect_writable(room)

@@ -170,30 +170,45 @@ def count_shown(proof, asked):
 # ---- every length
 
 def every_length_rows(texts, is_all):
-    kinds = ["32", "64"] + ["3-64:default", "3-64:seed", "3-128:default", "3-128:seed"] * is_all
-    out = [counted("every length has its row", len(kinds), functools.partial(lengths_left_out, kinds))]
-    for kind in kinds:
-        for name, program in texts.items():
-            for seed in [None, 0] if kind.endswith("seed") else [None]:
-                title = f"XXH{kind.replace(':', ', ')}{' 0' if seed == 0 else ''}: every length to 2^64 - 1, {name}"
-                out.append(counted(title, len(every_length.cases(kind)),
-                                   functools.partial(shown, name, program, kind, seed)))
+    out = [counted("every length has its row", 2 + len(every_length.KEPT), lengths_left_out)]
+    for kind in ["32", "64", *(f"{name}:{way}" for name in ("3-64", "3-128") for way in ("default", "seed"))]:
+        asked = every_length.cases(kind)
+        for seed in [None, 0] if kind.endswith("seed") else [None]:
+            title = f"XXH{kind.replace(':', ', ')}{' 0' if seed == 0 else ''}: every length to 2^64 - 1"
+            out += of_every_length(texts, kind, title, asked, seed) if is_all or ":" not in kind else []
+    for kind in [f"{name}:{way}" for name in ("3-64", "3-128") for way in ("secret", "both")] if is_all else ():
+        out += [counted(f"XXH{kind.replace(':', ', ')} of any length: 0 to 240 bytes, {name}", 241,
+                        functools.partial(up_to_240, name, program, kind)) for name, program in texts.items()]
+        for q in every_length.KEPT:
+            title = f"XXH{kind.replace(':', ', ')} of {64 + 8 * q} to {71 + 8 * q} bytes: every length from 241 on"
+            out += of_every_length(texts, kind, title, every_length.with_rests(q))
     return out
 
 
-def lengths_left_out(kinds):
-    """Of XXH3 the row of one length stands for that one."""
-    bad = []
-    for kind in kinds:
-        first = MORE.stop if ":" in kind else ONE_BY_ONE.stop
-        others = set(every_length.left_out(kind, first)) - ({every_length.PREFETCHED} if ":" in kind else set())
-        bad += [f"XXH{kind}: no row has {sorted(others)[:5]}"] if others else []
-    return len(kinds), bad
+def of_every_length(texts, kind, title, asked, seed=None):
+    return [counted(f"{title}, {name}", len(asked), functools.partial(shown, name, program, kind, asked, seed))
+            for name, program in texts.items()]
 
 
-def shown(name, program, kind, seed):
+def lengths_left_out():
+    """Of the default secret and a derived one a row of its own has the one length that no case has."""
+    found = {name: every_length.left_out(every_length.cases(name), ONE_BY_ONE.stop, int(name) // 2 *
+                                         every_length.UNROLLED[name]) for name in every_length.UNROLLED}
+    found["3"] = [n for n in every_length.left_out(every_length.cases("3-64:seed"), MORE.stop, 1024)
+                  if n != every_length.PREFETCHED]
+    found.update({f"3 with {q} stripes": every_length.left_out(list(every_length.of_secret(q)), 241, 64 * q)
+                  for q in every_length.KEPT})
+    return len(found), [f"XXH{name}: no row has {left[:5]}" for name, left in found.items() if left]
+
+
+def shown(name, program, kind, asked, seed):
     proof = every_length.EveryLength(Processor(program, name), kind)
-    return count_shown(proof, [functools.partial(proof.show, case, seed) for case in every_length.cases(kind)])
+    return count_shown(proof, [functools.partial(proof.show, case, seed) for case in asked])
+
+
+def up_to_240(name, program, kind):
+    proof = every_length.EveryLength(Processor(program, name), kind)
+    return count_shown(proof, [functools.partial(proof.show_short, n) for n in range(241)])
 
 
 # ---- the other calls
