@@ -15,6 +15,8 @@ from .values import address, arithmetic, bits, low
 
 WIDTHS = {"XXH32": 32, "XXH64": 64, "XXH128": 128}
 SHORTEST, LONGEST_KEPT = 136, 256       # bytes of a secret: that a call takes, that a state keeps
+# Of a state of XXH3: where parts of it lie, and the bytes of its buffer.
+PLACE, WAITING, TOTAL, SECRET_LENGTH, BUFFERED = 0x40, 0x290, 0x298, 0x2b8, 512
 MOST_NODES = 500_000                    # between two cases
 LIMITS = {32: (1 << 32) - 1, 64: (1 << 64) - 1}
 
@@ -140,6 +142,22 @@ def without_mark(cpu):
             with given(at_most(v, most)):
                 state = new_state(cpu, hash_name)
                 state.store(places[0], width // 8, word)
+                refused(cpu, hash_name, state)
+                count += 1
+    return count
+
+
+def out_of_range(cpu):
+    """States of XXH3 with a mark, and a part that no call leaves: a secret that is too short or too long, more bytes
+    that wait than there is room for, none after some came, a place behind the secret's end."""
+    v, count = variable("v"), 0
+    for hash_name in ("3-64", "3-128"):
+        for at, low_end, most in ((SECRET_LENGTH, 0, SHORTEST - 1), (SECRET_LENGTH, LONGEST_KEPT + 1, LIMITS[64]),
+                                  (WAITING, BUFFERED + 1, LIMITS[64]), (TOTAL, 1, LIMITS[64]), (PLACE, 16, LIMITS[64])):
+            with given(at_most(v, most - low_end)):
+                state = new_state(cpu, hash_name)
+                expect_answer(reset(cpu, Request(hash_name, "default", 0), state), OK)
+                state.store(at, 8, plus(v, low_end))
                 refused(cpu, hash_name, state)
                 count += 1
     return count

@@ -22,8 +22,8 @@ from .processor import Processor
 
 EQUAL = os.path.join(os.path.dirname(os.path.abspath(__file__)), "equal_changes.txt")
 LIMIT = 300_000                   # instructions of a changed text's call
-MOST, NEAR = 200, 60              # questions that a change is asked, and requests near to them
-MANY, FEW, EACH = 1000, 50, 7     # changes of a text with --all and else, and then the requests: each so manieth
+MOST, NEAR, FEWEST = 200, 20, 10  # questions that a change is asked, requests near to them, and if it has a reason
+MANY, FEW = 300, 50               # changes of a text, with --all and without
 IDLE = "nop", "prefetcht0", "vzeroupper", "ud2"
 UNNOTICED, CRASH = "unnoticed", "A CRASH"
 ALIKE = [("je", "jne"), ("jb", "jbe"), ("ja", "jae"), ("jb", "jae"), ("sete", "setne"), ("cmovb", "cmovae"),
@@ -53,27 +53,29 @@ class Question:
             return f"{CRASH}: {error!r}"
 
 
-def requests():
+def requests(is_all):
+    """With lengths at both sides of each edge; without `is_all` fewer of them, and fewer kinds of call."""
     kinds = [("32", "seed", None), ("64", "seed", None)]
     kinds += [(name, kind, 136 if kind in ("secret", "both") else None) for name in ("3-64", "3-128")
               for kind in one_shots.WAYS]
-    for hash_name, kind, secret in kinds:
-        for n in ONE_SHOTS:
+    for hash_name, kind, secret in kinds if is_all else [kind for kind in kinds if kind not in LEFT_OUT]:
+        for n in sorted({*EDGES, *ONE_SHOTS}) if is_all else EDGES:
             yield Request(hash_name, kind, n, secret)
-        for n, *cuts in STREAMS:
+        for n, *cuts in [*((n,) for n in EDGES), *STREAMS] if is_all else [*((n,) for n in EDGES[:-6]), *STREAMS[::3]]:
             yield Request(hash_name, kind, n, secret, cuts=cuts)
     for hash_name in ("3-64", "3-128"):
         for n, secret in BY_SECRETS:
             yield Request(hash_name, "secret", n, secret)
 
 
-ONE_SHOTS = [*range(34), 36, 40, 45, 52, 63, 64, 65, 70, 80, 96, 97, 112, 113, 127, 128, 129, 130, 144, 145, 160, 177,
-             192, 208, 224, 240, 241, 255, 256, 257, 300, 319, 320, 321, 384, 447, 512, 513, 576, 640, 700, 1024, 1025,
-             1088, 1400, 2049]
-STREAMS = [(0,), (5, 2), (16, 7), (33, 1), (40, 20, 39), (64, 32), (70, 33, 64), (100, 3, 99), (200, 31, 160),
-           (240, 239), (241, 240), (257, 256), (300, 64, 128, 192), (320, 129, 256), (513, 512), (600, 512, 599),
-           (700, 1, 520), (1025, 512, 1024), (1100, 64), (1500, 600), (1500, 40, 1100), (2200, 513, 1500),
-           (2600, 1, 513, 2561)]
+LEFT_OUT = ("3-64", "both", 136), ("3-128", "default", None), ("3-128", "secret", 136)
+EDGES = [0, 1, 2, 3, 4, 7, 8, 9, 15, 16, 17, 31, 32, 33, 64, 65, 96, 97, 128, 129, 144, 145, 240, 241, 256, 257, 320,
+         640, 1025, 1088]
+ONE_SHOTS = [*range(34), 36, 40, 45, 52, 63, 70, 80, 112, 113, 127, 130, 160, 177, 192, 208, 224, 255, 300, 319, 321,
+             384, 447, 512, 513, 576, 700, 1024, 1400, 2049]
+STREAMS = [(5, 2), (16, 7), (33, 1), (40, 20, 39), (64, 32), (70, 33, 64), (100, 3, 99), (200, 31, 160), (240, 239),
+           (241, 240), (257, 256), (300, 64, 128, 192), (320, 129, 256), (513, 512), (600, 512, 599), (700, 1, 520),
+           (1025, 512, 1024), (1100, 64), (1500, 600), (1500, 40, 1100), (2200, 513, 1500), (2600, 1, 513, 2561)]
 BY_SECRETS = [(300, 137), (700, 143), (900, 192), (1100, 195), (1025, 192), (1300, 200), (2000, 256), (600, 1000),
               (1100, 144)]
 
@@ -84,12 +86,12 @@ def of_request(request, entries):
     return Question(repr(request), lambda cpu: side.of_text(cpu, request), said, request)
 
 
-def questions(entries, each):
-    """Each so manieth request with its twins, and the other calls."""
-    asked = [twin for request in list(requests())[::each] for twin in [request, *request.with_seed_0()]]
+def questions(entries, is_all):
+    """The requests with their twins, and the other calls."""
+    asked = [twin for request in requests(is_all) for twin in [request, *request.with_seed_0()]]
     others = [calls.canonical_forms, calls.is_equal, calls.compare, calls.version, calls.copies, calls.forgotten,
-              calls.without_mark, calls.refused_resets, calls.updates_of_nothing, calls.null_pointers,
-              calls.derived_secret, some_secrets]
+              calls.without_mark, calls.out_of_range, calls.refused_resets, calls.updates_of_nothing,
+              calls.null_pointers, calls.derived_secret, some_secrets]
     return [*(of_request(request, entries) for request in asked),
             *(Question(call.__name__, silent(call)) for call in others)]
 
@@ -133,13 +135,12 @@ def near(asked, entries, draw):
 
 
 def outcome(cpu, instructions, asked, entries, draw):
-    """What becomes of a change, by the questions that run it, and by some that lie near to them."""
+    """What becomes of a change, by some questions that run it, and some that lie near to them."""
     before = [cpu.code[x.section][x.at][1] for x in instructions]
-    draw.shuffle(asked)
     try:
         for x in instructions:
             cpu.change(x)
-        for question in itertools.chain(asked[:MOST], near(asked, entries, draw)):
+        for question in itertools.chain(asked, near(asked, entries, draw) if len(asked) > FEWEST else ()):
             known = nodes.mark()
             told = question.run(cpu)
             nodes.release(known)
@@ -235,6 +236,7 @@ def written(x):
             parts.append(f"{y.displacement:#x}({'%' + y.base if y.base else ''}{index})")
         else:
             parts.append(f"%{y.name}" if isinstance(y, Register) else f"${y.value:#x}")
+    parts += [f"{x.target[1]:#x}" if x.target[0] == x.section else x.target[0]] if x.target and not parts else []
     return f"{x.mnemonic} {','.join(parts)}".strip()
 
 
@@ -256,14 +258,16 @@ def noticed(name, program, is_all):
     cpu, draw = Processor(program, name), random.Random(1)
     cpu.limit = LIMIT
     entries = definition.program().run()
-    asked = questions(entries, 1 if is_all else EACH)
+    asked = questions(entries, is_all)
     found = reaching(cpu, asked)
     known, bad, told = reasons(), [], collections.Counter()
     changes = drawn(cpu, sorted(found), draw)
     for place, text, instructions in (next(changes) for _ in range(MANY if is_all else FEW)):
+        has_reason = is_equal(text, known)
         reached = [question for k, question in enumerate(asked) if found[place] >> k & 1]
-        what = outcome(cpu, instructions, reached, entries, draw)
+        draw.shuffle(reached)
+        what = outcome(cpu, instructions, reached[:FEWEST if has_reason else MOST], entries, draw)
         told[what.split(":")[0]] += 1
-        if what.startswith((CRASH, "WrongRule")) or what == UNNOTICED and not is_equal(text, known):
+        if what.startswith((CRASH, "WrongRule")) or what == UNNOTICED and not has_reason:
             bad.append(f"{what}: {text}")
     return sum(told.values()), bad

@@ -192,7 +192,8 @@ class Proof:
     def by_blocks(self, first):
         """The loop over the stripes of all blocks, which counts those of a block: after k = q b + j stripes, j < q, a
         cell that begins at 0 is a multiple of j, and one that goes on from elsewhere a multiple of k."""
-        if not self.family.blocks or not isinstance(first, int) or not self.guess(first, FIRST_TURNS[-1]) or self.step > 1:
+        is_asked = self.family.blocks and isinstance(first, int)
+        if not is_asked or not self.guess(first, FIRST_TURNS[-1]) or self.step > 1:
             return False
         (q, blocks), b, j = self.family.blocks, *(variable(self.cpu.new_name(name)) for name in "bj")
         self.counts = {cell: step for cell, (x, step) in self.places.items()

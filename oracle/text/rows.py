@@ -227,6 +227,7 @@ def call_rows(texts, is_all):
             of("the order of hashes", 9, calls.compare), of("the version", 1, calls.version),
             of("copies of states", 3, calls.copies), of("freed states are refused", 4, calls.forgotten),
             of("streams: memory without the mark of a reset", 8, calls.without_mark),
+            of("streams: states of XXH3 that no call leaves", 10, calls.out_of_range),
             of("streams: secrets that a state doesn't keep", 80, calls.refused_resets),
             of("streams: null pieces of no bytes", 20, calls.updates_of_nothing),
             of("null inputs and secrets of no bytes", 14, calls.null_pointers),
