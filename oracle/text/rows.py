@@ -168,7 +168,8 @@ def count_shown(proof, asked):
 # ---- every length
 
 def every_length_rows(texts, is_all):
-    out = [counted("every length has its row", 2 + len(every_length.KEPT), lengths_left_out)]
+    out = [counted("every length of XXH32 and XXH64 has its row", 2, plain_left_out)]
+    out += [counted("every length of XXH3 has its row", 1 + len(every_length.KEPT), xxh3_left_out)] if is_all else []
     for kind in ["32", "64", *(f"{name}:{way}" for name in ("3-64", "3-128") for way in ("default", "seed"))]:
         asked = every_length.cases(kind)
         for seed in [None, 0] if kind.endswith("seed") else [None]:
@@ -188,15 +189,22 @@ def of_every_length(texts, kind, title, asked, seed=None):
             for name, program in texts.items()]
 
 
-def lengths_left_out():
+def plain_left_out():
+    return told_left_out({f"XXH{name}": every_length.left_out(every_length.cases(name), ONE_BY_ONE.stop,
+                                                              int(name) // 2 * every_length.UNROLLED[name])
+                          for name in every_length.UNROLLED})
+
+
+def xxh3_left_out():
     """Of the default secret and a derived one a row of its own has the one length that no case has."""
-    found = {name: every_length.left_out(every_length.cases(name), ONE_BY_ONE.stop, int(name) // 2 *
-                                         every_length.UNROLLED[name]) for name in every_length.UNROLLED}
-    found["3"] = [n for n in every_length.left_out(every_length.cases("3-64:seed"), MORE.stop, 1024)
-                  if n != every_length.PREFETCHED]
-    found.update({f"3 with {q} stripes": every_length.left_out(list(every_length.of_secret(q)), 241, 64 * q)
-                  for q in every_length.KEPT})
-    return len(found), [f"XXH{name}: no row has {left[:5]}" for name, left in found.items() if left]
+    derived = every_length.left_out(every_length.cases("3-64:seed"), MORE.stop, 64 * every_length.DERIVED)
+    found = {f"a secret of {q} words": every_length.left_out(list(every_length.of_secret(q)), 241, 64 * q)
+             for q in every_length.KEPT}
+    return told_left_out({**found, "a derived secret": sorted({*derived} - {every_length.PREFETCHED})})
+
+
+def told_left_out(found):
+    return len(found), [f"{name}: no row has {left[:5]}" for name, left in found.items() if left]
 
 
 def shown(name, program, kind, asked, seed):
