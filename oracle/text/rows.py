@@ -249,7 +249,7 @@ def machine_rows(texts, is_all):
     return [counted("the table of instructions beside the processor", len(TABLE) - 40,
                     functools.partial(beside_processor, texts, is_all)),
             counted("wrong texts of each kind are refused", len(planted.WRONG), planted.refused),
-            *(counted(f"changes of one instruction, {name}", 1000 if is_all else 50,
+            *(counted(f"changes of one instruction, {name}", changes.MANY if is_all else changes.FEW,
                       functools.partial(changes.noticed, name, program, is_all)) for name, program in texts.items())]
 
 
