@@ -30,7 +30,7 @@ def power(a, b):
 
 
 LIBRARY = {
-    "w32": 32, "w64": 64,
+    "w32": 32, "w64": 64, "w128": 128,
     "bits": (1, lambda w: w),
     "byte_len": (1, lambda w: w // 8),
     "take": (2, lambda n, xs: xs[:n]),
@@ -41,8 +41,10 @@ LIBRARY = {
     "min": (2, min),
     "max": (2, max),
     "nat_lt": (2, lambda a, b: a < b),
+    "nat_eq": (2, lambda a, b: a == b),
     "from_le_bytes": (2, from_le_bytes),
     "to_le_bytes": (2, to_le_bytes),
+    "to_be_bytes": (2, lambda w, n: to_le_bytes(w, n)[::-1]),
     "rotate_left": (3, rotate_left),
     "swap_bytes": (2, lambda w, n: from_le_bytes(w, to_le_bytes(w, n)[::-1])),
 }

@@ -11,6 +11,7 @@ from .polynomials import Poly, is_number, is_natural, minus, monus, plus, smalle
 
 ENTRIES = table.ENTRIES + ["word64", "Xxh32.accumulator", "Xxh64.accumulator", "Long.accumulator_after"]
 RECURSIONS = "after_units", "accumulator_after"
+FARTHEST = 64            # steps of a recursion from a hypothesis
 
 
 class Bytes:
@@ -79,7 +80,7 @@ class Suppositions:
     """Calls with a polynomial among their arguments, and the values that they are supposed to have."""
 
     def __init__(self):
-        self.values, self.next, self.kept = {}, [], []
+        self.values, self.next, self.kept, self.depth = {}, [], [], 0
 
     def clear(self):
         for known in (self.values, self.next, self.kept):
@@ -101,8 +102,19 @@ class Suppositions:
                     self.values[key] = self.next.pop()
                 if key in self.values:
                     return self.values[key]
+                return self.unfolded(function, arguments)
             return function(*arguments)
         return call
+
+    def unfolded(self, function, arguments):
+        """A call without a hypothesis. One that lies far behind it has none that it comes to."""
+        if self.depth == FARTHEST:
+            raise Undecided("a recursion that comes to no hypothesis")
+        self.depth += 1
+        try:
+            return function(*arguments)
+        finally:
+            self.depth -= 1
 
     def identity(self, x):
         """The same for two arguments only if they are the same object, number, or function of the same text and
@@ -146,8 +158,9 @@ class Named(antt.Definitions):
         return self.modules[path].definitions[own]
 
 
-def program():
-    return antt.Program(Named(table.TOP, table.CRATES), ENTRIES)
+def program(crates=(), entries=()):
+    """The definitions, with those of further crates."""
+    return antt.Program(Named(table.TOP, [*table.CRATES, *crates]), [*ENTRIES, *entries])
 
 
 def value(entries, hash_name, kind, seed, secret, message):

@@ -210,6 +210,10 @@ class Solver:
         if name in ("multiply_at", "complement"):
             modulus, *values = arguments
             return at(values[0], modulus) * at(values[1], modulus) if name == "multiply_at" else ~at(values[0], modulus)
+        if name == "side_by_side":
+            widths, *values = arguments
+            parts = [at(x, size) for size, x in zip(widths, values)]
+            return self.z3.Concat(*reversed(parts)) if len(parts) > 1 else parts[0]
         if name == "bits":
             a, first, n = arguments
             return self.z3.Extract(first + n - 1, first, at(a, max(width, first + n, a.width)))

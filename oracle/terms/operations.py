@@ -18,7 +18,16 @@ MEANINGS = {
     "shift_right": lambda a, k: a >> k, "bits": window, "multiply_at": lambda width, a, b: a * b % (1 << width),
     "add_at": lambda width, coefficients, *values: sum(c * x for c, x in zip(coefficients, values)) % (1 << width),
     "complement": lambda width, a: a ^ rules.ones(width),
+    "side_by_side": lambda widths, *values: joined(widths, values),
 }
+
+
+def joined(widths, values):
+    out = at = 0
+    for width, x in zip(widths, values):
+        out |= x % (1 << width) << at
+        at += width
+    return out
 
 
 def checked(name, answer, *arguments):
@@ -100,7 +109,8 @@ def bits(a, first, n):
 
 def side_by_side(*parts):
     """(value, width) parts as one number, the first its lowest bits."""
-    return from_segments([segment for x, width in parts for segment in bits_of(x, 0, width)])
+    answer = from_segments([segment for x, width in parts for segment in bits_of(x, 0, width)])
+    return checked("side_by_side", answer, tuple(width for _, width in parts), *(x for x, _ in parts))
 
 
 def xor(a, b):

@@ -1,0 +1,163 @@
+"""The streams of XXH32 and XXH64 of a text: reset, any number of updates of any lengths, digest, by induction over the
+updates, as terms/plain_streams.py does it for the reference.
+
+A state stands for the first N bytes of a message, N = stripe * a + r, when its total is N, its accumulators are the
+definition's after a stripes, its marked word is the mark and r, and its buffer begins with the r bytes behind the
+stripes; all else in it may be anything. A reset gives a state that stands for no byte. An update leads from one that
+stands for stripe * a + r bytes to one for so many more, where r, the bytes that are left and the stripes mod those
+that a text takes at once are numbers, and all else may be any. A digest of one is the definition's value, and changes
+nothing."""
+import collections
+
+from terms import definition, nodes
+from terms.definition import Bytes, suppositions
+from terms.every_length import LONGEST
+from terms.loops import REFUSALS, NotShown
+from terms.memory import Input, Piece
+from terms.nodes import is_same
+from terms.polynomials import at_most, given, minus, plus, times, variable
+from terms.polynomials import is_same as is_same_number
+from terms.sides import seed_symbol
+
+from . import streams
+from .every_length import LIMIT, UNROLLED
+from .induction import Family, Loops
+from .memory import Words
+from .processor import NO_LIMIT
+from .values import address, low
+
+# Where the parts of a state lie: the accumulators, the seed, the marked word, the total, the buffer; and the mark.
+Layout = collections.namedtuple("Layout", "accumulators seed marked total buffer mark")
+LAYOUTS = {"32": Layout((0, 8, 16, 28), 4, 12, 20, 32, 0x32335858),
+           "64": Layout((0, 16, 32, 48), 8, 40, 24, 56, 0x34365858)}
+
+# An update: r bytes wait; it fills their stripe, takes `further` stripes, which aren't a number with `more`, and leaves
+# s; or it fills no stripe.
+Update = collections.namedtuple("Update", "r s fills further more")
+
+
+def updates(hash_name):
+    stripe, most = int(hash_name) // 2, UNROLLED[hash_name]
+    for r in range(stripe):
+        yield from (Update(r, s, False, 0, False) for s in range(r, stripe))
+        for s in range(stripe):
+            for further in range(most):
+                yield from (Update(r, s, r > 0, further, more) for more in (False, True) if r or further or more)
+
+
+def length_of(one, hash_name, turns):
+    """The bytes of an update's piece."""
+    stripe = int(hash_name) // 2
+    whole = int(one.fills) + one.further + (UNROLLED[hash_name] * turns if one.more else 0)
+    return stripe * whole + one.s - one.r
+
+
+def left_out(hash_name):
+    """The pieces (r, length) that no update has: of the first lengths, to which each turn more adds as much."""
+    most = int(hash_name) // 2 * UNROLLED[hash_name]
+    found = {(one.r, length_of(one, hash_name, turns)) for one in updates(hash_name) for turns in range(1, 4)}
+    return sorted({(r, length) for r in range(int(hash_name) // 2) for length in range(3 * most)} - found)
+
+
+class AnyUpdates:
+    def __init__(self, cpu, hash_name):
+        self.cpu, self.hash_name = cpu, hash_name
+        self.width, self.stripe, self.at = int(hash_name), int(hash_name) // 2, LAYOUTS[hash_name]
+        self.forget()
+
+    def forget(self):
+        nodes.forget()
+        suppositions.clear()
+        self.seed = seed_symbol(self.hash_name)
+        self.texts = definition.program().run(traced=suppositions)
+
+    # ---- states
+
+    def begin(self, n):
+        """A message of n bytes and more."""
+        self.source = Input("m", plus(n, variable("rest")))
+        self.message = Bytes(self.source, 0, self.source.length)
+
+    def accumulator(self, j, k):
+        return self.texts[f"Xxh{self.width}.accumulator"](self.seed, self.message, j, k)
+
+    def parts(self, a, r, accumulators):
+        """What a state holds that stands for stripe * a + r bytes: (offset, size, value)."""
+        word, n = self.width // 8, plus(times(self.stripe, a), r)
+        yield from ((at, word, x) for at, x in zip(self.at.accumulators, accumulators, strict=True))
+        yield from ((self.at.seed, word, self.seed), (self.at.marked, 4, self.at.mark + r), (self.at.total, 8, n))
+        for k in range(r):
+            yield self.at.buffer + k, 1, self.source.load(plus(times(self.stripe, a), k), 1)
+
+    def state(self, a, r):
+        """One that stands for stripe * a + r bytes, whose accumulators are symbols, unless there was no stripe."""
+        suppositions.clear()
+        accumulators = [self.accumulator(j, 0) for j in range(4)]
+        if not is_same_number(a, 0):
+            accumulators = [self.cpu.fresh("accumulator", self.width) for _ in range(4)]
+            suppositions.suppose(lambda j: self.accumulator(j, a), accumulators)
+        state = Words("state", streams.SIZES[self.hash_name],
+                      [(at, 1, self.cpu.fresh("a byte", 8)) for at in range(streams.SIZES[self.hash_name])],
+                      alignment=streams.ALIGNMENT.get(self.hash_name, 8))
+        for at, size, x in self.parts(a, r, accumulators):
+            state.store(at, size, x)
+        return state
+
+    def expect_state(self, what, state, a, r):
+        for at, size, x in self.parts(a, r, [self.accumulator(j, a) for j in range(4)]):
+            found = state.load(at, size)
+            if not (is_same(found, x) or is_same_number(found, x)):
+                raise NotShown(f"{what}: the state at {at} is {found} and not {x}, of {self.stripe} * ({a}) + {r}")
+
+    def call(self, name, state, *arguments):
+        self.cpu.not_zero, self.cpu.live = [], [state]
+        return self.cpu.call(f"XXH{self.width}_{name}", address(state), *arguments)
+
+    # ---- the three parts
+
+    def reset(self):
+        """From memory that holds anything."""
+        self.begin(0)
+        with given(at_most(self.source.length, LONGEST)):
+            state = streams.new_state(self.cpu, self.hash_name)
+            streams.expect_answer(self.call("reset", state, (self.seed, self.width)), streams.OK)
+            self.expect_state("a reset", state, 0, 0)
+
+    def update(self, one):
+        """From stripe * a + r bytes, a any number, by one piece."""
+        a = variable("a")
+        further = plus(one.further, times(UNROLLED[self.hash_name], variable("d")) if one.more else 0)
+        b = plus(a, int(one.fills), further)
+        begun, ended = plus(times(self.stripe, a), one.r), plus(times(self.stripe, b), one.s)
+        self.begin(ended)
+        facts = [minus(variable("d"), 1)] if one.more else []
+        with given(at_most(self.source.length, LONGEST), *facts):
+            state = self.state(a, one.r)
+            piece = Piece(self.source, begun, minus(ended, begun))
+            self.cpu.loops, self.cpu.limit = Loops(self.cpu.program, self.family(b)), LIMIT
+            try:
+                streams.expect_answer(self.call("update", state, address(piece), piece.length), streams.OK)
+            except REFUSALS as error:
+                raise NotShown("; ".join([str(error), *self.cpu.loops.refused])) from error
+            finally:
+                self.cpu.loops, self.cpu.limit = None, NO_LIMIT
+            self.expect_state("an update", state, b, one.s)
+
+    def family(self, stripes):
+        def after(k):
+            return lambda j: self.accumulator(j, k)
+        return Family(f"XXH{self.width}, an update", self.stripe, stripes, 4, after,
+                      lambda k, values: suppositions.suppose(after(k), values))
+
+    def digest(self, a, r):
+        """Of a state that stands for the whole message."""
+        n = plus(times(self.stripe, a), r)
+        self.source = Input("m", n)
+        self.message = Bytes(self.source, 0, n)
+        with given(at_most(n, LONGEST), *([] if is_same_number(a, 0) else [minus(a, 1)])):
+            state = self.state(a, r)
+            before = streams.contents(state, 1)
+            rax, _ = self.call("digest", state)
+            streams.expect_same("a digest", before, state, 1)
+            if not is_same(low(rax, self.width), self.texts[f"xxh{self.width}"](self.seed, self.message)):
+                raise NotShown(f"a digest of {n} bytes: another value")

@@ -1,0 +1,260 @@
+"""What of the exports is neither a one-shot nor a stream: canonical forms, comparisons, copies, made secrets, refusals.
+Each function asks a processor, gives how many cases it had, and raises where the text does anything else."""
+from terms import definition, nodes
+from terms.definition import Bytes
+from terms.loops import NotShown
+from terms.memory import Input
+from terms.nodes import is_same, symbol
+from terms.polynomials import at_most, given, plus, variable
+from terms.sides import Request
+
+from . import one_shots, streams
+from .memory import Words
+from .streams import ERROR, OK, contents, digest, expect_answer, expect_same, new_state, reset, update
+from .values import address, arithmetic, bits, low
+
+WIDTHS = {"XXH32": 32, "XXH64": 64, "XXH128": 128}
+SHORTEST, LONGEST_KEPT = 136, 256       # bytes of a secret: that a call takes, that a state keeps
+# Of a state of XXH3: where parts of it lie, and the bytes of its buffer.
+PLACE, WAITING, TOTAL, SECRET_LENGTH, BUFFERED = 0x40, 0x290, 0x298, 0x2b8, 512
+MOST_NODES = 500_000                    # between two cases
+LIMITS = {32: (1 << 32) - 1, 64: (1 << 64) - 1}
+
+
+def expect(what, ours, theirs):
+    if not is_same(ours, theirs):
+        raise NotShown(f"{what}: another value")
+
+
+# ---- canonical forms and comparisons
+
+def words_of(width, name):
+    """A hash as the registers that hand it over: one of 64 bits, or two."""
+    return [(symbol(f"{name}{k}", min(width, 64)), min(width, 64)) for k in range(max(1, width // 64))]
+
+
+def canonical_forms(cpu):
+    """A hash's bytes, the highest first, and back. The bytes have no alignment."""
+    for name, width in WIDTHS.items():
+        words, size = words_of(width, "hash"), width // 8
+        of_hash = Words("canonical", size, alignment=1)
+        cpu.call(f"{name}_canonicalFromHash", address(of_hash), *words)
+        for k in range(size):
+            at = 8 * (size - 1 - k)
+            expect(f"{name}_canonicalFromHash", of_hash.load(k, 1), bits(words[at // 64][0], at % 64, 8))
+        source = Input("canonical", size)
+        rax, rdx = cpu.call(f"{name}_hashFromCanonical", address(source))
+        for k in range(size):
+            at = 8 * (size - 1 - k)
+            expect(f"{name}_hashFromCanonical", bits((rax, rdx)[at // 64], at % 64, 8), source.load(k, 1))
+    return 2 * len(WIDTHS)
+
+
+def is_equal(cpu):
+    """Equal hashes; hashes that differ in the low word, in the high one, in both."""
+    low_word, high_word = symbol("low", 64), symbol("high", 64)
+    for differs in ((), (0,), (1,), (0, 1)):
+        cpu.not_zero = [symbol(f"difference{k}", 64) for k in differs]
+        other = [arithmetic("xor", 64, word, symbol(f"difference{k}", 64)) if k in differs else word
+                 for k, word in enumerate((low_word, high_word))]
+        rax, _ = cpu.call("XXH128_isEqual", low_word, high_word, *other)
+        expect("XXH128_isEqual", low(rax, 32), int(not differs))
+    return 4
+
+
+def compare(cpu):
+    """Each word of the first hash above, at or below that of the second."""
+    order = {1: 1, 0: 0, -1: LIMITS[32]}
+    for high in order:
+        for under in order:
+            a, b, more = (variable(name) for name in ("a", "b", "more"))
+            rest = variable("less")
+            with given(at_most(plus(a, more, 1), LIMITS[64]), at_most(plus(b, rest, 1), LIMITS[64])):
+                words = [(plus(x, d, 1) if side > 0 else x, plus(x, d, 1) if side < 0 else x)
+                         for x, d, side in ((b, rest, under), (a, more, high))]
+                first, second = (Words(name, 16, [(8 * k, 8, words[k][j]) for k in (0, 1)], alignment=8)
+                                 for j, name in enumerate(("first", "second")))
+                rax, _ = cpu.call("XXH128_cmp", address(first), address(second))
+            expect("XXH128_cmp", low(rax, 32), order[high or under])
+    return len(order) ** 2
+
+
+def version(cpu):
+    rax, _ = cpu.call("XXH_versionNumber")
+    expect("XXH_versionNumber", low(rax, 32), 801)
+    return 1
+
+
+# ---- states
+
+def copies(cpu):
+    """A copy has all bytes of its original, which stays."""
+    for hash_name in ("32", "64", "3-64"):
+        original, other = new_state(cpu, hash_name), new_state(cpu, hash_name)
+        other.name, before = "copy", contents(original)
+        cpu.call(f"XXH{streams.state_name(hash_name)}_copyState", address(other), address(original))
+        expect_same("a copy", before, original)
+        expect_same("a copy of another value", before, other)
+    return 3
+
+
+def marked(cpu, hash_name):
+    """A state that `forget` has taken the mark from: the state, the places of what was taken, and what stood there."""
+    state = new_state(cpu, hash_name)
+    expect_answer(reset(cpu, Request(hash_name, "seed" if one_shots.is_plain(hash_name) else "default", 0), state), OK)
+    before = contents(state, 4)
+    cpu.call(f"twox_c_forget_xxh{streams.state_name(hash_name)}", address(state))
+    places = [4 * k for k, (x, y) in enumerate(zip(before, contents(state, 4))) if not is_same(x, y)]
+    if not places:
+        raise NotShown("forget changes nothing")
+    return state, places, [before[place // 4] for place in places]
+
+
+def forgotten(cpu):
+    """What was freed is no state: it is refused, and `forget` changes nothing but the mark."""
+    for hash_name in ("32", "64", "3-64", "3-128"):
+        state, places, _ = marked(cpu, hash_name)
+        if len(places) > 2 or len(places) == 2 and (places[1] - places[0] != 4 or places[0] % 8):
+            raise NotShown(f"forget changes more than a word: {places}")
+        refused(cpu, hash_name, state)
+    return 4
+
+
+def refused(cpu, hash_name, state):
+    """An update and a digest of memory that is no state: an error, 0, and nothing changed."""
+    before = contents(state)
+    for piece in (Input("m", 5), Input("m", 700), None):
+        expect_answer(update(cpu, hash_name, state, piece), ERROR)
+        expect_same("a refused update", before, state)
+    expect("a refused digest", digest(cpu, hash_name, state), 0)
+
+
+def without_mark(cpu):
+    """Memory that holds anything, and in the mark's place any word that isn't one: all below the first mark, and all
+    above the last."""
+    count = 0
+    for hash_name, marks in (("32", 16), ("64", 32), ("3-64", 1), ("3-128", 1)):
+        _, places, values = marked(cpu, hash_name)
+        width = 32 * len(places)
+        mark = sum(value << 32 * k for k, value in enumerate(values))
+        v = variable("v")
+        for word, most in ((v, mark - 1), (plus(v, mark, marks), LIMITS[width] - mark - marks)):
+            with given(at_most(v, most)):
+                state = new_state(cpu, hash_name)
+                state.store(places[0], width // 8, word)
+                refused(cpu, hash_name, state)
+                count += 1
+    return count
+
+
+def out_of_range(cpu):
+    """States of XXH3 with a mark, and a part that no call leaves: a secret that is too short or too long, more bytes
+    that wait than there is room for, none after some came, a place behind the secret's end."""
+    v, count = variable("v"), 0
+    for hash_name in ("3-64", "3-128"):
+        for at, low_end, most in ((SECRET_LENGTH, 0, SHORTEST - 1), (SECRET_LENGTH, LONGEST_KEPT + 1, LIMITS[64]),
+                                  (WAITING, BUFFERED + 1, LIMITS[64]), (TOTAL, 1, LIMITS[64]), (PLACE, 16, LIMITS[64])):
+            with given(at_most(v, most - low_end)):
+                state = new_state(cpu, hash_name)
+                expect_answer(reset(cpu, Request(hash_name, "default", 0), state), OK)
+                state.store(at, 8, plus(v, low_end))
+                refused(cpu, hash_name, state)
+                count += 1
+    return count
+
+
+def refused_resets(cpu):
+    """Secrets that a state doesn't keep: an error, and the state stays; null too, where the length is 0."""
+    count = 0
+    for hash_name in ("3-64", "3-128"):
+        for kind in ("secret", "both"):
+            for length in [*range(0, SHORTEST, 9), SHORTEST - 1, LONGEST_KEPT + 1, 300, 1000, LIMITS[64]]:
+                state, request = new_state(cpu, hash_name), Request(hash_name, kind, 0, length)
+                before = contents(state)
+                expect_answer(reset(cpu, request, state), ERROR)
+                expect_same("a refused reset", before, state)
+                count += 1
+    return count
+
+
+# ---- secrets
+
+def short_secrets(cpu, hash_name, lengths):
+    """A secret that is too short gives 0 where it is needed, which is at each length, or above 240 bytes where there
+    is a seed too; up to there the seed's value. A null secret is one of no bytes."""
+    entries, count = definition.program().run(), 0
+    for n in lengths:
+        if len(nodes.NODES) > MOST_NODES:
+            nodes.forget()
+            entries = definition.program().run()
+        for size in range(SHORTEST):
+            for kind in ("secret", "both"):
+                request = Request(hash_name, kind, n, size)
+                is_refused = kind == "secret" or n > 240
+                theirs = 0 if is_refused else request.of_definition(entries)
+                expect(f"{request}", one_shots.of_text(cpu, request), theirs)
+                count += 1
+    return count
+
+
+def null_pointers(cpu):
+    """An input of no bytes and a secret of none may be null."""
+    entries, count = definition.program().run(), 0
+    for hash_name, kind in (("32", "seed"), ("64", "seed"), *((name, kind) for name in ("3-64", "3-128")
+                                                                for kind in one_shots.WAYS)):
+        for size in [0, SHORTEST] if kind in ("secret", "both") else [None]:
+            request = Request(hash_name, kind, 0, size)
+            secret = [] if size is None else [address(request.secret) if size else 0, size]
+            theirs = 0 if kind == "secret" and not size else request.of_definition(entries)
+            cpu.not_zero = []
+            ours = cpu.call(one_shots.name_of(hash_name, kind), 0, 0, *secret, *one_shots.of_seed(request))
+            expect(f"{request} at null", one_shots.value_of(hash_name, ours), theirs)
+            count += 1
+    return count
+
+
+def updates_of_nothing(cpu):
+    """A null piece of no bytes, before, between and after others, leaves what a state answers."""
+    entries, count = definition.program().run(), 0
+    for hash_name, kind in (("32", "seed"), ("64", "seed"), ("3-64", "default"), ("3-128", "default")):
+        for n in (0, 5, 33, 300, 700):
+            request = Request(hash_name, kind, n)
+            state = new_state(cpu, hash_name)
+            expect_answer(reset(cpu, request, state), OK)
+            for piece in (None, request.message, None):
+                expect_answer(update(cpu, hash_name, state, piece), OK)
+            expect(f"{request} beside null pieces", digest(cpu, hash_name, state), request.of_definition(entries))
+            count += 1
+    return count
+
+
+def derived_secret(cpu):
+    """The 192 bytes of the secret that a seed derives."""
+    entries = definition.program().run()
+    for seed in (symbol("seed64", 64), 0):
+        cpu.not_zero = []
+        room = Words("secret", 192, alignment=1)
+        cpu.call("XXH3_generateSecret_fromSeed", address(room), seed)
+        for k, byte in enumerate(entries["derived_secret"](seed)):
+            expect("XXH3_generateSecret_fromSeed", room.load(k, 1), byte)
+    return 2
+
+
+def made_secrets(cpu, asked):
+    """Secrets of some lengths, of custom seeds of some lengths; too short ones are refused, and nothing is written."""
+    program = definition.program(["twox_c"], ["generated_secret"])
+    entries = program.run()
+    for size, length in asked:
+        if len(nodes.NODES) > MOST_NODES:
+            nodes.forget()
+            entries = program.run()
+        room = Words("secret", size, [(k, 1, cpu.fresh("a byte", 8)) for k in range(size)], alignment=1)
+        before, source = [room.load(k, 1) for k in range(size)], Input("m", length)
+        answer = cpu.call("proved_XXH3_generateSecret", address(room), size, address(source) if length else 0, length)
+        expect_answer(answer, OK if size >= SHORTEST else ERROR)
+        made = entries["generated_secret"](Bytes(source, 0, length), size) if size >= SHORTEST else before
+        for k, byte in zip(range(size), made, strict=True):
+            expect(f"a secret of {size} bytes of {length}", room.load(k, 1), byte)
+    return len(asked)
+
+

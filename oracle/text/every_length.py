@@ -1,0 +1,233 @@
+"""The one-shots of a text of every length, by induction over its loops.
+
+XXH32 and XXH64: stripe * (u b + c) + r bytes, where a text takes u stripes at once, b is any number from 1 on, c below
+u and r below a stripe. XXH3, above what is asked one by one: 64 (q B + J) + t + 1 bytes, q stripes in a block, B
+blocks, J below q, and t below 64. With the default secret and one that a seed derives q is 16; a secret that is given
+has 64 + 8 q + u bytes, u below 8, and q is a number from 9 to 24. The texts have ways of their own from 31,744 bytes
+on, and where the stripes come to 2 ^ 32; `left_out` computes that the cases have all lengths but those that it
+gives."""
+import collections
+import itertools
+
+import table
+from terms import definition, nodes
+from terms.definition import Bytes, suppositions
+from terms.every_length import LONGEST, LONGEST_SECRET
+from terms.loops import REFUSALS, NotShown
+from terms.memory import Input
+from terms.polynomials import Poly, at_most, given, minus, parts_of, plus, times, value_at, variable
+from terms.sides import seed_symbol
+
+from .induction import Family, Loops
+from .one_shots import name_of, value_of
+from .processor import NO_LIMIT
+from .values import address
+
+UNROLLED = {"32": 8, "64": 2}     # stripes that a text takes at once, or a part of them
+PREFETCHED = 31_744               # bytes from which on the texts of XXH3 have loops of their own
+LIMIT = 30_000                    # instructions that a case may run: else a loop is run that should be shown
+SHORTEST, LONGEST_KEPT = 136, 263 # bytes of secrets that the cases have
+TURNS, FAR, MANY = "turns", 496, 1 << 32      # stripes from which on a text takes other ways
+DERIVED, KEPT = 16, range(9, 25)  # stripes of a block: by default, and with the secrets that streams take too
+
+# A case: its length, and the stripes in it that are accumulated, in the variable `turns` and others; facts; the values
+# of the others; the stripes of a block; and how many blocks there are, where a loop may count the stripes of one.
+Case = collections.namedtuple("Case", "length stripes facts others block blocks rest", defaults=(None, None, 0))
+
+
+# ---- the cases
+
+def plain_cases(hash_name):
+    stripe, turns = int(hash_name) // 2, variable(TURNS)
+    for c in range(UNROLLED[hash_name]):
+        for r in range(stripe):
+            stripes = plus(times(UNROLLED[hash_name], turns), c)
+            yield Case(plus(times(stripe, stripes), r), stripes, [minus(turns, 1)], {})
+
+
+def xxh3_case(q, blocks, J, *facts, is_near=False):
+    """A case of so many blocks and stripes more, below PREFETCHED bytes where it is near."""
+    stripes, t = plus(times(q, blocks), J), variable("t")
+    n = plus(times(64, stripes), t, 1)
+    others = {"t": range(64), **({"J": range(q)} if isinstance(J, Poly) else {})}
+    of_n = [at_most(n, PREFETCHED - 1)] if is_near else []
+    return Case(n, stripes, [at_most(t, 63), *of_n, *facts], others, q, blocks)
+
+
+def derived_cases(q=DERIVED):
+    turns = variable(TURNS)
+    for J in range(q):
+        yield xxh3_case(q, turns, J, minus(turns, 1), is_near=True)
+        yield xxh3_case(q, turns, J, minus(turns, FAR // q))
+
+
+def own_cases(q):
+    """With a secret that is given, of q stripes a block, above 240 bytes."""
+    turns, J, far, many = variable(TURNS), variable("J"), FAR // q, MANY // q
+    yield xxh3_case(q, 0, J, minus(J, 4), at_most(J, q - 1))
+    for more, of_J in ((0, []), (J, [minus(J, 1), at_most(J, q - 1)])):
+        yield xxh3_case(q, turns, more, *of_J, minus(turns, 1), is_near=True)
+        yield xxh3_case(q, turns, more, *of_J, minus(turns, far + 1), at_most(turns, many - 1))
+        yield xxh3_case(q, turns, more, *of_J, minus(turns, many + 1))
+    yield from (xxh3_case(q, turns, more, minus(turns, many), at_most(turns, many)) for more in range(q))
+    least = FAR - q * far          # stripes behind these blocks, from which on the other way is taken
+    here = [minus(turns, far), at_most(turns, far)]
+    yield between(q)
+    yield from [] if least else [xxh3_case(q, turns, 0, *here)]
+    yield xxh3_case(q, turns, J, *here, minus(J, max(1, least)), at_most(J, q - 1))
+
+
+def cases(kind):
+    """Of XXH32 and XXH64, and of XXH3 without a secret of its own."""
+    return list(plain_cases(kind) if kind in UNROLLED else derived_cases())
+
+
+def with_rests(q):
+    return [with_rest(case, rest) for case in of_secret(q) for rest in (False, True)]
+
+
+def between(q):
+    """PREFETCHED bytes, which have one stripe less than FAR, and no byte more would be near."""
+    turns, (blocks, J) = variable(TURNS), divmod(FAR - 1, q)
+    stripes = plus(times(q, turns), J)
+    return Case(plus(times(64, stripes), 64), stripes, [minus(turns, blocks), at_most(turns, blocks)], {}, q, turns)
+
+
+def of_secret(q):
+    """Above 240 bytes. The texts ask whether a secret has 192 bytes."""
+    yield xxh3_case(q, 0, 3, minus(variable("t"), 48))
+    if q != DERIVED:
+        yield from own_cases(q)
+        return
+    yield from (xxh3_case(q, 0, J) for J in range(4, q))
+    yield from derived_cases()
+    yield Case(PREFETCHED, FAR - 1, [], {}, q)
+
+
+def with_rest(case, rest):
+    """With a secret of `rest` bytes more than its stripes ask for: 0, or 1 to 7."""
+    u = variable("u")
+    return case._replace(rest=u, facts=[*case.facts, minus(u, 1), at_most(u, 7)]) if rest else case._replace(rest=0)
+
+
+# ---- that these are all
+
+def turns_of(case, point):
+    """The least and the greatest number of turns, or None, that a case has where the others have some values."""
+    least, most = 0, None
+    for fact in case.facts:
+        c, step = value_at(fact, {TURNS: 0, **point}), parts_of(fact).get((TURNS,), 0)
+        if step > 0:
+            least = max(least, -(c // step))
+        elif step < 0:
+            most = c // -step if most is None else min(most, c // -step)
+        elif c < 0:
+            return 1, 0
+    return least, most
+
+
+def spans(found, period):
+    """For each rest by the period, the spans of quotients that the cases have."""
+    out = collections.defaultdict(list)
+    for case in found:
+        names, ranges = case.others.keys(), case.others.values()
+        for point in (dict(zip(names, values)) for values in itertools.product(*ranges)):
+            least, most = turns_of(case, point)
+            first, step = value_at(case.length, {TURNS: 0, **point}), parts_of(case.length).get((TURNS,), 0)
+            if most is None or least <= most:
+                at = first // period
+                out[first % period].append((at + least, most and at + most) if step else (at, at))
+    return out
+
+
+def left_out(found, first, period):
+    """The lengths from `first` on that no case has, one of each gap."""
+    out, known = [], spans(found, period)
+    for rest in range(period):
+        at = -(-(first - rest) // period)
+        for least, most in sorted(known[rest], key=lambda span: span[0]):
+            if least > at:
+                out.append(rest + period * at)
+            if most is None:
+                break
+            at = max(at, most + 1)
+        else:
+            out.append(rest + period * at)
+    return sorted(out)
+
+
+# ---- a case
+
+class EveryLength:
+    """A kind of call of a text, its cases one by one: 32, 64, or of XXH3 as 3-64:seed."""
+
+    def __init__(self, cpu, kind):
+        self.cpu, self.told, self.kind = cpu, {}, kind
+        self.hash_name, _, self.way = kind.partition(":")
+        self.forget()
+
+    def forget(self):
+        nodes.forget()
+        suppositions.clear()
+        self.texts = definition.program().run(traced=suppositions)
+
+    def show(self, case, seed=None):
+        """A case, with a seed that isn't 0, or the one that is said."""
+        with given(*case.facts, at_most(case.length, LONGEST)):
+            source = Input("m", case.length)
+            ask = self.xxh3 if self.way else self.plain
+            ours, theirs = ask(case, source, Bytes(source, 0, case.length), seed)
+        if not nodes.is_same(ours, theirs):
+            raise NotShown(f"XXH{self.kind} of {case.length} bytes: another value")
+
+    def show_short(self, n):
+        """n bytes, at most 240, with a secret of any length from 136 bytes on."""
+        source, secret = Input("m", n), Input("s", plus(SHORTEST, variable("more")))
+        seed = seed_symbol(self.hash_name) if self.way == "both" else 0
+        self.cpu.not_zero = []
+        with given(at_most(secret.length, LONGEST_SECRET)):
+            arguments = [address(source), n, address(secret), secret.length, *([seed] if self.way == "both" else [])]
+            ours = value_of(self.hash_name, self.cpu.call(name_of(self.hash_name, self.way), *arguments))
+            theirs = definition.value(self.texts, self.hash_name, self.way, seed, Bytes(secret, 0, secret.length),
+                                      Bytes(source, 0, n))
+        if not nodes.is_same(ours, theirs):
+            raise NotShown(f"XXH{self.kind} of {n} bytes: another value")
+
+    def plain(self, case, source, message, _):
+        width, seed = int(self.hash_name), seed_symbol(self.hash_name)
+        accumulator = self.texts[f"Xxh{width}.accumulator"]
+        self.cpu.not_zero = []
+        ours = self.call(case, width // 2, 4, lambda k: lambda j: accumulator(seed, message, j, k),
+                         address(source), case.length, (seed, width))
+        return ours, self.texts[f"xxh{width}"](seed, message)
+
+    def xxh3(self, case, source, message, fixed):
+        seed = seed_symbol(self.hash_name) if fixed is None else fixed
+        seed = [seed] if self.way in ("seed", "both") else []
+        if self.way in ("secret", "both"):
+            given_secret = Input("s", plus(64 + 8 * case.block, case.rest))
+            secret, handed = Bytes(given_secret, 0, given_secret.length), [address(given_secret), given_secret.length]
+        else:
+            secret = self.texts["effective_secret"](self.texts["derived_secret"](seed[0] if seed else 0), message)
+            handed = []
+        after = self.texts["Long.accumulator_after"]
+        self.cpu.not_zero = [x for x in seed if not isinstance(x, int)] if self.way == "seed" else []
+        ours = self.call(case, 64, 8, lambda k: lambda i: after(secret, message, i, k),
+                         address(source), case.length, *handed, *seed)
+        return ours, self.texts[table.HASHES[self.hash_name]](seed[0] if seed else 0, secret, message)
+
+    def call(self, case, stripe, count, after, *arguments):
+        name = f"XXH{self.kind} of {case.length} bytes"
+        family = Family(name, stripe, case.stripes, count, after,
+                        lambda k, values: suppositions.suppose(after(k), values),
+                        (case.block, case.blocks) if isinstance(case.blocks, Poly) else None)
+        loops = Loops(self.cpu.program, family)
+        if isinstance(case.length, Poly):
+            self.cpu.loops, self.cpu.limit = loops, LIMIT
+        try:
+            return value_of(self.hash_name, self.cpu.call(name_of(self.hash_name, self.way), *arguments))
+        except REFUSALS as error:
+            raise NotShown("; ".join([str(error), *loops.refused])) from error
+        finally:
+            self.told.update({line.split(", ", 1)[1].split(":")[0]: line for line in loops.told})
+            self.cpu.loops, self.cpu.limit = None, NO_LIMIT

@@ -1,0 +1,67 @@
+"""The exports of the texts for C, each with what shows it: a beginning of a row's title. A text that has another name,
+or lacks one, fails."""
+from terms.loops import NotShown
+
+from .one_shots import NAMES, WAYS, is_plain
+
+SAME = "names of another's code"
+STREAMS, FORGET = "streams", "freed states"
+
+
+def shown_by():
+    """Name -> the words of a row's title."""
+    out = {"XXH_versionNumber": "the version", "XXH128_isEqual": "equal hashes", "XXH128_cmp": "the order of hashes",
+           "proved_XXH3_generateSecret": "made secrets", "XXH3_generateSecret_fromSeed": "the derived secret"}
+    for name in ("XXH32", "XXH64", "XXH128"):
+        out.update({f"{name}_canonicalFromHash": "canonical forms", f"{name}_hashFromCanonical": "canonical forms"})
+    for name in ("32", "64", "3"):
+        out.update({f"XXH{name}_copyState": "copies of states", f"twox_c_forget_xxh{name}": FORGET})
+    for hash_name, name in NAMES.items():
+        kinds = ["seed"] if is_plain(hash_name) else WAYS
+        prefix = "" if is_plain(hash_name) else "proved_"
+        for kind in kinds:
+            way = "" if is_plain(hash_name) else WAYS[kind]
+            out[name + way] = f"XXH{hash_name}, {kind}"
+            out[f"{prefix}{name}_reset{way}"] = STREAMS
+        out.update({f"{name}_update": STREAMS, f"{name}_digest": STREAMS})
+    return {**out, **dict.fromkeys(twins(), SAME)}
+
+
+def twins():
+    """Names that have the code of another name: of a call under two names, and of an update of both widths."""
+    out = {"XXH128": "XXH3_128bits_withSeed"}
+    for name in ("XXH3_64bits", "XXH3_128bits"):
+        for way in ("", "_withSeed", "_withSecret", "_update"):
+            out[f"{name}{way}_dispatch"] = name + way
+    return out
+
+
+def expect_all(program, titles):
+    """That each export is in the table, each name of it is exported, and each has its row."""
+    known = shown_by()
+    for name in sorted({*known, *program.exports}):
+        if name not in known:
+            raise NotShown(f"{name} is exported, and no row shows it")
+        if name not in program.exports:
+            raise NotShown(f"{name} isn't exported")
+        if not any(title.startswith(known[name]) for title in titles):
+            raise NotShown(f"there is no row {known[name]} for {name}")
+    return len(known)
+
+
+def expect_twins(program):
+    """That each of those names has instructions that are the other's, one by one."""
+    for name, other in twins().items():
+        if code_of(program, name) != code_of(program, other):
+            raise NotShown(f"{name} has other code than {other}")
+    return len(twins())
+
+
+def code_of(program, name):
+    """The instructions of a function's section, by their distance from its beginning."""
+    section, first = program.exports[name]
+    if first:
+        raise NotShown(f"{name} begins inside of its section")
+    code = program.sections[section]
+    return [(at, x.end, x.mnemonic, x.operands, ("here", x.target[1]) if x.target and x.target[0] == section
+             else x.target) for at, x in sorted(code.items())]

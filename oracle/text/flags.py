@@ -1,0 +1,125 @@
+"""The flags that a branch may ask: what they are of is kept, and the answer is worked out when it is asked.
+
+    sub      of a and b, as `cmp` and `sub`           borrow   of a, b and a carry, as `sbb`: b is their sum
+    add      of a and b                               logic    of a result, with no carry
+    shift    of a result, with a carry that isn't here
+    step     of a result, with the carry of before"""
+import collections
+
+from terms import operations
+from terms.llvm_text import Unsupported
+from terms.machine import TESTS
+from terms.nodes import OPAQUE, Node, Undecided
+from terms.polynomials import is_natural, is_number, is_same, lifted, minus, plus
+
+from .memory import ENTRY
+from .values import Address, Either
+
+Flags = collections.namedtuple("Flags", "kind width a b result")
+FAR = 1 << 62                     # no object goes up to there
+
+
+def condition(cpu, name):
+    """Whether a condition holds that a mnemonic ends with."""
+    if name in ("b", "ae"):
+        return carry(cpu) == (name == "b")
+    if name in ("e", "ne"):
+        return is_zero(cpu) == (name == "e")
+    if name not in ("a", "be"):
+        raise Unsupported(f"the condition {name}")
+    now = cpu.flags
+    if now and now.kind == "sub" and now is cpu.carry and is_number(now.a) and is_number(now.b):
+        return TESTS["le"](now.a, now.b) == (name == "be")
+    return (carry(cpu) or is_zero(cpu)) == (name == "be")
+
+
+def carry(cpu):
+    """Whether there was a carry or a borrow, which numbers alone tell."""
+    now = cpu.carry
+    if now is None or now.kind == "shift":
+        raise Unsupported("a carry that isn't set")
+    if now.kind == "logic":
+        return False
+    if now.kind == "add":
+        if not (is_number(now.a) and is_number(now.b)):
+            raise Undecided("the carry of a sum of symbols")
+        return TESTS["ge"](plus(now.a, now.b), 1 << now.width)
+    return is_below(cpu, now.a, now.b)
+
+
+def is_zero(cpu):
+    now = cpu.flags
+    if now is None:
+        raise Unsupported("flags that aren't set")
+    if now.kind == "sub":
+        return is_equal(cpu, now.a, now.b)
+    return is_equal(cpu, now.result, 0)
+
+
+def is_equal(cpu, a, b):
+    if isinstance(a, Either) and is_same(b, 0):
+        return a.is_zero()
+    if isinstance(a, Address) or isinstance(b, Address):
+        return are_one_place(a, b)
+    if is_number(a) and is_number(b):
+        return TESTS["eq"](a, b)
+    a, b = lifted(a), lifted(b)
+    if a is b:
+        return True
+    if isinstance(b, int) and not b and is_not_zero(cpu, a):
+        return False
+    raise Undecided(f"{a} == {b}")
+
+
+def is_not_zero(cpu, x):
+    """Whether a term is supposed not to be 0, or one whose bits it has."""
+    if any(x is other for other in cpu.not_zero):
+        return True
+    is_either = isinstance(x, Node) and x.kind is OPAQUE and x.parts[0] == "or"
+    return is_either and any(is_not_zero(cpu, part) for part in x.parts[1:])
+
+
+def is_below(cpu, a, b):
+    """a < b, of naturals."""
+    if isinstance(a, Address) or isinstance(b, Address):
+        return is_below_as_places(cpu, a, b)
+    if is_number(a) and is_number(b):
+        return TESTS["lt"](a, b)
+    return operations.is_below(lifted(a), lifted(b))
+
+
+# ---- addresses
+
+def is_within(x):
+    """Whether an address is one of a byte of its object, or of its end."""
+    memory, at = x.place()
+    return is_natural(at) and is_natural(minus(memory.length, at))
+
+
+def are_one_place(a, b):
+    if is_same(b, 0) and is_within(a):      # no object begins at 0
+        return False
+    if isinstance(a, Address) and isinstance(b, Address) and a.bases == b.bases and is_within(a) and is_within(b):
+        return TESTS["eq"](a.offset, b.offset)
+    raise Undecided(f"{a} == {b}")
+
+
+def is_below_as_places(cpu, a, b):
+    """Of two places in one object, and of a distance between two objects and a number."""
+    if isinstance(a, Address) and isinstance(b, Address) and a.bases == b.bases and is_within(a) and is_within(b):
+        return TESTS["lt"](a.offset, b.offset)
+    if isinstance(a, Address) and is_number(b) and is_far(cpu, a, b):
+        return False
+    raise Undecided(f"{a} < {b}")
+
+
+def is_far(cpu, distance, n):
+    """Whether the distance mod 2 ^ 64 of two places is n or more, since their objects lie apart. Of an object at P
+    with p bytes and one at Q with q, either P - Q >= q or Q - P >= p, and both are below 2 ^ 62."""
+    if sorted(count for _, count in distance.bases) != [-1, 1]:
+        return False
+    (first, _), (second, _) = sorted(distance.bases, key=lambda base: -base[1])
+    p, q = (ENTRY if memory is cpu.stack else memory.length for memory in (first, second))
+    at = distance.offset
+    ahead, behind = minus(plus(at, q), n), minus(minus(p, at), 1)
+    return all(map(is_natural, [ahead, behind, minus(at, -FAR), minus(FAR, at), minus(FAR, n)]))

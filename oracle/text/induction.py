@@ -1,0 +1,338 @@
+"""Loops of a text of any number of turns, shown by induction, as terms/loops.py does it for LLVM's text.
+
+A cell is a register, a lane of a vector, or a cell of the stack or of another object that may be written to. At a
+loop's head after k turns some cells hold the words that the definition says of so many stripes. Which ones isn't said:
+they are those that hold the definition's words at the start, and those of some stripes more after a first turn. Of the
+other cells that the turn changes some go on by a step, and what is left may be anything at the head. All of that is a
+guess, which a turn from k = any number then shows: the words have to be there, whatever is said to go on has to go on,
+and a cell that does anything else may be anything, and the turn is run once more. A cell that has a word is never let
+go. The flags are unset at a head."""
+import contextlib
+
+from terms.loops import REFUSALS, NotShown, agree
+from terms.memory import Input
+from terms.nodes import Node, Undecided
+from terms.polynomials import divided, given, is_natural, is_number, minus, plus, times, variable
+from terms.polynomials import is_same as is_same_number
+
+from .values import Address
+
+STEPS = 1, 2, 4, 8, 16            # stripes that a turn takes
+FIRST_TURNS = 64, 4               # so many stripes are left where a first turn is tried
+NEAR = 0, 1, -1, -2, -4           # stripes that lie between a pointer and what was taken
+
+
+class Family:
+    """What the definition says: after(k)(j), word j of `count` after k stripes, of so many bytes each and of which
+    there are `total`. suppose(k, values) makes these values the words for k. `blocks` has the stripes of a block and
+    how many blocks there are, where a loop may count the stripes of a block."""
+
+    def __init__(self, name, stripe, total, count, after, suppose, blocks=None):
+        self.name, self.stripe, self.total, self.count, self.after = name, stripe, total, count, after
+        self.blocks = blocks
+        self.put, self.known = suppose, {}
+
+    def word(self, k, j):
+        key = repr(k), j
+        if key not in self.known:
+            self.known[key] = self.after(k)(j)
+        return self.known[key]
+
+    def words(self, k):
+        return [self.word(k, j) for j in range(self.count)]
+
+    def suppose(self, k, values):
+        self.known.clear()       # what was said before may stand on other suppositions
+        self.put(k, values)
+
+    def seem(self, k, is_there):
+        """Whether all words for k are there; asked one by one, since each may be dear."""
+        return all(is_there(self.word(k, j)) for j in range(self.count))
+
+
+# ---- cells
+
+def moved(x, step, k):
+    if isinstance(x, Address):
+        return Address(x.bases, plus(x.offset, times(step, k)))
+    return plus(x, times(step, k))
+
+
+def step_between(old, now):
+    if isinstance(old, Address) and isinstance(now, Address) and old.bases == now.bases:
+        return minus(now.offset, old.offset)
+    return minus(now, old) if is_number(old) and is_number(now) else None
+
+
+def same(a, b):
+    if isinstance(a, Address) and isinstance(b, Address):
+        return a.bases == b.bases and is_same_number(a.offset, b.offset)
+    return a is b or agree(a, b)
+
+
+def cells_of(cpu):
+    """All that a processor holds, and the objects that live: cell -> value. Of memory a cell's size counts as well."""
+    out = {("register", name): x for name, x in cpu.registers.items()}
+    out.update({("lane", k, lane): x for k, lanes in enumerate(cpu.vectors) for lane, x in enumerate(lanes)})
+    for memory in [cpu.stack, *cpu.live]:
+        out.update({(memory, at, size): x for at, (size, x) in memory.cells.items()})
+    return out
+
+
+def name_of(cell):
+    if cell[0] == "register":
+        return cell[1]
+    return f"v{cell[1]}[{cell[2]}]" if cell[0] == "lane" else f"{cell[0].name}[{cell[1]}]"
+
+
+# ---- where loops begin
+
+class Head(Exception):
+    """The head is come to again."""
+
+
+class Loops:
+    """Asked wherever a loop may begin: at each place that its section jumps back to."""
+
+    def __init__(self, program, family):
+        self.program, self.family, self.told, self.refused, self.known = program, family, [], [], {}
+        self.running, self.stop, self.is_guessing, self.given_up = {}, None, False, set()
+
+    def heads(self, section):
+        """Head -> the last jump back to it."""
+        if section not in self.known:
+            found = self.known[section] = {}
+            for at, x in self.program.sections.get(section, {}).items():
+                if x.mnemonic[0] == "j" and x.target[0] == section and x.target[1] <= at:
+                    found[x.target[1]] = max(at, found.get(x.target[1], 0))
+        return self.known[section]
+
+    def pass_by(self, cpu, place):
+        """The place again, or where it goes on behind what was shown of a loop."""
+        if self.stop == place:
+            self.stop = None
+            raise Head
+        for head, end in list(self.running.items()):
+            if end is not None and head[0] == place[0] and not head[1] <= place[1] <= end:      # that loop was left
+                del self.running[head]
+        if place in self.running:
+            if self.running[place] is not None:
+                raise NotShown(f"the loop at {place[0]} {place[1]:x} isn't left")
+            return place
+        if place[1] in self.heads(place[0]) and not self.is_guessing and place not in self.given_up:
+            if Proof(self, cpu, place).show():
+                self.running[place] = self.heads(place[0])[place[1]]
+            elif None in self.running.values():      # a number of turns within another's turn
+                self.given_up.add(place)
+        return place
+
+
+# ---- a loop
+
+class Proof:
+    def __init__(self, loops, cpu, head):
+        self.loops, self.cpu, self.family, self.head = loops, cpu, loops.family, head
+        self.original, self.flags = cells_of(cpu), (cpu.flags, cpu.carry)
+        self.forget()
+
+    def forget(self):
+        self.start = dict(self.original)
+        self.words, self.places, self.unset, self.counts = {}, {}, set(), {}
+
+    def show(self):
+        """Shows the loop, and leaves the processor at its head before the last turn: from there it runs on. False, and
+        the state as it was, where it isn't one of the family: then it is run, turn by turn."""
+        for first in self.firsts():
+            for way in (self.by_blocks, self.by_turns):
+                try:
+                    if way(first):
+                        self.loops.told.append(self.told(first))
+                        return True
+                except REFUSALS as error:
+                    self.loops.refused.append(f"{self.head[0]} {self.head[1]:x} from {first}: {error}")
+                self.forget()
+                self.enter(0)
+                self.cpu.flags, self.cpu.carry = self.flags
+        return False
+
+    def firsts(self):
+        """After how many stripes the loop may begin: guesses by the places in the message, for which some cells hold
+        the definition's words."""
+        guesses = [0]
+        for x in self.cpu.registers.values():
+            if isinstance(x, Address) and len(x.bases) == 1 and isinstance(x.bases[0][0], Input):
+                with contextlib.suppress(Undecided):
+                    memory, at = x.place()
+                    k, _ = divided(memory.origin(at)[1], self.family.stripe)
+                    guesses += [plus(k, d) for d in NEAR if not any(is_same_number(plus(k, d), x) for x in guesses)]
+        values = self.start.values()
+        numbers = {x for x in values if isinstance(x, int)}
+        terms = {x.number for x in values if isinstance(x, Node)}
+        for guess in guesses:
+            with contextlib.suppress(*REFUSALS):
+                if is_natural(guess) and self.family.seem(
+                        guess, lambda x: x in numbers if isinstance(x, int) else x.number in terms):
+                    yield guess
+
+    def by_turns(self, first):
+        family = self.family
+        if isinstance(minus(family.total, first), int) or not any(self.guess(first, turns) for turns in FIRST_TURNS):
+            return False
+        turns, _ = divided(minus(family.total, first), self.step)
+        last, k = minus(turns, 1), variable(self.cpu.new_name("k"))
+        if not is_natural(last):
+            return False
+        with given(minus(minus(last, k), 1)):
+            size = None
+            while size != len(self.unset):
+                size = len(self.unset)
+                self.enter(k, self.supposed(first, k))
+                self.turn()
+                self.compare(first, plus(k, 1))
+        self.enter(last, self.supposed(first, last))
+        return True
+
+    def by_blocks(self, first):
+        """The loop over the stripes of all blocks, which counts those of a block: after k = q b + j stripes, j < q, a
+        cell that begins at 0 is a multiple of j, and one that goes on from elsewhere a multiple of k."""
+        is_asked = self.family.blocks and isinstance(first, int)
+        if not is_asked or not self.guess(first, FIRST_TURNS[-1]) or self.step > 1:
+            return False
+        (q, blocks), b, j = self.family.blocks, *(variable(self.cpu.new_name(name)) for name in "bj")
+        self.counts = {cell: step for cell, (x, step) in self.places.items()
+                       if isinstance(x, int) and x == step * first and step}
+        for cell in self.counts:
+            del self.places[cell]
+        size = None
+        with given(minus(minus(blocks, 1), b)):
+            while size != len(self.unset):
+                size = len(self.unset)
+                with given(minus(minus(q, 2), j)):
+                    self.enter_at(first, b, j)
+                    self.turn()
+                    self.compare_at(first, b, plus(j, 1))
+                self.enter_at(first, b, minus(q, 1))
+                self.turn()
+                self.compare_at(first, plus(b, 1), 0)
+        self.enter_at(first, blocks, 0)
+        return True
+
+    def at(self, first, b, j):
+        """Stripes behind the first, where the counts are those of j."""
+        self.start.update({cell: times(step, j) for cell, step in self.counts.items()})
+        return minus(plus(times(self.family.blocks[0], b), j), first)
+
+    def enter_at(self, first, b, j):
+        k = self.at(first, b, j)
+        self.enter(k, self.supposed(first, k))
+
+    def compare_at(self, first, b, j):
+        self.compare(first, self.at(first, b, j))
+
+    def told(self, first):
+        words = sorted(f"{name_of(cell)} has word {j}" for cell, j in self.words.items())
+        places = sorted(f"{name_of(cell)} = {moved(x, step, variable('k'))}" for cell, (x, step) in self.places.items())
+        return (f"{self.family.name}, {self.head[0]} {self.head[1]:x}: {self.step} stripes a turn from {first} on; "
+                f"{', '.join(words + places)}; {len(self.unset)} cells may be anything")
+
+    # ---- a turn
+
+    def enter(self, k, values=()):
+        """Makes the state that of the head after k turns."""
+        cpu, now = self.cpu, dict(self.start)
+        now.update({cell: moved(x, step, k) for cell, (x, step) in self.places.items()})
+        now.update({cell: values[j] for cell, j in self.words.items()})
+        cpu.forget_flags()
+        for cell, x in now.items():
+            if cell[0] == "register":
+                cpu.registers[cell[1]] = cpu.fresh("unset") if cell in self.unset else x
+            elif cell[0] == "lane":
+                cpu.vectors[cell[1]][cell[2]] = None if cell in self.unset else x
+        for memory in [cpu.stack, *cpu.live]:
+            memory.cells = {cell[1]: (cell[2], x) for cell, x in now.items()
+                            if cell[0] is memory and cell not in self.unset}
+
+    def supposed(self, first, k):
+        """New symbols, which are the definition's words after k turns."""
+        width = 32 if self.family.stripe == 16 else 64
+        values = [self.cpu.fresh("word", width) for _ in range(self.family.count)]
+        self.family.suppose(plus(first, times(self.step, k)), values)
+        return values
+
+    def turn(self):
+        """From the head to the head."""
+        loops, place, running = self.loops, self.head, dict(self.loops.running)
+        loops.running[self.head] = None
+        try:
+            while place is not None:
+                place = self.cpu.step(place)
+                loops.stop = self.head
+                if place is not None:
+                    place = loops.pass_by(self.cpu, place)
+        except Head:
+            return
+        finally:
+            loops.stop, loops.running = None, running
+        raise NotShown(f"{self.family.name}: a turn leaves the loop")
+
+    def compare(self, first, k):
+        """That the state is that of the head after k turns; what else changes may be anything from here on."""
+        said, now = self.family.words(plus(first, times(self.step, k))), cells_of(self.cpu)
+        for cell in {*self.start, *now} - self.unset:
+            x = now.get(cell)
+            if cell in self.words:
+                expected = said[self.words[cell]]
+            elif cell in self.places:
+                expected = moved(*self.places[cell], k)
+            else:
+                expected = self.start.get(cell)
+            if same(x, expected):
+                continue
+            if cell in self.words or cell in self.places or cell in self.counts:
+                raise NotShown(f"{self.family.name}: {name_of(cell)} is {x} and not {expected}")
+            self.unset.add(cell)
+
+    # ---- a guess
+
+    def guess(self, first, turns):
+        """Two turns tell the words, the steps and what is left."""
+        self.forget()
+        self.enter(0)
+        self.loops.is_guessing = True
+        try:
+            with given(minus(self.family.total, plus(first, turns))):
+                self.turn()
+                once = cells_of(self.cpu)
+                self.turn()
+        except REFUSALS:
+            return False
+        finally:
+            self.loops.is_guessing = False
+        twice = cells_of(self.cpu)
+        changed = {cell for cell in {*self.start, *once} if not same(self.start.get(cell), once.get(cell))}
+        if not self.guess_words(first, changed, once):
+            return False
+        for cell in changed - set(self.words):
+            step = step_between(self.start.get(cell), once.get(cell))
+            if step is None or not same(twice.get(cell), moved(once[cell], step, 1)):
+                self.unset.add(cell)
+            else:
+                self.places[cell] = self.start[cell], step
+        return True
+
+    def steps(self, changed, once):
+        """How many stripes a turn may take: what a place in memory goes on by."""
+        moves = {step_between(self.start.get(cell), once.get(cell)) for cell in changed
+                 if isinstance(once.get(cell), Address)}
+        return [step for step in STEPS if any(is_same_number(x, step * self.family.stripe) for x in moves)] or STEPS
+
+    def guess_words(self, first, changed, once):
+        """Which cells hold the words at the start, and those of so many stripes more after a turn: `step`."""
+        words = self.family.words(first)
+        for self.step in self.steps(changed, once):
+            then = self.family.words(plus(first, self.step))
+            self.words = {cell: j for cell in changed for j, (x, y) in enumerate(zip(words, then))
+                          if same(self.start.get(cell), x) and same(once.get(cell), y)}
+            if len({*self.words.values()}) == len(words):
+                return True
+        return False

@@ -1,0 +1,71 @@
+"""The table of instructions of x86-64: what each form does, and the set of instructions that has it.
+
+A form is a mnemonic with a letter for each operand, as `add ml`: b, w, l, q a register of 8, 16, 32, 64 bits, h the
+second byte of one, x and y one of 128 and 256, m memory, i a number. What isn't in the table is refused. scalar.py and
+lanes.py fill it: each entry is a function of the processor and the instruction, which gives the place of the next
+instruction where that isn't the one behind it."""
+from terms.llvm_text import Unsupported
+
+from .objects import Immediate, Place
+
+V2, V3 = "x86-64-v2", "x86-64-v3"
+SETS = {V2: (V2,), V3: (V2, V3)}           # which sets a processor of that name has
+TABLE = {}                                 # (mnemonic, letters) -> (set, function)
+WIDE = "rax", "rcx", "rdx", "rbx", "rsp", "rbp", "rsi", "rdi", *(f"r{k}" for k in range(8, 16))
+LETTERS = {8: "b", 16: "w", 32: "l", 64: "q"}
+
+
+def parts_of_registers():
+    """Name of a register -> (the whole one, its first bit in it, its width)."""
+    out = {}
+    for name in WIDE:
+        out[name] = name, 0, 64
+        if name[1:].isdigit():
+            out.update({name + suffix: (name, 0, width) for suffix, width in (("d", 32), ("w", 16), ("b", 8))})
+        else:
+            byte = name[1] if name[2] == "x" else name[1:]
+            out.update({"e" + name[1:]: (name, 0, 32), name[1:]: (name, 0, 16), byte + "l": (name, 0, 8)})
+    out.update({f"{letter}h": (f"r{letter}x", 8, 8) for letter in "abcd"})
+    return out
+
+
+PARTS = parts_of_registers()
+VECTORS = {f"{letter}mm{k}": k for letter in "xy" for k in range(16)}
+
+
+def form(kind, mnemonics, letters):
+    """Puts a function into the table for all forms of some mnemonics with some letters, those of a set."""
+    def put(function):
+        for mnemonic in mnemonics.split():
+            for one in letters.split() or [""]:
+                TABLE[mnemonic, one] = kind, function
+        return function
+    return put
+
+
+def letter(operand):
+    if isinstance(operand, Immediate):
+        return "i"
+    if isinstance(operand, Place):
+        is_known = (operand.base in (None, "rip") or operand.base in WIDE) and (operand.index or "rax") in WIDE
+        return "m" if is_known else "?"
+    if operand.name in VECTORS:
+        return operand.name[0]
+    if operand.name not in PARTS:
+        return "?"
+    _, first, width = PARTS[operand.name]
+    return "h" if first else LETTERS[width]
+
+
+def letters(instruction):
+    return "".join(map(letter, instruction.operands))
+
+
+def known(instruction, processor):
+    """What an instruction does, by a processor of a name."""
+    key = instruction.mnemonic, letters(instruction)
+    kind, function = TABLE.get(key, (None, None))
+    if kind not in SETS[processor]:
+        raise Unsupported(f"{instruction.section} {instruction.at:#x}: the instruction {' '.join(key)}, "
+                          f"which {processor} hasn't here")
+    return function

@@ -1,0 +1,248 @@
+"""What the instructions on vectors do. A register of 256 bits is four lanes of 64, each a value. The older forms leave
+the upper half of a register as it is, and want their places in memory aligned; those with a `v` make it 0."""
+from terms.llvm_text import Unsupported
+from terms.polynomials import plus
+
+from .instructions import V2, V3, VECTORS, form
+from .objects import Register
+from .values import WORD, arithmetic, bits, joined
+
+LANE = 8     # bytes
+
+
+def is_vector(operand):
+    return isinstance(operand, Register) and operand.name in VECTORS
+
+
+def lanes_count(x):
+    """2 or 4, by the widest register."""
+    return 4 if any(is_vector(y) and y.name[0] == "y" for y in x.operands) else 2
+
+
+def is_new(x):
+    return x.mnemonic[0] == "v"
+
+
+def read(cpu, operand, x, count, alignment=1):
+    if is_vector(operand):
+        return cpu.lanes(operand, count)
+    memory, at = cpu.place(operand, x, alignment)
+    return [cpu.load(memory, plus(at, LANE * k), LANE) for k in range(count)]
+
+
+def write(cpu, operand, x, lanes, alignment=1):
+    if not is_vector(operand):
+        memory, at = cpu.place(operand, x, alignment)
+        for k, lane in enumerate(lanes):
+            cpu.store(memory, plus(at, LANE * k), LANE, lane)
+        return
+    register = cpu.vectors[VECTORS[operand.name]]
+    register[:len(lanes)] = lanes
+    if is_new(x):
+        register[len(lanes):] = [0] * (4 - len(lanes))
+
+
+def two(cpu, x):
+    """The two sources, that of the first operand last; of the older form the last operand is one too."""
+    b, a = x.operands[:-1] if is_new(x) else x.operands
+    count = lanes_count(x)
+    alignment = 1 if is_new(x) else LANE * count
+    return read(cpu, a, x, count), read(cpu, b, x, count, alignment)
+
+
+def halves(lane):
+    return bits(lane, 0, 32), bits(lane, 32, 32)
+
+
+def of_halves(words):
+    """Lanes of words of 32 bits."""
+    return [joined((words[k], 32), (words[k + 1], 32)) for k in range(0, len(words), 2)]
+
+
+# ---- moves
+
+@form(V2, "movdqu movups movdqa movaps", "mx xm xx")
+@form(V3, "vmovdqu vmovups vmovdqa vmovaps", "mx xm my ym")
+def move(cpu, x):
+    source, to = x.operands
+    count = lanes_count(x)
+    alignment = LANE * count if x.mnemonic.lstrip("v") in ("movdqa", "movaps") else 1
+    write(cpu, to, x, read(cpu, source, x, count, alignment), alignment)
+
+
+@form(V2, "movq", "qx xq")
+@form(V3, "vmovq", "qx xq xx")
+@form(V2, "movsd", "mx")
+@form(V3, "vmovsd", "mx")
+def move_low(cpu, x):
+    """64 bits; into a vector the rest of 128 becomes 0."""
+    source, to = x.operands
+    word = cpu.lanes(source)[0] if is_vector(source) else cpu.get(source, WORD, x)
+    if is_vector(to):
+        write(cpu, to, x, [word, 0])
+    else:
+        cpu.put(to, WORD, word, x)
+
+
+@form(V3, "vmovd", "lx")
+def move_narrow(cpu, x):
+    source, to = x.operands
+    write(cpu, to, x, [cpu.get(source, 32, x), 0])
+
+
+@form(V2, "pextrq", "ixq")
+@form(V3, "vpextrq", "ixq")
+def extract(cpu, x):
+    k, source, to = x.operands
+    cpu.put(to, WORD, cpu.lanes(source, 1, k.value & 1)[0], x)
+
+
+@form(V3, "vextracti128", "iyx")
+def extract_half(cpu, x):
+    k, source, to = x.operands
+    write(cpu, to, x, cpu.lanes(source, 2, 2 * (k.value & 1)))
+
+
+@form(V3, "vinserti128", "ixyy")
+def insert_half(cpu, x):
+    k, source, other, to = x.operands
+    at = 2 * (k.value & 1)
+    half, kept = read(cpu, source, x, 2), cpu.lanes(other, 2, 2 - at)
+    write(cpu, to, x, half + kept if not at else kept + half)
+
+
+@form(V3, "vpbroadcastq", "mx my xy xx")
+def broadcast(cpu, x):
+    source, to = x.operands
+    word = cpu.lanes(source)[0] if is_vector(source) else cpu.get(source, WORD, x)
+    write(cpu, to, x, [word] * lanes_count(x))
+
+
+@form(V3, "vpbroadcastd", "mx my")
+def broadcast_half(cpu, x):
+    source, to = x.operands
+    word = cpu.get(source, 32, x)
+    write(cpu, to, x, of_halves([word] * 2 * lanes_count(x)))
+
+
+@form(V3, "vzeroupper", "")
+def zero_upper(cpu, x):
+    for lanes in cpu.vectors:
+        lanes[2:] = [0, 0]
+
+
+# ---- sums, products, bits
+
+def by_lane(word):
+    """On each of 64 bits."""
+    def operation(cpu, x):
+        if word == "xor" and len({*x.operands[:2]}) == 1:     # whatever it was
+            return write(cpu, x.operands[-1], x, [0] * lanes_count(x))
+        return write(cpu, x.operands[-1], x, [arithmetic(word, WORD, p, q) for p, q in zip(*two(cpu, x))])
+    return operation
+
+
+def by_half(word):
+    """On each of 32 bits."""
+    def operation(cpu, x):
+        pairs = [pair for lanes in zip(*two(cpu, x)) for pair in zip(*map(halves, lanes))]
+        write(cpu, x.operands[-1], x, of_halves([arithmetic(word, 32, p, q) for p, q in pairs]))
+    return operation
+
+
+NEW = "mxx xxx myy yyy"
+for mnemonic, word in (("paddq", "add"), ("psubq", "sub"), ("pxor", "xor"), ("xorps", "xor"), ("por", "or"),
+                       ("pand", "and")):
+    form(V2, mnemonic, "mx xx")(by_lane(word))
+    form(V3, "v" + mnemonic, NEW)(by_lane(word))
+for mnemonic, word in (("paddd", "add"), ("psubd", "sub"), ("pmulld", "mul")):
+    form(V2, mnemonic, "mx xx")(by_half(word))
+    form(V3, "v" + mnemonic, NEW)(by_half(word))
+
+
+@form(V2, "pmuludq", "mx xx")
+@form(V3, "vpmuludq", NEW)
+def products(cpu, x):
+    pairs = zip(*two(cpu, x))
+    write(cpu, x.operands[-1], x, [arithmetic("mul", WORD, halves(p)[0], halves(q)[0]) for p, q in pairs])
+
+
+def shifted(word):
+    def operation(cpu, x):
+        k, *rest = x.operands
+        lanes = read(cpu, rest[0], x, lanes_count(x))
+        write(cpu, rest[-1], x, [arithmetic(word, WORD, lane, k.value) if k.value < WORD else 0 for lane in lanes])
+    return operation
+
+
+for mnemonic, word in (("psrlq", "lshr"), ("psllq", "shl")):
+    form(V2, mnemonic, "ix")(shifted(word))
+    form(V3, "v" + mnemonic, "ixx iyy")(shifted(word))
+
+
+# ---- other orders
+
+@form(V2, "pshufd", "ixx")
+@form(V3, "vpshufd", "ixx iyy")
+def shuffle(cpu, x):
+    order, source, to = x.operands
+    lanes, out = read(cpu, source, x, lanes_count(x)), []
+    for first in range(0, len(lanes), 2):
+        words = [word for lane in lanes[first:first + 2] for word in halves(lane)]
+        out += of_halves([words[order.value >> 2 * k & 3] for k in range(4)])
+    write(cpu, to, x, out)
+
+
+@form(V2, "punpcklqdq punpckhqdq", "xx mx")
+@form(V3, "vpunpcklqdq vpunpckhqdq", NEW)
+@form(V2, "movlhps", "xx")
+@form(V3, "vmovlhps", "xxx")
+def unpack(cpu, x):
+    is_high, (a, b) = "hqdq" in x.mnemonic, two(cpu, x)
+    write(cpu, x.operands[-1], x, [side[k + is_high] for k in range(0, len(a), 2) for side in (a, b)])
+
+
+@form(V2, "pshufb", "mx xx")
+@form(V3, "vpshufb", NEW)
+def shuffle_bytes(cpu, x):
+    (lanes, order), out = two(cpu, x), []
+    for first in range(0, len(lanes), 2):
+        whole = [bits(lane, 8 * k, 8) for lane in lanes[first:first + 2] for k in range(8)]
+        picked = [bits(lane, 8 * k, 8) for lane in order[first:first + 2] for k in range(8)]
+        if not all(isinstance(k, int) for k in picked):
+            raise Unsupported("an order that is no number")
+        moved = [0 if k & 128 else whole[k & 15] for k in picked]
+        out += [joined(*((byte, 8) for byte in moved[at:at + 8])) for at in (0, 8)]
+    write(cpu, x.operands[-1], x, out)
+
+
+@form(V3, "vpblendd", "iyyy ixxx")
+def blend(cpu, x):
+    mask, second, first, to = x.operands
+    a, b = ([word for lane in read(cpu, y, x, lanes_count(x)) for word in halves(lane)] for y in (first, second))
+    write(cpu, to, x, of_halves([(b if mask.value >> k & 1 else a)[k] for k in range(len(a))]))
+
+
+@form(V3, "vpermq", "iyy")
+def permute(cpu, x):
+    order, source, to = x.operands
+    lanes = read(cpu, source, x, 4)
+    write(cpu, to, x, [lanes[order.value >> 2 * k & 3] for k in range(4)])
+
+
+@form(V3, "vpslldq vpsrldq", "ixx iyy")
+def shift_bytes(cpu, x):
+    k, source, to = x.operands
+    lanes, out = read(cpu, source, x, lanes_count(x)), []
+    for first in range(0, len(lanes), 2):
+        out += bytes_moved(lanes[first:first + 2], min(k.value, 16), "sll" in x.mnemonic)
+    write(cpu, to, x, out)
+
+
+def bytes_moved(pair, count, is_left):
+    """Two lanes, moved by some bytes towards the upper or the lower end, with zeros behind."""
+    moved = [bits(lane, 8 * k, 8) for lane in pair for k in range(8)]
+    moved = [0] * count + moved[:16 - count] if is_left else moved[count:] + [0] * count
+    return [joined(*((byte, 8) for byte in moved[at:at + 8])) for at in (0, 8)]
+
+

@@ -1,0 +1,114 @@
+"""What a text reads and writes: terms/memory.py's objects, whose cells may hold addresses, and the stack.
+
+A call may write to the objects that it is handed for that, and below its caller's frame. Whoever is called from
+outside, as memcpy, may use all that lies below the stack pointer: there is no red zone over a call."""
+import collections
+
+from terms.llvm_text import Unsupported
+from terms.memory import Memory, Unset
+from terms.nodes import Node
+from terms.polynomials import Poly, is_natural, lifted, minus, plus
+
+STACK = 1 << 14                   # bytes of stack that a call may use
+ENTRY = STACK - 64                # where the caller's frame begins, a multiple of 16
+RED = 128                         # bytes below the stack pointer that are a function's own
+
+# What a call leaves on the stack.
+ReturnTo = collections.namedtuple("ReturnTo", "section at")
+
+
+class Words(Memory):
+    """An object whose cells hold what registers hold. Of an address or of where to return there are no parts."""
+
+    def allow(self, at, n):
+        """Refuses a store that a call mustn't do."""
+        if not isinstance(at, int):
+            raise Unsupported(f"a store at {at} of {self.name}")
+        self.check(at, n)
+
+    def store(self, at, n, value):
+        self.allow(at, n)
+        super().store(at, n, value)
+
+    def load(self, at, n):
+        cell = self.cells.get(at)
+        if cell is not None and cell[0] == n:
+            return cell[1]
+        near = self.cells_near(at, n) if isinstance(at, int) else []
+        if all(isinstance(self.cells[first][1], (int, Node)) for first in near):
+            return super().load(at, n)
+        return Memory(self.name, self.length, self.in_bits(near)).load(at, n)
+
+    def in_bits(self, firsts):
+        """Some of the cells, those that have bits: (offset, size, number or term)."""
+        for first in firsts:
+            size, value = self.cells[first]
+            if isinstance(value, (int, Node, Poly)):
+                yield first, size, lifted(value)
+
+    def clear(self, at, n):
+        near = self.cells_near(at, n)
+        parts = list(self.in_bits(near))
+        for first in near:
+            del self.cells[first]
+        self.cells.update({first: (size, value) for first, size, value in parts})
+        super().clear(at, n)
+
+
+class Constants(Words):
+    """What is read only."""
+
+    def __init__(self, name, data, alignment):
+        super().__init__(name, len(data), [(k, 1, byte) for k, byte in enumerate(data)], alignment=alignment)
+
+    def allow(self, at, n):
+        raise Unsupported(f"a store to {self.name}")
+
+
+class Stack(Words):
+    """Below the caller's frame."""
+
+    def __init__(self):
+        super().__init__("stack", STACK, alignment=16)
+
+    def allow(self, at, n):
+        super().allow(at, n)
+        if at + n > ENTRY:
+            raise Unsupported(f"a store to the caller's frame, at {at}")
+
+    def forget_below(self, at):
+        """What lies below the stack pointer may be anything."""
+        for first in [first for first in self.cells if first < at]:
+            del self.cells[first]
+
+
+def copy(to, source, n, may_overlap):
+    """memcpy, or memmove where they may overlap: of a length that is a number, from one address to another."""
+    if not isinstance(n, int):
+        raise Unsupported(f"a copy of {n} bytes")
+    if not n:
+        return
+    (memory, at), (source, first) = to.place(), source.place()
+    if memory is source and not may_overlap and not is_apart(at, first, n):
+        raise Unsupported("a copy of bytes onto themselves")
+    parts = list(taken(source, first, n))
+    memory.allow(at, n)
+    memory.clear(at, n)
+    for k, size, value in parts:
+        memory.store(at + k, size, value)
+
+
+def is_apart(a, b, n):
+    return is_natural(minus(a, plus(b, n))) or is_natural(minus(b, plus(a, n)))
+
+
+def taken(source, first, n):
+    """The bytes, by words where each byte of one is known: (offset, size, value). What was never stored is left out."""
+    for k in range(0, n, 8):
+        size = min(8, n - k)
+        try:
+            yield k, size, source.load(plus(first, k), size)
+        except Unset:
+            for at in range(k, k + size):
+                if source.has(plus(first, at)):
+                    yield at, 1, source.load(plus(first, at), 1)

@@ -1,0 +1,206 @@
+"""An assembled object as what runs: instructions by section and address, and constants.
+
+The instructions are those that objdump reads out of the object's bytes; nothing of the assembler's text is used. Each
+byte of a section belongs to one instruction. What a linker could make something else of is refused: two sections of
+one name, sections that are written to or that run before a program, relocations in constants, another place of a
+mergeable constant than its first byte, and a name that another library may take the place of."""
+import collections
+import os
+import re
+import struct
+import subprocess
+import sys
+
+from terms.llvm_text import Unsupported
+from terms.sides import TOP
+
+sys.path.append(os.path.join(TOP, "assembly"))
+from same_bytes import (FRAMES, LOADED, NONE, NOTE, RELA, STRTAB, SYMTAB, WITHOUT_MEANING, X86_64, Object,
+                        is_global)
+
+# An instruction: `end` is the address of the next one; `target` is (section or outer name, offset), where it names one.
+Instruction = collections.namedtuple("Instruction", "section at end mnemonic operands target")
+Register = collections.namedtuple("Register", "name")
+Immediate = collections.namedtuple("Immediate", "value")
+Place = collections.namedtuple("Place", "displacement base index scale")     # what is in memory
+
+PROGBITS, SECTION, FUNCTION, LABEL, GLOBAL = 1, 3, 2, 0, 1
+CODE, CONSTANTS, MERGEABLE = LOADED | 4, LOADED, LOADED | 0x10      # a section's flags
+UNLOADED = NONE, SYMTAB, STRTAB, RELA
+PC32, PLT32 = 2, 4                            # relocations: a distance from the next instruction
+OUTER = "memcpy", "memmove"                   # what the text calls and another library has
+PREFIXES = "data16", "cs"                     # of an instruction that does nothing
+RELOCATED = Place(0, "rip", None, 1)          # what a relocation at an instruction's end says
+LINE = re.compile(r" *([0-9a-f]+):\t((?:[0-9a-f]{2} )+) *(?:\t(.*))?")
+MEMORY = re.compile(r"(-?0x[0-9a-f]+|-?[0-9]+)?\((%\w+)?(?:,(%\w+),([1248]))?\)")
+TARGET = re.compile(r"([0-9a-f]+)(?: <.*>)?")
+
+
+class Program:
+    """The sections of instructions, name -> address -> Instruction; the functions and exports, name -> (section,
+    address); and the constants, name -> (bytes, alignment)."""
+
+    def __init__(self, path):
+        self.object = Object(path)
+        if self.object.machine != X86_64:
+            raise Unsupported("an object of another processor")
+        self.heads = self.loaded_sections()
+        self.constants = dict(self.read_constants())
+        self.relocations = {name: self.relocations_of(head) for name, head in self.heads.items()}
+        self.sections = {name: self.read(name, lines) for name, lines in listing(path).items()}
+        if set(self.sections) != {name for name, head in self.heads.items() if head.flags == CODE}:
+            raise Unsupported("a section that objdump doesn't list")
+        self.functions, self.exports = self.names()
+        self.labels = {symbol.name: self.place_of(symbol) for symbol in self.object.symbols
+                       if symbol.section and symbol.section < len(self.object.heads)}
+
+    # ---- sections and names
+
+    def loaded_sections(self):
+        found = {}
+        for head in self.object.heads:
+            if not head.flags & LOADED and head.kind not in UNLOADED and head.name not in WITHOUT_MEANING:
+                raise Unsupported(f"the section {head.name}, which a linker may make something of")
+            if not head.flags & LOADED or not head.size or head.kind == NOTE or head.name == FRAMES:
+                continue
+            is_known = head.flags in (CODE, CONSTANTS) or head.flags == MERGEABLE and head.entry
+            if head.kind != PROGBITS or not is_known:
+                raise Unsupported(f"the section {head.name}, which isn't only read or run")
+            if head.name in found:
+                raise Unsupported(f"two sections are named {head.name}")
+            found[head.name] = head
+        return found
+
+    def read_constants(self):
+        """Each entry of a mergeable section is an object of its own: a linker may move it alone."""
+        for name, head in self.heads.items():
+            data = self.object.body(head)
+            if head.flags == CONSTANTS:
+                yield name, (data, head.align)
+            elif head.flags == MERGEABLE:
+                for at in range(0, len(data), head.entry):
+                    yield f"{name}+{at}", (data[at:at + head.entry], min(head.align, head.entry & -head.entry))
+
+    def names(self):
+        functions, exports = {}, {}
+        for symbol in self.object.symbols:
+            kind = symbol.info & 15
+            if is_global(symbol) and (symbol.info >> 4 != GLOBAL or kind not in (LABEL, FUNCTION)):
+                raise Unsupported(f"{symbol.name} is weak, or no function")
+            if symbol.section and is_global(symbol):
+                exports[symbol.name] = self.place_of(symbol)
+            elif is_global(symbol) and symbol.name not in (*OUTER, "_GLOBAL_OFFSET_TABLE_"):
+                raise Unsupported(f"{symbol.name}, which isn't here")
+            if symbol.section and kind == FUNCTION:
+                if symbol.name in functions:
+                    raise Unsupported(f"two functions are named {symbol.name}")
+                functions[symbol.name] = self.place_of(symbol)
+        return functions, exports
+
+    def place_of(self, symbol):
+        if symbol.section >= len(self.object.heads):
+            raise Unsupported(f"{symbol.name} has a place in no section")
+        return self.object.heads[symbol.section].name, symbol.value
+
+    # ---- relocations
+
+    def relocations_of(self, section):
+        """Place -> (symbol, addend)."""
+        found = {}
+        for head in self.object.heads:
+            if head.kind != RELA or self.object.heads[head.info] is not section:
+                continue
+            for place, info, addend in struct.iter_unpack("<QQq", self.object.body(head)):
+                if info & 0xFFFFFFFF not in (PC32, PLT32) or section.flags != CODE or place in found:
+                    raise Unsupported(f"a relocation at {place:#x} of {section.name}")
+                found[place] = self.object.symbols[info >> 32], addend
+        return found
+
+    def target_of(self, symbol, addend):
+        """What a relocation leads to: (section, constant or outer name, offset)."""
+        if is_global(symbol):
+            if symbol.section or symbol.name not in OUTER or addend:
+                raise Unsupported(f"a way to {symbol.name}{addend:+#x}, which another library may have")
+            return symbol.name, 0
+        name, value = self.place_of(symbol)
+        if name not in self.heads:
+            raise Unsupported(f"a way to {name}")
+        if self.heads[name].flags != MERGEABLE:
+            return name, value + addend
+        if symbol.info & 15 == SECTION or addend or f"{name}+{value}" not in self.constants:
+            raise Unsupported(f"a place in the constant at {value + addend:#x} of {name}, which a linker may move")
+        return f"{name}+{value}", 0
+
+    # ---- instructions
+
+    def read(self, section, lines):
+        """The instructions of a section, which have all of its bytes and of its relocations."""
+        found, at, body, used = {}, 0, self.object.body(self.heads[section]), set()
+        for address, raw, text in lines:
+            end = at + len(raw)
+            if address != at or body[at:end] != raw:
+                raise Unsupported(f"{section} {address:#x}: objdump leaves bytes out")
+            places = [place for place in range(at, end) if place in self.relocations[section]]
+            used.update(places)
+            found[at] = self.instruction(section, at, end, text, places)
+            at = end
+        if at != len(body) or used != set(self.relocations[section]):
+            raise Unsupported(f"{section}: bytes or relocations in no instruction")
+        return found
+
+    def instruction(self, section, at, end, text, places):
+        mnemonic, rest = split(text)
+        if mnemonic.startswith("nop") or (mnemonic, rest) == ("xchg", "%ax,%ax"):
+            if places:
+                raise Unsupported(f"{section} {at:#x}: a relocation in {text}")
+            return Instruction(section, at, end, "nop", (), None)
+        is_jump = mnemonic[0] == "j" or mnemonic == "call"
+        there = TARGET.fullmatch(rest) if is_jump else None
+        if is_jump and not there:
+            raise Unsupported(f"{section} {at:#x}: {text}, which leads to no one place")
+        if not is_jump and bool(places) != ("(%rip)" in rest) or places not in ([], [end - 4]):
+            raise Unsupported(f"{section} {at:#x}: {text} with relocations at {places}")
+        found = () if is_jump else operands(rest)
+        if places and any(x != RELOCATED for x in found if not isinstance(x, Register)):
+            raise Unsupported(f"{section} {at:#x}: {text}, of which another part is relocated")
+        target = (section, int(there[1], 16)) if is_jump else None
+        if places:
+            symbol, addend = self.relocations[section][places[0]]
+            target = self.target_of(symbol, addend + end - places[0])
+        return Instruction(section, at, end, mnemonic, found, target)
+
+
+def listing(path):
+    """Section -> (address, bytes, text) of each instruction, as objdump says them."""
+    out = subprocess.run(["objdump", "-d", "-z", "-w", path], check=True, capture_output=True, text=True).stdout
+    found, lines = {}, None
+    for line in out.splitlines():
+        if line.startswith("Disassembly of section "):
+            lines = found.setdefault(line[len("Disassembly of section "):-1], [])
+        elif match := LINE.fullmatch(line):
+            lines.append((int(match[1], 16), bytes.fromhex(match[2]), match[3] or "no instruction"))
+    return found
+
+
+def split(text):
+    """The mnemonic and the operands, without objdump's remarks, and without the prefixes of a `nop`."""
+    words = text.split("#")[0].split(None, 1)
+    while words[0] in PREFIXES and len(words) > 1 and re.match(r"(\w+ )*nop", words[1]):
+        words = words[1].split(None, 1)
+    return words[0], words[1].strip() if len(words) > 1 else ""
+
+
+def operand(text):
+    if text.startswith("$"):
+        return Immediate(int(text[1:], 16))
+    if text.startswith("%"):
+        return Register(text[1:])
+    found = MEMORY.fullmatch(text)
+    if not found:
+        raise Unsupported(f"the operand {text}")
+    displacement, base, index, scale = found.groups()
+    return Place(int(displacement or "0", 16), base and base[1:], index and index[1:], int(scale or 1))
+
+
+def operands(text):
+    return tuple(operand(part) for part in re.split(r",(?![^(]*\))", text)) if text else ()

@@ -1,0 +1,218 @@
+"""The table of instructions beside the processor: what the table says of an instruction, and what this processor does,
+on inputs with edges. All registers, what lies in memory, and the flags that the table has are compared.
+
+Each instruction stands in a function of its own, which loads all registers, runs it, and stores them. The processor
+runs that function; of the same object, read as the texts are, the instruction is run over numbers."""
+import ctypes
+import os
+import random
+import subprocess
+
+from terms.loops import NotShown
+from terms.rules import ones
+
+from .instructions import PARTS, TABLE, V3, WIDE, letters
+from .memory import ENTRY, Stack, Words
+from .objects import Immediate, Place, Program, Register
+from .processor import KEPT, Processor
+from .values import address
+
+ROUNDS = 40                       # inputs of an instruction
+EDGES = 0, 1, 127, 128, 255
+BEHIND = "jmp", "call", "ret", "push", "pop", "nop", "ud2", "vzeroupper", "j"      # those without operands, and stacks
+LOADED = [name for name in WIDE if name != "rsp"]
+# Where in the memory that a function is handed: registers, vectors, the word that sets the flags, what an instruction
+# reads and writes, and then the registers and the flags afterwards.
+REGISTERS, LANES, COMPARED, ROOM, AFTER, LANES_AFTER, FLAGS_AFTER, SIZE = 0, 128, 640, 704, 768, 896, 1408, 1472
+FLAGS = "b", "e", "a"
+SOME_FLAGS = {"imul": (), "mul": (), "div": (), "shld": (), "shl": "e", "shr": "e"}    # which are set, if not all
+BASES = "rdi", "rsi", "r9", "r10"
+SAMPLE = {"b": ["al", "cl", "dl"], "h": ["ah"], "w": ["ax", "cx", "dx"], "l": ["eax", "ecx", "ebx"],
+          "q": ["rax", "rcx", "rbx"], "x": ["xmm1", "xmm2", "xmm3"], "y": ["ymm1", "ymm2", "ymm3"]}
+CONDITIONS = "e", "ne", "b", "ae", "a", "be"
+# Branches, calls and the stack.
+SNIPPETS = [*([f"cmp %{other},%rax", f"j{name} 1f", "not %rax", "1: not %rcx"] for name in CONDITIONS
+              for other in ("rax", "rbx")),
+            ["jmp 1f", "not %rax", "1: not %rcx"], ["push %rax", "not %rax", "pop %rbx"], ["vzeroupper"], ["nop"],
+            ["call 1f", "jmp 2f", "1: not %rax", "ret", "2: not %rcx"], ["prefetcht0 (%rsp)"]]
+
+
+# ---- the instructions
+
+def asked(programs, each):
+    """Text -> form: each instruction of the programs, or one of each form; and one of each form of the table that
+    no program has."""
+    out, forms = {}, set()
+    for program in programs:
+        for code in program.sections.values():
+            for x in code.values():
+                key = form_of(x)
+                if not x.mnemonic.startswith(BEHIND) and (each or key not in forms):
+                    out[written(x.mnemonic, x.operands)] = key
+                forms.add(key)
+    for mnemonic, form in TABLE:
+        if (mnemonic, form) not in forms and not mnemonic.startswith(BEHIND):
+            out[written(mnemonic, sample(form))] = mnemonic, form
+    return out
+
+
+def form_of(x):
+    return x.mnemonic, letters(x)
+
+
+def sample(form):
+    used, out = {}, []
+    for letter in form:
+        if letter in SAMPLE:
+            used[letter] = used.get(letter, -1) + 1
+            out.append(Register(SAMPLE[letter][used[letter]]))
+        else:
+            out.append(Immediate(5) if letter == "i" else Place(0, "rax", None, 1))
+    return out
+
+
+def written(mnemonic, operands):
+    """An instruction for the assembler, with another register for the stack pointer, and its memory in the room."""
+    operands = [Register("rbx") if x == Register("rsp") else x for x in operands]
+    names = {PARTS[x.name][0] for x in operands if isinstance(x, Register) and x.name in PARTS}
+    base = next(name for name in BASES if name not in names)
+    is_lea = mnemonic == "lea"
+    return f"{mnemonic} " + ",".join(operand_written(x, base, is_lea) for x in operands)
+
+
+def bases_of(lines):
+    """The registers that hold the address of the memory."""
+    is_lea = lines[0].startswith("lea ")
+    return [name for name in BASES if not is_lea and f"{ROOM:#x}(%{name})" in lines[0]]
+
+
+def operand_written(x, base, is_lea):
+    if isinstance(x, Register):
+        return f"%{x.name}"
+    if isinstance(x, Immediate):
+        return f"${x.value:#x}"
+    if not is_lea:
+        return f"{ROOM:#x}(%{base})"
+    names = ["rbx" if name in ("rip", "rsp") else name for name in (x.base, x.index) if name]
+    parts = ",".join(f"%{name}" for name in names) if x.base else f",%{names[0]}"
+    return f"{x.displacement:#x}({parts}" + (f",{x.scale})" if x.index else ")")
+
+
+# ---- the functions
+
+def function(number, lines):
+    """A function that loads all registers, runs some lines and stores all registers and flags. A register that the
+    lines have as a base is the address of the memory."""
+    bases = bases_of(lines)
+    rest = [name for name in LOADED if name not in (*bases, "rdi")]
+    yield from (f".globl t{number}", f".type t{number},@function", f"t{number}:")
+    yield from (f"push %{name}" for name in (*KEPT, "rdi"))
+    yield f"cmpl $1,{COMPARED}(%rdi)"
+    yield from (f"vmovdqu {LANES + 32 * k}(%rdi),%ymm{k}" for k in range(16))
+    yield from (f"mov {REGISTERS + 8 * LOADED.index(name)}(%rdi),%{name}" for name in rest)
+    yield from (f"mov %rdi,%{name}" for name in bases if name != "rdi")
+    yield from [] if "rdi" in bases else [f"mov {REGISTERS + 8 * LOADED.index('rdi')}(%rdi),%rdi"]
+    yield from (f"b{number}:", *lines, f"e{number}:", "push %rdi", "mov 8(%rsp),%rdi")
+    yield from (f"mov %{name},{AFTER + 8 * LOADED.index(name)}(%rdi)" for name in LOADED if name not in (*bases, "rdi"))
+    yield from (f"vmovdqu %ymm{k},{LANES_AFTER + 32 * k}(%rdi)" for k in range(16))
+    yield "pop %rax"
+    yield from [] if "rdi" in bases else [f"mov %rax,{AFTER + 8 * LOADED.index('rdi')}(%rdi)"]
+    for k, name in enumerate(SOME_FLAGS.get(lines[0].split()[0], FLAGS)):
+        yield from (f"set{name} %al", f"mov %al,{FLAGS_AFTER + k}(%rdi)")
+    yield from (f"pop %{name}" for name in ("rdi", *reversed(KEPT)))
+    yield from ("vzeroupper", "ret")
+
+
+def assembled(snippets, room):
+    """The functions as a library that runs, and as a program that is read."""
+    with open(f"{room}/snippets.s", "w", encoding="utf-8") as file:
+        print('.section .note.GNU-stack,"",@progbits', ".text", sep="\n", file=file)
+        for number, lines in enumerate(snippets):
+            print(*function(number, lines), sep="\n", file=file)
+    for words in (["-c", "-o", f"{room}/snippets.o"], ["-shared", "-o", f"{room}/snippets.so"]):
+        subprocess.run(["gcc", *words, f"{room}/snippets.s"], check=True)
+    return ctypes.CDLL(f"{room}/snippets.so"), Program(f"{room}/snippets.o")
+
+
+# ---- both sides
+
+def inputs(mnemonic, lines, draw):
+    data = bytearray(draw.randbytes(SIZE))
+    if draw.random() < 0.4:
+        data = bytearray(draw.choice(EDGES) if draw.random() < 0.7 else byte for byte in data)
+    data[COMPARED:COMPARED + 4] = draw.randrange(3).to_bytes(4, "little")
+    if draw.random() < 0.2:
+        rax, rbx = (8 * LOADED.index(name) for name in ("rax", "rbx"))
+        data[rbx:rbx + 8] = data[rax:rax + 8]
+    if mnemonic == "div":     # of one word, and not by 0
+        at, name = 8 * LOADED.index("rdx"), PARTS[lines[0].split("%")[1]][0]
+        data[at:at + 8] = bytes(8)
+        data[8 * LOADED.index(name)] |= 1
+    return data
+
+
+def word(data, at):
+    return int.from_bytes(data[at:at + 8], "little")
+
+
+def by_table(cpu, number, lines, data):
+    """What the memory has to hold afterwards, by the table."""
+    room = Words("state", SIZE, [(at, 8, word(data, at)) for at in range(ROOM, AFTER, 8)], alignment=64)
+    cpu.registers = {name: word(data, REGISTERS + 8 * k) for k, name in enumerate(LOADED)}
+    bases = bases_of(lines)
+    cpu.registers.update({name: address(room) for name in bases})
+    cpu.stack = Stack()
+    cpu.registers["rsp"] = address(cpu.stack, ENTRY)
+    cpu.vectors = [[word(data, LANES + 32 * k + 8 * lane) for lane in range(4)] for k in range(16)]
+    cpu.set_flags("sub", 32, word(data, COMPARED) & ones(32), 1, None)
+    run_to(cpu, cpu.program.labels[f"b{number}"], cpu.program.labels[f"e{number}"])
+    out = bytearray(data)
+    for at in range(ROOM, AFTER, 8):
+        out[at:at + 8] = room.load(at, 8).to_bytes(8, "little")
+    for k, name in enumerate(LOADED):
+        if name not in bases:
+            out[AFTER + 8 * k:AFTER + 8 * k + 8] = cpu.registers[name].to_bytes(8, "little")
+    out[LANES_AFTER:FLAGS_AFTER] = b"".join(x.to_bytes(8, "little") for lanes in cpu.vectors for x in lanes)
+    for k, name in enumerate(SOME_FLAGS.get(lines[0].split()[0], FLAGS)):
+        out[FLAGS_AFTER + k] = cpu.condition(name)
+    return bytes(out)
+
+
+def run_to(cpu, place, end):
+    while place != end:
+        operation, instruction = cpu.code[place[0]][place[1]]
+        place = operation(cpu, instruction) or (place[0], instruction.end)
+
+
+def compare(programs, room, each):
+    """Of each instruction, or of each form: (how many there are, what differs)."""
+    texts = asked(programs, each)
+    snippets = [*([text] for text in texts), *SNIPPETS]
+    library, program = assembled(snippets, room)
+    cpu, draw, wrong = Processor(program, V3), random.Random(1), []
+    whole = ctypes.create_string_buffer(SIZE + 64)
+    first = -ctypes.addressof(whole) % 64
+    state = (ctypes.c_ubyte * SIZE).from_buffer(whole, first)
+    for number, (lines, form) in enumerate(zip(snippets, [*texts.values(), *[None] * len(SNIPPETS)])):
+        section, at = program.labels[f"b{number}"]
+        if form not in (None, form_of(program.sections[section][at])):
+            wrong.append(f"{lines[0]} isn't of the form {' '.join(form)}")
+        run = getattr(library, f"t{number}")
+        for _ in range(ROUNDS):
+            data = inputs(lines[0].split()[0], lines, draw)
+            state[:] = data
+            run(ctypes.byref(state))
+            if bytes(state) != by_table(cpu, number, lines, bytes(data)):
+                wrong.append(f"{'; '.join(lines)} on {data.hex()[:64]}..")
+                break
+    return len(snippets), wrong
+
+
+def has_avx2():
+    with open("/proc/cpuinfo", encoding="utf-8") as file:
+        return {"avx2", "bmi2", "movbe"} <= set(file.read().split())
+
+
+def expect_processor():
+    if os.uname().machine != "x86_64" or not has_avx2():
+        raise NotShown("this processor isn't x86-64-v3: the table isn't compared")

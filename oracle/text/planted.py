@@ -1,0 +1,203 @@
+"""Wrong texts that have to be refused: one for each way in which a check of this kind was seen to let one pass. Each is
+the committed text with lines that are put into a function; the refusal has to be for the reason that is named."""
+import collections
+import os
+import re
+import subprocess
+import tempfile
+import unittest.mock
+
+from terms import definition, nodes, operations
+from terms.loops import REFUSALS, NotShown
+from terms.nodes import WrongRule
+from terms.polynomials import variable
+from terms.sides import TOP, Request
+
+from . import any_updates, calls, every_length, exports, on_processor, one_shots, streams, values
+from .instructions import TABLE, V2
+from .objects import Program
+from .processor import Processor
+
+SOURCE = os.path.join(TOP, "c", "asm", f"{V2}.s")
+# A wrong text: what it is, how it is made of the text, what is asked, and words of the refusal.
+Wrong = collections.namedtuple("Wrong", "what change ask words")
+
+
+# ---- how a text is changed
+
+def begun(name, *lines):
+    """A function that begins with further lines."""
+    return lambda text: with_lines(text, rf"^{re.escape(name)}:\n\t.cfi_startproc\n", "", lines)
+
+
+def with_lines(text, place, before, lines):
+    """A text with lines behind the one place that a pattern finds, and other text before it."""
+    found = list(re.finditer(place, text, re.M))
+    if len(found) != 1:
+        raise NotShown(f"{len(found)} places like {place}")
+    at, end = found[0].span()
+    return text[:at] + before + text[at:end] + "".join(f"\t{line}\n" for line in lines) + text[end:]
+
+
+def in_loop(text):
+    """XXH64's loop over stripes, where an accumulator is another one 2 ^ 40 bytes behind the beginning and before the
+    end: the first turns and the last one are right."""
+    name = "twox_plain.xxhash64.rounds.impl_long"
+    function = text[text.index(f"\n{name}:"):]
+    head = re.search(r"^\.L\w+:\n", function, re.M)[0]
+    return with_lines(text, re.escape(head), "\tmov %rsi,-0x10(%rsp)\n",
+                      ("mov %rsi,%r8", "sub -0x10(%rsp),%r8", "shr $0x28,%r8", "mov %r9,%r10", "shr $0x28,%r10",
+                       "and %r10,%r8", "add %r8,%r12"))
+
+
+def hidden_register(text):
+    """XXH64's streams, where reset and digest take what the caller left in a register."""
+    text = begun("XXH64_reset", "xor %r11,%rsi")(text)
+    function = text.index("\nXXH64_digest:")
+    old = "\tmov 0x8(%rdi),%r8\n"
+    return text[:function] + text[function:].replace(old, f"{old}\txor %r11,%r8\n", 1)
+
+
+def other_constant(text):
+    """The place behind a constant, in the place of one."""
+    return re.sub(r"(\.L\w+)\(%rip\)", r"\1+16(%rip)", text, count=1)
+
+
+def ended(*lines):
+    return lambda text: text + "".join(f"\t{line}\n" for line in lines)
+
+
+# ---- what is asked
+
+def request(*words, **more):
+    """A request and its twin, beside the definition."""
+    def ask(cpu):
+        entries, one = definition.program().run(), Request(*words, **more)
+        for each in [one, *one.with_seed_0()]:
+            side = one_shots if each.cuts is None else streams
+            calls.expect(repr(each), side.of_text(cpu, each), each.of_definition(entries))
+    return ask
+
+
+def of_every_length(kind, seed=None):
+    return lambda cpu: every_length.EveryLength(cpu, kind).show(every_length.cases(kind)[0], seed)
+
+
+def exported(cpu):
+    exports.expect_all(cpu.program, exports.shown_by().values())
+
+
+SEED_0 = begun("XXH3_64bits_withSeed", "test %rdx,%rdx", "jne 1f", "xor %eax,%eax", "ret", "1:")
+VERSION = "XXH_versionNumber"
+SAVED = "mov %rdi,-0x40(%rsp)", "mov %rsi,-0x48(%rsp)"
+TAKEN = "mov -0x40(%rsp),%rdi", "mov -0x48(%rsp),%rsi"
+
+TEXTS = [
+    Wrong("an accumulator that fails the step of the induction", in_loop, of_every_length("64"), "r12 is .* and not"),
+    Wrong("another value of the seed 0, up to 240 bytes", SEED_0, request("3-64", "seed", 17), "== 0"),
+    Wrong("another value of the seed 0, above", SEED_0, request("3-64", "seed", 300), "another value"),
+    Wrong("another value of the seed 0, at every length", SEED_0, of_every_length("3-64:seed", 0), "== 0"),
+    Wrong("bytes that objdump leaves out", begun(VERSION, "nop", ".zero 16"), calls.version, "the instruction add bm"),
+    Wrong("a jump into an instruction", begun(VERSION, "jmp 1f+1", "1: mov $0x1234,%eax"), calls.version,
+          "no instruction at"),
+    Wrong("a jump to an address in memory", begun(VERSION, "jmp *1f(%rip)", "1:"), calls.version, "no one place"),
+    Wrong("a function that goes on behind its end", begun(VERSION, "jmp 1f", '.section .text.elsewhere,"ax"', "1: nop",
+                                                          ".section .text.XXH_versionNumber"), calls.version,
+          "no instruction at"),
+    Wrong("another place of a mergeable constant", other_constant, calls.version, "a linker may move"),
+    Wrong("two sections of one name", ended('.section .text.XXH32,"ax",@progbits,unique,7', "ret"), calls.version,
+          "two sections"),
+    Wrong("an address in the constants", ended('.section .rodata.more,"a",@progbits', ".quad XXH32"), calls.version,
+          "a relocation at"),
+    Wrong("a section that is written to", ended(".data", ".quad 1"), calls.version, "isn't only read or run"),
+    Wrong("a call that another library may answer", begun("XXH128", "jmp XXH3_128bits_withSeed@PLT"),
+          calls.version, "another library"),
+    Wrong("what the caller left in a register", hidden_register, request("64", "seed", 5, cuts=[2]), "another value"),
+    Wrong("a load that is done where a condition doesn't hold", begun(VERSION, "xor %eax,%eax", "cmovne (%rax),%rax"),
+          calls.version, "as an address"),
+    Wrong("a register of 512 bits", begun(VERSION, "vpxorq %zmm0,%zmm0,%zmm0"), calls.version,
+          "the instruction vpxorq"),
+    Wrong("an instruction of another set", begun(VERSION, "rorx $0x1,%rax,%rax"), calls.version, "hasn't here"),
+    Wrong("the red zone over a call", begun("XXH3_copyState", *SAVED, "sub $0x8,%rsp", "mov $0x10,%edx",
+                                            "call memmove@PLT", "add $0x8,%rsp", *TAKEN), calls.copies,
+          "byte .* of stack"),
+    Wrong("a call with the stack at no multiple of 16", begun("XXH3_copyState", "mov $0x3c0,%edx", "call memmove@PLT",
+                                                              "ret"), calls.copies, "no multiple of 16"),
+    Wrong("a copy of bytes onto themselves", begun("XXH3_copyState", "push %rdi", "push %rsi", "mov %rdi,%rsi",
+                                                   "mov $0x3c0,%edx", "push %rax", "call memcpy@PLT", "pop %rax",
+                                                   "pop %rsi", "pop %rdi"), calls.copies, "onto themselves"),
+    Wrong("a store above the stack pointer of the caller", begun(VERSION, "movq $0x0,0x8(%rsp)"), calls.version,
+          "the caller's frame"),
+    Wrong("a register that the caller wants back", begun(VERSION, "xor %ebx,%ebx"), calls.version, "rbx isn't"),
+    Wrong("a branch on a byte of the message", begun("XXH32", "cmpq $0x0,(%rdi)", "jne 1f", "1:"),
+          request("32", "seed", 40), "== 0"),
+    Wrong("a read behind the message", begun("XXH32", "mov 0x1(%rdi),%rax"), request("32", "seed", 8), "which has 8"),
+    Wrong("an export that no row shows", ended(".globl XXH_more", "XXH_more: ret"), exported, "no row shows it"),
+]
+
+
+def is_refused(wrong, room):
+    """None, or what there is to say of a wrong text."""
+    with open(SOURCE, encoding="utf-8") as file:
+        text = wrong.change(file.read())
+    with open(f"{room}/wrong.s", "w", encoding="utf-8") as file:
+        file.write(text)
+    subprocess.run(["gcc", "-c", f"{room}/wrong.s", "-o", f"{room}/wrong.o"], check=True)
+    try:
+        wrong.ask(Processor(Program(f"{room}/wrong.o"), V2))
+    except REFUSALS as error:
+        return None if re.search(wrong.words, str(error)) else f"{wrong.what}: refused for another reason: {error}"
+    return f"{wrong.what}: not refused"
+
+
+# ---- what of the check itself is wrong
+
+def lacks_a_case(_):
+    """A case of the induction that is left out, and an update's."""
+    cases = every_length.cases("3-64:seed")
+    updates = list(any_updates.updates("64"))
+    with unittest.mock.patch.object(any_updates, "updates", lambda name: updates[:99] + updates[100:]):
+        is_seen = bool(any_updates.left_out("64"))
+    return is_seen and len(every_length.left_out(cases[:13] + cases[14:], 1101, 1024)) > 1
+
+
+def has_a_wrong_sum(_):
+    """A polynomial as a word that is one more."""
+    def one_more(x, width):
+        return operations.add_at(width, (1, word(x, width)), (1, 1))
+    word = values.as_word
+    with unittest.mock.patch.object(values, "as_word", one_more):
+        return raises(WrongRule, lambda: values.low(variable("t"), 32))
+
+
+def has_a_wrong_join(_):
+    """Bits side by side in the other order."""
+    parts = operations.from_segments
+    with unittest.mock.patch.object(operations, "from_segments", lambda segments: parts(segments[::-1])):
+        return raises(WrongRule, lambda: values.joined((nodes.symbol("a", 32), 32), (nodes.symbol("b", 32), 32)))
+
+
+def has_a_wrong_table(room):
+    """A form of the table that does what another does."""
+    with unittest.mock.patch.dict(TABLE, {("shr", "iq"): TABLE["shl", "iq"]}):
+        return len(on_processor.compare([], room, each=False)[1]) == 1
+
+
+def raises(kind, call):
+    try:
+        call()
+    except kind:
+        return True
+    return False
+
+
+CHECKS = [lacks_a_case, has_a_wrong_sum, has_a_wrong_join, has_a_wrong_table]
+WRONG = [*TEXTS, *CHECKS]
+
+
+def refused():
+    """(what was refused, what wasn't)."""
+    with tempfile.TemporaryDirectory(prefix="machine-text-") as room:
+        bad = [told for wrong in TEXTS if (told := is_refused(wrong, room))]
+        bad += [f"{check.__name__}: not noticed" for check in CHECKS if not check(room)]
+    return len(WRONG) - len(bad), bad

@@ -1,0 +1,246 @@
+"""Runs instructions of x86-64 over terms, from a function's first one to its return.
+
+Branches, addresses and lengths are numbers, or polynomials that the facts decide; words are terms. Whatever isn't
+known at the beginning is a symbol of its own for each call: the registers that hold no argument, the upper half of one
+that holds a number of 32 bits; the flags are unset. A place in memory outside of the objects that were handed over, a
+byte that was never stored, a store to what is read only, a branch on a symbol and a form of an instruction that isn't
+in the table are errors."""
+import functools
+
+from terms.llvm_text import Unsupported
+from terms.nodes import Undecided, symbol
+from terms.polynomials import is_natural, is_number, is_same, minus
+from terms.rules import ones
+
+from . import flags
+from .instructions import PARTS, VECTORS, WIDE, known
+from .memory import ENTRY, RED, Constants, ReturnTo, Stack, Words, copy
+from .objects import OUTER, Immediate, Register
+from .values import WORD, Address, address, arithmetic, bits, joined, low
+
+KEPT = "rbx", "rbp", "r12", "r13", "r14", "r15"          # of the caller, which gets them back
+ARGUMENTS = "rdi", "rsi", "rdx", "rcx", "r8", "r9"
+OUT = "return"
+LANES = 4                         # of 64 bits, which a vector has
+NO_LIMIT = 1 << 24                # instructions of a call
+
+
+class Processor:
+    """A program, by a processor of a name. `not_zero` has terms that are supposed not to be 0; `loops` is asked
+    wherever a loop may begin, and `live` has the objects that calls may write to then; `used` has the instructions that
+    ran, and `limit` how many may in a call."""
+
+    def __init__(self, program, name):
+        self.program, self.name = program, name
+        self.constants = {key: Constants(key, *x) for key, x in program.constants.items()}
+        self.code = {section: {at: (known(x, name), x) for at, x in code.items()}
+                     for section, code in program.sections.items()}
+        for outer in OUTER:
+            self.code[outer] = {0: (functools.partial(call_of_outer, outer == "memmove"), None)}
+        self.not_zero, self.loops, self.live = [], None, []
+        self.used, self.made, self.limit, self.count = set(), 0, NO_LIMIT, 0
+
+    def change(self, instruction):
+        """Puts an instruction in the place of the one there."""
+        self.code[instruction.section][instruction.at] = known(instruction, self.name), instruction
+
+    def new_name(self, prefix):
+        self.made += 1
+        return f"{prefix}#{self.made}"
+
+    def fresh(self, prefix, width=WORD):
+        """A symbol of a new name."""
+        return symbol(self.new_name(prefix), width)
+
+    # ---- calls
+
+    def call(self, name, *arguments):
+        """Calls a function as C does, and gives what rax and rdx hold. An argument is a number, a term or an address;
+        or (value, 32), where the upper half of its register may be anything."""
+        self.registers = {name: self.fresh(name) for name in WIDE}
+        self.forget_vectors()
+        self.flags = self.carry = None
+        self.stack, self.count = Stack(), 0
+        self.registers["rsp"] = address(self.stack, ENTRY)
+        self.push(ReturnTo(OUT, 0))
+        for register, x in zip(ARGUMENTS, arguments):
+            if isinstance(x, tuple):
+                value, width = x
+                x = joined((value, width), (self.fresh(register, WORD - width), WORD - width))
+            self.registers[register] = x
+        kept = {name: self.registers[name] for name in KEPT}
+        self.run(self.program.functions[name])
+        for register, x in kept.items():
+            if self.registers[register] is not x:
+                raise Unsupported(f"{register} isn't the caller's at the end")
+        if self.registers["rsp"].place() != (self.stack, ENTRY):
+            raise Unsupported("the stack isn't the caller's at the end")
+        return self.registers["rax"], self.registers["rdx"]
+
+    def forget_vectors(self):
+        """No lane may be read before it is written."""
+        self.vectors = [[None] * LANES for _ in range(16)]
+
+    def run(self, place):
+        """From a place to the return out of the first call."""
+        while place is not None:
+            if self.loops:
+                place = self.loops.pass_by(self, place)
+            place = self.step(place)
+
+    def step(self, place):
+        """Runs from a place to where it goes elsewhere than to the next instruction, or where a loop may begin: the
+        place, or None at the end."""
+        section, at = place
+        code, heads = self.code.get(section), self.loops.heads(section) if self.loops else ()
+        while True:
+            if code is None or at not in code:
+                raise Unsupported(f"no instruction at {at:#x} of {section}")
+            operation, instruction = code[at]
+            self.count += 1
+            if self.count > self.limit:
+                raise Unsupported("too many instructions")
+            self.used.add((section, at))
+            to = operation(self, instruction)
+            if to is not None:
+                return None if to[0] == OUT else to
+            at = instruction.end
+            if at in heads:
+                return section, at
+
+    # ---- the stack
+
+    def push(self, x):
+        self.registers["rsp"] = arithmetic("sub", WORD, self.registers["rsp"], 8)
+        memory, at = self.registers["rsp"].place()
+        memory.store(at, 8, x)
+
+    def pop(self):
+        memory, at = self.registers["rsp"].place()
+        x = memory.load(at, 8)
+        self.registers["rsp"] = arithmetic("add", WORD, self.registers["rsp"], 8)
+        return x
+
+    # ---- places in memory
+
+    def effective(self, place, instruction):
+        """The address that an operand says."""
+        if place.base == "rip":
+            name, at = instruction.target
+            if name not in self.constants:
+                raise Unsupported(f"an address in {name}")
+            return address(self.constants[name], at)
+        out = place.displacement % (1 << WORD)
+        if place.base:
+            out = arithmetic("add", WORD, self.registers[place.base], out)
+        if place.index:
+            index = arithmetic("mul", WORD, self.registers[place.index], place.scale) if place.scale > 1 \
+                else self.registers[place.index]
+            out = arithmetic("add", WORD, out, index)
+        return out
+
+    def place(self, operand, instruction, alignment=1):
+        """The object and the offset that an operand says."""
+        found = self.effective(operand, instruction)
+        if not isinstance(found, Address):
+            raise Undecided(f"{found} as an address")
+        memory, at = found.place()
+        if memory is self.stack and not (isinstance(at, int) and at >= self.registers["rsp"].place()[1] - RED):
+            raise Unsupported("a place below the stack")
+        is_aligned = alignment == 1 or not memory.alignment % alignment and isinstance(at, int) and not at % alignment
+        if not is_aligned:
+            raise Unsupported(f"a place in {memory.name} that may not be a multiple of {alignment}")
+        return memory, at
+
+    def load(self, memory, at, n):
+        x = memory.load(at, n)
+        if isinstance(x, ReturnTo):
+            raise Unsupported("a place to return to as a value")
+        return x
+
+    def expect_writable(self, memory):
+        """What is written while loops are shown has to be among what is looked at for that."""
+        is_known = not self.loops or memory is self.stack or any(memory is other for other in self.live)
+        if not isinstance(memory, Words) or not is_known:
+            raise Unsupported(f"a store to {memory.name}")
+
+    def store(self, memory, at, n, x):
+        self.expect_writable(memory)
+        memory.store(at, n, x)
+
+    # ---- operands
+
+    def width(self, instruction):
+        """The width of the operands: that of the last register among them, or what the mnemonic says."""
+        for operand in reversed(instruction.operands):
+            if isinstance(operand, Register) and operand.name in PARTS:
+                return PARTS[operand.name][2]
+        return {"b": 8, "w": 16, "l": 32, "q": 64}[instruction.mnemonic[-1]]
+
+    def get(self, operand, width, instruction):
+        if isinstance(operand, Register):
+            name, first, n = PARTS[operand.name]
+            return bits(self.registers[name], first, n) if first else low(self.registers[name], n)
+        if isinstance(operand, Immediate):
+            return operand.value & ones(width)
+        return self.load(*self.place(operand, instruction), width // 8)
+
+    def put(self, operand, width, x, instruction):
+        if isinstance(operand, Register):
+            self.put_register(*PARTS[operand.name], x)
+        else:
+            self.store(*self.place(operand, instruction), width // 8, x)
+
+    def put_register(self, name, first, width, x):
+        """A part of 32 bits makes the upper half 0, and a narrower one leaves all above it."""
+        old = self.registers[name]
+        if first:
+            raise Unsupported("a store to a second byte")
+        if width < 32 and not (is_number(old) and is_natural(old) and is_natural(minus(ones(width), old))):
+            above = self.fresh("bits of an address", WORD - width) if isinstance(old, Address) else \
+                bits(old, width, WORD - width)
+            x = joined((x, width), (above, WORD - width))
+        self.registers[name] = x
+
+    def lanes(self, operand, count=1, first=0):
+        """Some lanes of a vector, which have to be there."""
+        found = self.vectors[VECTORS[operand.name]][first:first + count]
+        if any(x is None for x in found):
+            raise Unsupported(f"%{operand.name}, which isn't set")
+        return found
+
+    # ---- flags
+
+    def set_flags(self, *what):
+        self.flags = self.carry = flags.Flags(*what)
+
+    def forget_flags(self):
+        self.flags = self.carry = None
+
+    def condition(self, name):
+        return flags.condition(self, name)
+
+
+def call_of_outer(may_overlap, cpu, _):
+    """memcpy or memmove, which are another's: they copy, and leave the registers that aren't kept, and all below the
+    stack pointer, as anything."""
+    to, source, n = (cpu.registers[name] for name in ARGUMENTS[:3])
+    memory, at = cpu.registers["rsp"].place()
+    if (at + 8) % 16:
+        raise Unsupported("a call with the stack at no multiple of 16")
+    memory.forget_below(at)
+    if not (isinstance(to, Address) and isinstance(source, Address)) and not is_same(n, 0):
+        raise Undecided("a copy from or to no place")
+    if not is_same(n, 0):
+        room, first = to.place()
+        cpu.expect_writable(room)
+        if room is memory and not is_natural(minus(first, at + 8)):
+            raise Unsupported("a copy to what lies below the stack")
+    copy(to, source, n, may_overlap)
+    for register in WIDE:
+        if register not in KEPT and register != "rsp":
+            cpu.registers[register] = cpu.fresh(register)
+    cpu.registers["rax"] = to
+    cpu.forget_vectors()
+    cpu.forget_flags()
+    return cpu.pop()

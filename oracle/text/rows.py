@@ -1,0 +1,259 @@
+"""The rows of oracle/machine-text: what is asked of the texts, and the least number of cases that each has."""
+import functools
+import os
+import subprocess
+import tempfile
+
+from terms import comparison, nodes
+from terms.loops import REFUSALS
+from terms.nodes import WrongRule
+from terms.polynomials import variable
+from terms.processes import Row
+from terms.sides import TOP, Request
+
+from . import (any_updates, calls, changes, every_length, exports, lanes, on_processor, one_shots, planted, scalar,
+               streams)
+from .instructions import TABLE, V2, V3
+from .objects import Program
+from .processor import Processor
+
+NAMES = V2, V3
+FOLDER = os.path.join(TOP, "c", "asm")
+ONE_BY_ONE, MORE = range(301), range(301, 1101)     # lengths asked one by one: always, and with --all
+SECRETS, STREAM_SECRETS = (136,), (136, 193, 256)
+# Streams: their lengths, with how each is cut in a sample; and those of a few more.
+FEW_STREAMS = [(0,), (5, 2), (33, 1), (70, 33, 64), (200, 31, 160), (240, 239), (257, 256), (300, 64, 192),
+               (600, 512, 599), (1100, 64), (1500, 40, 1100)]
+MANY_STREAMED = [1500, 2200, 3000, 4200]
+SOME_UPDATES, UPDATE_PARTS = 97, 4                  # updates of streams, in a sample and in parts
+SOME_SECRETS = [*range(136, 144), *range(190, 202), 256, 257, 576, 999, 1000]
+LONGER_SECRETS = range(every_length.LONGEST_KEPT + 1, 1001)
+MOST_NODES = 400_000                                # of the cases of a proof
+SMALL = [0, 1, 3, 4, 8, 9, 16, 17, 128, 129, 240, 241, 1000]
+assert scalar and lanes                             # which fill the table
+
+
+def programs():
+    """The texts as gcc assembles them, which is how users do it."""
+    with tempfile.TemporaryDirectory(prefix="machine-text-") as room:
+        return {name: assembled(f"{FOLDER}/{name}.s", f"{room}/{name}.o") for name in NAMES}
+
+
+def assembled(source, to):
+    subprocess.run(["gcc", "-c", source, "-o", to], check=True)
+    return Program(to)
+
+
+def processors(texts):
+    return {name: Processor(program, name) for name, program in texts.items()}
+
+
+def counted(title, least, ask):
+    """A row that has at least so many cases: `ask` gives their number, and what there is to say of others."""
+    def outcome():
+        count, bad = ask()
+        few = [f"{count} cases, and {least} at least are wanted"] if count < least and not bad else []
+        return f"{count} cases", bad + few
+    return Row(title, outcome)
+
+
+def choose(options, texts):
+    rows = one_shot_rows(texts, options.all) + secret_rows(texts, options.all) + every_length_rows(texts, options.all)
+    rows += stream_rows(texts, options.all) + call_rows(texts, options.all) + machine_rows(texts, options.all)
+    rows.insert(0, export_row(texts, [row.title for row in rows]))
+    return [row for row in rows if options.only in row.title]
+
+
+def export_row(texts, titles):
+    return counted("each export has its row", 54 * len(texts),
+                   lambda: (sum(exports.expect_all(program, titles) for program in texts.values()), []))
+
+
+# ---- one-shots and streams, by comparison with the definition's terms
+
+def title_of(hash_name, kind, secret):
+    return f"XXH{hash_name}, {kind}" + (f" of {secret} bytes" if secret else "")
+
+
+def compared(texts, title, requests, side=one_shots):
+    """A row of requests, each of all texts: the definition's term is made once."""
+    requests = list(requests)
+    lengths = [request.length for request in requests]
+
+    def ask():
+        sides = {name: functools.partial(side.of_text, cpu) for name, cpu in processors(texts).items()}
+        return comparison.compare(sides, requests)
+    return counted(f"{title}: {min(lengths)} to {max(lengths)} bytes", len(requests) * len(texts), ask)
+
+
+def one_by_one(texts, kind, lengths, more=""):
+    return compared(texts, title_of(*kind) + more, comparison.requests(*kind, lengths))
+
+
+def one_shot_rows(texts, is_all):
+    """Secrets of other lengths have rows of every length."""
+    out = [one_by_one(texts, kind, ONE_BY_ONE) for kind in comparison.kinds(SECRETS)]
+    for kind in comparison.kinds(SECRETS) if is_all else ():
+        out += [one_by_one(texts, kind, MORE), one_by_one(texts, kind, comparison.edges(kind[2]), ", at edges")]
+        if kind[2] is None and kind[0].startswith("3-"):
+            out.append(one_by_one(texts, kind, [every_length.PREFETCHED]))
+    return out
+
+
+def secret_rows(texts, is_all):
+    """Secrets that are too short, and those that the rows of every length leave out."""
+    out, lengths = [], SMALL if is_all else [0, 17, 241]
+    sizes, asked = (LONGER_SECRETS, [241, 700, 1100]) if is_all else (SOME_SECRETS, [240, 700])
+    for hash_name in ("3-64", "3-128"):
+        out.append(of_each(texts, f"XXH{hash_name}, secrets that are too short", 2 * calls.SHORTEST * len(lengths),
+                           functools.partial(calls.short_secrets, hash_name=hash_name, lengths=lengths)))
+        requests = (Request(hash_name, kind, n, size) for size in sizes for kind in ("secret", "both") for n in asked)
+        out.append(compared(texts, f"XXH{hash_name}, secrets of {sizes[0]} to {sizes[-1]} bytes", requests))
+    return out
+
+
+def stream_rows(texts, is_all):
+    out = []
+    lengths = [*comparison.STREAMED, *MANY_STREAMED]
+    for kind in comparison.kinds(STREAM_SECRETS if is_all else SECRETS):
+        asked = comparison.requests(*kind, lengths, True) if is_all else few_streams(*kind)
+        out.append(compared(texts, f"streams of {title_of(*kind)}", asked, streams))
+    out.append(counted("each update of XXH32 and XXH64 has its row", 2, updates_left_out))
+    for hash_name in any_updates.LAYOUTS:
+        count = len(list(any_updates.updates(hash_name)))
+        for name, program in texts.items():
+            for part in range(UPDATE_PARTS) if is_all else [None]:
+                words = f"part {part + 1} of {UPDATE_PARTS}" if is_all else f"each {SOME_UPDATES}th case"
+                least = count // (UPDATE_PARTS if is_all else SOME_UPDATES)
+                out.append(counted(f"streams of XXH{hash_name}: any updates, to 2^64 - 1 bytes, {name}, {words}", least,
+                                   functools.partial(any_streams, name, program, hash_name, part)))
+    return out
+
+
+def few_streams(hash_name, kind, secret):
+    for n, *cuts in FEW_STREAMS:
+        request = Request(hash_name, kind, n, secret, cuts=cuts)
+        yield from [request, *request.with_seed_0()]
+
+
+def updates_left_out():
+    bad = [f"XXH{name}: no case has {left[:5]}" for name in any_updates.LAYOUTS if (left := any_updates.left_out(name))]
+    return len(any_updates.LAYOUTS) - len(bad), bad
+
+
+def any_streams(name, program, hash_name, part):
+    """Reset, digests, and the updates of a part, or a sample of them."""
+    proof = any_updates.AnyUpdates(Processor(program, name), hash_name)
+    cases = list(any_updates.updates(hash_name))
+    asked = [functools.partial(proof.update, one) for one in
+             (cases[::SOME_UPDATES] if part is None else cases[part::UPDATE_PARTS])]
+    asked += [proof.reset, *(functools.partial(proof.digest, a, r) for r in range(int(hash_name) // 2)
+                             for a in (0, variable("a")))] if not part else []
+    return count_shown(proof, asked)
+
+
+def count_shown(proof, asked):
+    """(how many of the cases are shown, what there is to say of the others)."""
+    bad = []
+    for ask in asked:
+        if len(nodes.NODES) > MOST_NODES:
+            proof.forget()
+        try:
+            ask()
+        except (*REFUSALS, WrongRule) as error:
+            bad.append(f"{type(error).__name__}: {error}")
+    return len(asked) - len(bad), bad
+
+
+# ---- every length
+
+def every_length_rows(texts, is_all):
+    out = [counted("every length of XXH32 and XXH64 has its row", 2, plain_left_out)]
+    out += [counted("every length of XXH3 has its row", 1 + len(every_length.KEPT), xxh3_left_out)] if is_all else []
+    for kind in ["32", "64", *(f"{name}:{way}" for name in ("3-64", "3-128") for way in ("default", "seed"))]:
+        asked = every_length.cases(kind)
+        for seed in [None, 0] if kind.endswith("seed") else [None]:
+            title = f"XXH{kind.replace(':', ', ')}{' 0' if seed == 0 else ''}: every length to 2^64 - 1"
+            out += of_every_length(texts, kind, title, asked, seed) if is_all or ":" not in kind else []
+    for kind in [f"{name}:{way}" for name in ("3-64", "3-128") for way in ("secret", "both")] if is_all else ():
+        out += [counted(f"XXH{kind.replace(':', ', ')} of any length: 0 to 240 bytes, {name}", 241,
+                        functools.partial(up_to_240, name, program, kind)) for name, program in texts.items()]
+        for q in every_length.KEPT:
+            title = f"XXH{kind.replace(':', ', ')} of {64 + 8 * q} to {71 + 8 * q} bytes: every length from 241 on"
+            out += of_every_length(texts, kind, title, every_length.with_rests(q))
+    return out
+
+
+def of_every_length(texts, kind, title, asked, seed=None):
+    return [counted(f"{title}, {name}", len(asked), functools.partial(shown, name, program, kind, asked, seed))
+            for name, program in texts.items()]
+
+
+def plain_left_out():
+    return told_left_out({f"XXH{name}": every_length.left_out(every_length.cases(name), ONE_BY_ONE.stop,
+                                                              int(name) // 2 * every_length.UNROLLED[name])
+                          for name in every_length.UNROLLED})
+
+
+def xxh3_left_out():
+    """Of the default secret and a derived one a row of its own has the one length that no case has."""
+    derived = every_length.left_out(every_length.cases("3-64:seed"), MORE.stop, 64 * every_length.DERIVED)
+    found = {f"a secret of {q} words": every_length.left_out(list(every_length.of_secret(q)), 241, 64 * q)
+             for q in every_length.KEPT}
+    return told_left_out({**found, "a derived secret": sorted({*derived} - {every_length.PREFETCHED})})
+
+
+def told_left_out(found):
+    return len(found), [f"{name}: no row has {left[:5]}" for name, left in found.items() if left]
+
+
+def shown(name, program, kind, asked, seed):
+    proof = every_length.EveryLength(Processor(program, name), kind)
+    return count_shown(proof, [functools.partial(proof.show, case, seed) for case in asked])
+
+
+def up_to_240(name, program, kind):
+    proof = every_length.EveryLength(Processor(program, name), kind)
+    return count_shown(proof, [functools.partial(proof.show_short, n) for n in range(241)])
+
+
+# ---- the other calls
+
+def of_each(texts, title, least, call):
+    """A row of a function of a processor, which gives the number of its cases, or raises."""
+    return counted(title, least * len(texts), lambda: (sum(call(cpu) for cpu in processors(texts).values()), []))
+
+
+def call_rows(texts, is_all):
+    sizes = [0, 1, 135, 136, 137, 143, 144, 191, 192, 256, 1000] if not is_all else [*range(0, 301), 1000]
+    seeds = [0, 1, 17, 136, 241, 300] if is_all else [0, 3, 241]
+    made = [(size, length) for size in sizes for length in seeds]
+    of = functools.partial(of_each, texts)
+    return [of("canonical forms and back", 6, calls.canonical_forms), of("equal hashes", 4, calls.is_equal),
+            of("the order of hashes", 9, calls.compare), of("the version", 1, calls.version),
+            of("copies of states", 3, calls.copies), of("freed states are refused", 4, calls.forgotten),
+            of("streams: memory without the mark of a reset", 8, calls.without_mark),
+            of("streams: states of XXH3 that no call leaves", 10, calls.out_of_range),
+            of("streams: secrets that a state doesn't keep", 80, calls.refused_resets),
+            of("streams: null pieces of no bytes", 20, calls.updates_of_nothing),
+            of("null inputs and secrets of no bytes", 14, calls.null_pointers),
+            of("the derived secret", 2, calls.derived_secret),
+            of("made secrets", len(made), functools.partial(calls.made_secrets, asked=made)),
+            counted("names of another's code", 9 * len(texts),
+                    lambda: (sum(exports.expect_twins(program) for program in texts.values()), []))]
+
+
+# ---- the machine, and what has to be noticed
+
+def machine_rows(texts, is_all):
+    return [counted("the table of instructions beside the processor", len(TABLE) - 40,
+                    functools.partial(beside_processor, texts, is_all)),
+            counted("wrong texts of each kind are refused", len(planted.WRONG), planted.refused),
+            *(counted(f"changes of one instruction, {name}", changes.MANY if is_all else changes.FEW,
+                      functools.partial(changes.noticed, name, program, is_all)) for name, program in texts.items())]
+
+
+def beside_processor(texts, is_all):
+    on_processor.expect_processor()
+    with tempfile.TemporaryDirectory(prefix="machine-text-") as room:
+        return on_processor.compare(texts.values(), room, each=is_all)

@@ -1,0 +1,86 @@
+"""Streams of a text: reset, updates that end at given cuts, digest. A state holds anything before its reset, each
+update is handed its piece alone, as an object of its own, and no digest changes the state."""
+import os
+import re
+
+from terms.llvm_text import Unsupported
+from terms.memory import Piece
+from terms.nodes import is_same
+from terms.polynomials import is_same as is_same_number
+from terms.sides import TOP
+
+from .memory import Words
+from .one_shots import NAMES, WAYS, is_plain, of_seed, suppose_seed, value_of
+from .values import address, low
+
+OK, ERROR = 0, 1
+ALIGNMENT = {"32": 4}             # of a state, as the header says; of all others 8
+
+
+def sizes():
+    """The states' sizes, which the library's C files allocate."""
+    with open(os.path.join(TOP, "c", "asm", "state_sizes.h"), encoding="utf-8") as file:
+        return {name: int(size) for name, size in re.findall(r"#define XXH(\d+)_STATE_BYTES (\d+)", file.read())}
+
+
+SIZES = sizes()
+
+
+def state_name(hash_name):
+    return hash_name.split("-")[0]
+
+
+def new_state(cpu, hash_name):
+    """Memory of a state's size, which holds anything."""
+    size = SIZES[state_name(hash_name)]
+    cells = [(at, 8, cpu.fresh("a state's word")) for at in range(0, size, 8)]
+    return Words("state", size, cells, alignment=ALIGNMENT.get(hash_name, 8))
+
+
+def contents(memory, size=8):
+    return [memory.load(at, size) for at in range(0, memory.length, size)]
+
+
+def expect_same(what, before, memory, size=8):
+    """That the memory holds what it held."""
+    if not all(is_same(x, y) or is_same_number(x, y) for x, y in zip(before, contents(memory, size), strict=True)):
+        raise Unsupported(f"{what} changes the state")
+
+
+def expect_answer(answer, code):
+    if not is_same(low(answer[0], 32), code):
+        raise Unsupported(f"an answer of {answer[0]}")
+
+
+def reset_name(hash_name, kind):
+    """Those of XXH3 stand behind the tests for null of c/guards.c."""
+    return f"{NAMES[hash_name]}_reset" if is_plain(hash_name) else f"proved_{NAMES[hash_name]}_reset{WAYS[kind]}"
+
+
+def reset(cpu, request, state):
+    arguments = [address(state)]
+    if request.secret:
+        arguments += [address(request.secret), request.secret_length]
+    return cpu.call(reset_name(request.hash_name, request.kind), *arguments, *of_seed(request))
+
+
+def update(cpu, hash_name, state, piece):
+    return cpu.call(f"{NAMES[hash_name]}_update", address(state), address(piece) if piece else 0,
+                    piece.length if piece else 0)
+
+
+def digest(cpu, hash_name, state):
+    before = contents(state)
+    answer = cpu.call(f"{NAMES[hash_name]}_digest", address(state))
+    expect_same("a digest", before, state)
+    return value_of(hash_name, answer)
+
+
+def of_text(cpu, request):
+    suppose_seed(cpu, request)
+    state, at = new_state(cpu, request.hash_name), 0
+    expect_answer(reset(cpu, request, state), OK)
+    for end in [*request.cuts, request.length]:
+        expect_answer(update(cpu, request.hash_name, state, Piece(request.message, at, end - at)), OK)
+        at = end
+    return digest(cpu, request.hash_name, state)

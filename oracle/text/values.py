@@ -1,0 +1,213 @@
+"""What a register or a place in memory holds: an int, a term, a polynomial that lies below 2 ^ 64, or an Address.
+
+An Address is a sum of objects' unknown places and an offset, so that a difference of two places in one object is a
+number. Nothing is known of an object's place, but that it isn't 0 and what it is a multiple of. What is worked out
+here and not by operations.py is compared at the points as well."""
+import contextlib
+
+from terms import nodes, operations
+from terms.machine import BINARY
+from terms.nodes import Node, Undecided, WrongRule, symbol
+from terms.polynomials import Poly, as_word, constant_of, divided, is_natural, lifted, minus, parts_of, plus, wrapped
+from terms.rules import ones, zeros_below
+
+WORD = 64
+HALF, WHOLE = 1 << 63, 1 << 64
+
+
+class Address:
+    __slots__ = "bases", "offset"    # bases: ((object, how often), ..), in the order of their names
+
+    def __init__(self, bases, offset):
+        self.bases, self.offset = bases, offset
+
+    def __repr__(self):
+        return " + ".join(f"{count}*{base.name}" for base, count in self.bases) + f" + {self.offset}"
+
+    def place(self):
+        """(object, offset), where it is a place in one."""
+        if len(self.bases) != 1 or self.bases[0][1] != 1:
+            raise Undecided(f"{self} as an address")
+        return self.bases[0][0], self.offset
+
+
+class Either:
+    """The bits of two numbers, united, under a mask, and moved down by some places. All that is asked of it is whether
+    there is one: a text asks that before a division that has a shorter way for narrow numbers."""
+    __slots__ = "numbers", "mask", "moved"
+
+    def __init__(self, numbers, mask, moved=0):
+        self.numbers, self.mask, self.moved = numbers, mask, moved
+
+    def under(self, mask):
+        return Either(self.numbers, self.mask & mask << self.moved, self.moved)
+
+    def moved_down(self, k):
+        moved = self.moved + k
+        return Either(self.numbers, self.mask & ones(WORD) - ones(moved), moved)
+
+    def is_zero(self):
+        if not self.mask:
+            return True
+        first, width = zeros_below(self.mask), self.mask.bit_length()
+        is_run = self.mask == ones(width) - ones(first)
+        if not is_run or not all(is_natural(minus(ones(width), x)) for x in self.numbers):
+            raise Undecided("the bits of numbers")
+        if all(is_natural(minus(ones(first), x)) for x in self.numbers):
+            return True
+        if any(is_natural(minus(x, 1 << first)) for x in self.numbers):
+            return False
+        raise Undecided(f"{self.numbers} below 2 ^ {first}")
+
+
+def address(memory, at=0):
+    return Address(((memory, 1),), at)
+
+
+# ---- sums and differences of addresses
+
+def combined(a, b, sign):
+    """a + sign * b, where one is an address."""
+    if isinstance(b, int):
+        return Address(a.bases, near_zero(plus(a.offset, sign * b)))
+    bases = {}
+    for x, count in ((a, 1), (b, sign)):
+        for base, often in x.bases if isinstance(x, Address) else ():
+            bases[base] = bases.get(base, 0) + count * often
+    offsets = [x.offset if isinstance(x, Address) else x for x in (a, b)]
+    if not all(isinstance(x, (int, Poly)) for x in offsets):
+        raise Undecided("an address that depends on symbols")
+    offset = plus(*offsets) if sign > 0 else minus(*offsets)
+    left = tuple(sorted(((base, count) for base, count in bases.items() if count), key=lambda x: x[0].name))
+    return Address(left, near_zero(offset)) if left else wrapped(offset, WORD)
+
+
+def near_zero(offset):
+    """An address' offset counts mod 2 ^ 64 alone: here the one whose constant lies from -2 ^ 63 to 2 ^ 63 - 1."""
+    c = constant_of(offset)
+    return plus(offset, (c + HALF) % WHOLE - HALF - c)
+
+
+def low_bits(a, mask):
+    """The bits of an address under a mask, which its object's alignment tells."""
+    memory, at = a.place()
+    if mask & mask + 1 or memory.alignment % (mask + 1):
+        raise Undecided(f"the bits {mask:#x} of a place in {memory.name}")
+    return arithmetic("and", WORD, at % WHOLE if isinstance(at, int) else at, mask)
+
+
+# ---- words
+
+def arithmetic(word, width, a, b):
+    """An operation of a width on two values."""
+    kinds = {a.__class__, b.__class__}
+    if word == "or" and width == WORD and kinds in ({Poly}, {Poly, int}):
+        return Either([a, b], ones(WORD))
+    if Either in kinds:
+        return masked(word, a, b)
+    if Address in kinds:
+        return with_address(word, width, a, b)
+    if Poly in kinds and isinstance(b, int) and word in ("xor", "and"):
+        return with_number(word, width, a, b)
+    return BINARY[word](width, a, b)
+
+
+def masked(word, a, b):
+    """United bits, of which fewer count."""
+    if word == "lshr" and isinstance(b, int):
+        return a.moved_down(b)
+    a, b = (a, b) if isinstance(a, Either) else (b, a)
+    if word != "and" or not isinstance(b, int):
+        raise Undecided(f"{word} of united bits")
+    return a.under(b)
+
+
+def with_address(word, width, a, b):
+    if width == WORD and word in ("add", "sub"):
+        return combined(a, b, 1 if word == "add" else -1)
+    if word == "and" and isinstance(b, int) and isinstance(a, Address):
+        return low_bits(a, b)
+    raise Undecided(f"{word} of an address")
+
+
+def with_number(word, width, a, b):
+    """A polynomial xor or and a number."""
+    if word == "xor":
+        return BINARY["sub"](width, b, a) if b == ones(width) else BINARY["xor"](width, a, b)
+    below, _, known = split(a)
+    if b < 1 << known:
+        return below & b
+    if width == WORD and not (WHOLE - b) & (WHOLE - b - 1):      # the low bits are taken away
+        with contextlib.suppress(Undecided):
+            return minus(a, divided(a, WHOLE - b)[1])
+    return BINARY["and"](width, term_of(a, WORD) if b & b + 1 else a, b)
+
+
+def split(x):
+    """(low bits, rest, how many) of a polynomial: those bits are a number, since all else is a multiple of 2 ^ z."""
+    z = min(zeros_below(c) for names, c in x.parts.items() if names)
+    below = constant_of(x) & ones(z)
+    return below, Poly({names: c >> z for names, c in minus(x, below).parts.items()}), z
+
+
+def term_of(x, width):
+    """A polynomial mod 2 ^ width as a term."""
+    below, rest, z = split(x)
+    answer = below & ones(width) if z >= width else joined((below, z), (as_word(rest, width - z), width - z))
+    for k in range(nodes.POINTS):
+        value = sum(c * symbol("*".join(names), WORD).values[k] if names else c for names, c in parts_of(x).items())
+        if (answer if isinstance(answer, int) else answer.values[k]) != value % (1 << width):
+            raise WrongRule(f"{x} mod 2 ^ {width} at point {k}")
+    return answer
+
+
+def low(x, width):
+    """A value mod 2 ^ width."""
+    if isinstance(x, int):
+        return x & ones(width)
+    if width == WORD and not isinstance(x, Either):
+        return x
+    if isinstance(x, Poly):
+        with contextlib.suppress(Undecided):
+            return divided(x, 1 << width)[1]
+        return term_of(x, width)
+    if isinstance(x, Address):
+        return low_bits(x, ones(width))
+    if isinstance(x, Either):
+        return x.under(ones(width))
+    return operations.remainder(x, 1 << width)
+
+
+def bits(x, first, n):
+    """Bits first .. first + n - 1 of a value that is no address, as a number or a term."""
+    if isinstance(x, (Address, Either)):
+        raise Undecided(f"bits of {x}")
+    return operations.bits(lifted(x), first, n)
+
+
+def high_and_low(a, b):
+    """The product of two words."""
+    if not all(isinstance(x, (int, Poly, Node)) for x in (a, b)):
+        raise Undecided(f"the product of {a} and {b}")
+    product = a * b if isinstance(a, int) and isinstance(b, int) else operations.multiply(lifted(a), lifted(b))
+    return operations.bits(product, WORD, WORD), operations.bits(product, 0, WORD)
+
+
+def joined(*parts):
+    """(value, width) side by side, the first the lowest bits."""
+    parts = [part for part in parts if part[1]]
+    if len(parts) == 1 or not all(isinstance(x, (int, Poly, Node)) for x, _ in parts):
+        return only(parts)
+    return operations.side_by_side(*((lifted(x), width) for x, width in parts))
+
+
+def only(parts):
+    """The value of the one part that there is."""
+    (x, width), *others = parts
+    if others:
+        raise Undecided(f"{x} beside other bits")
+    return low(x, width)
+
+
+def is_term(*values):
+    return any(isinstance(x, Node) for x in values)
