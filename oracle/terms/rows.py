@@ -195,12 +195,16 @@ def of_machinery(is_all, vector, headers):
 # ---- processes
 
 def run(rows, headers, jobs):
-    """Runs the rows, so many at once, each in a process of its own, and says what became of it: the command's
-    status."""
     texts = {vector: llvm_text(headers, vector) for vector in {row.vector for row in rows}}
+    return run_each(rows, lambda row: Module(texts[row.vector]), jobs)
+
+
+def run_each(rows, subject, jobs):
+    """Runs the rows, so many at once, each in a process of its own where subject(row) is made for it, and says what became
+    of it: the command's status."""
     began, passed = time.monotonic(), 0
     with concurrent.futures.ThreadPoolExecutor(jobs) as pool:
-        for line, is_good in pool.map(lambda row: in_process(row, texts[row.vector]), rows):
+        for line, is_good in pool.map(lambda row: in_process(row, subject), rows):
             passed += is_good
             print(line, flush=True)
     used = resource.getrusage(resource.RUSAGE_CHILDREN)
@@ -209,11 +213,11 @@ def run(rows, headers, jobs):
     return 1 if passed < len(rows) or not rows else 0
 
 
-def in_process(row, text):
+def in_process(row, subject):
     """A row: what is said of it, and whether it passed. A process that is killed says nothing, and didn't."""
     with STARTING:     # so that no other process holds the pipe's end
         ours, theirs = FORK.Pipe(duplex=False)
-        process = FORK.Process(target=answer, args=(row, text, theirs))
+        process = FORK.Process(target=answer, args=(row, subject, theirs))
         process.start()
         theirs.close()
     try:
@@ -224,21 +228,21 @@ def in_process(row, text):
         process.join()
 
 
-def answer(row, text, pipe):
-    began, module = time.monotonic(), Module(text)
+def answer(row, subject, pipe):
+    began = time.monotonic()
     if row.is_deep:
-        what, bad = antt.with_deep_recursion(outcome, row, module)
+        what, bad = antt.with_deep_recursion(outcome, row, subject)
     else:
         with changes.limits():
-            what, bad = outcome(row, module)
+            what, bad = outcome(row, subject)
     used = f"{time.monotonic() - began:.1f} s, {resource.getrusage(resource.RUSAGE_SELF).ru_maxrss // 1024} MB"
     lines = [f"{'FAILED' if bad else 'ok'} {row.title}: {what}; {used}", *(f"    {line}" for line in bad[:SHOWN])]
     pipe.send(("\n".join(lines), not bad))
 
 
-def outcome(row, module):
+def outcome(row, subject):
     try:
-        return row.ask(module)
+        return row.ask(subject(row))
     except (*REFUSALS, WrongRule) as error:
         return "", [f"{type(error).__name__}: {error}"]
     except Exception:

@@ -1,0 +1,221 @@
+"""Changes in the bytes of a module, each of which has to be noticed: a comparison that no change fails would say nothing.
+
+A change is one instruction in place of another of the same types, or one bit of an instruction. What the reader or the
+validator refuses is counted apart. The others are asked requests that run the instruction. A change is noticed where a
+value differs at a point, or there is no value; where the terms differ and no such point is found it is refused. Those
+that change nothing that is promised stand in equal_changes.txt, each with its reason. A crash of this program is
+neither."""
+import collections
+import copy
+import os
+import random
+
+from terms import comparison, nodes
+from terms.loops import REFUSALS
+from terms.nodes import WrongRule
+from terms.sides import Request, differing_point
+
+from . import calls
+from .comparing import Texts, with_seed_0
+from .module import Malformed, Reader
+from .opcodes import OPCODES
+from .validator import Validator
+
+EQUAL = os.path.join(os.path.dirname(os.path.abspath(__file__)), "equal_changes.txt")
+LENGTHS = [*range(10), *range(14, 36, 3), 63, 64, 65, 96, 97, 120, 128, 129, 145, 200, 240, 241, 256, 257, 300, 1030]
+MORE_LENGTHS = [*range(301), 511, 512, 513, 576, 1023, 1024, 1025, 1088, 1089]
+STREAM_LENGTHS = 0, 5, 33, 70, 200, 257, 700, 1500
+STREAM_CUTS = [], [1], [33], [64, 65], [255, 256], [300, 1000]
+KEPT = 6                      # requests that an instruction is asked by, of those that run it
+STEPS = 100_000               # instructions of a call, with a change
+SECRETS = (136,)
+NOTICED, NO_VALUE, REFUSED, UNNOTICED = "another value", "no value", "another term, no point found", "unnoticed"
+NOT_VALID = "not valid"
+# Changes by hand: what, the instruction and what stands behind it (None: anything), which of its bytes, counted from its
+# end where that is negative, and the bits that change there
+BY_HAND = [
+    ("a prime of XXH64, another bit 62", "i64.const", 0xC2B2AE3D27D4EB4F, 9, 0x40),
+    ("a prime of XXH32, another bit 27", "i32.const", 0x85EBCA77, 4, 0x40),
+    ("a shift by 33, as by 32", "i64.const", 33, 1, 1), ("a rotation by 27, as by 26", "i64.const", 27, 1, 1),
+    ("a length of 240, as 241", "i64.const", 240, 1, 1), ("xor, as or", "i64.xor", None, 0, 1),
+    ("a load, as of bytes 8 further", "i64.load", None, -1, 8), ("a store, as of bytes 8 further", "i64.store", None, -1, 8),
+]
+EACH_BY_HAND = 3              # places at which each is tried
+CRASHES = AttributeError, IndexError, KeyError, TypeError, ValueError, RecursionError
+
+
+def asked(is_all=True):
+    """What covers the modules: (request, what answers it)."""
+    for kind in comparison.kinds(SECRETS):
+        for n in LENGTHS[::1 if is_all else 2]:
+            yield Request(*kind[:2], n, kind[2]), calls.one_shot
+        for n in STREAM_LENGTHS if is_all else STREAM_LENGTHS[1::2]:
+            for cuts in STREAM_CUTS:
+                if all(cut <= n for cut in cuts):
+                    yield Request(*kind[:2], n, kind[2], cuts=cuts), calls.stream
+
+
+class Covered:
+    """Which requests run an instruction, by (function, place in its code): some of them, drawn evenly."""
+
+    def __init__(self, vm, is_all):
+        self.by_place, seen, draw = collections.defaultdict(list), collections.Counter(), random.Random(5)
+        texts = Texts()
+        for question in asked(is_all):
+            texts.make_room()
+            vm.used = set()
+            question[1](vm, question[0])
+            for place in vm.used:
+                seen[place] += 1
+                kept = self.by_place[place]
+                if len(kept) < KEPT:
+                    kept.append(question)
+                elif draw.randrange(seen[place]) < KEPT:
+                    kept[draw.randrange(KEPT)] = question
+        vm.used = None
+        self.places = sorted(self.by_place)
+
+    def told(self, vm):
+        total = sum(len(function.code) for function in vm.module.functions)
+        return f"{len(self.places)} of {total} instructions are run"
+
+
+# ---- changes
+
+def same_types(opcode):
+    """Those that may stand in an instruction's place, in as many bytes."""
+    return [x for x in OPCODES if x is not opcode and x.takes is not None and x[3:] == opcode[3:]
+            and x.prefix == opcode.prefix and (x.code < 128) == (opcode.code < 128)]
+
+
+def change_of(x, whole, draw):
+    """(what, the changed bytes) of an instruction."""
+    out, others = bytearray(whole), same_types(x.opcode)
+    if others and draw.random() < 0.5:
+        other = draw.choice(others)
+        place = x.at + (x.opcode.prefix is not None)
+        out[place] = other.code & 127 | (out[place] & 128)
+        if other.prefix is not None and other.code > 127:
+            out[place + 1] = other.code >> 7
+        return f"-> {other.name}", bytes(out)
+    place, bit = draw.randrange(x.at, x.end), draw.randrange(8)
+    out[place] ^= 1 << bit
+    return f"bit {bit} of byte {place - x.at}", bytes(out)
+
+
+def with_change(vm, function, whole):
+    """The machine of a module in which the bytes of one function are others, or an error."""
+    module = copy.copy(vm.module)
+    module.whole, module.functions = whole, list(module.functions)
+    other = module.read_function(Reader(whole, function.at), function.index)
+    if other.end != function.end:
+        raise Malformed("a function of another length")
+    module.functions[function.index] = other
+    changed = copy.copy(vm)
+    changed.module, changed.branches, changed.code = module, list(vm.branches), dict(vm.code)
+    changed.branches[function.index] = Validator(module, other).check()
+    changed.code.pop(function.index, None)
+    changed.most_steps = STEPS
+    return changed
+
+
+# ---- what is noticed
+
+def outcome(vm, texts, questions):
+    """What is noticed of a changed module by some requests."""
+    found = UNNOTICED
+    for request, answer in questions:
+        texts.make_room()
+        vm.has_asked = False
+        what = of_request(vm, texts, request, answer)
+        if what == UNNOTICED and vm.has_asked:
+            what = of_request(vm, texts, with_seed_0(request), answer)
+        if what not in (UNNOTICED, REFUSED):
+            return what
+        found = what if what == REFUSED else found
+    return found
+
+
+def of_request(vm, texts, request, answer):
+    said = texts.value(request)
+    try:
+        ours = answer(vm, request)
+    except REFUSALS:
+        return NO_VALUE
+    except WrongRule as error:
+        return f"A RULE IS WRONG: {error}"
+    except CRASHES as error:
+        return f"A CRASH: {error!r}"
+    if nodes.is_same(said, ours):
+        return UNNOTICED
+    return NOTICED if differs(request, said, ours) else REFUSED
+
+
+def differs(request, a, b):
+    values = [x.values if isinstance(x, nodes.Node) else (x,) * nodes.POINTS for x in (a, b)]
+    return values[0] != values[1] or differing_point(request, a, b) is not None
+
+
+def more(questions):
+    """Each length of the same kinds of call."""
+    kinds = {(x.hash_name, x.kind, x.secret_length, x.cuts is None): answer for x, answer in questions}
+    for (hash_name, kind, secret, is_one_shot), answer in kinds.items():
+        for n in MORE_LENGTHS:
+            for cuts in [None] if is_one_shot else [[end] for end in (1, 31, 33, 65, 256, 257) if end <= n]:
+                yield Request(hash_name, kind, n, secret, cuts=cuts), answer
+
+
+def drawn(vm, covered, count, seed):
+    """So many changes that are valid, of instructions that are run, as (the instruction's text, what, the machine or
+    None where it isn't valid, the requests)."""
+    draw, valid = random.Random(seed), 0
+    while valid < count:
+        place = draw.choice(covered.places)
+        function = vm.module.functions[place[0]]
+        x = function.code[place[1]]
+        what, whole = change_of(x, vm.module.whole, draw)
+        try:
+            changed = with_change(vm, function, whole)
+        except Malformed:
+            changed = None
+        valid += changed is not None
+        yield f"function {place[0]} at {x.at:#x}: {x.opcode.name} {shown(x.given)}: {what}", changed, covered.by_place[place]
+
+
+def drawn_by_hand(vm, covered):
+    """The changes by hand, each at some places that are run; those of drawn."""
+    draw = random.Random(7)
+    for what, name, given, byte, bits in BY_HAND:
+        places = [(f, pc) for f, pc in covered.places if vm.module.functions[f].code[pc].opcode.name == name
+                  and given in (None, vm.module.functions[f].code[pc].given)]
+        for place in draw.sample(places, min(EACH_BY_HAND, len(places))):
+            function = vm.module.functions[place[0]]
+            x, whole = function.code[place[1]], bytearray(vm.module.whole)
+            whole[(x.at if byte >= 0 else x.end) + byte] ^= bits
+            yield f"function {place[0]} at {x.at:#x}: {what}", with_change(vm, function, bytes(whole)), covered.by_place[place]
+
+
+def shown(given):
+    return given.hex() if isinstance(given, bytes) else "" if given is None else str(given)
+
+
+def reasons(name):
+    """The changes of a module that change nothing that is promised -> why."""
+    with open(EQUAL, encoding="utf-8") as file:
+        lines = [line.rstrip("\n").split(" | ") for line in file if line.strip() and not line.startswith("#")]
+    return {what: why for module, what, why in lines if module == name}
+
+
+def tell(name, vm, count, seed, is_all):
+    """What came of so many changes and of those by hand, and those that weren't noticed though nothing says why."""
+    covered, texts, known = Covered(vm, is_all), Texts(), reasons(name)
+    counts, bad = collections.Counter(), []
+    for text, changed, questions in (*drawn_by_hand(vm, covered), *drawn(vm, covered, count, seed)):
+        what = NOT_VALID if changed is None else outcome(changed, texts, questions)
+        if what == UNNOTICED:
+            what = outcome(changed, texts, more(questions))
+        has_reason = what == UNNOTICED and text in known
+        counts["unnoticed, with a reason" if has_reason else what.partition(":")[0]] += 1
+        if what == UNNOTICED and not has_reason or what.startswith("A "):
+            bad.append(f"{what}: {text}")
+    return f"{covered.told(vm)}; " + ", ".join(f"{n} {what}" for what, n in counts.most_common()), bad

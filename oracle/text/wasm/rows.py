@@ -1,0 +1,172 @@
+"""The rows of oracle/modules: what is asked of the two modules, and which row shows which of their exports."""
+import functools
+import hashlib
+import os
+
+from terms import comparison, rows
+from terms.rows import Row, title_of
+
+from . import calls, changes, comparing, engine, every_length, refusals
+from .machine import Machine
+from .module import FUNCTION, GLOBAL, MEMORY, Malformed, Module
+from .values import LEAST_PLACE
+
+WEB = os.path.join(os.path.dirname(os.path.abspath(__file__)), "..", "..", "..", "web")
+NAMES = "twox_hash.wasm", "twox_hash_simd.wasm"
+SECRETS, GATE_SECRETS = (136, 137, 143, 144, 192, 256), (136,)
+GATE_LENGTHS = 3, 5                  # of the gate: each so manieth length of the one-shots, and of the streams
+GATE_CASES, GATE_CHANGES, CHANGES = 11, 30, 1000
+PARTS = 4                            # the changes of a module are tried in so many rows
+
+# Every export, and the words of the titles of the rows that show it
+XXH3_ONE_SHOTS = {f"twox_xxh3_{bits}{calls.WAYS[way]}": [f"XXH3-{bits}, {way}", "one-shots"]
+                  for bits in (64, 128) for way in calls.WAYS}
+EXPORTS = {
+    "twox_xxh32": ["XXH32, seed", "one-shots"], "twox_xxh64": ["XXH64, seed", "one-shots"], **XXH3_ONE_SHOTS,
+    **{f"twox_xxh{bits}_{what}": [f"XXH{bits}, seed", "streams"] for bits in (32, 64)
+       for what in ("stream_size", "start", "update", "digest")},
+    "twox_xxh3_stream_size": ["XXH3-64, seed", "streams"], "twox_xxh3_update": ["XXH3-64, seed", "streams"],
+    "twox_xxh3_64_digest": ["XXH3-64, seed", "streams"], "twox_xxh3_128_digest": ["XXH3-128, seed", "streams"],
+    **{f"twox_xxh3_start{calls.WAYS[way]}": [f"XXH3-64, {way}", "streams"] for way in ("seed", "secret", "both")},
+    "memory": ["the exports"], "__heap_base": ["the exports"],
+}
+
+
+def machines():
+    """Each module's name and its machine."""
+    out = {}
+    for name in NAMES:
+        with open(os.path.join(WEB, name), "rb") as file:
+            out[name] = Machine(Module(file.read()))
+    return out
+
+
+def checksums():
+    for name in NAMES:
+        with open(os.path.join(WEB, name), "rb") as file:
+            whole = file.read()
+        yield f"{name}, {len(whole)} bytes, SHA-256 {hashlib.sha256(whole).hexdigest()}"
+
+
+def choose(given):
+    out = lengths(given.all) + of_refusals() + induction(given.all)
+    out += of_engine(given.all) + of_changes(given.all)
+    out.insert(0, Row("the exports are those of the table, each with its row",
+                      functools.partial(exports, titles=[row.title for row in out])))
+    return [row for row in out if given.only in row.title]
+
+
+# ---- the exports
+
+def exports(machines, titles):
+    """That each module exports what the table has, and nothing else, and that the rows are there; and where memory
+    begins that is the caller's."""
+    bad = [f"no row shows {name}" for name, words in EXPORTS.items()
+           if words != ["the exports"] and not any(all(word in title for word in words) for title in titles)]
+    for module, vm in machines.items():
+        found = vm.module.exports
+        bad += [f"{module} exports {name}, of which the table says nothing" for name in found.keys() - EXPORTS.keys()]
+        bad += [f"{module} doesn't export {name}" for name in EXPORTS.keys() - found.keys()]
+        bad += [f"{module}: {line}" for line in of_memory(vm, found)]
+    return f"{len(EXPORTS)} exports of each module", bad
+
+
+def of_memory(vm, found):
+    """The memory is the one that there is, and __heap_base is behind the stack and the constants."""
+    kinds = {name: kind for name, (kind, _) in found.items()}
+    wanted = {name: FUNCTION for name in found} | {"memory": MEMORY, "__heap_base": GLOBAL}
+    if kinds != wanted:
+        return ["exports of another kind"]
+    base = vm.module.globals[found["__heap_base"][1]]
+    is_behind = base.value >= max(vm.end_of_stack, vm.module.end_of_segments()) and vm.end_of_stack > LEAST_PLACE
+    return [] if is_behind and not base.is_mutable else ["__heap_base isn't behind the stack and the constants"]
+
+
+# ---- lengths one by one
+
+def lengths(is_all):
+    out, (each, each_stream) = [], (1, 1) if is_all else GATE_LENGTHS
+    for kind in comparison.kinds(SECRETS if is_all else GATE_SECRETS):
+        of_kind = title_of(*kind)
+        out.append(compared(f"{of_kind}, one-shots of 0 to 300 bytes", kind, one_by_one(each), False))
+        if is_all:
+            out.append(compared(f"{of_kind}, one-shots of 301 to 1,100 bytes, and at edges", kind,
+                                [*range(301, 1101), *comparison.edges(kind[2])], False))
+        if kind[2] in (None, *rows.STREAM_SECRETS):
+            out.append(compared(f"{of_kind}, streams of 0 to 1,088 bytes", kind, comparison.STREAMED[::each_stream], True))
+    return out
+
+
+def one_by_one(each):
+    """Each so manieth length up to 300, and those at which a hash begins another way."""
+    edges = {n + d for n in (0, 4, 8, 16, 32, 64, 96, 128, 240, 256) for d in (0, 1)}
+    return sorted({*range(0, 301, each), *edges, 300})
+
+
+def compared(title, kind, asked, is_stream):
+    def ask(machines):
+        equal, bad = comparing.compare(machines, comparing.requests(kind, asked, is_stream),
+                                       calls.stream if is_stream else calls.one_shot)
+        return f"{len(asked)} lengths, {equal} requests, each one term", bad
+    return Row(title, ask)
+
+
+def of_refusals():
+    return [Row("secrets of 0 to 135 bytes, one-shots", refusals.one_shots_with_short_secrets),
+            Row("secrets of 0 to 135 bytes, streams", refusals.streams_with_short_secrets),
+            Row("records that are no stream's", refusals.wrong_records)]
+
+
+# ---- every length
+
+def induction(is_all):
+    out = [Row("the cases of a length are all of them, each once", cases_are_all)]
+    for module in NAMES:
+        for hash_name, way in every_length.KINDS:
+            is_whole = is_all or calls.is_plain(hash_name)
+            title = f"{title_of(hash_name, way, None)}, {module}: every length from {every_length.shortest(hash_name)} on"
+            out.append(Row(title + ("" if is_whole else ", a sample"), functools.partial(
+                shown, module=module, hash_name=hash_name, way=way, each=1 if is_whole else GATE_CASES)))
+    return out
+
+
+def cases_are_all(machines):
+    found = every_length.missing(every_length.CASES)
+    return f"{len(every_length.CASES)} cases", [f"{n} bytes" for n in found]
+
+
+def shown(machines, module, hash_name, way, each):
+    proof = every_length.show(machines[module], hash_name, way, each)
+    return f"{proof.cases} cases; {proof.told[0]}", []
+
+
+# ---- the table, and changes
+
+def of_engine(is_all):
+    return [Row("the table of instructions beside Node", engine.compare_instructions),
+            Row("changed modules, which Node too accepts or refuses",
+                functools.partial(engine.compare_validity, count=300 if is_all else 15))]
+
+
+def of_changes(is_all):
+    out, parts = [], PARTS if is_all else 1
+    for module in NAMES:
+        for part in range(parts):
+            title = f"changes in the bytes of {module}" + (f", part {part + 1} of {parts}" if is_all else "")
+            count = CHANGES // parts if is_all else GATE_CHANGES
+            out.append(Row(title, functools.partial(of_random_changes, module=module, count=count, seed=part, is_all=is_all)))
+    return out
+
+
+def of_random_changes(machines, module, count, seed, is_all):
+    return changes.tell(module, machines[module], count, seed, is_all)
+
+
+def run(given):
+    """Runs the rows: the command's status. The machines are made once, and each row has copies of its own."""
+    try:
+        made = machines()
+    except Malformed as error:
+        print(f"FAILED a module: {error}", "0 passed, 1 failed", sep="\n")
+        return 1
+    return rows.run_each(choose(given), lambda row: made, given.jobs)
