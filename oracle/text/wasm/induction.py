@@ -7,49 +7,54 @@ shown: the words are the definition's for k = 0, and a turn from any k, with wor
 all of that for k + 1. A cell of the words or of the places is never let go."""
 from terms.loops import REFUSALS, NotShown, agree
 from terms.memory import RUNS
-from terms.nodes import Undecided, symbol
+from terms.nodes import symbol
 from terms.polynomials import divided, given, is_natural, is_number, minus, plus, times, variable
 from terms.polynomials import is_same as is_same_number
 
 from .values import WORD, Address
 
 STEPS = 1, 2, 4, 8, 16       # stripes that a turn may take
-TURNS_LEFT = 4               # where the first turns are tried
+TURNS_LEFT = 64, 4           # stripes that are left where the first turns are tried
 
 
 class Family:
     """What the definition says of a loop over stripes `first` .. `total` - 1: after(k)(j), word j of `count` words of a
-    width after k stripes. suppose(k, values) makes values these. `live` are the memories that a turn may change."""
+    width after k stripes. suppose(k, values) makes values these. With `block`, that many stripes are a block, of which
+    there are `blocks`. `live` are the memories that a turn may change."""
 
-    def __init__(self, name, total, count, width, after, suppose, first=0, live=()):
+    def __init__(self, name, total, count, width, after, suppose, first=0, block=None, blocks=None, live=()):
         self.name, self.total, self.count, self.width, self.first = name, total, count, width, first
-        self.after, self.suppose, self.live = after, suppose, list(live)
+        self.after, self.suppose, self.live, self.block, self.blocks = after, suppose, list(live), block, blocks
 
     def words(self, k):
         return [self.after(k)(j) for j in range(self.count)]
 
     def supposed(self, k, fresh):
+        """Words that are the definition's after k stripes: new symbols, where k isn't a number."""
+        if isinstance(k, int):
+            return self.words(k)
         values = [symbol(fresh("word"), self.width) for _ in range(self.count)]
         self.suppose(k, values)
         return values
 
 
 class Loops:
-    """Asked at each loop: the first one that is of the family is shown; the others run turn by turn."""
+    """Asked at each loop. The families are of loops that are shown, in this order; all others run turn by turn."""
 
-    def __init__(self, family):
-        self.family, self.told, self.failed, self.is_busy = family, [], [], False
+    def __init__(self, families):
+        self.families, self.told, self.passed, self.is_busy = list(families), [], set(), False
 
     def pass_by(self, vm, frame):
         head = frame.function.index, frame.pc - 1
-        if self.is_busy or self.told or head in self.failed:
+        if self.is_busy or not self.families or head in self.passed:
             return
-        self.is_busy = True
-        proof = Proof(vm, frame, self.family)
+        self.is_busy, family = True, self.families[0]
+        proof = (Proof if family.block is None else ProofByBlocks)(vm, frame, family)
         try:
             self.told.append(proof.behind())
+            del self.families[0]
         except NotOfFamily:
-            self.failed.append(head)
+            self.passed.add(head)
             proof.enter(proof.start)
         finally:
             self.is_busy = False
@@ -96,6 +101,7 @@ class Proof:
         self.memories = [vm.stack, *family.live]
         self.start = self.state()
         self.words, self.places, self.free, self.step = {}, {}, set(), None
+        self.counts = {}         # places that are as at the start at the begin of each block
 
     # ---- the state, as cells
 
@@ -130,11 +136,11 @@ class Proof:
                 stack.append(x)
         self.frame.stack[:], self.frame.pc = stack, self.head + 1
 
-    def after(self, k, values):
-        """The state after k turns, where the words have these values."""
+    def after(self, k, values, j=0):
+        """The state after k turns, j of them in a block, where the words have these values."""
         out = dict(self.start)
-        for cell, (x, step) in self.places.items():
-            out[cell] = self.put(cell, moved(x, step, k))
+        for turns, cells in ((k, self.places), (j, self.counts)):
+            out.update({cell: self.put(cell, moved(x, step, turns)) for cell, (x, step) in cells.items()})
         for cell, j in self.words.items():
             out[cell] = self.put(cell, values[j])
         for cell in self.free:
@@ -194,22 +200,16 @@ class Proof:
         self.compare(plus(k, 1), family.words(plus(stripes, self.step)))
         return len(self.free) == size
 
-    def compare(self, k, words):
-        now = self.state()
-        for cell in {*self.start, *now} - self.free:
-            x = now.get(cell)
-            if cell in self.words:
-                expected = self.put(cell, words[self.words[cell]])
-            elif cell in self.places:
-                expected = self.put(cell, moved(*self.places[cell], k))
-            else:
-                expected = self.start.get(cell)
-            if not same(x, expected):
-                self.let_go(cell, x, expected)
+    def compare(self, k, words, j=0):
+        """That the state is the one after k turns; a cell that isn't said to be anything may be let go."""
+        now, expected = self.state(), self.after(k, words, j)
+        for cell in {*expected, *now} - self.free:
+            if not same(now.get(cell), expected.get(cell)):
+                self.let_go(cell, now.get(cell), expected.get(cell))
 
     def let_go(self, cell, x, expected):
         is_own = cell[0] in ("variable", "lane") or cell[0] == "memory" and cell[1] is self.vm.stack and cell[2] != RUNS
-        if cell in self.words or cell in self.places or not is_own:
+        if not is_own or any(cell in cells for cells in (self.words, self.places, self.counts)):
             raise NotShown(f"{self.family.name}: {cell} is {x} and not {expected}")
         self.free.add(cell)
 
@@ -217,14 +217,7 @@ class Proof:
 
     def guess(self):
         """Two first turns tell which cells have the words, and which go on."""
-        family, states = self.family, [self.start]
-        try:
-            with given(minus(family.total, plus(family.first, TURNS_LEFT * STEPS[-1]))):
-                for _ in range(2):
-                    self.turn()
-                    states.append(self.state())
-        except REFUSALS as error:
-            raise NotOfFamily(str(error)) from error
+        states = self.first_turns()
         changed = [cell for cell in {*states[0], *states[1]} if not same(states[0].get(cell), states[1].get(cell))]
         old, now, then = ({cell: value_of(state.get(cell)) for cell in changed} for state in states)
         self.find_words(changed, old, now)
@@ -236,6 +229,22 @@ class Proof:
                 self.free.add(cell)
             else:
                 self.places[cell] = old[cell], step
+
+    def first_turns(self):
+        """The states before and after each of two turns, where many are left, or else some."""
+        family, why = self.family, None
+        for left in TURNS_LEFT:
+            self.enter(self.start)
+            try:
+                with given(minus(family.total, plus(family.first, left))):
+                    return [self.start, *(self.turned() for _ in range(2))]
+            except REFUSALS as error:
+                why = error
+        raise NotOfFamily(str(why))
+
+    def turned(self):
+        self.turn()
+        return self.state()
 
     def find_words(self, changed, old, now):
         family = self.family
@@ -249,4 +258,51 @@ class Proof:
         raise NotOfFamily("the words aren't there")
 
 
-__all__ = ["Family", "Loops", "NotShown", "Undecided"]
+class ProofByBlocks(Proof):
+    """A loop over the stripes of all blocks, one a turn, which counts those of a block: its turns go from j to j + 1
+    within block b, and from the last stripe of one block to the first of the next."""
+
+    def behind(self):
+        family = self.family
+        q, last = family.block, minus(family.blocks, 1)
+        self.guess()
+        if self.step != 1 or family.first != 0:
+            raise NotOfFamily("a turn of several stripes")
+        self.find_counts()
+        b, j = (variable(self.vm.fresh(name)) for name in "bj")
+        with given(minus(last, b)):
+            self.until_shown(b, j, (b, plus(j, 1)), [minus(minus(q, 2), j)])
+        with given(minus(minus(last, 1), b)):
+            self.until_shown(b, minus(q, 1), (plus(b, 1), 0), [])
+        self.enter_at(last, minus(q, 1))
+        self.leave()
+        return f"{family.name}: by blocks, {len(self.places)} places go on and {len(self.counts)} in a block"
+
+    def stripes(self, b, j):
+        return plus(times(self.family.block, b), j)
+
+    def enter_at(self, b, j):
+        k = self.stripes(b, j)
+        self.enter(self.after(k, self.family.supposed(k, self.vm.fresh), j))
+
+    def until_shown(self, b, j, then, facts):
+        """A turn from stripe j of block b to `then`, which is tried again where one more cell may be anything."""
+        size, k = None, self.stripes(*then)
+        while size != len(self.free):
+            size = len(self.free)
+            with given(*facts):
+                self.enter_at(b, j)
+                self.turn()
+                self.compare(k, self.family.words(k), then[1])
+
+    def find_counts(self):
+        """Which places are as at the start behind the first block."""
+        q = self.family.block
+        with given(minus(self.family.blocks, 2)):
+            self.enter_at(0, minus(q, 1))
+            self.turn()
+        now = self.state()
+        self.counts = {cell: place for cell, place in self.places.items()
+                       if same(value_of(now.get(cell)), place[0])}
+        for cell in self.counts:
+            del self.places[cell]

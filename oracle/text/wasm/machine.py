@@ -13,7 +13,7 @@ from .meanings import PURE
 from .module import PAGE
 from .opcodes import BY_NAME
 from .validator import ends_of, validate
-from .values import LEAST_PLACE, Address, Trap, decided, low
+from .values import LEAST_PLACE, Address, Trap, condition, decided, low
 
 STACK_POINTER = 0        # the global that it is
 MOST_STEPS = 1_000_000   # instructions of a call
@@ -296,7 +296,7 @@ def br(vm, frame, given):
 
 @does("br_if")
 def br_if(vm, frame, given):
-    if decided(frame.stack.pop(), "a branch"):
+    if condition(frame.stack.pop(), "a branch"):
         go(frame, given[0])
 
 
@@ -308,7 +308,7 @@ def br_table(vm, frame, given):
 
 @does("if")
 def if_(vm, frame, given):
-    if not decided(frame.stack.pop(), "a branch"):
+    if not condition(frame.stack.pop(), "a branch"):
         frame.pc = given[0].target
 
 

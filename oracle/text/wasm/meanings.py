@@ -3,7 +3,7 @@ the instruction and of these values."""
 from terms.rules import ones
 
 from . import values
-from .values import Address, binary, compare, decided, high, low, side_by_side
+from .values import Address, binary, compare, condition, decided, high, low, side_by_side
 
 WORD, HALF = 64, 32
 PURE = {}
@@ -62,8 +62,8 @@ def extend(given, a):
 
 
 @pure("select")
-def select(given, a, b, condition):
-    return a if decided(condition, "a selection") else b
+def select(given, a, b, chosen):
+    return a if condition(chosen, "a selection") else b
 
 
 # ---- vectors

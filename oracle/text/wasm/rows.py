@@ -15,7 +15,8 @@ WEB = os.path.join(os.path.dirname(os.path.abspath(__file__)), "..", "..", "..",
 NAMES = "twox_hash.wasm", "twox_hash_simd.wasm"
 SECRETS, GATE_SECRETS = (136, 137, 143, 144, 192, 256), (136,)
 GATE_LENGTHS = 3, 5                  # of the gate: each so manieth length of the one-shots, and of the streams
-GATE_CASES, GATE_CHANGES, CHANGES = 11, 30, 1000
+GATE_KINDS, GATE_CASES = [("32", "seed"), ("64", "seed"), ("3-64", "seed"), ("3-128", "both")], 16
+GATE_CHANGES, CHANGES = 30, 1000     # of a module
 PARTS = 4                            # the changes of a module are tried in so many rows
 
 # Every export, and the words of the titles of the rows that show it
@@ -122,17 +123,18 @@ def of_refusals():
 def induction(is_all):
     out = [Row("the cases of a length are all of them, each once", cases_are_all)]
     for module in NAMES:
-        for hash_name, way in every_length.KINDS:
+        for hash_name, way in every_length.KINDS if is_all else GATE_KINDS:
             is_whole = is_all or calls.is_plain(hash_name)
-            title = f"{title_of(hash_name, way, None)}, {module}: every length from {every_length.shortest(hash_name)} on"
+            title = f"{title_of(hash_name, way, None)}, {module}: every length from {every_length.shortest(hash_name, way)} on"
             out.append(Row(title + ("" if is_whole else ", a sample"), functools.partial(
                 shown, module=module, hash_name=hash_name, way=way, each=1 if is_whole else GATE_CASES)))
     return out
 
 
 def cases_are_all(machines):
-    found = every_length.missing(every_length.CASES)
-    return f"{len(every_length.CASES)} cases", [f"{n} bytes" for n in found]
+    bad = [f"{n} bytes" for n in every_length.missing(every_length.CASES)]
+    bad += [f"{q} stripes, {n} bytes" for q, n in every_length.missing_own(every_length.OWN_CASES)]
+    return f"{len(every_length.CASES)} and {len(every_length.OWN_CASES)} cases", bad
 
 
 def shown(machines, module, hash_name, way, each):

@@ -41,10 +41,15 @@ def side_by_side(parts):
 
 
 def decided(x, what):
-    """A number that a branch, an amount or a place depends on."""
+    """A number that a length, an amount or a place depends on."""
     if not isinstance(x, int):
         raise Undecided(f"{what} that depends on {x}")
     return x
+
+
+def condition(x, what):
+    """Whether a number isn't 0, which a branch depends on."""
+    return compare("ne", 32, x, 0) if isinstance(x, (Poly, Address)) else decided(x, what)
 
 
 # ---- addresses
