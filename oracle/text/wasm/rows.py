@@ -6,7 +6,7 @@ import os
 from terms import comparison, rows
 from terms.rows import Row, title_of
 
-from . import calls, changes, comparing, engine, every_length, refusals
+from . import calls, changes, comparing, engine, every_length, plain_streams, refusals
 from .machine import Machine
 from .module import FUNCTION, GLOBAL, MEMORY, Malformed, Module
 from .values import LEAST_PLACE
@@ -50,7 +50,7 @@ def checksums():
 
 
 def choose(given):
-    out = lengths(given.all) + of_refusals() + induction(given.all)
+    out = lengths(given.all) + of_refusals() + induction(given.all) + streams_by_induction(given.all)
     out += of_engine(given.all) + of_changes(given.all)
     out.insert(0, Row("the exports are those of the table, each with its row",
                       functools.partial(exports, titles=[row.title for row in out])))
@@ -129,6 +129,21 @@ def induction(is_all):
             out.append(Row(title + ("" if is_whole else ", a sample"), functools.partial(
                 shown, module=module, hash_name=hash_name, way=way, each=1 if is_whole else GATE_CASES)))
     return out
+
+
+def streams_by_induction(is_all):
+    out = []
+    for module in NAMES:
+        for width in (32, 64):
+            title = f"XXH{width}, {module}: streams of any updates, to 2^64 - 2 bytes"
+            out.append(Row(title + ("" if is_all else ", a sample"), functools.partial(
+                streams_shown, module=module, width=width, each=1 if is_all else width // 2 - 1)))
+    return out
+
+
+def streams_shown(machines, module, width, each):
+    proof = plain_streams.show(machines[module], width, each)
+    return f"{proof.cases} cases; {proof.told[-1]}", []
 
 
 def cases_are_all(machines):

@@ -4,7 +4,7 @@ from terms import halves, operations
 from terms.llvm_text import Unsupported
 from terms.machine import BINARY, compare_numbers, rotated
 from terms.nodes import Node, Undecided
-from terms.polynomials import Poly, constant_of, divided, is_natural, is_number, is_same, minus, plus, times, wrapped
+from terms.polynomials import Poly, constant_of, divided, is_natural, is_number, is_same, minus, plus, remainder, times, wrapped
 from terms.rules import ones, zeros_below
 
 WORD = 64
@@ -22,7 +22,7 @@ def low(x, width):
         return x & ones(width)
     if x.__class__ is Address:
         raise Undecided(f"some bits of {x}")
-    return divided(x, 1 << width)[1] if isinstance(x, Poly) else operations.bits(x, 0, width)
+    return remainder(x, 1 << width) if isinstance(x, Poly) else operations.bits(x, 0, width)
 
 
 def high(x, width):
