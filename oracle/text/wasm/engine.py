@@ -112,7 +112,8 @@ BODIES = {
                    f"{ANSWER}i32.const {PATTERN}; v128.load 0; v128.store 0",
     "memory.fill": f"i32.const {PATTERN}; i64.const 0; i64.store 0; i32.const {PATTERN}; i64.const 0; i64.store 8; "
                    f"i32.const {PATTERN + 2}; i32.const 0x1234; i32.const %; memory.fill; "
-                   f"{ANSWER}i32.const {PATTERN}; v128.load 0; v128.store 0",
+                   f"{ANSWER}i32.const {PATTERN}; v128.load 0; v128.store 0; "
+                   f"i32.const {RESULT}; i32.const {PATTERN}; i64.load8_u 3; i64.store 8",
 }
 
 

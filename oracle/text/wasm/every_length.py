@@ -105,9 +105,9 @@ class Proof:
         """What a one-shot gives, with the loops of these families by induction."""
         vm, plain = self.vm, is_plain(hash_name)
         vm.seed, vm.has_asked = seed if isinstance(seed, Node) else None, False
-        vm.loops = Loops(families)
         size = BYTES[hash_name]
         out = Memory("the value", size) if secret or size == 16 else None
+        vm.loops = Loops(families, [out] if out else [])
         arguments = [seed] if plain or way in ("seed", "both") else []
         arguments += [address(secret), secret.length] if secret else []
         arguments += [address(message), message.length] + ([address(out)] if out else [])

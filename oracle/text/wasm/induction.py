@@ -20,11 +20,11 @@ TURNS_LEFT = 64, 4           # stripes that are left where the first turns are t
 class Family:
     """What the definition says of a loop over stripes `first` .. `total` - 1: after(k)(j), word j of `count` words of a
     width after k stripes. suppose(k, values) makes values these. With `block`, that many stripes are a block, of which
-    there are `blocks`. `live` are the memories that a turn may change."""
+    there are `blocks`."""
 
-    def __init__(self, name, total, count, width, after, suppose, first=0, block=None, blocks=None, live=()):
+    def __init__(self, name, total, count, width, after, suppose, first=0, block=None, blocks=None):
         self.name, self.total, self.count, self.width, self.first = name, total, count, width, first
-        self.after, self.suppose, self.live, self.block, self.blocks = after, suppose, list(live), block, blocks
+        self.after, self.suppose, self.block, self.blocks = after, suppose, block, blocks
 
     def words(self, k):
         return [self.after(k)(j) for j in range(self.count)]
@@ -39,10 +39,11 @@ class Family:
 
 
 class Loops:
-    """Asked at each loop. The families are of loops that are shown, in this order; all others run turn by turn."""
+    """Asked at each loop. The families are of loops that are shown, in this order; all others run turn by turn. `live` are
+    the memories that a call may change, beside the stack."""
 
-    def __init__(self, families):
-        self.families, self.told, self.passed, self.is_busy = list(families), [], set(), False
+    def __init__(self, families, live):
+        self.families, self.live, self.told, self.passed, self.is_busy = list(families), list(live), [], set(), False
 
     def pass_by(self, vm, frame):
         head = frame.function.index, frame.pc - 1
@@ -98,7 +99,7 @@ class Proof:
         self.code = vm.prepared(frame.function)
         self.head, self.end = frame.pc - 1, vm.ends[frame.function.index][frame.pc - 1]
         self.widths = [*frame.function.signature.takes, *frame.function.locals]
-        self.memories = [vm.stack, *family.live]
+        self.memories = [vm.stack, *vm.loops.live]
         self.start = self.state()
         self.words, self.places, self.free, self.step = {}, {}, set(), None
         self.counts = {}         # places that are as at the start at the begin of each block
@@ -266,8 +267,8 @@ class ProofByBlocks(Proof):
         family = self.family
         q, last = family.block, minus(family.blocks, 1)
         self.guess()
-        if self.step != 1 or family.first != 0:
-            raise NotOfFamily("a turn of several stripes")
+        if self.step != 1 or family.first != 0 or not is_natural(last) or not is_natural(minus(q, 1)):
+            raise NotOfFamily("a turn of several stripes, or no number of them")
         self.find_counts()
         b, j = (variable(self.vm.fresh(name)) for name in "bj")
         with given(minus(last, b)):

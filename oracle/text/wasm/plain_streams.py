@@ -39,8 +39,8 @@ class PlainStreams(every_length.Proof):
     def suppose(self, k, values):
         suppositions.suppose(self.after(k), values)
 
-    def run(self, what, arguments, families=()):
-        self.vm.loops, self.vm.seed = Loops(families), None
+    def run(self, what, arguments, families=(), live=()):
+        self.vm.loops, self.vm.seed = Loops(families, live), None
         results = self.vm.call(f"twox_xxh{self.width}_{what}", arguments)
         self.tell(self.vm.loops)
         self.vm.loops = None
@@ -107,9 +107,9 @@ class PlainStreams(every_length.Proof):
         with given(*of_a, *facts, self.message_of(plus(ended, variable("rest"))), at_most(length, every_length.LONGEST)):
             record = self.record(a, r)
             families = [Family(f"an update from {begun} to {ended} bytes", b, 4, self.width, self.after, self.suppose,
-                               first, live=[record])] if facts else []
+                               first)] if facts else []
             piece = Piece(self.source, begun, length)
-            answered(self.run("update", [address(record), address(piece), length], families))
+            answered(self.run("update", [address(record), address(piece), length], families, [record]))
             self.expect_record("an update", record, b, s)
 
     def digests(self):

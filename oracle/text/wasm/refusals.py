@@ -1,4 +1,5 @@
 """What the modules refuse, with nothing written: secrets of fewer than 136 bytes, and records that are no stream's."""
+from terms.llvm_text import Unsupported
 from terms.memory import Input, Memory
 from terms.sides import Request
 
@@ -41,6 +42,7 @@ def one_shots_with_short_secrets(machines):
     for vm in machines.values():
         for request in refused:
             calls.refused_one_shot(vm, request)
+            expect_not_asked(vm)
     return f"{served} answered, {len(refused) * len(machines)} refused", complaints
 
 
@@ -53,10 +55,17 @@ def streams_with_short_secrets(machines):
         for size in range(LEAST_SECRET):
             for way in ("secret", "both"):
                 Stream(vm, Request("3-64", way, 300, size)).refused_start()
+                expect_not_asked(vm)
             good.secret = [address(Input("s", size)), size]
             expect_refused(good, SECRET_TOO_SHORT)
             count += 2 + 3
     return f"{count} refused", []
+
+
+def expect_not_asked(vm):
+    """That the call didn't depend on whether the seed is 0, which would be another case."""
+    if vm.has_asked:
+        raise Unsupported("whether the seed is 0 was asked")
 
 
 def started(vm, request, taken):
