@@ -200,8 +200,8 @@ def run(rows, headers, jobs):
 
 
 def run_each(rows, subject, jobs):
-    """Runs the rows, so many at once, each in a process of its own where subject(row) is made for it, and says what became
-    of it: the command's status."""
+    """Runs the rows, so many at once, each in a process of its own where subject(row) is made for it, and says what
+    became of it: the command's status."""
     began, passed = time.monotonic(), 0
     with concurrent.futures.ThreadPoolExecutor(jobs) as pool:
         for line, is_good in pool.map(lambda row: in_process(row, subject), rows):

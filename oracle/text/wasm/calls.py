@@ -138,7 +138,7 @@ class Stream:
 
 
 def stream(vm, request):
-    """The value of a stream. After its first update it is saved and restored. A digest changes nothing but the value."""
+    """The value of a stream. After its first update it is saved and restored. A digest changes nothing but its value."""
     it, at = Stream(vm, request), 0
     it.start()
     for end in [*request.cuts, request.length]:

@@ -1,4 +1,5 @@
-"""Changes in the bytes of a module, each of which has to be noticed: a comparison that no change fails would say nothing.
+"""Changes in the bytes of a module, each of which has to be noticed: a comparison that no change fails would say
+nothing.
 
 A change is one instruction in place of another of the same types, or one bit of an instruction. What the reader or the
 validator refuses is counted apart. The others are asked requests that run the instruction. A change is noticed where a
@@ -31,14 +32,15 @@ STEPS = 100_000               # instructions of a call, with a change
 SECRETS = (136,)
 NOTICED, NO_VALUE, REFUSED, UNNOTICED = "another value", "no value", "another term, no point found", "unnoticed"
 NOT_VALID = "not valid"
-# Changes by hand: what, the instruction and what stands behind it (None: anything), which of its bytes, counted from its
-# end where that is negative, and the bits that change there
+# Changes by hand: what, the instruction and what stands behind it (None: anything), which of its bytes, counted from
+# its end where that is negative, and the bits that change there
 BY_HAND = [
     ("a prime of XXH64, another bit 62", "i64.const", 0xC2B2AE3D27D4EB4F, 9, 0x40),
     ("a prime of XXH32, another bit 27", "i32.const", 0x85EBCA77, 4, 0x40),
     ("a shift by 33, as by 32", "i64.const", 33, 1, 1), ("a rotation by 27, as by 26", "i64.const", 27, 1, 1),
     ("a length of 240, as 241", "i64.const", 240, 1, 1), ("xor, as or", "i64.xor", None, 0, 1),
-    ("a load, as of bytes 8 further", "i64.load", None, -1, 8), ("a store, as of bytes 8 further", "i64.store", None, -1, 8),
+    ("a load, as of bytes 8 further", "i64.load", None, -1, 8),
+    ("a store, as of bytes 8 further", "i64.store", None, -1, 8),
 ]
 EACH_BY_HAND = 3              # places at which each is tried
 CRASHES = AttributeError, IndexError, KeyError, TypeError, ValueError, RecursionError
@@ -179,7 +181,8 @@ def drawn(vm, covered, count, seed):
         except Malformed:
             changed = None
         valid += changed is not None
-        yield f"function {place[0]} at {x.at:#x}: {x.opcode.name} {shown(x.given)}: {what}", changed, covered.by_place[place]
+        text = f"function {place[0]} at {x.at:#x}: {x.opcode.name} {shown(x.given)}: {what}"
+        yield text, changed, covered.by_place[place]
 
 
 def drawn_by_hand(vm, covered):
@@ -192,7 +195,8 @@ def drawn_by_hand(vm, covered):
             function = vm.module.functions[place[0]]
             x, whole = function.code[place[1]], bytearray(vm.module.whole)
             whole[(x.at if byte >= 0 else x.end) + byte] ^= bits
-            yield f"function {place[0]} at {x.at:#x}: {what}", with_change(vm, function, bytes(whole)), covered.by_place[place]
+            changed = with_change(vm, function, bytes(whole))
+            yield f"function {place[0]} at {x.at:#x}: {what}", changed, covered.by_place[place]
 
 
 def shown(given):

@@ -41,8 +41,8 @@ def with_seed_0(request):
 
 
 def compare(machines, asked, answer):
-    """Compares what each machine answers: how many answers were one term with the definition's, and what there is to say
-    of the others. Where a module asked whether the seed is 0, that is a request of its own."""
+    """Compares what each machine answers: how many answers were one term with the definition's, and what there is to
+    say of the others. Where a module asked whether the seed is 0, that is a request of its own."""
     texts, equal, complaints = Texts(), 0, []
     for request in asked:
         texts.make_room()

@@ -1,5 +1,5 @@
-// Prints what this engine makes of modules, which come one a line: {"module": its bytes in hexadecimal, "calls": a number}.
-// Of each module: whether it is valid; then of each of its functions f0, f1, .. the sixteen bytes at 2,048 behind the call.
+// Prints what this engine makes of modules, which come one a line: {"module": its bytes in hexadecimal, "calls": n}.
+// Of each: whether it is valid; then of each of its functions f0, f1, .. the sixteen bytes at 2,048 behind the call.
 import { createInterface } from "node:readline";
 
 const RESULT = 2048;

@@ -92,8 +92,10 @@ COUNT = "local.get 2; i64.const {}; i64.add; local.set 2"
 BODIES = {
     "block": f"block i64; i64.const 4; i64.const 9; i32.const %; br_if 0; i64.add; end; local.set 2; {SHOW}",
     "br": f"i64.const 40; block i64; i64.const 1; i64.const 2; br 0; end; i64.sub; local.set 2; {SHOW}",
-    "br_if": f"block; block; i32.const %; br_if 1; {COUNT.format(1)}; end; {COUNT.format(2)}; end; {COUNT.format(4)}; {SHOW}",
-    "br_table": f"block; block; block; i32.const %; br_table 0 2 1; end; {COUNT.format(1)}; end; {COUNT.format(2)}; end; {SHOW}",
+    "br_if": f"block; block; i32.const %; br_if 1; {COUNT.format(1)}; end; {COUNT.format(2)}; end; "
+             f"{COUNT.format(4)}; {SHOW}",
+    "br_table": f"block; block; block; i32.const %; br_table 0 2 1; end; {COUNT.format(1)}; end; "
+                f"{COUNT.format(2)}; end; {SHOW}",
     "loop": f"loop; {COUNT.format(3)}; local.get 2; i64.const 20; i64.lt_u; br_if 0; end; {SHOW}",
     "if": f"i32.const %; if; {COUNT.format(5)}; end; {COUNT.format(8)}; {SHOW}",
     "end": f"block; loop; {COUNT.format(1)}; block; i32.const %; br_if 2; end; end; end; {SHOW}",
@@ -103,10 +105,12 @@ BODIES = {
     "select": f"i64.const 11; i64.const 22; i32.const %; select; local.set 2; {SHOW}",
     "unreachable": "i32.const %; if; unreachable; end; " + SHOW,
     "local.get": f"{ANSWER}local.get 5; local.get 2; i64x2.replace_lane 0; v128.store 0",
-    "local.set": f"i64.const %; local.set 3; i64.const 1; local.set 2; local.get 3; local.set 4; local.get 4; local.set 2; {SHOW}",
+    "local.set": f"i64.const %; local.set 3; i64.const 1; local.set 2; local.get 3; local.set 4; local.get 4; "
+                 f"local.set 2; {SHOW}",
     "local.tee": f"i64.const %; local.tee 2; i64.const 1; i64.add; local.set 2; {SHOW}",
     "global.get": f"global.get 0; i64.const %; i64.add; local.set 2; {SHOW}",
-    "global.set": f"i32.const %; global.set 1; global.get 1; i64.extend_i32_u; local.set 2; i32.const 0; global.set 1; {SHOW}",
+    "global.set": f"i32.const %; global.set 1; global.get 1; i64.extend_i32_u; local.set 2; i32.const 0; "
+                  f"global.set 1; {SHOW}",
     "memory.copy": f"i32.const {PATTERN}; i64.const 0; i64.store 0; i32.const {PATTERN}; i64.const 0; i64.store 8; "
                    f"i32.const {PATTERN + 1}; i32.const {STACK_END + 3}; i32.const %; memory.copy; "
                    f"{ANSWER}i32.const {PATTERN}; v128.load 0; v128.store 0",
@@ -158,8 +162,8 @@ def compare_instructions(machines):
     for (name, texts), (is_valid, *theirs) in zip(asked, told, strict=True):
         ours = by_machine(assembler.module(texts), len(texts))
         count += len(ours)
-        bad += [f"{name}: {a} here and {b} by the engine: {text}" for text, a, b in zip(texts, ours, theirs, strict=True)
-                if a != b]
+        bad += [f"{name}: {a} here and {b} by the engine: {text}"
+                for text, a, b in zip(texts, ours, theirs, strict=True) if a != b]
         bad += [f"{name} was not tried" for _ in range(not texts or is_valid != "true")]
     return f"{len(asked)} instructions, {count} runs", bad
 
@@ -176,7 +180,8 @@ def verdict(whole):
 
 
 def compare_validity(machines, count):
-    """So many changed modules of each: what is accepted here the engine accepts, and what is refused as invalid it refuses."""
+    """So many changed modules of each: what is accepted here the engine accepts, and what is refused as invalid it
+    refuses."""
     draw, asked = random.Random(4), []
     for vm in machines.values():
         for _ in range(count):

@@ -1,8 +1,8 @@
 """The one-shots of every length that the module's memory has room for, by induction over its loops.
 
-A length is a polynomial: stripe * a + r of XXH32 and XXH64, r a number; above 240 bytes 64 q B + 64 J + t + 1 of XXH3, B
-blocks of q stripes, J < q more, and t < 64. Under the default secret, a derived one and one of 192 to 199 bytes q is 16 and
-J a number; under the others, of 64 + 8 q + u bytes, u < 8, J is any number, and q one below 16, or 17 or more."""
+A length is a polynomial: stripe * a + r of XXH32 and XXH64, r a number; above 240 bytes 64 q B + 64 J + t + 1 of XXH3,
+B blocks of q stripes, J < q more, and t < 64. Under the default secret, a derived one and one of 192 to 199 bytes q is 16
+and J a number; under the others, of 64 + 8 q + u bytes, u < 8, J is any number, and q one below 16, or 17 or more."""
 import collections
 
 import table
@@ -52,8 +52,8 @@ def missing(found):
 
 
 CASES = list(cases())
-# With a secret of its own: q stripes a block, a number or None, which is 17 or more; whether there is a whole block, and a
-# stripe behind the whole blocks; and whether there are FAR bytes
+# With a secret of its own: q stripes a block, a number or None, which is 17 or more; whether there is a whole block, and
+# a stripe behind the whole blocks; and whether there are FAR bytes
 OwnCase = collections.namedtuple("OwnCase", "q has_blocks has_more is_far")
 
 

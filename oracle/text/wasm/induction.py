@@ -1,9 +1,9 @@
 """A loop of any number of turns, shown by induction, as terms/loops.py does it for LLVM's text.
 
-A cell is a variable, a lane of one, a value on the stack below, a global, or a cell of a memory that lives. At the loop's
-head after k turns some cells, the words, hold what the definition says; some, the places, have gone on by a step a turn;
-some may be anything; the others are as at the start. Which cells are which is guessed from two first turns and then
-shown: the words are the definition's for k = 0, and a turn from any k, with words that are the definition's, leads to
+A cell is a variable, a lane of one, a value on the stack below, a global, or a cell of a memory that lives. At the
+loop's head after k turns some cells, the words, hold what the definition says; some, the places, have gone on by a step
+a turn; some may be anything; the others are as at the start. Which cells are which is guessed from two first turns and
+then shown: the words are the definition's for k = 0, and a turn from any k, with words that are the definition's, leads to
 all of that for k + 1. A cell of the words or of the places is never let go."""
 from terms.loops import REFUSALS, NotShown, agree
 from terms.memory import RUNS
@@ -39,8 +39,8 @@ class Family:
 
 
 class Loops:
-    """Asked at each loop. The families are of loops that are shown, in this order; all others run turn by turn. `live` are
-    the memories that a call may change, beside the stack."""
+    """Asked at each loop. The families are of loops that are shown, in this order; all others run turn by turn. `live`
+    are the memories that a call may change, beside the stack."""
 
     def __init__(self, families, live):
         self.families, self.live, self.told, self.passed, self.is_busy = list(families), list(live), [], set(), False

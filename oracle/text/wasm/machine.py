@@ -72,7 +72,8 @@ class Machine:
     # ---- calls
 
     def call(self, name, arguments):
-        """Calls an export, and gives its results. The stack holds nothing at first, and the globals have to come back."""
+        """Calls an export, and gives its results. The stack holds nothing at first, and the globals have to come
+        back."""
         function = self.module.exported(name)
         if len(arguments) != len(function.signature.takes):
             raise Unsupported(f"{len(arguments)} arguments of {name}")

@@ -1,4 +1,5 @@
-"""The streams of XXH32 and XXH64: a start, any number of updates of any lengths, a digest, by induction over the updates.
+"""The streams of XXH32 and XXH64: a start, any number of updates of any lengths, a digest, by induction over the
+updates.
 
 A record stands for the first N = stripe * a + r bytes of a message when it has N, the seed, the definition's
 accumulators after a stripes, r as the bytes that wait, and these bytes; the rest of its buffer is anything. A start
@@ -104,7 +105,8 @@ class PlainStreams(every_length.Proof):
         begun, ended = plus(times(self.stripe, a), r), plus(times(self.stripe, b), s)
         length, first = minus(ended, begun), plus(a, int(r > 0))
         of_a = [] if isinstance(a, int) else [minus(a, 1)]
-        with given(*of_a, *facts, self.message_of(plus(ended, variable("rest"))), at_most(length, every_length.LONGEST)):
+        of_whole = self.message_of(plus(ended, variable("rest")))
+        with given(*of_a, *facts, of_whole, at_most(length, every_length.LONGEST)):
             record = self.record(a, r)
             families = [Family(f"an update from {begun} to {ended} bytes", b, 4, self.width, self.after, self.suppose,
                                first)] if facts else []
@@ -124,12 +126,13 @@ class PlainStreams(every_length.Proof):
             kept = dict(record.cells)
             answered(self.run("digest", [address(record), address(out)]))
             expect_kept("the record", record, kept)
-            self.expect(f"a digest of {n} bytes", out.load(0, self.word), self.texts[f"xxh{self.width}"](self.seed, self.message))
+            said = self.texts[f"xxh{self.width}"](self.seed, self.message)
+            self.expect(f"a digest of {n} bytes", out.load(0, self.word), said)
 
 
 def show(vm, width, each=1):
-    """Shows the streams of XXH32 or XXH64, with updates from each so manieth number of bytes that wait, or raises; gives
-    the proof."""
+    """Shows the streams of XXH32 or XXH64, with updates from each so manieth number of bytes that wait, or raises;
+    gives the proof."""
     streams = PlainStreams(vm, width)
     streams.start()
     streams.updates(each)

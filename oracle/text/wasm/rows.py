@@ -94,7 +94,8 @@ def lengths(is_all):
             out.append(compared(f"{of_kind}, one-shots of 301 to 1,100 bytes, and at edges", kind,
                                 [*range(301, 1101), *comparison.edges(kind[2])], False))
         if kind[2] in (None, *rows.STREAM_SECRETS):
-            out.append(compared(f"{of_kind}, streams of 0 to 1,088 bytes", kind, comparison.STREAMED[::each_stream], True))
+            streamed = comparison.STREAMED[::each_stream]
+            out.append(compared(f"{of_kind}, streams of 0 to 1,088 bytes", kind, streamed, True))
     return out
 
 
@@ -125,7 +126,8 @@ def induction(is_all):
     for module in NAMES:
         for hash_name, way in every_length.KINDS if is_all else GATE_KINDS:
             is_whole = is_all or calls.is_plain(hash_name)
-            title = f"{title_of(hash_name, way, None)}, {module}: every length from {every_length.shortest(hash_name, way)} on"
+            first = every_length.shortest(hash_name, way)
+            title = f"{title_of(hash_name, way, None)}, {module}: every length from {first} on"
             out.append(Row(title + ("" if is_whole else ", a sample"), functools.partial(
                 shown, module=module, hash_name=hash_name, way=way, each=1 if is_whole else GATE_CASES)))
     return out
@@ -171,11 +173,12 @@ def of_changes(is_all):
         for part in range(parts):
             title = f"changes in the bytes of {module}" + (f", part {part + 1} of {parts}" if is_all else "")
             count = CHANGES // parts if is_all else GATE_CHANGES
-            out.append(Row(title, functools.partial(of_random_changes, module=module, count=count, seed=part, is_all=is_all)))
+            out.append(Row(title, functools.partial(of_changed_bytes, module=module, count=count, seed=part,
+                                                    is_all=is_all)))
     return out
 
 
-def of_random_changes(machines, module, count, seed, is_all):
+def of_changed_bytes(machines, module, count, seed, is_all):
     return changes.tell(module, machines[module], count, seed, is_all)
 
 

@@ -4,7 +4,8 @@ from terms import halves, operations
 from terms.llvm_text import Unsupported
 from terms.machine import BINARY, compare_numbers, rotated
 from terms.nodes import Node, Undecided
-from terms.polynomials import Poly, constant_of, divided, is_natural, is_number, is_same, minus, plus, remainder, times, wrapped
+from terms.polynomials import (Poly, constant_of, divided, is_natural, is_number, is_same, minus, plus, remainder, times,
+                               wrapped)
 from terms.rules import ones, zeros_below
 
 WORD = 64
