@@ -47,19 +47,20 @@ def requests(hash_name, kind, secret_length, lengths, streams=False):
             yield from [request, *request.with_seed_0()]
 
 
-def complaint(request, ours, theirs):
-    """What there is to say where the two terms aren't one."""
+def complaint(request, name, ours, theirs):
+    """What there is to say where the definition's term isn't that of another side."""
     found = differing_point(request, ours, theirs)
     if not found:
-        return f"{request}: another term, though no point was found at which they differ"
+        return f"{request}: {name} gives another term, though no point was found at which they differ"
     point, x, y = found
     shown = ", ".join(f"{name} {value.hex()[:80] if isinstance(value, bytes) else hex(value)}" for name,
                       value in point.items())
-    return f"{request}: {x:#x} by the definition and {y:#x} by the reference, where {shown}"
+    return f"{request}: {x:#x} by the definition and {y:#x} by {name}, where {shown}"
 
 
-def compare(module, *row):
-    """Compares a row of requests: how many came to one term, and what there is to say of the others."""
+def compare(sides, *row):
+    """Compares a row of requests: how many answers of the other sides, name -> a function of a request, came to the
+    definition's term, and what there is to say of those that didn't."""
     texts, equal, complaints = {}, 0, []
     nodes.forget()
     entries = definition.program().run()
@@ -69,15 +70,18 @@ def compare(module, *row):
             texts.clear()
             entries = definition.program().run()
         key = request.length, request.fixed_seed
-        try:
-            if key not in texts:          # a stream's is that of the whole message
-                texts = {key: request.of_definition(entries)}
-            theirs = request.of_reference(module)
-        except (*REFUSALS, WrongRule) as error:
-            complaints.append(f"{request}: {type(error).__name__}: {error}")
-            continue
-        if nodes.is_same(texts[key], theirs):
-            equal += 1
-        else:
-            complaints.append(complaint(request, texts[key], theirs))
+        if key not in texts:          # a stream's is that of the whole message
+            texts = {key: request.of_definition(entries)}
+        told = [found for name, ask in sides.items() if (found := difference(request, name, texts[key], ask))]
+        equal += len(sides) - len(told)
+        complaints += told
     return equal, complaints
+
+
+def difference(request, name, ours, ask):
+    """What there is to say of a side's answer, or None where it is the definition's term."""
+    try:
+        theirs = ask(request)
+    except (*REFUSALS, WrongRule) as error:
+        return f"{request}: {name}: {type(error).__name__}: {error}"
+    return None if nodes.is_same(ours, theirs) else complaint(request, name, ours, theirs)

@@ -1,41 +1,29 @@
 """The rows of oracle/symbolic: what is asked, in processes of its own each, and what is said of it."""
 import collections
-import concurrent.futures
 import functools
-import multiprocessing
 import os
-import resource
 import tempfile
-import threading
-import time
-import traceback
 import unittest.mock
 
-import antt
 import mutants
 
-from . import changed_headers, changes, comparison, every_length, machinery, plain_streams, xxh3_streams
+from . import changed_headers, changes, comparison, every_length, machinery, plain_streams, processes, xxh3_streams
 from .comparison import SECRETS
-from .loops import REFUSALS
 from .machine import Module
-from .nodes import WrongRule
 from .sides import HEADERS, VECTORS, llvm_text
 
 PARTS = 4                    # the changes are tried in so many rows
 SAMPLE = 32                  # in the gate, each so manieth change of the definition's text
 LINES, FEW_LINES = 5000, 100  # changes of LLVM's text
 GATE_SECRETS, STREAM_SECRETS = (136,), (136, 192)
-SHOWN = 30                   # complaints of a row
-FORK, STARTING = multiprocessing.get_context("fork"), threading.Lock()
 
 
-class Row:
-    """A row: its title, the vectors that the library's code is for, and a function of a module that gives
-    (counts, failures) as lines."""
+class Row(processes.Row):
+    """A row whose function is one of a module: the library's code for some vectors."""
 
     def __init__(self, title, ask, vector="scalar", is_deep=True):
-        self.title, self.ask, self.vector = title + ("" if vector == "scalar" else f", {vector}"), ask, vector
-        self.is_deep = is_deep     # long recursions need a thread with a large stack, and time limits the main one
+        super().__init__(title + ("" if vector == "scalar" else f", {vector}"), ask, is_deep)
+        self.vector = vector
 
 
 def choose(given):
@@ -74,7 +62,8 @@ def vector_lengths(vectors):
 
 def compared(title, kind, asked, vector, streams=False):
     def ask(module):
-        equal, complaints = comparison.compare(module, *kind, asked, streams)
+        sides = {"the reference": lambda request: request.of_reference(module)}
+        equal, complaints = comparison.compare(sides, *kind, asked, streams)
         return f"{equal} requests, each one term", complaints
     first, last = min(asked), max(asked)
     return Row(f"{title}: {first} to {last} bytes", ask, vector)
@@ -195,55 +184,11 @@ def of_machinery(is_all, vector, headers):
 # ---- processes
 
 def run(rows, headers, jobs):
+    """Runs the rows, each with a module of its own: the command's status."""
     texts = {vector: llvm_text(headers, vector) for vector in {row.vector for row in rows}}
-    return run_each(rows, lambda row: Module(texts[row.vector]), jobs)
+    return processes.run([processes.Row(row.title, functools.partial(asked, row, texts[row.vector]), row.is_deep)
+                          for row in rows], jobs)
 
 
-def run_each(rows, subject, jobs):
-    """Runs the rows, so many at once, each in a process of its own where subject(row) is made for it, and says what
-    became of it: the command's status."""
-    began, passed = time.monotonic(), 0
-    with concurrent.futures.ThreadPoolExecutor(jobs) as pool:
-        for line, is_good in pool.map(lambda row: in_process(row, subject), rows):
-            passed += is_good
-            print(line, flush=True)
-    used = resource.getrusage(resource.RUSAGE_CHILDREN)
-    print(f"in {time.monotonic() - began:.0f} s, {used.ru_utime + used.ru_stime:.0f} s of processor time")
-    print(f"{passed} passed, {len(rows) - passed} failed")
-    return 1 if passed < len(rows) or not rows else 0
-
-
-def in_process(row, subject):
-    """A row: what is said of it, and whether it passed. A process that is killed says nothing, and didn't."""
-    with STARTING:     # so that no other process holds the pipe's end
-        ours, theirs = FORK.Pipe(duplex=False)
-        process = FORK.Process(target=answer, args=(row, subject, theirs))
-        process.start()
-        theirs.close()
-    try:
-        return ours.recv()
-    except EOFError:
-        return f"FAILED {row.title}: its process ended", False
-    finally:
-        process.join()
-
-
-def answer(row, subject, pipe):
-    began = time.monotonic()
-    if row.is_deep:
-        what, bad = antt.with_deep_recursion(outcome, row, subject)
-    else:
-        with changes.limits():
-            what, bad = outcome(row, subject)
-    used = f"{time.monotonic() - began:.1f} s, {resource.getrusage(resource.RUSAGE_SELF).ru_maxrss // 1024} MB"
-    lines = [f"{'FAILED' if bad else 'ok'} {row.title}: {what}; {used}", *(f"    {line}" for line in bad[:SHOWN])]
-    pipe.send(("\n".join(lines), not bad))
-
-
-def outcome(row, subject):
-    try:
-        return row.ask(subject(row))
-    except (*REFUSALS, WrongRule) as error:
-        return "", [f"{type(error).__name__}: {error}"]
-    except Exception:
-        return "", traceback.format_exc().splitlines()
+def asked(row, text):
+    return row.ask(Module(text))

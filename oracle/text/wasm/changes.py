@@ -100,9 +100,16 @@ def change_of(x, whole, draw):
         if other.prefix is not None and other.code > 127:
             out[place + 1] = other.code >> 7
         return f"-> {other.name}", bytes(out)
-    place, bit = draw.randrange(x.at, x.end), draw.randrange(8)
+    place, bit = draw.choice(places_of(x)), draw.randrange(8)
     out[place] ^= 1 << bit
     return f"bit {bit} of byte {place - x.at}", bytes(out)
+
+
+def places_of(x):
+    """The bytes of an instruction but for an alignment, which is a hint."""
+    has_alignment = x.opcode.behind.startswith("bytes")
+    alignment = x.at + 1 + (x.opcode.prefix is not None)
+    return [place for place in range(x.at, x.end) if not (has_alignment and place == alignment)]
 
 
 def with_change(vm, function, whole):
@@ -180,9 +187,20 @@ def drawn(vm, covered, count, seed):
             changed = with_change(vm, function, whole)
         except Malformed:
             changed = None
+        if changed and is_same_amount(function, changed.module.functions[place[0]], place[1]):
+            continue
         valid += changed is not None
         text = f"function {place[0]} at {x.at:#x}: {x.opcode.name} {shown(x.given)}: {what}"
         yield text, changed, covered.by_place[place]
+
+
+def is_same_amount(function, other, pc):
+    """Whether a number became another one by which the next instruction shifts or rotates as far."""
+    x, y, then = function.code[pc], other.code[pc], function.code[pc + 1:pc + 2]
+    word, _, name = then[0].opcode.name.partition(".") if then else ("", "", "")
+    if x.opcode is not y.opcode or x.opcode.name not in ("i32.const", "i64.const"):
+        return False
+    return name in ("shl", "shr_u", "rotl", "rotr") and (x.given - y.given) % (64 if "64" in word else 32) == 0
 
 
 def drawn_by_hand(vm, covered):

@@ -1,7 +1,5 @@
 """The modules beside the definition: for each request both have to come to one term."""
 from terms import comparison, definition, nodes
-from terms.loops import REFUSALS
-from terms.nodes import WrongRule
 from terms.sides import Request
 
 MOST_NODES = 300_000
@@ -24,7 +22,7 @@ class Texts:
     def value(self, request):
         key = request.hash_name, request.kind, request.length, request.secret_length, request.fixed_seed
         if key not in self.known:
-            self.known = {key: request.of_definition(self.entries)}
+            self.known[key] = request.of_definition(self.entries)
         return self.known[key]
 
 
@@ -47,19 +45,15 @@ def compare(machines, asked, answer):
     for request in asked:
         texts.make_room()
         for name, vm in machines.items():
-            told = [told_of(texts, vm, request, answer)]
+            vm.has_asked = False
+            told = [told_of(texts, name, vm, request, answer)]
             if vm.has_asked:
-                told.append(told_of(texts, vm, with_seed_0(request), answer))
-            equal += sum(not line for line in told)
-            complaints += [f"{name}: {line}" for line in told if line]
+                told.append(told_of(texts, name, vm, with_seed_0(request), answer))
+            equal += told.count(None)
+            complaints += [line for line in told if line]
     return equal, complaints
 
 
-def told_of(texts, vm, request, answer):
-    """What there is to say of a machine's answer, or nothing."""
-    vm.has_asked = False
-    try:
-        ours, said = answer(vm, request), texts.value(request)
-    except (*REFUSALS, WrongRule) as error:
-        return f"{request}: {type(error).__name__}: {error}"
-    return None if nodes.is_same(said, ours) else comparison.complaint(request, said, ours)
+def told_of(texts, name, vm, request, answer):
+    """What there is to say of a machine's answer, or None."""
+    return comparison.difference(request, name, texts.value(request), lambda asked: answer(vm, asked))

@@ -3,12 +3,13 @@ import functools
 import hashlib
 import os
 
-from terms import comparison, rows
-from terms.rows import Row, title_of
+from terms import comparison
+from terms.processes import Row
+from terms.rows import STREAM_SECRETS, title_of
 
 from . import calls, changes, comparing, engine, every_length, plain_streams, refusals
 from .machine import Machine
-from .module import FUNCTION, GLOBAL, MEMORY, Malformed, Module
+from .module import FUNCTION, GLOBAL, MEMORY, Module
 from .values import LEAST_PLACE
 
 WEB = os.path.join(os.path.dirname(os.path.abspath(__file__)), "..", "..", "..", "web")
@@ -49,12 +50,13 @@ def checksums():
         yield f"{name}, {len(whole)} bytes, SHA-256 {hashlib.sha256(whole).hexdigest()}"
 
 
-def choose(given):
+def choose(given, machines):
+    """The rows. The machines are made once, and each row has copies of its own, since it has a process."""
     out = lengths(given.all) + of_refusals() + induction(given.all) + streams_by_induction(given.all)
     out += of_engine(given.all) + of_changes(given.all)
-    out.insert(0, Row("the exports are those of the table, each with its row",
-                      functools.partial(exports, titles=[row.title for row in out])))
-    return [row for row in out if given.only in row.title]
+    titles = [title for title, _ in out]
+    out.insert(0, ("the exports are those of the table, each with its row", functools.partial(exports, titles=titles)))
+    return [Row(title, functools.partial(ask, machines)) for title, ask in out if given.only in title]
 
 
 # ---- the exports
@@ -93,7 +95,7 @@ def lengths(is_all):
         if is_all:
             out.append(compared(f"{of_kind}, one-shots of 301 to 1,100 bytes, and at edges", kind,
                                 [*range(301, 1101), *comparison.edges(kind[2])], False))
-        if kind[2] in (None, *rows.STREAM_SECRETS):
+        if kind[2] in (None, *STREAM_SECRETS):
             streamed = comparison.STREAMED[::each_stream]
             out.append(compared(f"{of_kind}, streams of 0 to 1,088 bytes", kind, streamed, True))
     return out
@@ -110,25 +112,25 @@ def compared(title, kind, asked, is_stream):
         equal, bad = comparing.compare(machines, comparing.requests(kind, asked, is_stream),
                                        calls.stream if is_stream else calls.one_shot)
         return f"{len(asked)} lengths, {equal} requests, each one term", bad
-    return Row(title, ask)
+    return title, ask
 
 
 def of_refusals():
-    return [Row("secrets of 0 to 135 bytes, one-shots", refusals.one_shots_with_short_secrets),
-            Row("secrets of 0 to 135 bytes, streams", refusals.streams_with_short_secrets),
-            Row("records that are no stream's", refusals.wrong_records)]
+    return [("secrets of 0 to 135 bytes, one-shots", refusals.one_shots_with_short_secrets),
+            ("secrets of 0 to 135 bytes, streams", refusals.streams_with_short_secrets),
+            ("records that are no stream's", refusals.wrong_records)]
 
 
 # ---- every length
 
 def induction(is_all):
-    out = [Row("the cases of a length are all of them, each once", cases_are_all)]
+    out = [("the cases of a length are all of them, each once", cases_are_all)]
     for module in NAMES:
         for hash_name, way in every_length.KINDS if is_all else GATE_KINDS:
             is_whole = is_all or calls.is_plain(hash_name)
             first = every_length.shortest(hash_name, way)
             title = f"{title_of(hash_name, way, None)}, {module}: every length from {first} on"
-            out.append(Row(title + ("" if is_whole else ", a sample"), functools.partial(
+            out.append((title + ("" if is_whole else ", a sample"), functools.partial(
                 shown, module=module, hash_name=hash_name, way=way, each=1 if is_whole else GATE_CASES)))
     return out
 
@@ -138,7 +140,7 @@ def streams_by_induction(is_all):
     for module in NAMES:
         for width in (32, 64):
             title = f"XXH{width}, {module}: streams of any updates, to 2^64 - 2 bytes"
-            out.append(Row(title + ("" if is_all else ", a sample"), functools.partial(
+            out.append((title + ("" if is_all else ", a sample"), functools.partial(
                 streams_shown, module=module, width=width, each=1 if is_all else width // 2 - 1)))
     return out
 
@@ -162,8 +164,8 @@ def shown(machines, module, hash_name, way, each):
 # ---- the table, and changes
 
 def of_engine(is_all):
-    return [Row("the table of instructions beside Node", engine.compare_instructions),
-            Row("changed modules, which Node too accepts or refuses",
+    return [("the table of instructions beside Node", engine.compare_instructions),
+            ("changed modules, which Node too accepts or refuses",
                 functools.partial(engine.compare_validity, count=300 if is_all else 15))]
 
 
@@ -173,20 +175,9 @@ def of_changes(is_all):
         for part in range(parts):
             title = f"changes in the bytes of {module}" + (f", part {part + 1} of {parts}" if is_all else "")
             count = CHANGES // parts if is_all else GATE_CHANGES
-            out.append(Row(title, functools.partial(of_changed_bytes, module=module, count=count, seed=part,
-                                                    is_all=is_all)))
+            out.append((title, functools.partial(of_changed_bytes, module=module, count=count, seed=part, is_all=is_all)))
     return out
 
 
 def of_changed_bytes(machines, module, count, seed, is_all):
     return changes.tell(module, machines[module], count, seed, is_all)
-
-
-def run(given):
-    """Runs the rows: the command's status. The machines are made once, and each row has copies of its own."""
-    try:
-        made = machines()
-    except Malformed as error:
-        print(f"FAILED a module: {error}", "0 passed, 1 failed", sep="\n")
-        return 1
-    return rows.run_each(choose(given), lambda row: made, given.jobs)

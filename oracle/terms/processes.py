@@ -1,0 +1,73 @@
+"""Rows of a check, each asked in a process of its own, so many at once, and what is said of them."""
+import concurrent.futures
+import multiprocessing
+import resource
+import threading
+import time
+import traceback
+
+import antt
+
+from . import changes
+from .loops import REFUSALS
+from .nodes import WrongRule
+
+SHOWN = 30                   # complaints of a row
+FORK, STARTING = multiprocessing.get_context("fork"), threading.Lock()
+
+
+class Row:
+    """A row: its title, and a function that gives (counts, failures) as lines."""
+
+    def __init__(self, title, ask, is_deep=True):
+        self.title, self.ask = title, ask
+        self.is_deep = is_deep     # long recursions need a thread with a large stack, and time limits the main one
+
+
+def run(rows, jobs):
+    """Runs the rows and says what became of each: the command's status."""
+    began, passed = time.monotonic(), 0
+    with concurrent.futures.ThreadPoolExecutor(jobs) as pool:
+        for line, is_good in pool.map(in_process, rows):
+            passed += is_good
+            print(line, flush=True)
+    used = resource.getrusage(resource.RUSAGE_CHILDREN)
+    print(f"in {time.monotonic() - began:.0f} s, {used.ru_utime + used.ru_stime:.0f} s of processor time")
+    print(f"{passed} passed, {len(rows) - passed} failed")
+    return 1 if passed < len(rows) or not rows else 0
+
+
+def in_process(row):
+    """A row: what is said of it, and whether it passed. A process that is killed says nothing, and didn't."""
+    with STARTING:     # so that no other process holds the pipe's end
+        ours, theirs = FORK.Pipe(duplex=False)
+        process = FORK.Process(target=answer, args=(row, theirs))
+        process.start()
+        theirs.close()
+    try:
+        return ours.recv()
+    except EOFError:
+        return f"FAILED {row.title}: its process ended", False
+    finally:
+        process.join()
+
+
+def answer(row, pipe):
+    began = time.monotonic()
+    if row.is_deep:
+        what, bad = antt.with_deep_recursion(outcome, row)
+    else:
+        with changes.limits():
+            what, bad = outcome(row)
+    used = f"{time.monotonic() - began:.1f} s, {resource.getrusage(resource.RUSAGE_SELF).ru_maxrss // 1024} MB"
+    lines = [f"{'FAILED' if bad else 'ok'} {row.title}: {what}; {used}", *(f"    {line}" for line in bad[:SHOWN])]
+    pipe.send(("\n".join(lines), not bad))
+
+
+def outcome(row):
+    try:
+        return row.ask()
+    except (*REFUSALS, WrongRule) as error:
+        return "", [f"{type(error).__name__}: {error}"]
+    except Exception:
+        return "", traceback.format_exc().splitlines()
