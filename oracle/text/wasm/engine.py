@@ -8,14 +8,15 @@ import subprocess
 
 from . import assembler
 from .assembler import PAGES, STACK_END
-from .machine import Machine
+from .machine import STACK, Machine
 from .module import PAGE, Malformed, Module
 from .opcodes import BY_NAME
 from .validator import Invalid, validate
-from .values import LEAST_PLACE, Trap
+from .values import Trap
 
 HERE = os.path.dirname(os.path.abspath(__file__))
-RESULT, PATTERN = 2048, 4096      # places in the memory
+STACK_BEGIN = STACK_END - STACK
+RESULT, PATTERN = STACK_BEGIN + 2048, STACK_BEGIN + 4096      # places in the memory
 RANDOM = 24                       # times that an instruction is tried on random numbers
 ANSWER = f"i32.const {RESULT}; v128.const 0 0; v128.store 0; i32.const {RESULT}; "
 STORES = {32: "i32.store 0", 64: "i64.store 0", 128: "v128.store 0"}
@@ -136,7 +137,7 @@ def by_machine(whole, calls):
     for k in range(calls):
         try:
             vm.call(f"f{k}", [])
-            out.append(vm.stack.load(RESULT - LEAST_PLACE, 16).to_bytes(16, "little").hex())
+            out.append(vm.stack.load(RESULT - STACK_BEGIN, 16).to_bytes(16, "little").hex())
         except Trap:
             out.append("trap")
     return out
@@ -144,7 +145,7 @@ def by_machine(whole, calls):
 
 def by_engine(asked):
     """What the engine says of (module, number of calls): the words of its line each."""
-    lines = "\n".join(json.dumps({"module": whole.hex(), "calls": calls}) for whole, calls in asked)
+    lines = "\n".join(json.dumps({"module": whole.hex(), "calls": calls, "place": RESULT}) for whole, calls in asked)
     done = subprocess.run([shutil.which("node"), os.path.join(HERE, "engine.mjs")], input=lines, text=True, check=True,
                           stdout=subprocess.PIPE)
     told = [line.split() for line in done.stdout.splitlines()]

@@ -13,9 +13,10 @@ from .meanings import PURE
 from .module import PAGE
 from .opcodes import BY_NAME
 from .validator import ends_of, validate
-from .values import LEAST_PLACE, Address, Trap, condition, decided, low
+from .values import Address, Trap, condition, decided, low
 
 STACK_POINTER = 0        # the global that it is
+STACK = 1 << 16          # bytes of the stack that a call may use
 MOST_STEPS = 1_000_000   # instructions of a call
 
 
@@ -77,8 +78,8 @@ class Machine:
         function = self.module.exported(name)
         if len(arguments) != len(function.signature.takes):
             raise Unsupported(f"{len(arguments)} arguments of {name}")
-        self.stack = Memory("the stack", self.end_of_stack - LEAST_PLACE)
-        self.objects = [(LEAST_PLACE, self.stack), *self.constants]
+        self.stack = Memory("the stack", STACK)
+        self.objects = [(self.end_of_stack - STACK, self.stack), *self.constants]
         self.globals, self.steps = [x.value for x in self.module.globals], 0
         results = self.run(function, list(arguments))
         if self.globals != [x.value for x in self.module.globals]:

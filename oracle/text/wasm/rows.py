@@ -8,9 +8,8 @@ from terms.processes import Row
 from terms.rows import STREAM_SECRETS, title_of
 
 from . import calls, changes, comparing, engine, every_length, plain_streams, refusals
-from .machine import Machine
+from .machine import STACK, Machine
 from .module import FUNCTION, GLOBAL, MEMORY, Module
-from .values import LEAST_PLACE
 
 WEB = os.path.join(os.path.dirname(os.path.abspath(__file__)), "..", "..", "..", "web")
 NAMES = "twox_hash.wasm", "twox_hash_simd.wasm"
@@ -81,7 +80,7 @@ def of_memory(vm, found):
     if kinds != wanted:
         return ["exports of another kind"]
     base = vm.module.globals[found["__heap_base"][1]]
-    is_behind = base.value >= max(vm.end_of_stack, vm.module.end_of_segments()) and vm.end_of_stack > LEAST_PLACE
+    is_behind = base.value >= max(vm.end_of_stack, vm.module.end_of_segments()) and vm.end_of_stack > STACK
     return [] if is_behind and not base.is_mutable else ["__heap_base isn't behind the stack and the constants"]
 
 
