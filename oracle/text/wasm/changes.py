@@ -24,7 +24,11 @@ from .validator import Validator
 
 EQUAL = os.path.join(os.path.dirname(os.path.abspath(__file__)), "equal_changes.txt")
 LENGTHS = [*range(10), *range(14, 36, 3), 63, 64, 65, 96, 97, 120, 128, 129, 145, 200, 240, 241, 256, 257, 300, 1030]
-MORE_LENGTHS = [*range(301), 511, 512, 513, 576, 1023, 1024, 1025, 1088, 1089]
+# Where those notice nothing: edges first, then each length, or of streams each ninth
+EDGES = [16, 17, 8, 9, 3, 4, 128, 129, 240, 241, 31, 32, 33, 64, 65, 96, 97, 256, 257, 0, 1, 512, 513, 576, 1024, 1025,
+         1088, 1089]
+EACH_STREAM = 9
+MORE_CUTS = 1, 31, 33, 65, 256, 257
 STREAM_LENGTHS = 0, 5, 33, 70, 200, 257, 700, 1500
 STREAM_CUTS = [], [1], [33], [64, 65], [255, 256], [300, 1000]
 KEPT = 6                      # requests that an instruction is asked by, of those that run it
@@ -49,9 +53,9 @@ CRASHES = AttributeError, IndexError, KeyError, TypeError, ValueError, Recursion
 def asked(is_all=True):
     """What covers the modules: (request, what answers it)."""
     for kind in comparison.kinds(SECRETS):
-        for n in LENGTHS[::1 if is_all else 2]:
+        for n in LENGTHS[::1 if is_all else 3]:
             yield Request(*kind[:2], n, kind[2]), calls.one_shot
-        for n in STREAM_LENGTHS if is_all else STREAM_LENGTHS[1::2]:
+        for n in STREAM_LENGTHS if is_all else STREAM_LENGTHS[1::3]:
             for cuts in STREAM_CUTS:
                 if all(cut <= n for cut in cuts):
                     yield Request(*kind[:2], n, kind[2], cuts=cuts), calls.stream
@@ -169,8 +173,8 @@ def more(questions):
     """Each length of the same kinds of call."""
     kinds = {(x.hash_name, x.kind, x.secret_length, x.cuts is None): answer for x, answer in questions}
     for (hash_name, kind, secret, is_one_shot), answer in kinds.items():
-        for n in MORE_LENGTHS:
-            for cuts in [None] if is_one_shot else [[end] for end in (1, 31, 33, 65, 256, 257) if end <= n]:
+        for n in [*EDGES, *range(0, 301, 1 if is_one_shot else EACH_STREAM)]:
+            for cuts in [None] if is_one_shot else [[end] for end in MORE_CUTS if end <= n]:
                 yield Request(hash_name, kind, n, secret, cuts=cuts), answer
 
 

@@ -92,7 +92,7 @@ class PlainStreams(every_length.Proof):
         complete more."""
         d = variable("d")
         for a in (0, variable("a")):
-            for r in range(0, self.stripe, each):
+            for r in range(each - 1, self.stripe, each):
                 for s in range(self.stripe):
                     if s >= r:
                         self.update(a, r, a, s, [])

@@ -8,8 +8,7 @@ from .calls import NOT_A_STREAM, SECRET_TOO_SHORT, Stream, address, answered, ex
 from .comparing import compare
 
 LEAST_SECRET = 136
-SHORT = 0, 9, 240             # message lengths at which a seed and a secret need none
-LONG = 241, 700
+SHORT, LONG = (0, 240), (241,)      # message lengths at which a seed and a secret need none, and where they do
 XXH3 = "3-64", "3-128"
 # Bytes taken, and fields that don't agree with that: (family, bytes, what, offset, size, value)
 WRONG_RECORDS = [

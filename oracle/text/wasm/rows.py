@@ -14,8 +14,8 @@ from .module import FUNCTION, GLOBAL, MEMORY, Module
 WEB = os.path.join(os.path.dirname(os.path.abspath(__file__)), "..", "..", "..", "web")
 NAMES = "twox_hash.wasm", "twox_hash_simd.wasm"
 SECRETS, GATE_SECRETS = (136, 137, 143, 144, 192, 256), (136,)
-GATE_LENGTHS = 3, 5                  # of the gate: each so manieth length of the one-shots, and of the streams
-GATE_KINDS, GATE_CASES = [("32", "seed"), ("64", "seed"), ("3-64", "seed"), ("3-128", "both")], 16
+GATE_EACH, GATE_STREAMS = 5, (33, 300)      # each so manieth length of the one-shots, and the lengths of streams
+GATE_KINDS, GATE_CASES = [("32", "seed"), ("64", "seed"), ("3-64", "seed"), ("3-128", "both")], 24
 GATE_CHANGES, CHANGES = 30, 1000     # of a module
 PARTS = 4                            # the changes of a module are tried in so many rows
 
@@ -87,7 +87,7 @@ def of_memory(vm, found):
 # ---- lengths one by one
 
 def lengths(is_all):
-    out, (each, each_stream) = [], (1, 1) if is_all else GATE_LENGTHS
+    out, each, streamed = [], 1 if is_all else GATE_EACH, comparison.STREAMED if is_all else GATE_STREAMS
     for kind in comparison.kinds(SECRETS if is_all else GATE_SECRETS):
         of_kind = title_of(*kind)
         out.append(compared(f"{of_kind}, one-shots of 0 to 300 bytes", kind, one_by_one(each), False))
@@ -95,15 +95,14 @@ def lengths(is_all):
             out.append(compared(f"{of_kind}, one-shots of 301 to 1,100 bytes, and at edges", kind,
                                 [*range(301, 1101), *comparison.edges(kind[2])], False))
         if kind[2] in (None, *STREAM_SECRETS):
-            streamed = comparison.STREAMED[::each_stream]
             out.append(compared(f"{of_kind}, streams of 0 to 1,088 bytes", kind, streamed, True))
     return out
 
 
 def one_by_one(each):
     """Each so manieth length up to 300, and those at which a hash begins another way."""
-    edges = {n + d for n in (0, 4, 8, 16, 32, 64, 96, 128, 240, 256) for d in (0, 1)}
-    return sorted({*range(0, 301, each), *edges, 300})
+    edges = {n + d for n in (32, 64, 96, 128, 240, 256) for d in (0, 1)}
+    return sorted({*range(0, 301, each), *range(33), *edges, 300})
 
 
 def compared(title, kind, asked, is_stream):
@@ -140,7 +139,7 @@ def streams_by_induction(is_all):
         for width in (32, 64):
             title = f"XXH{width}, {module}: streams of any updates, to 2^64 - 2 bytes"
             out.append((title + ("" if is_all else ", a sample"), functools.partial(
-                streams_shown, module=module, width=width, each=1 if is_all else width // 2 - 1)))
+                streams_shown, module=module, width=width, each=1 if is_all else width // 2)))
     return out
 
 
