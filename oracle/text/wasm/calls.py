@@ -74,6 +74,11 @@ def refused_one_shot(vm, request):
     expect_kept("the value", out, {})
 
 
+def refused_start(vm, request):
+    """A start of a stream whose secret is too short."""
+    Stream(vm, request).refused_start()
+
+
 def expect_kept(what, memory, cells):
     """That a call has written nothing there."""
     if memory.cells != cells:

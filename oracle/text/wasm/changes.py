@@ -8,6 +8,7 @@ that change nothing that is promised stand in equal_changes.txt, each with its r
 neither."""
 import collections
 import copy
+import itertools
 import os
 import random
 
@@ -29,56 +30,69 @@ EDGES = [16, 17, 8, 9, 3, 4, 128, 129, 240, 241, 31, 32, 33, 64, 65, 96, 97, 256
          1088, 1089]
 EACH_STREAM = 9
 MORE_CUTS = 1, 31, 33, 65, 256, 257
-STREAM_LENGTHS = 0, 5, 33, 70, 200, 257, 700, 1500
+STREAM_LENGTHS = 3, 0, 5, 33, 70, 12, 257, 700, 1500, 200
 STREAM_CUTS = [], [1], [33], [64, 65], [255, 256], [300, 1000]
-KEPT = 6                      # requests that an instruction is asked by, of those that run it
 STEPS = 100_000               # instructions of a call, with a change
-SECRETS = (136,)
+SECRETS = 136, 192
+TOO_SHORT = 0, 135
 NOTICED, NO_VALUE, REFUSED, UNNOTICED = "another value", "no value", "another term, no point found", "unnoticed"
 NOT_VALID = "not valid"
-# Changes by hand: what, the instruction and what stands behind it (None: anything), which of its bytes, counted from
-# its end where that is negative, and the bits that change there
+# Changes by hand: what, the instruction, what stands behind it and which instruction follows (None: anything), which of
+# its bytes, counted from its end where that is negative, and the bits that change there
 BY_HAND = [
-    ("a prime of XXH64, another bit 62", "i64.const", 0xC2B2AE3D27D4EB4F, 9, 0x40),
-    ("a prime of XXH32, another bit 27", "i32.const", 0x85EBCA77, 4, 0x40),
-    ("a shift by 33, as by 32", "i64.const", 33, 1, 1), ("a rotation by 27, as by 26", "i64.const", 27, 1, 1),
-    ("a length of 240, as 241", "i64.const", 240, 1, 1), ("xor, as or", "i64.xor", None, 0, 1),
-    ("a load, as of bytes 8 further", "i64.load", None, -1, 8),
-    ("a store, as of bytes 8 further", "i64.store", None, -1, 8),
+    ("a prime of XXH64, another bit 62", "i64.const", 0xC2B2AE3D27D4EB4F, None, 9, 0x40),
+    ("a prime of XXH32, another bit 27", "i32.const", 0x85EBCA77, None, 4, 0x40),
+    ("a shift by 33, as by 32", "i64.const", 33, "i64.shr_u", 1, 1),
+    ("a rotation by 27, as by 26", "i64.const", 27, "i64.rotl", 1, 1),
+    ("a length of 240, as 241", "i64.const", 240, "i64.gt_u", 1, 1), ("xor, as or", "i64.xor", None, None, 0, 1),
+    ("a load, as of bytes 8 further", "i64.load", None, None, -1, 8),
+    ("a store, as of bytes 8 further", "i64.store", None, None, -1, 8),
 ]
 EACH_BY_HAND = 3              # places at which each is tried
+REFUSING = calls.refused_one_shot, calls.refused_start       # what answers nothing
 CRASHES = AttributeError, IndexError, KeyError, TypeError, ValueError, RecursionError
 
 
 def asked(is_all=True):
     """What covers the modules: (request, what answers it)."""
-    for kind in comparison.kinds(SECRETS):
+    for kind in comparison.kinds(SECRETS if is_all else SECRETS[:1]):
         for n in LENGTHS[::1 if is_all else 3]:
             yield Request(*kind[:2], n, kind[2]), calls.one_shot
-        for n in STREAM_LENGTHS if is_all else STREAM_LENGTHS[1::3]:
+        for n in STREAM_LENGTHS if is_all else STREAM_LENGTHS[::3]:
             for cuts in STREAM_CUTS:
                 if all(cut <= n for cut in cuts):
                     yield Request(*kind[:2], n, kind[2], cuts=cuts), calls.stream
+    yield from refused()
+
+
+def refused():
+    """Calls whose secret is too short."""
+    for hash_name, way, size in itertools.product(("3-64", "3-128"), ("secret", "both"), TOO_SHORT):
+        yield Request(hash_name, way, 300, size), calls.refused_one_shot
+        yield Request(hash_name, way, 300, size), calls.refused_start
+
+
+def kind_of(question):
+    request, answer = question
+    return request.hash_name, request.kind, request.secret_length, answer
 
 
 class Covered:
-    """Which requests run an instruction, by (function, place in its code): some of them, drawn evenly."""
+    """Which requests run an instruction, by (function, place in its code): one of each kind of call, drawn evenly."""
 
     def __init__(self, vm, is_all):
-        self.by_place, seen, draw = collections.defaultdict(list), collections.Counter(), random.Random(5)
+        by_kind, seen, draw = collections.defaultdict(dict), collections.Counter(), random.Random(5)
         texts = Texts()
         for question in asked(is_all):
             texts.make_room()
-            vm.used = set()
+            vm.used, kind = set(), kind_of(question)
             question[1](vm, question[0])
-            for place in vm.used:
-                seen[place] += 1
-                kept = self.by_place[place]
-                if len(kept) < KEPT:
-                    kept.append(question)
-                elif draw.randrange(seen[place]) < KEPT:
-                    kept[draw.randrange(KEPT)] = question
+            for place in sorted(vm.used):
+                seen[place, kind] += 1
+                if draw.randrange(seen[place, kind]) == 0:
+                    by_kind[place][kind] = question
         vm.used = None
+        self.by_place = {place: draw.sample([*found.values()], len(found)) for place, found in sorted(by_kind.items())}
         self.places = sorted(self.by_place)
 
     def told(self, vm):
@@ -150,7 +164,7 @@ def outcome(vm, texts, questions):
 
 
 def of_request(vm, texts, request, answer):
-    said = texts.value(request)
+    said = None if answer in REFUSING else texts.value(request)
     try:
         ours = answer(vm, request)
     except REFUSALS:
@@ -170,12 +184,20 @@ def differs(request, a, b):
 
 
 def more(questions):
-    """Each length of the same kinds of call."""
-    kinds = {(x.hash_name, x.kind, x.secret_length, x.cuts is None): answer for x, answer in questions}
-    for (hash_name, kind, secret, is_one_shot), answer in kinds.items():
-        for n in [*EDGES, *range(0, 301, 1 if is_one_shot else EACH_STREAM)]:
-            for cuts in [None] if is_one_shot else [[end] for end in MORE_CUTS if end <= n]:
-                yield Request(hash_name, kind, n, secret, cuts=cuts), answer
+    """The edges by the same kinds of call, and by one of one-shots and one of streams each length or each ninth."""
+    kinds = [kind for kind in map(kind_of, questions) if kind[-1] not in REFUSING]
+    for kind in kinds:
+        yield from of_lengths(kind, EDGES)
+    for answer, each in ((calls.one_shot, 1), (calls.stream, EACH_STREAM)):
+        for kind in [kind for kind in kinds if kind[-1] is answer][:1]:
+            yield from of_lengths(kind, range(0, 301, each))
+
+
+def of_lengths(kind, lengths):
+    hash_name, way, secret, answer = kind
+    for n in lengths:
+        for cuts in [[end] for end in MORE_CUTS if end <= n] if answer is calls.stream else [None]:
+            yield Request(hash_name, way, n, secret, cuts=cuts), answer
 
 
 def drawn(vm, covered, count, seed):
@@ -210,15 +232,19 @@ def is_same_amount(function, other, pc):
 def drawn_by_hand(vm, covered):
     """The changes by hand, each at some places that are run; those of drawn."""
     draw = random.Random(7)
-    for what, name, given, byte, bits in BY_HAND:
-        places = [(f, pc) for f, pc in covered.places if vm.module.functions[f].code[pc].opcode.name == name
-                  and given in (None, vm.module.functions[f].code[pc].given)]
+    for what, *where, byte, bits in BY_HAND:
+        places = [place for place in covered.places if is_there(vm.module.functions[place[0]].code, place[1], *where)]
         for place in draw.sample(places, min(EACH_BY_HAND, len(places))):
             function = vm.module.functions[place[0]]
             x, whole = function.code[place[1]], bytearray(vm.module.whole)
             whole[(x.at if byte >= 0 else x.end) + byte] ^= bits
             changed = with_change(vm, function, bytes(whole))
             yield f"function {place[0]} at {x.at:#x}: {what}", changed, covered.by_place[place]
+
+
+def is_there(code, pc, name, given, then):
+    return code[pc].opcode.name == name and given in (None, code[pc].given) and (
+        then is None or code[pc + 1].opcode.name == then)
 
 
 def shown(given):
@@ -238,9 +264,9 @@ def tell(name, vm, count, seed, is_all):
     counts, bad = collections.Counter(), []
     for text, changed, questions in (*drawn_by_hand(vm, covered), *drawn(vm, covered, count, seed)):
         what = NOT_VALID if changed is None else outcome(changed, texts, questions)
-        if what == UNNOTICED:
-            what = outcome(changed, texts, more(questions))
         has_reason = what == UNNOTICED and text in known
+        if what == UNNOTICED and not has_reason:
+            what = outcome(changed, texts, more(questions))
         counts["unnoticed, with a reason" if has_reason else what.partition(":")[0]] += 1
         if what == UNNOTICED and not has_reason or what.startswith("A "):
             bad.append(f"{what}: {text}")

@@ -8,7 +8,7 @@ from .calls import NOT_A_STREAM, SECRET_TOO_SHORT, Stream, address, answered, ex
 from .comparing import compare
 
 LEAST_SECRET = 136
-SHORT, LONG = (0, 240), (241,)      # message lengths at which a seed and a secret need none, and where they do
+SHORT, LONG = (240,), (241,)      # message lengths at which a seed and a secret need none, and where they do
 XXH3 = "3-64", "3-128"
 # Bytes taken, and fields that don't agree with that: (family, bytes, what, offset, size, value)
 WRONG_RECORDS = [
@@ -53,7 +53,7 @@ def streams_with_short_secrets(machines):
         good = started(vm, Request("3-64", "secret", 300, LEAST_SECRET), 300)
         for size in range(LEAST_SECRET):
             for way in ("secret", "both"):
-                Stream(vm, Request("3-64", way, 300, size)).refused_start()
+                calls.refused_start(vm, Request("3-64", way, 300, size))
                 expect_not_asked(vm)
             good.secret = [address(Input("s", size)), size]
             expect_refused(good, SECRET_TOO_SHORT)

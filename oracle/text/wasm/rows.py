@@ -164,7 +164,7 @@ def shown(machines, module, hash_name, way, each):
 def of_engine(is_all):
     return [("the table of instructions beside Node", engine.compare_instructions),
             ("changed modules, which Node too accepts or refuses",
-                functools.partial(engine.compare_validity, count=300 if is_all else 15))]
+                functools.partial(engine.compare_validity, count=300 if is_all else 8))]
 
 
 def of_changes(is_all):
