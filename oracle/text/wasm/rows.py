@@ -91,9 +91,6 @@ def lengths(is_all):
     for kind in comparison.kinds(SECRETS if is_all else GATE_SECRETS):
         of_kind = title_of(*kind)
         out.append(compared(f"{of_kind}, one-shots of 0 to 300 bytes", kind, one_by_one(each), False))
-        if is_all:
-            out.append(compared(f"{of_kind}, one-shots of 301 to 1,100 bytes, and at edges", kind,
-                                [*range(301, 1101), *comparison.edges(kind[2])], False))
         if kind[2] in (None, *STREAM_SECRETS):
             out.append(compared(f"{of_kind}, streams of 0 to 1,088 bytes", kind, streamed, True))
     return out
