@@ -131,11 +131,11 @@ def places_of(x):
 
 
 def with_change(vm, function, whole):
-    """The machine of a module in which the bytes of one function are others, or an error."""
+    """The machine of a module in which the bytes of one function are others, and maybe more, or an error."""
     module = copy.copy(vm.module)
     module.whole, module.functions = whole, list(module.functions)
     other = module.read_function(Reader(whole, function.at), function.index)
-    if other.end != function.end:
+    if other.end - function.end != len(whole) - len(vm.module.whole):
         raise Malformed("a function of another length")
     module.functions[function.index] = other
     changed = copy.copy(vm)

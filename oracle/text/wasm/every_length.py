@@ -132,10 +132,6 @@ class Proof:
 
     # ---- XXH32 and XXH64
 
-    def plain(self, hash_name):
-        for r in range(int(hash_name) // 2):
-            self.plain_of_rest(hash_name, r)
-
     def plain_of_rest(self, hash_name, r):
         width = int(hash_name)
         stripe, turns, seed = width // 2, variable("a"), seed_symbol(hash_name)
@@ -219,11 +215,12 @@ def shortest(hash_name, way):
     return int(hash_name) // 2 if is_plain(hash_name) else 0 if way in OWN_SECRET else LONG
 
 
-def show(vm, hash_name, way, each=1):
-    """Shows one kind, or of XXH3 each so manieth case, or raises; gives the proof."""
+def show(vm, hash_name, way, each=1, rests=None):
+    """Shows one kind, or of XXH3 each so manieth case, of the others those of these rests; or raises. Gives the proof."""
     proof = Proof(vm)
     if is_plain(hash_name):
-        proof.plain(hash_name)
+        for r in range(int(hash_name) // 2) if rests is None else rests:
+            proof.plain_of_rest(hash_name, r)
     else:
         proof.xxh3(hash_name, way, each)
     return proof

@@ -175,6 +175,7 @@ class Module:
             raise Malformed("another number of segments")
 
     def read_functions(self, part):
+        self.place_of_functions = part.at, part.end
         if part.unsigned() != len(self.signatures):
             raise Malformed("another number of functions")
         for index in range(len(self.signatures)):

@@ -7,7 +7,7 @@ from terms import comparison
 from terms.processes import Row
 from terms.rows import STREAM_SECRETS, title_of
 
-from . import calls, changes, comparing, engine, every_length, plain_streams, refusals
+from . import calls, changes, comparing, engine, every_length, plain_streams, planted, refusals
 from .machine import STACK, Machine
 from .module import FUNCTION, GLOBAL, MEMORY, Module
 
@@ -111,7 +111,8 @@ def compared(title, kind, asked, is_stream):
 
 
 def of_refusals():
-    return [("secrets of 0 to 135 bytes, one-shots", refusals.one_shots_with_short_secrets),
+    return [("planted modules", planted.tell),
+            ("secrets of 0 to 135 bytes, one-shots", refusals.one_shots_with_short_secrets),
             ("secrets of 0 to 135 bytes, streams", refusals.streams_with_short_secrets),
             ("records that are no stream's", refusals.wrong_records)]
 
