@@ -107,23 +107,28 @@ class Proof:
         vm.seed, vm.has_asked = seed if isinstance(seed, Node) else None, False
         size = BYTES[hash_name]
         out = Memory("the value", size) if secret or size == 16 else None
-        vm.loops = Loops(families, [out] if out else [])
         arguments = [seed] if plain or way in ("seed", "both") else []
         arguments += [address(secret), secret.length] if secret else []
         arguments += [address(message), message.length] + ([address(out)] if out else [])
-        results = vm.call(export(hash_name) + ("" if plain else WAYS[way]), arguments)
-        self.tell(vm.loops)
-        vm.loops = None
+        name = export(hash_name) + ("" if plain else WAYS[way])
+        results = self.with_loops(name, arguments, families, [out] if out else [])
         if secret:
             answered(results)
         return out.load(0, size) if out else results[0]
 
-    def tell(self, loops):
+    def with_loops(self, name, arguments, families, live):
+        """What an export gives, with the loops of these families by induction; `live` is what it may write to."""
+        loops = self.vm.loops = Loops(families, live)
+        try:
+            results = self.vm.call(name, arguments)
+        finally:
+            self.vm.loops = None
         if loops.families:
             raise NotShown(f"{loops.families[0].name}: no such loop was met")
         if self.vm.has_asked:
             raise NotShown("whether the seed is 0 was asked, which is another case")
         self.told += loops.told
+        return results
 
     def expect(self, what, ours, theirs):
         self.cases += 1

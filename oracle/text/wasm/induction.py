@@ -3,8 +3,8 @@
 A cell is a variable, a lane of one, a value on the stack below, a global, or a cell of a memory that lives. At the
 loop's head after k turns some cells, the words, hold what the definition says; some, the places, have gone on by a step
 a turn; some may be anything; the others are as at the start. Which cells are which is guessed from two first turns and
-then shown: the words are the definition's for k = 0, and a turn from any k, with words that are the definition's, leads to
-all of that for k + 1. A cell of the words or of the places is never let go."""
+then shown: the words are the definition's for k = 0, and a turn from any k, with words that are the definition's, leads
+to all of that for k + 1. A cell of the words or of the places is never let go."""
 from terms.loops import REFUSALS, NotShown, agree
 from terms.memory import RUNS
 from terms.nodes import symbol
@@ -142,8 +142,7 @@ class Proof:
         out = dict(self.start)
         for turns, cells in ((k, self.places), (j, self.counts)):
             out.update({cell: self.put(cell, moved(x, step, turns)) for cell, (x, step) in cells.items()})
-        for cell, j in self.words.items():
-            out[cell] = self.put(cell, values[j])
+        out.update({cell: self.put(cell, values[number]) for cell, number in self.words.items()})
         for cell in self.free:
             if cell[0] == "memory":
                 out.pop(cell, None)
@@ -209,10 +208,13 @@ class Proof:
                 self.let_go(cell, now.get(cell), expected.get(cell))
 
     def let_go(self, cell, x, expected):
-        is_own = cell[0] in ("variable", "lane") or cell[0] == "memory" and cell[1] is self.vm.stack and cell[2] != RUNS
-        if not is_own or any(cell in cells for cells in (self.words, self.places, self.counts)):
+        if not self.is_own(cell) or any(cell in cells for cells in (self.words, self.places, self.counts)):
             raise NotShown(f"{self.family.name}: {cell} is {x} and not {expected}")
         self.free.add(cell)
+
+    def is_own(self, cell):
+        """Whether a cell is the function's own, so that it may hold anything."""
+        return cell[0] in ("variable", "lane") or cell[0] == "memory" and cell[1] is self.vm.stack and cell[2] != RUNS
 
     # ---- the guess
 
@@ -226,10 +228,10 @@ class Proof:
             step = step_between(old[cell], now[cell])
             if cell in self.words:
                 continue
-            if step is None or not same(then[cell], moved(now[cell], step, 1)):
-                self.free.add(cell)
-            else:
+            if step is not None and same(then[cell], moved(now[cell], step, 1)):
                 self.places[cell] = old[cell], step
+            else:
+                self.let_go(cell, now[cell], old[cell])
 
     def first_turns(self):
         """The states before and after each of two turns, where many are left, or else some."""
@@ -271,10 +273,8 @@ class ProofByBlocks(Proof):
             raise NotOfFamily("a turn of several stripes, or no number of them")
         self.find_counts()
         b, j = (variable(self.vm.fresh(name)) for name in "bj")
-        with given(minus(last, b)):
-            self.until_shown(b, j, (b, plus(j, 1)), [minus(minus(q, 2), j)])
-        with given(minus(minus(last, 1), b)):
-            self.until_shown(b, minus(q, 1), (plus(b, 1), 0), [])
+        while not self.is_shown(b, j):
+            pass
         self.enter_at(last, minus(q, 1))
         self.leave()
         return f"{family.name}: by blocks, {len(self.places)} places go on and {len(self.counts)} in a block"
@@ -286,15 +286,21 @@ class ProofByBlocks(Proof):
         k = self.stripes(b, j)
         self.enter(self.after(k, self.family.supposed(k, self.vm.fresh), j))
 
-    def until_shown(self, b, j, then, facts):
-        """A turn from stripe j of block b to `then`, which is tried again where one more cell may be anything."""
-        size, k = None, self.stripes(*then)
-        while size != len(self.free):
-            size = len(self.free)
-            with given(*facts):
-                self.enter_at(b, j)
-                self.turn()
-                self.compare(k, self.family.words(k), then[1])
+    def is_shown(self, b, j):
+        """The turns from any stripe of any block. False where one more cell may be anything: then both are tried again."""
+        size, q, last = len(self.free), self.family.block, minus(self.family.blocks, 1)
+        with given(minus(last, b), minus(minus(q, 2), j)):
+            self.turn_to(b, j, (b, plus(j, 1)))
+        with given(minus(minus(last, 1), b)):
+            self.turn_to(b, minus(q, 1), (plus(b, 1), 0))
+        return len(self.free) == size
+
+    def turn_to(self, b, j, then):
+        """A turn from stripe j of block b."""
+        self.enter_at(b, j)
+        self.turn()
+        k = self.stripes(*then)
+        self.compare(k, self.family.words(k), then[1])
 
     def find_counts(self):
         """Which places are as at the start behind the first block."""

@@ -14,7 +14,7 @@ from terms.sides import seed_symbol
 
 from . import every_length
 from .calls import RECORDS, address, answered, anything, expect_kept
-from .induction import Family, Loops, same
+from .induction import Family, same
 
 LONGEST = (1 << 64) - 2       # bytes of a stream: its length is exact to there
 # offsets of a record's fields: total and seed are first
@@ -41,11 +41,8 @@ class PlainStreams(every_length.Proof):
         suppositions.suppose(self.after(k), values)
 
     def run(self, what, arguments, families=(), live=()):
-        self.vm.loops, self.vm.seed = Loops(families, live), None
-        results = self.vm.call(f"twox_xxh{self.width}_{what}", arguments)
-        self.tell(self.vm.loops)
-        self.vm.loops = None
-        return results
+        self.vm.seed = None
+        return self.with_loops(f"twox_xxh{self.width}_{what}", arguments, families, live)
 
     # ---- records
 
