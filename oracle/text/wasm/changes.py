@@ -195,9 +195,10 @@ def more(questions):
 
 def of_lengths(kind, lengths):
     hash_name, way, secret, answer = kind
-    for n in lengths:
-        for cuts in [[end] for end in MORE_CUTS if end <= n] if answer is calls.stream else [None]:
-            yield Request(hash_name, way, n, secret, cuts=cuts), answer
+    for number, n in enumerate(lengths):
+        cut = MORE_CUTS[number % len(MORE_CUTS)]
+        cuts = [min(cut, n)] if answer is calls.stream else None
+        yield Request(hash_name, way, n, secret, cuts=cuts), answer
 
 
 def drawn(vm, covered, count, seed):
