@@ -29,9 +29,10 @@ LENGTHS = [*range(10), *range(14, 36, 3), 63, 64, 65, 96, 97, 120, 128, 129, 145
 EDGES = [16, 17, 8, 9, 3, 4, 128, 129, 240, 241, 31, 32, 33, 64, 65, 96, 97, 256, 257, 0, 1, 512, 513, 576, 1024, 1025,
          1088, 1089]
 EACH_STREAM = 9
-MORE_CUTS = 1, 31, 33, 65, 256, 257
-STREAM_LENGTHS = 3, 0, 5, 33, 70, 12, 257, 700, 1500, 200
-STREAM_CUTS = [], [1], [33], [64, 65], [255, 256], [300, 1000]
+KEPT = 2
+MORE_CUTS = 1, 31, 500, 33, 65, 256, 257
+STREAM_LENGTHS = 3, 0, 5, 33, 70, 12, 257, 700, 1500, 200, 520, 600
+STREAM_CUTS = [], [1], [33], [64, 65], [255, 256], [300, 1000], [500]
 STEPS = 100_000               # instructions of a call, with a change
 SECRETS = 136, 192
 TOO_SHORT = 0, 135
@@ -78,7 +79,7 @@ def kind_of(question):
 
 
 class Covered:
-    """Which requests run an instruction, by (function, place in its code): one of each kind of call, drawn evenly."""
+    """Which requests run an instruction, by (function, place in its code): KEPT of each kind of call, drawn evenly."""
 
     def __init__(self, vm, is_all):
         by_kind, seen, draw = collections.defaultdict(dict), collections.Counter(), random.Random(5)
@@ -89,8 +90,9 @@ class Covered:
             question[1](vm, question[0])
             for place in sorted(vm.used):
                 seen[place, kind] += 1
-                if draw.randrange(seen[place, kind]) == 0:
-                    by_kind[place][kind] = question
+                for number in range(KEPT):
+                    if draw.randrange(seen[place, kind]) == 0:
+                        by_kind[place][kind, number] = question
         vm.used = None
         self.by_place = {place: draw.sample([*found.values()], len(found)) for place, found in sorted(by_kind.items())}
         self.places = sorted(self.by_place)
@@ -185,7 +187,7 @@ def differs(request, a, b):
 
 def more(questions):
     """The edges by the same kinds of call, and by one of one-shots and one of streams each length or each ninth."""
-    kinds = [kind for kind in map(kind_of, questions) if kind[-1] not in REFUSING]
+    kinds = [kind for kind in dict.fromkeys(map(kind_of, questions)) if kind[-1] not in REFUSING]
     for kind in kinds:
         yield from of_lengths(kind, EDGES)
     for answer, each in ((calls.one_shot, 1), (calls.stream, EACH_STREAM)):
