@@ -17,7 +17,7 @@ from terms.loops import REFUSALS
 from terms.nodes import WrongRule
 from terms.sides import Request, differing_point
 
-from . import calls
+from . import calls, every_length, refusals
 from .comparing import Texts, with_seed_0
 from .module import Malformed, Reader
 from .opcodes import OPCODES
@@ -31,13 +31,14 @@ EDGES = [16, 17, 8, 9, 3, 4, 128, 129, 240, 241, 31, 32, 33, 64, 65, 96, 97, 256
 EACH_STREAM = 9
 KEPT = 2
 MORE_CUTS = 1, 31, 500, 33, 65, 256, 257
+MORE_PIECES = (1500, 300, 1000), (1100, 600, 900), (1100, 500, 1090)
 STREAM_LENGTHS = 3, 0, 5, 33, 70, 12, 257, 700, 1500, 200, 520, 600
 STREAM_CUTS = [], [1], [33], [64, 65], [255, 256], [300, 1000], [500]
 STEPS = 100_000               # instructions of a call, with a change
 SECRETS = 136, 192
 TOO_SHORT = 0, 135
 NOTICED, NO_VALUE, REFUSED, UNNOTICED = "another value", "no value", "another term, no point found", "unnoticed"
-NOT_VALID = "not valid"
+NOT_VALID, BY_INDUCTION = "not valid", "not shown by induction"
 # Changes by hand: what, the instruction, what stands behind it and which instruction follows (None: anything), which of
 # its bytes, counted from its end where that is negative, and the bits that change there
 BY_HAND = [
@@ -50,7 +51,7 @@ BY_HAND = [
     ("a store, as of bytes 8 further", "i64.store", None, None, -1, 8),
 ]
 EACH_BY_HAND = 3              # places at which each is tried
-REFUSING = calls.refused_one_shot, calls.refused_start       # what answers nothing
+REFUSING = calls.refused_one_shot, calls.refused_start, refusals.refuse_short_secret, refusals.refuse_record
 CRASHES = AttributeError, IndexError, KeyError, TypeError, ValueError, RecursionError
 
 
@@ -67,15 +68,17 @@ def asked(is_all=True):
 
 
 def refused():
-    """Calls whose secret is too short."""
+    """Calls whose secret is too short, and of records that are no stream's."""
     for hash_name, way, size in itertools.product(("3-64", "3-128"), ("secret", "both"), TOO_SHORT):
-        yield Request(hash_name, way, 300, size), calls.refused_one_shot
-        yield Request(hash_name, way, 300, size), calls.refused_start
+        for answer in (calls.refused_one_shot, calls.refused_start, refusals.refuse_short_secret):
+            yield Request(hash_name, way, 300, size), answer
+    for wrong in refusals.WRONG_RECORDS:
+        yield refusals.WrongRecord(*wrong), refusals.refuse_record
 
 
 def kind_of(question):
     request, answer = question
-    return request.hash_name, request.kind, request.secret_length, answer
+    return request.hash_name, request.kind, request.secret_length, answer, getattr(request, "what", None)
 
 
 class Covered:
@@ -187,12 +190,15 @@ def differs(request, a, b):
 
 def more(questions):
     """The edges by the same kinds of call, and by one of one-shots and one of streams each length or each ninth."""
-    kinds = [kind for kind in dict.fromkeys(map(kind_of, questions)) if kind[-1] not in REFUSING]
+    kinds = [kind[:4] for kind in dict.fromkeys(map(kind_of, questions)) if kind[3] not in REFUSING]
     for kind in kinds:
         yield from of_lengths(kind, EDGES)
     for answer, each in ((calls.one_shot, 1), (calls.stream, EACH_STREAM)):
-        for kind in [kind for kind in kinds if kind[-1] is answer][:1]:
+        for kind in [kind for kind in kinds if kind[3] is answer][:1]:
             yield from of_lengths(kind, range(0, 301, each))
+    for hash_name, way, secret, answer in kinds:
+        for n, *cuts in MORE_PIECES if answer is calls.stream else ():
+            yield Request(hash_name, way, n, secret, cuts=cuts), answer
 
 
 def of_lengths(kind, lengths):
@@ -201,6 +207,20 @@ def of_lengths(kind, lengths):
         cut = MORE_CUTS[number % len(MORE_CUTS)]
         cuts = [min(cut, n)] if answer is calls.stream else None
         yield Request(hash_name, way, n, secret, cuts=cuts), answer
+
+
+def of_many_bytes(vm):
+    """What is noticed of one-shots of XXH3 of many bytes and of other secrets, by induction."""
+    own = every_length.OWN_CASES
+    try:
+        for hash_name in ("3-64", "3-128"):
+            proof = every_length.Proof(vm)
+            proof.long(hash_name, "seed", every_length.CASES[1])
+            for case in (own[0], own[-5], own[-1]):
+                proof.own_secret(hash_name, "both", case)
+    except (*REFUSALS, *CRASHES):
+        return BY_INDUCTION
+    return UNNOTICED
 
 
 def drawn(vm, covered, count, seed):
@@ -270,6 +290,8 @@ def tell(name, vm, count, seed, is_all):
         has_reason = what == UNNOTICED and text in known
         if what == UNNOTICED and not has_reason:
             what = outcome(changed, texts, more(questions))
+            what = of_many_bytes(changed) if what == UNNOTICED else what
+            texts.forget()
         counts["unnoticed, with a reason" if has_reason else what.partition(":")[0]] += 1
         if what == UNNOTICED and not has_reason or what.startswith("A "):
             bad.append(f"{what}: {text}")

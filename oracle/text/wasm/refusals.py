@@ -1,16 +1,16 @@
 """What the modules refuse, with nothing written: secrets of fewer than 136 bytes, and records that are no stream's."""
 from terms.llvm_text import Unsupported
-from terms.memory import Input, Memory
+from terms.memory import Memory
 from terms.sides import Request
 
 from . import calls
-from .calls import NOT_A_STREAM, SECRET_TOO_SHORT, Stream, address, answered, expect_kept
+from .calls import NOT_A_STREAM, SECRET_TOO_SHORT, Stream, answered, expect_kept
 from .comparing import compare
 
 LEAST_SECRET = 136
 SHORT, LONG = (240,), (241,)      # message lengths at which a seed and a secret need none, and where they do
 XXH3 = "3-64", "3-128"
-# Bytes taken, and fields that don't agree with that: (family, bytes, what, offset, size, value)
+# Bytes taken, and fields that don't agree with that: (hash, bytes, what, offset, size, value)
 WRONG_RECORDS = [
     ("32", 5, "fewer bytes wait", 48, 8, 4), ("32", 5, "more bytes wait", 48, 8, 6),
     ("32", 5, "a whole stripe waits", 48, 8, 16), ("32", 5, "2^32 bytes more wait", 48, 8, 5 + 2 ** 32),
@@ -50,15 +50,20 @@ def streams_with_short_secrets(machines):
     there."""
     count = 0
     for vm in machines.values():
-        good = started(vm, Request("3-64", "secret", 300, LEAST_SECRET), 300)
         for size in range(LEAST_SECRET):
             for way in ("secret", "both"):
                 calls.refused_start(vm, Request("3-64", way, 300, size))
                 expect_not_asked(vm)
-            good.secret = [address(Input("s", size)), size]
-            expect_refused(good, SECRET_TOO_SHORT)
+            refuse_short_secret(vm, Request("3-64", "secret", 300, size))
             count += 2 + 3
     return f"{count} refused", []
+
+
+def refuse_short_secret(vm, request):
+    """An update and a digest of a stream that is there, which are handed another secret, that is too short."""
+    it = started(vm, Request(request.hash_name, request.kind, request.length, LEAST_SECRET), request.length)
+    it.secret = calls.of_secret(request)
+    expect_refused(it, SECRET_TOO_SHORT)
 
 
 def expect_not_asked(vm):
@@ -85,12 +90,24 @@ def expect_refused(it, code):
     expect_kept("the record", it.record, before)
 
 
+class WrongRecord(Request):
+    """A stream of which a field is another one then."""
+
+    def __init__(self, hash_name, taken, what, *field):
+        super().__init__(hash_name, "seed", taken, seed=7)
+        self.what, self.field = what, field
+
+
+def refuse_record(vm, wrong):
+    it = started(vm, wrong, wrong.length)
+    it.record.store(*wrong.field)
+    if "lost" in wrong.what:
+        it.record.store(0, 8, 2 ** 64 - 1)
+    expect_refused(it, NOT_A_STREAM)
+
+
 def wrong_records(machines):
     for vm in machines.values():
-        for name, taken, what, at, size, value in WRONG_RECORDS:
-            it = started(vm, Request(name, "seed", taken, seed=7), taken)
-            it.record.store(at, size, value)
-            if "lost" in what:
-                it.record.store(0, 8, 2 ** 64 - 1)
-            expect_refused(it, NOT_A_STREAM)
+        for wrong in WRONG_RECORDS:
+            refuse_record(vm, WrongRecord(*wrong))
     return f"{len(WRONG_RECORDS) * len(machines)} refused", []
