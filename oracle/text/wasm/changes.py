@@ -32,7 +32,7 @@ EACH_STREAM = 9
 KEPT = 2
 MORE_CUTS = 1, 31, 500, 33, 65, 256, 257
 MORE_PIECES = (1500, 300, 1000), (1100, 600, 900), (1100, 500, 1090)
-STREAM_LENGTHS = 3, 0, 5, 33, 70, 12, 257, 700, 1500, 200, 520, 600
+STREAM_LENGTHS = 3, 0, 5, 33, 70, 12, 257, 1500, 520, 700, 200, 600
 STREAM_CUTS = [], [1], [33], [64, 65], [255, 256], [300, 1000], [500]
 STEPS = 100_000               # instructions of a call, with a change
 SECRETS = 136, 192
@@ -225,10 +225,15 @@ def of_many_bytes(vm):
 
 def drawn(vm, covered, count, seed):
     """So many changes that are valid, of instructions that are run, as (the instruction's text, what, the machine or
-    None where it isn't valid, the requests)."""
-    draw, valid = random.Random(seed), 0
-    while valid < count:
-        place = draw.choice(covered.places)
+    None where it isn't valid, the requests). Which changes come doesn't depend on the requests."""
+    places, valid = [(f.index, pc) for f in vm.module.functions for pc in range(len(f.code))], 0
+    for number in itertools.count():
+        draw = random.Random(f"{seed} {number}")
+        place = draw.choice(places)
+        if valid == count:
+            return
+        if place not in covered.by_place:
+            continue
         function = vm.module.functions[place[0]]
         x = function.code[place[1]]
         what, whole = change_of(x, vm.module.whole, draw)
