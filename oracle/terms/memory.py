@@ -8,7 +8,7 @@ from .nodes import symbol
 from .polynomials import constant_of, is_natural, is_number, is_same, minus, plus
 from .rules import bits_of, from_segments
 
-LONGEST = 1 << 14        # bytes of the window that begins at byte 0 of an input
+LONGEST = 1 << 15        # bytes of the window that begins at byte 0 of an input
 REACH = 4096             # bytes to each side of a window that begins elsewhere
 WIDEST = 32              # bytes that a cell has at most: a vector's
 RUNS = "runs"
