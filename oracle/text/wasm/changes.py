@@ -215,7 +215,8 @@ def of_many_bytes(vm):
     try:
         for hash_name in ("3-64", "3-128"):
             proof = every_length.Proof(vm)
-            proof.long(hash_name, "seed", every_length.CASES[1])
+            for case in every_length.CASES[:2]:
+                proof.long(hash_name, "seed", case)
             for case in (own[0], own[-5], own[-1]):
                 proof.own_secret(hash_name, "both", case)
     except (*REFUSALS, *CRASHES):
