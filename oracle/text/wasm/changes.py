@@ -31,7 +31,7 @@ EDGES = [16, 17, 8, 9, 3, 4, 128, 129, 240, 241, 31, 32, 33, 64, 65, 96, 97, 256
 EACH_STREAM = 9
 KEPT = 2
 MORE_CUTS = 1, 31, 500, 33, 65, 256, 257
-MORE_PIECES = (1500, 300, 1000), (1100, 600, 900), (1100, 500, 1090)
+MORE_PIECES = (1500, 300, 1000), (1100, 600, 900), (1100, 500, 1090), (520, 500), (513, 512)
 STREAM_LENGTHS = 3, 0, 5, 33, 70, 12, 257, 1500, 520, 700, 200, 600
 STREAM_CUTS = [], [1], [33], [64, 65], [255, 256], [300, 1000], [500]
 STEPS = 100_000               # instructions of a call, with a change
@@ -215,7 +215,8 @@ def of_many_bytes(vm):
     try:
         for hash_name in ("3-64", "3-128"):
             proof = every_length.Proof(vm)
-            proof.long(hash_name, "seed", every_length.CASES[1])
+            for case in every_length.CASES[:2]:
+                proof.long(hash_name, "seed", case)
             for case in (own[0], own[-5], own[-1]):
                 proof.own_secret(hash_name, "both", case)
     except (*REFUSALS, *CRASHES):

@@ -166,12 +166,15 @@ class Proof:
 
     def long(self, hash_name, way, case):
         """1024 B + 64 J + t + 1 bytes, with a secret of 192 to 199 bytes, where it isn't the default one or derived."""
-        B, t, u = variable("B") if case.least_blocks else 0, variable("t"), variable("u")
-        n, size = plus(times(BLOCK, B), 64 * case.J + 1, t), plus(192, u)
+        is_number = case.least_blocks == case.most_blocks and case.least == case.most
+        B, t = (variable(name) for name in "Bt")
+        B, t = (case.least_blocks, case.least) if is_number else (B if case.least_blocks else 0, t)
+        n, size = plus(times(BLOCK, B), 64 * case.J + 1, t), plus(192, variable("u"))
         of_blocks = [minus(B, case.least_blocks)] if case.least_blocks else []
         of_blocks += [at_most(B, case.most_blocks)] if case.most_blocks else []
-        with given(*of_blocks, minus(t, case.least), at_most(t, case.most), at_most(n, LONGEST), at_most(u, 7)):
-            self.of_blocks(hash_name, way, n, size, lambda after, suppose: [] if not case.least_blocks else [
+        of_rest = [minus(t, case.least), at_most(t, case.most), at_most(variable("u"), 7)]
+        with given(*of_blocks, *of_rest, at_most(n, LONGEST)):
+            self.of_blocks(hash_name, way, n, size, lambda after, suppose: [] if isinstance(B, int) else [
                 Family(f"XXH{hash_name}, {way}, of {n} bytes", times(BLOCK // 64, B), 8, 64, after, suppose)])
 
     def of_blocks(self, hash_name, way, n, size, families):
