@@ -3,8 +3,9 @@
 XXH32 and XXH64: stripe * (u b + c) + r bytes, where a text takes u stripes at once, b is any number from 1 on, c below
 u and r below a stripe. XXH3, above what is asked one by one: 64 (q B + J) + t + 1 bytes, q stripes in a block, B
 blocks, J below q, and t below 64. With the default secret and one that a seed derives q is 16; a secret that is given
-has 64 + 8 q + u bytes, u below 8, and q is a number from 9 to 24. The texts have ways of their own from 31,744 bytes on,
-and where the stripes come to 2 ^ 32; `left_out` computes that the cases have all lengths but those that it gives."""
+has 64 + 8 q + u bytes, u below 8, and q is a number from 9 to 24. The texts have ways of their own from 31,744 bytes
+on, and where the stripes come to 2 ^ 32; `left_out` computes that the cases have all lengths but those that it
+gives."""
 import collections
 import itertools
 
