@@ -143,8 +143,10 @@ class Processor:
     def put(self, register, value):
         if register.name == "xzr":
             return
-        if register.name == "sp" and not (isinstance(value, Address) and value.place()[0] is self.stack):
-            raise Unsupported("another stack")
+        if register.name == "sp":
+            memory, at = value.place() if isinstance(value, Address) else (None, 1)
+            if memory is not self.stack or not isinstance(at, int) or at % 16:
+                raise Unsupported("another stack, or one at no multiple of 16")
         self.registers[register.name] = value
 
     # ---- memory
