@@ -10,23 +10,28 @@ from .comparing import compare
 LEAST_SECRET = 136
 SHORT, LONG = (240,), (241,)      # message lengths at which a seed and a secret need none, and where they do
 XXH3 = "3-64", "3-128"
-# Bytes taken, and fields that don't agree with that: (hash, bytes, what, offset, size, value)
+# Bytes taken, and fields that don't agree with that: (hash, bytes, what, (offset, size, value), ..)
+LOST = 0, 8, 2 ** 64 - 1      # a length that is no longer counted
 WRONG_RECORDS = [
-    ("32", 5, "fewer bytes wait", 48, 8, 4), ("32", 5, "more bytes wait", 48, 8, 6),
-    ("32", 5, "a whole stripe waits", 48, 8, 16), ("32", 5, "2^32 bytes more wait", 48, 8, 5 + 2 ** 32),
-    ("32", 5, "another length", 0, 8, 4), ("32", 5, "an accumulator, with no stripe", 12, 4, 1),
-    ("32", 5, "the last accumulator, with no stripe", 24, 4, 1), ("32", 5, "another seed", 8, 4, 8),
-    ("32", 5, "a length that is lost, and a whole stripe waits", 48, 8, 16),
-    ("64", 5, "fewer bytes wait", 80, 8, 4), ("64", 5, "more bytes wait", 80, 8, 6),
-    ("64", 5, "a whole stripe waits", 80, 8, 32), ("64", 5, "another length", 0, 8, 2 ** 63 + 4),
-    ("64", 5, "an accumulator, with no stripe", 16, 8, 1), ("64", 5, "the last accumulator, with no stripe", 40, 8, 1),
-    ("64", 5, "another seed", 8, 8, 8), ("64", 40, "fewer bytes wait", 80, 8, 7),
-    ("3-64", 5, "no byte waits", 672, 8, 0), ("3-64", 5, "more bytes wait than there is room", 672, 8, 513),
-    ("3-64", 5, "another length", 680, 8, 6), ("3-64", 5, "2^63 bytes more", 680, 8, 5 + 2 ** 63),
-    ("3-64", 5, "a stripe more", 152, 8, 1), ("3-64", 5, "an accumulator, with no stripe", 16, 8, 1),
-    ("3-64", 5, "the last accumulator, with no stripe", 72, 8, 1), ("3-64", 5, "a place in the block", 80, 8, 1),
-    ("3-64", 700, "a place behind the secret", 80, 8, 16), ("3-64", 700, "no byte waits", 672, 8, 0),
-    ("3-64", 700, "another length", 680, 8, 699), ("3-64", 700, "a stripe fewer", 152, 8, 6),
+    ("32", 5, "fewer bytes wait", (48, 8, 4)), ("32", 5, "more bytes wait", (48, 8, 6)),
+    ("32", 5, "a whole stripe waits", (48, 8, 16)), ("32", 5, "2^32 bytes more wait", (48, 8, 5 + 2 ** 32)),
+    ("32", 5, "another length", (0, 8, 4)), ("32", 5, "an accumulator, with no stripe", (12, 4, 1)),
+    ("32", 5, "the last accumulator, with no stripe", (24, 4, 1)), ("32", 5, "another seed", (8, 4, 8)),
+    ("32", 5, "a length that is lost, and a whole stripe waits", (48, 8, 16), LOST),
+    ("32", 5, "a length that is lost, and 2^63 bytes wait", (48, 8, 2 ** 63), LOST),
+    ("64", 5, "a length that is lost, and a whole stripe waits", (80, 8, 32), LOST),
+    ("64", 5, "a length that is lost, and 2^63 bytes wait", (80, 8, 2 ** 63), LOST),
+    ("64", 5, "fewer bytes wait", (80, 8, 4)), ("64", 5, "more bytes wait", (80, 8, 6)),
+    ("64", 5, "a whole stripe waits", (80, 8, 32)), ("64", 5, "another length", (0, 8, 2 ** 63 + 4)),
+    ("64", 5, "an accumulator, with no stripe", (16, 8, 1)), ("64", 5, "the last accumulator, with no stripe", (40, 8, 1)),
+    ("64", 5, "another seed", (8, 8, 8)), ("64", 40, "fewer bytes wait", (80, 8, 7)),
+    ("3-64", 5, "no byte waits", (672, 8, 0)), ("3-64", 5, "more bytes wait than there is room", (672, 8, 513)),
+    ("3-64", 5, "another length", (680, 8, 6)), ("3-64", 5, "2^63 bytes more", (680, 8, 5 + 2 ** 63)),
+    ("3-64", 5, "a stripe more", (152, 8, 1)), ("3-64", 5, "an accumulator, with no stripe", (16, 8, 1)),
+    ("3-64", 5, "the last accumulator, with no stripe", (72, 8, 1)), ("3-64", 5, "a place in the block", (80, 8, 1)),
+    ("3-64", 700, "a place behind the secret", (80, 8, 16)), ("3-64", 700, "no byte waits", (672, 8, 0)),
+    ("3-64", 700, "another length", (680, 8, 699)), ("3-64", 700, "a stripe fewer", (152, 8, 6)),
+    ("3-64", 5, "513 bytes are said to wait and to have been taken", (672, 8, 513), (680, 8, 513)),
 ]
 
 
@@ -91,18 +96,17 @@ def expect_refused(it, code):
 
 
 class WrongRecord(Request):
-    """A stream of which a field is another one then."""
+    """A stream of which some fields are others then."""
 
-    def __init__(self, hash_name, taken, what, *field):
+    def __init__(self, hash_name, taken, what, *fields):
         super().__init__(hash_name, "seed", taken, seed=7)
-        self.what, self.field = what, field
+        self.what, self.fields = what, fields
 
 
 def refuse_record(vm, wrong):
     it = started(vm, wrong, wrong.length)
-    it.record.store(*wrong.field)
-    if "lost" in wrong.what:
-        it.record.store(0, 8, 2 ** 64 - 1)
+    for field in wrong.fields:
+        it.record.store(*field)
     expect_refused(it, NOT_A_STREAM)
 
 
