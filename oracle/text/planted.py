@@ -13,7 +13,7 @@ from terms.nodes import WrongRule
 from terms.polynomials import variable
 from terms.sides import TOP, Request
 
-from . import calls, every_length, exports, on_processor, one_shots, streams, values
+from . import any_updates, calls, every_length, exports, on_processor, one_shots, streams, values
 from .instructions import TABLE, V2
 from .objects import Program
 from .processor import Processor
@@ -153,10 +153,12 @@ def is_refused(wrong, room):
 # ---- what of the check itself is wrong
 
 def lacks_a_case(_):
-    """A case of the induction that is left out."""
+    """A case of the induction that is left out, and an update's."""
     cases = every_length.cases("3-64:seed")
-    with unittest.mock.patch.object(every_length, "cases", lambda kind: cases[:13] + cases[14:]):
-        return every_length.left_out("3-64:seed", 1101) != [every_length.PREFETCHED]
+    updates = list(any_updates.updates("64"))
+    with unittest.mock.patch.object(any_updates, "updates", lambda name: updates[:99] + updates[100:]):
+        is_seen = bool(any_updates.left_out("64"))
+    return is_seen and len(every_length.left_out(cases[:13] + cases[14:], 1101, 1024)) > 1
 
 
 def has_a_wrong_sum(_):
