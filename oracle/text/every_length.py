@@ -26,7 +26,7 @@ from .values import address
 UNROLLED = {"32": 8, "64": 2}     # stripes that a text takes at once, or a part of them
 PREFETCHED = 31_744               # bytes from which on the texts of XXH3 have loops of their own
 LIMIT = 30_000                    # instructions that a case may run: else a loop is run that should be shown
-SHORTEST = 136                    # bytes of a secret
+SHORTEST, LONGEST_KEPT = 136, 263 # bytes of secrets that the cases have
 TURNS, FAR, MANY = "turns", 496, 1 << 32      # stripes from which on a text takes other ways
 DERIVED, KEPT = 16, range(9, 25)  # stripes of a block: by default, and with the secrets that streams take too
 

@@ -32,11 +32,14 @@ class Family:
         self.blocks = blocks
         self.put, self.known = suppose, {}
 
-    def words(self, k):
-        key = repr(k)
+    def word(self, k, j):
+        key = repr(k), j
         if key not in self.known:
-            self.known[key] = [self.after(k)(j) for j in range(self.count)]
+            self.known[key] = self.after(k)(j)
         return self.known[key]
+
+    def words(self, k):
+        return [self.word(k, j) for j in range(self.count)]
 
     def suppose(self, k, values):
         self.known.clear()       # what was said before may stand on other suppositions
@@ -44,7 +47,7 @@ class Family:
 
     def seem(self, k, is_there):
         """Whether all words for k are there; asked one by one, since each may be dear."""
-        return all(is_there(self.after(k)(j)) for j in range(self.count))
+        return all(is_there(self.word(k, j)) for j in range(self.count))
 
 
 # ---- cells
@@ -317,10 +320,16 @@ class Proof:
                 self.places[cell] = self.start[cell], step
         return True
 
+    def steps(self, changed, once):
+        """How many stripes a turn may take: what a place in memory goes on by."""
+        moves = {step_between(self.start.get(cell), once.get(cell)) for cell in changed
+                 if isinstance(once.get(cell), Address)}
+        return [step for step in STEPS if any(is_same_number(x, step * self.family.stripe) for x in moves)] or STEPS
+
     def guess_words(self, first, changed, once):
         """Which cells hold the words at the start, and those of so many stripes more after a turn: `step`."""
         words = self.family.words(first)
-        for self.step in STEPS:
+        for self.step in self.steps(changed, once):
             then = self.family.words(plus(first, self.step))
             self.words = {cell: j for cell in changed for j, (x, y) in enumerate(zip(words, then))
                           if same(self.start.get(cell), x) and same(once.get(cell), y)}

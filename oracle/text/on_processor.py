@@ -80,6 +80,12 @@ def written(mnemonic, operands):
     return f"{mnemonic} " + ",".join(operand_written(x, base, is_lea) for x in operands)
 
 
+def bases_of(lines):
+    """The registers that hold the address of the memory."""
+    is_lea = lines[0].startswith("lea ")
+    return [name for name in BASES if not is_lea and f"{ROOM:#x}(%{name})" in lines[0]]
+
+
 def operand_written(x, base, is_lea):
     if isinstance(x, Register):
         return f"%{x.name}"
@@ -97,8 +103,7 @@ def operand_written(x, base, is_lea):
 def function(number, lines):
     """A function that loads all registers, runs some lines and stores all registers and flags. A register that the
     lines have as a base is the address of the memory."""
-    text = " ".join(lines)
-    bases = [name for name in BASES if f"{ROOM:#x}(%{name})" in text]
+    bases = bases_of(lines)
     rest = [name for name in LOADED if name not in (*bases, "rdi")]
     yield from (f".globl t{number}", f".type t{number},@function", f"t{number}:")
     yield from (f"push %{name}" for name in (*KEPT, "rdi"))
@@ -154,7 +159,7 @@ def by_table(cpu, number, lines, data):
     """What the memory has to hold afterwards, by the table."""
     room = Words("state", SIZE, [(at, 8, word(data, at)) for at in range(ROOM, AFTER, 8)], alignment=64)
     cpu.registers = {name: word(data, REGISTERS + 8 * k) for k, name in enumerate(LOADED)}
-    bases = [name for name in BASES if f"{ROOM:#x}(%{name})" in lines[0]]
+    bases = bases_of(lines)
     cpu.registers.update({name: address(room) for name in bases})
     cpu.stack = Stack()
     cpu.registers["rsp"] = address(cpu.stack, ENTRY)

@@ -20,14 +20,14 @@ from .processor import Processor
 NAMES = V2, V3
 FOLDER = os.path.join(TOP, "c", "asm")
 ONE_BY_ONE, MORE = range(301), range(301, 1101)     # lengths asked one by one: always, and with --all
-SECRETS, MORE_SECRETS = (136,), (136, 137, 143, 144, 192, 193, 199, 200, 256)
-STREAM_SECRETS = 136, 192, 193, 256
+SECRETS, STREAM_SECRETS = (136,), (136, 193, 256)
 # Streams: their lengths, with how each is cut in a sample; and those of a few more.
 FEW_STREAMS = [(0,), (5, 2), (33, 1), (70, 33, 64), (200, 31, 160), (240, 239), (257, 256), (300, 64, 192),
                (600, 512, 599), (1100, 64), (1500, 40, 1100)]
 MANY_STREAMED = [1500, 2200, 3000, 4200]
 SOME_UPDATES, UPDATE_PARTS = 97, 4                  # updates of streams, in a sample and in parts
 SOME_SECRETS = [*range(136, 144), *range(190, 202), 256, 257, 576, 999, 1000]
+LONGER_SECRETS = range(every_length.LONGEST_KEPT + 1, 1001)
 MOST_NODES = 400_000                                # of the cases of a proof
 SMALL = [0, 1, 3, 4, 8, 9, 16, 17, 128, 129, 240, 241, 1000]
 assert scalar and lanes                             # which fill the table
@@ -91,10 +91,9 @@ def one_by_one(texts, kind, lengths, more=""):
 
 
 def one_shot_rows(texts, is_all):
+    """Secrets of other lengths have rows of every length."""
     out = [one_by_one(texts, kind, ONE_BY_ONE) for kind in comparison.kinds(SECRETS)]
-    for kind in comparison.kinds(MORE_SECRETS) if is_all else ():
-        if kind[2] not in (None, *SECRETS):
-            out.append(one_by_one(texts, kind, ONE_BY_ONE))
+    for kind in comparison.kinds(SECRETS) if is_all else ():
         out += [one_by_one(texts, kind, MORE), one_by_one(texts, kind, comparison.edges(kind[2]), ", at edges")]
         if kind[2] is None and kind[0].startswith("3-"):
             out.append(one_by_one(texts, kind, [every_length.PREFETCHED]))
@@ -102,15 +101,14 @@ def one_shot_rows(texts, is_all):
 
 
 def secret_rows(texts, is_all):
-    """Secrets of each length to 1,000: too short ones are refused."""
+    """Secrets that are too short, and those that the rows of every length leave out."""
     out, lengths = [], SMALL if is_all else [0, 17, 241]
-    sizes = range(calls.SHORTEST, 1001) if is_all else SOME_SECRETS
+    sizes, asked = (LONGER_SECRETS, [241, 700, 1100]) if is_all else (SOME_SECRETS, [240, 700])
     for hash_name in ("3-64", "3-128"):
         out.append(of_each(texts, f"XXH{hash_name}, secrets that are too short", 2 * calls.SHORTEST * len(lengths),
                            functools.partial(calls.short_secrets, hash_name=hash_name, lengths=lengths)))
-        asked = [Request(hash_name, kind, n, size) for size in sizes for kind in ("secret", "both")
-                 for n in (lengths if is_all else [240, 700])]
-        out.append(compared(texts, f"XXH{hash_name}, secrets of {sizes[0]} to {sizes[-1]} bytes", asked))
+        requests = (Request(hash_name, kind, n, size) for size in sizes for kind in ("secret", "both") for n in asked)
+        out.append(compared(texts, f"XXH{hash_name}, secrets of {sizes[0]} to {sizes[-1]} bytes", requests))
     return out
 
 
@@ -170,7 +168,8 @@ def count_shown(proof, asked):
 # ---- every length
 
 def every_length_rows(texts, is_all):
-    out = [counted("every length has its row", 2 + len(every_length.KEPT), lengths_left_out)]
+    out = [counted("every length of XXH32 and XXH64 has its row", 2, plain_left_out)]
+    out += [counted("every length of XXH3 has its row", 1 + len(every_length.KEPT), xxh3_left_out)] if is_all else []
     for kind in ["32", "64", *(f"{name}:{way}" for name in ("3-64", "3-128") for way in ("default", "seed"))]:
         asked = every_length.cases(kind)
         for seed in [None, 0] if kind.endswith("seed") else [None]:
@@ -190,15 +189,22 @@ def of_every_length(texts, kind, title, asked, seed=None):
             for name, program in texts.items()]
 
 
-def lengths_left_out():
+def plain_left_out():
+    return told_left_out({f"XXH{name}": every_length.left_out(every_length.cases(name), ONE_BY_ONE.stop,
+                                                              int(name) // 2 * every_length.UNROLLED[name])
+                          for name in every_length.UNROLLED})
+
+
+def xxh3_left_out():
     """Of the default secret and a derived one a row of its own has the one length that no case has."""
-    found = {name: every_length.left_out(every_length.cases(name), ONE_BY_ONE.stop, int(name) // 2 *
-                                         every_length.UNROLLED[name]) for name in every_length.UNROLLED}
-    found["3"] = [n for n in every_length.left_out(every_length.cases("3-64:seed"), MORE.stop, 1024)
-                  if n != every_length.PREFETCHED]
-    found.update({f"3 with {q} stripes": every_length.left_out(list(every_length.of_secret(q)), 241, 64 * q)
-                  for q in every_length.KEPT})
-    return len(found), [f"XXH{name}: no row has {left[:5]}" for name, left in found.items() if left]
+    derived = every_length.left_out(every_length.cases("3-64:seed"), MORE.stop, 64 * every_length.DERIVED)
+    found = {f"a secret of {q} words": every_length.left_out(list(every_length.of_secret(q)), 241, 64 * q)
+             for q in every_length.KEPT}
+    return told_left_out({**found, "a derived secret": sorted({*derived} - {every_length.PREFETCHED})})
+
+
+def told_left_out(found):
+    return len(found), [f"{name}: no row has {left[:5]}" for name, left in found.items() if left]
 
 
 def shown(name, program, kind, asked, seed):
