@@ -14,7 +14,7 @@ from .module import FUNCTION, GLOBAL, MEMORY, Module
 WEB = os.path.join(os.path.dirname(os.path.abspath(__file__)), "..", "..", "..", "web")
 NAMES = "twox_hash.wasm", "twox_hash_simd.wasm"
 SECRETS, GATE_SECRETS = (136, 137, 143, 144, 192, 256), (136,)
-GATE_EACH, GATE_STREAMS = 5, (33, 300)      # each so manieth length of the one-shots, and the lengths of streams
+GATE_EACH, GATE_STREAMS = 8, (33, 300)      # each so manieth length of the one-shots, and the lengths of streams
 GATE_KINDS, GATE_CASES = [("32", "seed"), ("64", "seed"), ("3-64", "seed"), ("3-128", "both")], 24
 GATE_CHANGES, CHANGES = 30, 1000     # of a module
 PARTS = 4                            # the changes of a module are tried in so many rows
@@ -162,7 +162,7 @@ def shown(machines, module, hash_name, way, each):
 def of_engine(is_all):
     return [("the table of instructions beside Node", engine.compare_instructions),
             ("changed modules, which Node too accepts or refuses",
-                functools.partial(engine.compare_validity, count=300 if is_all else 8))]
+                functools.partial(engine.compare_validity, count=300 if is_all else 5))]
 
 
 def of_changes(is_all):
