@@ -8,7 +8,8 @@ import sys
 
 import table
 
-from . import comparison, definition, nodes, operations
+from . import comparison, definition, halves, nodes, operations
+from .machine import BINARY
 from .nodes import BITS, NODES, SUM, SYMBOL, Node, most_of, symbol, values_at
 from .operations import (add, add_at, bits, both, either, monus, multiply, multiply_at, quotient, remainder,
                          shift_right,
@@ -48,6 +49,18 @@ def rotated(x, k, width=64):
 def turned(x):
     """A word with its bytes in the other order."""
     return sum((bits(x, 8 * k, 8) << 8 * (7 - k) for k in range(8)), 0)
+
+
+def by_halves(x, y):
+    """The upper and the lower word of a product, by the steps of halves.py."""
+    def step(name, a, b):
+        return halves.noted(name, a, b, BINARY[name](64, a, b))
+    (a0, a1), (b0, b1) = ((bits(z, 0, 32), bits(z, 32, 32)) for z in (x, y))
+    lowest = step("mul", a0, b0)
+    first = step("add", step("mul", a1, b0), step("lshr", lowest, 32))
+    second = step("add", step("mul", a0, b1), step("and", first, (1 << 32) - 1))
+    upper = step("add", step("add", step("mul", a1, b1), step("lshr", first, 32)), step("lshr", second, 32))
+    return upper, step("or", bits(lowest, 0, 32), step("shl", second, 32))
 
 
 def random_operation(draw, pool):
@@ -101,6 +114,8 @@ def laws(draw, message):
         (monus((1 << 64) - 1, s), wrap(add(monus(1 << 64, s), (1 << 64) - 1))),
         (shift_right(remainder(multiply(add(multiply(s, 1 << 64), v), c), 1 << 128), 64),
          wrap(add(shift_right(multiply(v, c), 64), multiply(s, c)))),
+        *(pair for b in (s, c | 1 << 40)     # a number with both halves
+          for pair in zip(by_halves(v, b), (bits(multiply(v, b), 64, 64), multiply_at(64, v, b)))),
     ]
 
 

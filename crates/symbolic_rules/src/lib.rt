@@ -121,10 +121,12 @@ pub fn small_remainder()
 
 /// A product of two words of 64 bits is made of the products of their halves, as `assembly/webassembly.py` has it made in
 /// browsers: the upper word is that of those steps, of which none is too large for 64 bits, and the lower one the
-/// product's own.
-#[tactic(auto, using(crate::proofs::ProductFacts::product))]
+/// product's own, or the lower halves of the second sum and of the lower halves' product.
+#[tactic(auto, using(crate::proofs::ProductFacts::product, crate::proofs::ProductFacts::lower))]
 pub fn product_by_halves()
     ensures product { (a b : ℕ) → upper_word a b * 2 ^ 64 + a * b % 2 ^ 64 ≡ a * b }
+    ensures lower { (a b : ℕ) → a * b % 2 ^ 64
+        ≡ second_sum a b % 2 ^ 32 * 2 ^ 32 + a % 2 ^ 32 * (b % 2 ^ 32) % 2 ^ 32 }
     ensures fits { (a b : ℕ) → a < 2 ^ 64 → b < 2 ^ 64
         → (a % 2 ^ 32 * (b % 2 ^ 32) < 2 ^ 64) × (first_sum a b < 2 ^ 64)
         × (second_sum a b < 2 ^ 64) × (upper_word a b < 2 ^ 64) }

@@ -1,0 +1,220 @@
+"""An assembled object of 64-bit ARM as what runs: instructions by section and address, and constants.
+
+The instructions are those that objdump reads out of the object's bytes. What a linker could make something else of is
+refused: two sections of one name, sections that are written to, a relocation of another kind, and a name that another
+library may take the place of."""
+import collections
+import os
+import re
+import struct
+import subprocess
+import sys
+
+from terms.llvm_text import Unsupported
+from terms.sides import TOP
+
+sys.path.append(os.path.join(TOP, "assembly"))
+from same_bytes import FRAMES, LOADED, NONE, NOTE, RELA, STRTAB, SYMTAB, WITHOUT_MEANING, Object, is_global
+
+# An instruction: `form` has a word for each operand; `target` is (section or constant, offset), where it names one
+Instruction = collections.namedtuple("Instruction", "section at end mnemonic form operands target")
+Register = collections.namedtuple("Register", "name width")            # x0 and w0, xzr, sp
+Vector = collections.namedtuple("Vector", "number arrangement lane")   # q0 is (0, "q", None), v0.d[1] is (0, "d", 1)
+Immediate = collections.namedtuple("Immediate", "value")
+Shift = collections.namedtuple("Shift", "kind amount")
+Place = collections.namedtuple("Place", "base index offset mode")      # mode: offset, before or after
+
+AARCH64, PROGBITS, FUNCTION = 183, 1, 2
+CODE, CONSTANTS, MERGEABLE = LOADED | 4, LOADED, LOADED | 0x10
+UNLOADED = NONE, SYMTAB, STRTAB, RELA
+PAGE, LOW_ADD, JUMP, CALL, LOW_64, LOW_128 = 275, 277, 282, 283, 286, 299      # relocations
+OF_RELOCATION = {PAGE: "adrp", LOW_ADD: "add", JUMP: "b", CALL: "bl", LOW_64: "ldr", LOW_128: "ldr"}
+SIZE = 4
+LINE = re.compile(r" *([0-9a-f]+):\t([0-9a-f]{8}) +\t(.*)")
+CONDITIONS = "eq", "ne", "cs", "cc", "hi", "ls"
+JUMPS = re.compile(r"b|bl|b\.\w\w|t?cbn?z|tbn?z")
+
+
+class Program:
+    """The sections of instructions, name -> address -> Instruction; the exports, name -> (section, address); and the
+    constants, name -> (bytes, alignment)."""
+
+    def __init__(self, path, objdump="aarch64-linux-gnu-objdump"):
+        self.object = Object(path)
+        if self.object.machine != AARCH64:
+            raise Unsupported("an object of another processor")
+        self.heads = dict(self.loaded_sections())
+        self.constants = dict(self.read_constants())
+        self.sections = {}
+        for name, lines in listing(path, objdump).items():
+            self.sections[name] = dict(self.read(name, lines))
+        if set(self.sections) != {name for name, head in self.heads.items() if head.flags == CODE}:
+            raise Unsupported("a section that objdump doesn't list")
+        self.exports = {symbol.name: (self.object.heads[symbol.section].name, symbol.value)
+                        for symbol in self.object.symbols if symbol.section and is_global(symbol)
+                        and symbol.info & 15 == FUNCTION}
+
+    def loaded_sections(self):
+        names = set()
+        for head in self.object.heads:
+            if not head.flags & LOADED and head.kind not in UNLOADED and head.name not in WITHOUT_MEANING:
+                raise Unsupported(f"the section {head.name}, which a linker may make something of")
+            if not head.flags & LOADED or not head.size or head.kind == NOTE or head.name == FRAMES:
+                continue
+            if head.kind != PROGBITS or head.flags not in (CODE, CONSTANTS, MERGEABLE) or head.name in names:
+                raise Unsupported(f"the section {head.name}")
+            names.add(head.name)
+            yield head.name, head
+
+    def read_constants(self):
+        """Each entry of a mergeable section is an object of its own: a linker may move it alone."""
+        for name, head in self.heads.items():
+            data = self.object.body(head)
+            if head.flags == CONSTANTS:
+                yield name, (data, head.align)
+            elif head.flags == MERGEABLE:
+                for at in range(0, len(data), head.entry):
+                    yield f"{name}+{at}", (data[at:at + head.entry], min(head.align, head.entry & -head.entry))
+
+    # ---- relocations
+
+    def relocations_of(self, section):
+        """Place -> (kind, target)."""
+        found = {}
+        for head in self.object.heads:
+            if head.kind == RELA and self.object.heads[head.info] is section:
+                for place, info, addend in struct.iter_unpack("<QQq", self.object.body(head)):
+                    kind = info & 0xFFFFFFFF
+                    if kind not in OF_RELOCATION or place in found:
+                        raise Unsupported(f"a relocation of kind {kind} at {place:#x} of {section.name}")
+                    found[place] = kind, self.target_of(self.object.symbols[info >> 32], addend)
+        return found
+
+    def target_of(self, symbol, addend):
+        """What a relocation leads to: (section or constant, offset), or the name of another library's function."""
+        if not symbol.section:
+            return symbol.name, 0
+        if is_global(symbol):
+            raise Unsupported(f"a way to {symbol.name}, which another library may have")
+        name, at = self.object.heads[symbol.section].name, symbol.value + addend
+        head = self.heads.get(name)
+        if head is None:
+            raise Unsupported(f"a way to {name}")
+        if head.flags != MERGEABLE:
+            return name, at
+        if at % head.entry:
+            raise Unsupported(f"a place in the constant at {at} of {name}, which a linker may move")
+        return f"{name}+{at}", 0
+
+    # ---- instructions
+
+    def read(self, section, lines):
+        """The instructions of a section, which have all of its bytes and of its relocations."""
+        head, at = self.heads[section], 0
+        body, relocations = self.object.body(head), self.relocations_of(head)
+        for address, raw, text in lines:
+            if address != at or body[at:at + SIZE] != raw:
+                raise Unsupported(f"{section} {address:#x}: objdump leaves bytes out")
+            yield at, self.instruction(section, at, text, relocations.pop(at, None))
+            at += SIZE
+        if at != len(body) or relocations:
+            raise Unsupported(f"{section}: bytes or relocations in no instruction")
+
+    def instruction(self, section, at, text, relocation):
+        mnemonic, *rest = text.split("//")[0].split(None, 1)
+        words = split(re.sub(r" *<[^>]*>", "", rest[0].strip())) if rest else []
+        is_jump, target = JUMPS.fullmatch(mnemonic) is not None, None
+        to, words = (int(words[-1], 16), words[:-1]) if is_jump or mnemonic == "adrp" else (None, words)
+        found = [operand(word) for word in words]
+        if relocation:
+            kind, target = relocation
+            if OF_RELOCATION[kind] != mnemonic:
+                raise Unsupported(f"{section} {at:#x}: {text} with a relocation of kind {kind}")
+            if kind not in (PAGE, JUMP, CALL):
+                found = without_offset(found)
+        elif is_jump:
+            target = section, to
+        elif mnemonic == "adrp":
+            raise Unsupported(f"{section} {at:#x}: {text} without a relocation")
+        form = " ".join(map(word_of, found))
+        return Instruction(section, at, at + SIZE, mnemonic, form, tuple(found), target)
+
+
+def without_offset(found):
+    """The operands of an instruction whose offset the linker puts in: it is 0 here."""
+    last = found[-1]
+    if last == Place(last.base, None, 0, "offset") if isinstance(last, Place) else last == Immediate(0):
+        return found if isinstance(last, Place) else found[:-1]
+    raise Unsupported(f"a relocation over {last}")
+
+
+def listing(path, objdump):
+    """Section -> (address, bytes, text) of each instruction, as objdump says them."""
+    out = subprocess.run([objdump, "-d", "-z", "-w", path], check=True, capture_output=True, text=True).stdout
+    found, lines = {}, None
+    for line in out.splitlines():
+        if line.startswith("Disassembly of section "):
+            lines = found.setdefault(line[len("Disassembly of section "):-1], [])
+        elif match := LINE.fullmatch(line):
+            lines.append((int(match[1], 16), bytes.fromhex(match[2])[::-1], match[3]))
+    return found
+
+
+def split(text):
+    """The operands: commas within brackets belong to one."""
+    return [part.strip() for part in re.split(r",(?![^\[]*\])(?![^{]*\})", text)] if "[" not in text else \
+        parts_with_place(text)
+
+
+def parts_with_place(text):
+    """The same where there is a place in memory, with what stands behind it."""
+    match = re.fullmatch(r"(?:(.*), )?(\[[^\]]*\](?:!|, #-?\w+)?)", text) if not re.search(r"v\d+\.\w\[", text) else None
+    if match and not (match[1] or "").startswith("{"):
+        return [*([part.strip() for part in match[1].split(",")] if match[1] else []), match[2]]
+    match = re.fullmatch(r"(\{v\d+\.\w\}\[\d\]), (\[[^\]]*\])", text)
+    return [match[1], match[2]] if match else [part.strip() for part in text.split(",")]
+
+
+def number(text):
+    return int(text.lstrip("#"), 0)
+
+
+def operand(text):
+    if re.fullmatch(r"#-?\w+", text):
+        return Immediate(number(text))
+    if match := re.fullmatch(r"([xw])(\d+|zr)|(w?sp)", text):
+        if match[3]:
+            return Register("sp", 64 if text == "sp" else 32)
+        return Register(f"x{match[2]}", 64 if match[1] == "x" else 32)
+    if match := re.fullmatch(r"([qdsb])(\d+)", text):
+        return Vector(int(match[2]), match[1], None)
+    if match := re.fullmatch(r"v(\d+)\.(\d+[bhsd])", text):
+        return Vector(int(match[1]), match[2], None)
+    if match := re.fullmatch(r"\{?v(\d+)\.([bhsd])\}?\[(\d+)\]", text):
+        return Vector(int(match[1]), match[2], int(match[3]))
+    if match := re.fullmatch(r"(lsl|lsr|ror) #(\w+)", text):
+        return Shift(match[1], int(match[2], 0))
+    if text in CONDITIONS or text.startswith("pld"):
+        return text
+    return place(text)
+
+
+def place(text):
+    match = re.fullmatch(r"\[(\w+)(?:, (?:#(-?\w+)|([xw]\w+)))?\](!)?(?:, #(-?\w+))?", text)
+    if not match or match[5] and (match[2] or match[3] or match[4]):
+        raise Unsupported(f"the operand {text}")
+    mode = "before" if match[4] else "after" if match[5] else "offset"
+    return Place(operand(match[1]), match[3] and operand(match[3]), int(match[2] or match[5] or "0", 0), mode)
+
+
+def word_of(x):
+    """An operand's word in the form of an instruction."""
+    if isinstance(x, Register):
+        return "x" if x.width == 64 else "w"
+    if isinstance(x, Vector):
+        return x.arrangement + ("[]" if x.lane is not None else "")
+    if isinstance(x, Shift):
+        return x.kind
+    if isinstance(x, Place):
+        return "m"
+    return "i" if isinstance(x, Immediate) else "c" if x in CONDITIONS else "p"

@@ -1,0 +1,60 @@
+"""The rows of oracle/arm-text: what is asked of the library's text for 64-bit ARM."""
+import functools
+import os
+import subprocess
+import tempfile
+
+from terms import comparison
+from terms.processes import Row
+from terms.rows import title_of
+from terms.sides import TOP
+
+from .. import calls, one_shots, streams
+from . import on_qemu
+from .objects import Program
+from .table import Processor
+
+TEXT = os.path.join(TOP, "c", "asm", "aarch64.s")
+SECRETS = 136, 192
+STREAMED = (5, 33, 70, 257, 300, 513, 700)
+OTHERS = [calls.canonical_forms, calls.is_equal, calls.compare, calls.copies, calls.forgotten, calls.without_mark, calls.refused_resets,
+          calls.null_pointers, calls.updates_of_nothing, calls.derived_secret, calls.version]
+
+
+def program():
+    """The text, as GNU as assembles it."""
+    with tempfile.TemporaryDirectory(prefix="arm-text-") as room:
+        subprocess.run(["aarch64-linux-gnu-as", "-o", f"{room}/text.o", TEXT], check=True)
+        return Program(f"{room}/text.o")
+
+
+def choose(given, found):
+    out = []
+    for kind in comparison.kinds(SECRETS):
+        lengths = range(301) if given.all or kind[2] != SECRETS[1] else range(0, 301, 20)
+        out.append(compared(f"{title_of(*kind)}, one-shots of 0 to 300 bytes", found, kind, lengths))
+        if kind[2] != SECRETS[1]:
+            asked = comparison.STREAMED if given.all else STREAMED
+            out.append(compared(f"{title_of(*kind)}, streams of 5 to 700 bytes", found, kind, asked, True))
+    for name in ("3-64", "3-128"):
+        out.append(Row(f"XXH{name}, secrets of 0 to 135 bytes", functools.partial(short_secrets, found, name)))
+    out += [Row(f"the other calls: {ask.__name__.replace('_', ' ')}", functools.partial(other, found, ask)) for ask in OTHERS]
+    out.append(Row("the table of instructions beside qemu", on_qemu.tell))
+    return [row for row in out if given.only in row.title]
+
+
+def compared(title, found, kind, lengths, is_stream=False):
+    def ask():
+        cpu, answer = Processor(found), streams.of_text if is_stream else one_shots.of_text
+        asked = comparison.requests(*kind, lengths, is_stream)
+        equal, bad = comparison.compare({"the text": lambda request: answer(cpu, request)}, asked)
+        return f"{equal} requests, each one term", bad
+    return Row(title, ask)
+
+
+def short_secrets(found, name):
+    return f"{calls.short_secrets(Processor(found), name, (240, 241))} requests", []
+
+
+def other(found, ask):
+    return f"{ask(Processor(found))} cases", []

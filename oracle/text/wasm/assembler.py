@@ -1,0 +1,94 @@
+"""Writes small modules for the comparison with an engine: instructions as text, `i32.const 5; local.set 0`, by the
+codes of the table. Each module has the memory, the globals and the constants that the stack machine takes for
+granted."""
+from .opcodes import BY_NAME, TYPES
+
+CODES = {f"{'v' if width == 128 else 'i'}{width}": code for code, width in TYPES.items()}
+STACK_END, PAGES = 1 << 20, 17
+CONSTANTS = bytes(range(1, 193))
+END = b"\x0b"
+
+
+def unsigned(n):
+    out = []
+    while True:
+        n, group = n >> 7, n & 127
+        out.append(group | (128 if n else 0))
+        if not n:
+            return bytes(out)
+
+
+def signed(n):
+    out = []
+    while True:
+        n, group = n >> 7, n & 127
+        if n == (-1 if group & 64 else 0):
+            return bytes([*out, group])
+        out.append(group | 128)
+
+
+def vector(items):
+    return unsigned(len(items)) + b"".join(items)
+
+
+def section(kind, body):
+    return bytes([kind]) + unsigned(len(body)) + body
+
+
+def with_sign(n, width):
+    return n - (n >> width - 1 << width)
+
+
+def given(behind, words):
+    """What stands behind an instruction."""
+    numbers = [int(word, 0) for word in words if word not in CODES]
+    if behind == "block":
+        return bytes([CODES[words[0]] if words else 0x40])
+    if behind in ("i32", "i64"):
+        return signed(with_sign(numbers[0], int(behind[1:])))
+    if behind.startswith("bytes"):          # an offset
+        return unsigned(0) + unsigned(numbers[0])
+    if behind == "labels":
+        return vector([unsigned(n) for n in numbers[:-1]]) + unsigned(numbers[-1])
+    if behind == "v128":
+        return b"".join(n.to_bytes(8, "little") for n in numbers)
+    if behind.startswith("zeros"):
+        return bytes(int(behind[len("zeros"):]))
+    return b"".join(map(unsigned, numbers))
+
+
+def assembled(text):
+    out = b""
+    for line in filter(None, map(str.strip, text.split(";"))):
+        name, *words = line.split()
+        opcode = BY_NAME[name]
+        code = unsigned(opcode.code) if opcode.prefix is None else bytes([opcode.prefix]) + unsigned(opcode.code)
+        out += (bytes([opcode.code]) if opcode.prefix is None else code) + given(opcode.behind, words)
+    return out
+
+
+# A function that others call: it takes two numbers, and gives their difference
+HELPER = "local.get 0; local.get 1; i64.sub"
+LOCALS = ("i32", 2), ("i64", 3), ("v128", 2)
+
+
+def function(text, locals_=LOCALS):
+    body = vector([unsigned(count) + bytes([CODES[word]]) for word, count in locals_]) + assembled(text) + END
+    return unsigned(len(body)) + body
+
+
+def module(texts):
+    """A module with the functions f0, f1, .., which take and give nothing, behind the one that they call, 0."""
+    word = bytes([CODES["i64"]])
+    types = [b"\x60" + vector([word, word]) + vector([word]), b"\x60\0\0"]
+    globals_ = [word + b"\1\x42" + signed(STACK_END) + END, bytes([CODES["i32"]]) + b"\1\x41\0" + END]
+    exports = [unsigned(6) + b"memory\2\0"]
+    for k in range(len(texts)):
+        name = f"f{k}".encode()
+        exports.append(unsigned(len(name)) + name + b"\0" + unsigned(k + 1))
+    constants = b"\0\x41" + signed(STACK_END) + END + vector([bytes([b]) for b in CONSTANTS])
+    return b"\0asm\1\0\0\0" + b"".join([
+        section(1, vector(types)), section(3, vector([unsigned(0)] + [unsigned(1)] * len(texts))),
+        section(5, vector([b"\0" + unsigned(PAGES)])), section(6, vector(globals_)), section(7, vector(exports)),
+        section(10, vector([function(HELPER, ())] + [function(text) for text in texts])),
+        section(11, vector([constants]))])

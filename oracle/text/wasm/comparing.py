@@ -1,0 +1,59 @@
+"""The modules beside the definition: for each request both have to come to one term."""
+from terms import comparison, definition, nodes
+from terms.sides import Request
+
+MOST_NODES = 300_000
+
+
+class Texts:
+    """What the definition says of requests, each value once, from a table that is forgotten where it grows."""
+
+    def __init__(self):
+        self.forget()
+
+    def forget(self):
+        nodes.forget()
+        self.entries, self.known = definition.program().run(), {}
+
+    def make_room(self):
+        if len(nodes.NODES) > MOST_NODES:
+            self.forget()
+
+    def value(self, request):
+        key = request.hash_name, request.kind, request.length, request.secret_length, request.fixed_seed
+        if key not in self.known:
+            self.known[key] = request.of_definition(self.entries)
+        return self.known[key]
+
+
+def requests(kind, lengths, is_stream):
+    """The requests of a kind, (hash, kind of call, length of the secret), with a seed that is any but 0 where a module
+    asks for that."""
+    for length in lengths:
+        for cuts in comparison.cuts_of(length) if is_stream else [None]:
+            yield Request(*kind[:2], length, kind[2], cuts=cuts)
+
+
+def with_seed_0(request):
+    return Request(request.hash_name, request.kind, request.length, request.secret_length, 0, request.cuts)
+
+
+def compare(machines, asked, answer):
+    """Compares what each machine answers: how many answers were one term with the definition's, and what there is to
+    say of the others. Where a module asked whether the seed is 0, that is a request of its own."""
+    texts, equal, complaints = Texts(), 0, []
+    for request in asked:
+        texts.make_room()
+        for name, vm in machines.items():
+            vm.has_asked = False
+            told = [told_of(texts, name, vm, request, answer)]
+            if vm.has_asked:
+                told.append(told_of(texts, name, vm, with_seed_0(request), answer))
+            equal += told.count(None)
+            complaints += [line for line in told if line]
+    return equal, complaints
+
+
+def told_of(texts, name, vm, request, answer):
+    """What there is to say of a machine's answer, or None."""
+    return comparison.difference(request, name, texts.value(request), lambda asked: answer(vm, asked))

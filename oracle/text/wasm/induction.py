@@ -1,0 +1,315 @@
+"""A loop of any number of turns, shown by induction, as terms/loops.py does it for LLVM's text.
+
+A cell is a variable, a lane of one, a value on the stack below, a global, or a cell of a memory that lives. At the
+loop's head after k turns some cells, the words, hold what the definition says; some, the places, have gone on by a step
+a turn; some may be anything; the others are as at the start. Which cells are which is guessed from two first turns and
+then shown: the words are the definition's for k = 0, and a turn from any k, with words that are the definition's, leads
+to all of that for k + 1. A cell of the words or of the places is never let go."""
+from terms.loops import REFUSALS, NotShown, agree
+from terms.memory import RUNS
+from terms.nodes import symbol
+from terms.polynomials import divided, given, is_natural, is_number, minus, plus, times, variable
+from terms.polynomials import is_same as is_same_number
+
+from .values import WORD, Address
+
+STEPS = 1, 2, 4, 8, 16       # stripes that a turn may take
+TURNS_LEFT = 64, 4           # stripes that are left where the first turns are tried
+
+
+class Family:
+    """What the definition says of a loop over stripes `first` .. `total` - 1: after(k)(j), word j of `count` words of a
+    width after k stripes. suppose(k, values) makes values these. With `block`, that many stripes are a block, of which
+    there are `blocks`."""
+
+    def __init__(self, name, total, count, width, after, suppose, first=0, block=None, blocks=None):
+        self.name, self.total, self.count, self.width, self.first = name, total, count, width, first
+        self.after, self.suppose, self.block, self.blocks = after, suppose, block, blocks
+
+    def words(self, k):
+        return [self.after(k)(j) for j in range(self.count)]
+
+    def supposed(self, k, fresh):
+        """Words that are the definition's after k stripes: new symbols, where k isn't a number."""
+        if isinstance(k, int):
+            return self.words(k)
+        values = [symbol(fresh("word"), self.width) for _ in range(self.count)]
+        self.suppose(k, values)
+        return values
+
+
+class Loops:
+    """Asked at each loop. The families are of loops that are shown, in this order; all others run turn by turn. `live`
+    are the memories that a call may change, beside the stack."""
+
+    def __init__(self, families, live):
+        self.families, self.live, self.told, self.passed, self.is_busy = list(families), list(live), [], set(), False
+
+    def pass_by(self, vm, frame):
+        head = frame.function.index, frame.pc - 1
+        if self.is_busy or not self.families or head in self.passed:
+            return
+        self.is_busy, family = True, self.families[0]
+        proof = (Proof if family.block is None else ProofByBlocks)(vm, frame, family)
+        try:
+            self.told.append(proof.behind())
+            del self.families[0]
+        except NotOfFamily:
+            self.passed.add(head)
+            proof.enter(proof.start)
+        finally:
+            self.is_busy = False
+
+
+class NotOfFamily(Exception):
+    """A loop that doesn't seem to be the one over the stripes."""
+
+
+# ---- values that go on
+
+def moved(x, step, k):
+    if isinstance(x, Address):
+        return Address(x.counts, plus(x.offset, times(step, k)))
+    return plus(x, times(step, k))
+
+
+def step_between(old, now):
+    if isinstance(old, Address) and isinstance(now, Address) and old.counts == now.counts:
+        return minus(now.offset, old.offset)
+    return minus(now, old) if is_number(old) and is_number(now) else None
+
+
+def same(a, b):
+    if isinstance(a, Address) or isinstance(b, Address):
+        is_both = isinstance(a, Address) and isinstance(b, Address)
+        return is_both and a.counts == b.counts and is_same_number(a.offset, b.offset)
+    if isinstance(a, tuple) and isinstance(b, tuple):
+        return len(a) == len(b) and all(x is y or same(x, y) for x, y in zip(a, b))
+    return a is b or agree(a, b)
+
+
+def value_of(cell):
+    """The value in a cell of memory, which has its size too; else the cell's own."""
+    return cell[1] if isinstance(cell, tuple) and len(cell) == 2 and isinstance(cell[0], int) else cell
+
+
+class Proof:
+    def __init__(self, vm, frame, family):
+        self.vm, self.frame, self.family = vm, frame, family
+        self.code = vm.prepared(frame.function)
+        self.head, self.end = frame.pc - 1, vm.ends[frame.function.index][frame.pc - 1]
+        self.widths = [*frame.function.signature.takes, *frame.function.locals]
+        self.memories = [vm.stack, *vm.loops.live]
+        self.start = self.state()
+        self.words, self.places, self.free, self.step = {}, {}, set(), None
+        self.counts = {}         # places that are as at the start at the begin of each block
+
+    # ---- the state, as cells
+
+    def state(self):
+        out = {}
+        for k, x in enumerate(self.frame.variables):
+            out.update({("lane", k, lane): part for lane, part in enumerate(x)} if isinstance(x, tuple)
+                       else {("variable", k): x})
+        out.update({("stack", k): x for k, x in enumerate(self.frame.stack)})
+        out.update({("global", k): x for k, x in enumerate(self.vm.globals)})
+        for memory in self.memories:
+            out.update({("memory", memory, at): cell for at, cell in memory.cells.items()})
+        return out
+
+    def enter(self, state):
+        """Makes the state that of the head."""
+        variables, stack = self.frame.variables, []
+        for memory in self.memories:
+            memory.cells = {}
+        for (kind, *where), x in state.items():
+            if kind == "variable":
+                variables[where[0]] = x
+            elif kind == "lane":
+                lanes = list(variables[where[0]])
+                lanes[where[1]] = x
+                variables[where[0]] = tuple(lanes)
+            elif kind == "memory":
+                where[0].cells[where[1]] = x
+            elif kind == "global":
+                self.vm.globals[where[0]] = x
+            else:
+                stack.append(x)
+        self.frame.stack[:], self.frame.pc = stack, self.head + 1
+
+    def after(self, k, values, j=0):
+        """The state after k turns, j of them in a block, where the words have these values."""
+        out = dict(self.start)
+        for turns, cells in ((k, self.places), (j, self.counts)):
+            out.update({cell: self.put(cell, moved(x, step, turns)) for cell, (x, step) in cells.items()})
+        out.update({cell: self.put(cell, values[number]) for cell, number in self.words.items()})
+        for cell in self.free:
+            if cell[0] == "memory":
+                out.pop(cell, None)
+            else:
+                width = WORD if cell[0] == "lane" else self.widths[cell[1]]
+                out[cell] = symbol(self.vm.fresh("anything"), width)
+        return out
+
+    def put(self, cell, x):
+        """A value as a cell has it: one of memory keeps its size."""
+        return (self.start[cell][0], x) if cell[0] == "memory" else x
+
+    # ---- turns
+
+    def turn(self):
+        """From the head to the head."""
+        while True:
+            self.vm.step(self.frame, self.code)
+            if self.frame.pc == self.head:
+                return
+            if not self.head < self.frame.pc <= self.end:
+                raise NotShown(f"{self.family.name}: a turn leaves the loop")
+
+    def leave(self):
+        """From the head out of the loop."""
+        while self.head < self.frame.pc <= self.end:
+            self.vm.step(self.frame, self.code)
+        if self.frame.pc == self.head:
+            raise NotShown(f"{self.family.name}: the loop isn't left")
+
+    # ---- the proof
+
+    def behind(self):
+        """Shows the loop and runs out of it; gives a line that tells of it."""
+        family = self.family
+        self.guess()
+        turns, _ = divided(minus(family.total, family.first), self.step)
+        last, k = minus(turns, 1), variable(self.vm.fresh("k"))
+        if not is_natural(last):
+            raise NotShown(f"{family.name}: no number of turns")
+        with given(minus(minus(last, k), 1)):
+            while not self.is_shown(k):
+                pass
+        stripes = plus(family.first, times(self.step, last))
+        self.enter(self.after(last, family.supposed(stripes, self.vm.fresh)))
+        self.leave()
+        return f"{family.name}: {self.step} stripes a turn, k = 0 .. {last}, {len(self.places)} places go on"
+
+    def is_shown(self, k):
+        """One turn from any k. False where one more cell may be anything, which is to be tried again."""
+        family, size = self.family, len(self.free)
+        stripes = plus(family.first, times(self.step, k))
+        self.enter(self.after(k, family.supposed(stripes, self.vm.fresh)))
+        self.turn()
+        self.compare(plus(k, 1), family.words(plus(stripes, self.step)))
+        return len(self.free) == size
+
+    def compare(self, k, words, j=0):
+        """That the state is the one after k turns; a cell that isn't said to be anything may be let go."""
+        now, expected = self.state(), self.after(k, words, j)
+        for cell in {*expected, *now} - self.free:
+            if not same(now.get(cell), expected.get(cell)):
+                self.let_go(cell, now.get(cell), expected.get(cell))
+
+    def let_go(self, cell, x, expected):
+        if not self.is_own(cell) or any(cell in cells for cells in (self.words, self.places, self.counts)):
+            raise NotShown(f"{self.family.name}: {cell} is {x} and not {expected}")
+        self.free.add(cell)
+
+    def is_own(self, cell):
+        """Whether a cell is the function's own, so that it may hold anything."""
+        return cell[0] in ("variable", "lane") or cell[0] == "memory" and cell[1] is self.vm.stack and cell[2] != RUNS
+
+    # ---- the guess
+
+    def guess(self):
+        """Two first turns tell which cells have the words, and which go on."""
+        states = self.first_turns()
+        changed = [cell for cell in {*states[0], *states[1]} if not same(states[0].get(cell), states[1].get(cell))]
+        old, now, then = ({cell: value_of(state.get(cell)) for cell in changed} for state in states)
+        self.find_words(changed, old, now)
+        for cell in changed:
+            step = step_between(old[cell], now[cell])
+            if cell in self.words:
+                continue
+            if step is not None and same(then[cell], moved(now[cell], step, 1)):
+                self.places[cell] = old[cell], step
+            else:
+                self.let_go(cell, now[cell], old[cell])
+
+    def first_turns(self):
+        """The states before and after each of two turns, where many are left, or else some."""
+        family, why = self.family, None
+        for left in TURNS_LEFT:
+            self.enter(self.start)
+            try:
+                with given(minus(family.total, plus(family.first, left))):
+                    return [self.start, *(self.turned() for _ in range(2))]
+            except REFUSALS as error:
+                why = error
+        raise NotOfFamily(str(why))
+
+    def turned(self):
+        self.turn()
+        return self.state()
+
+    def find_words(self, changed, old, now):
+        family = self.family
+        first = family.words(family.first)
+        for self.step in STEPS:
+            after = family.words(plus(family.first, self.step))
+            self.words = {cell: j for j in range(family.count) for cell in changed
+                          if same(old[cell], first[j]) and same(now[cell], after[j])}
+            if len({*self.words.values()}) == family.count:
+                return
+        raise NotOfFamily("the words aren't there")
+
+
+class ProofByBlocks(Proof):
+    """A loop over the stripes of all blocks, one a turn, which counts those of a block: its turns go from j to j + 1
+    within block b, and from the last stripe of one block to the first of the next."""
+
+    def behind(self):
+        family = self.family
+        q, last = family.block, minus(family.blocks, 1)
+        self.guess()
+        if self.step != 1 or family.first != 0 or not is_natural(last) or not is_natural(minus(q, 1)):
+            raise NotOfFamily("a turn of several stripes, or no number of them")
+        self.find_counts()
+        b, j = (variable(self.vm.fresh(name)) for name in "bj")
+        while not self.is_shown(b, j):
+            pass
+        self.enter_at(last, minus(q, 1))
+        self.leave()
+        return f"{family.name}: by blocks, {len(self.places)} places go on and {len(self.counts)} in a block"
+
+    def stripes(self, b, j):
+        return plus(times(self.family.block, b), j)
+
+    def enter_at(self, b, j):
+        k = self.stripes(b, j)
+        self.enter(self.after(k, self.family.supposed(k, self.vm.fresh), j))
+
+    def is_shown(self, b, j):
+        """The turns from any stripe of any block. False where one more cell may be anything: then both are tried again."""
+        size, q, last = len(self.free), self.family.block, minus(self.family.blocks, 1)
+        with given(minus(last, b), minus(minus(q, 2), j)):
+            self.turn_to(b, j, (b, plus(j, 1)))
+        with given(minus(minus(last, 1), b)):
+            self.turn_to(b, minus(q, 1), (plus(b, 1), 0))
+        return len(self.free) == size
+
+    def turn_to(self, b, j, then):
+        """A turn from stripe j of block b."""
+        self.enter_at(b, j)
+        self.turn()
+        k = self.stripes(*then)
+        self.compare(k, self.family.words(k), then[1])
+
+    def find_counts(self):
+        """Which places are as at the start behind the first block."""
+        q = self.family.block
+        with given(minus(self.family.blocks, 2)):
+            self.enter_at(0, minus(q, 1))
+            self.turn()
+        now = self.state()
+        self.counts = {cell: place for cell, place in self.places.items()
+                       if same(value_of(now.get(cell)), place[0])}
+        for cell in self.counts:
+            del self.places[cell]

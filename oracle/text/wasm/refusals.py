@@ -1,0 +1,117 @@
+"""What the modules refuse, with nothing written: secrets of fewer than 136 bytes, and records that are no stream's."""
+from terms.llvm_text import Unsupported
+from terms.memory import Memory
+from terms.sides import Request
+
+from . import calls
+from .calls import NOT_A_STREAM, SECRET_TOO_SHORT, Stream, answered, expect_kept
+from .comparing import compare
+
+LEAST_SECRET = 136
+SHORT, LONG = (240,), (241,)      # message lengths at which a seed and a secret need none, and where they do
+XXH3 = "3-64", "3-128"
+# Bytes taken, and fields that don't agree with that: (hash, bytes, what, (offset, size, value), ..)
+LOST = 0, 8, 2 ** 64 - 1      # a length that is no longer counted
+WRONG_RECORDS = [
+    ("32", 5, "fewer bytes wait", (48, 8, 4)), ("32", 5, "more bytes wait", (48, 8, 6)),
+    ("32", 5, "a whole stripe waits", (48, 8, 16)), ("32", 5, "2^32 bytes more wait", (48, 8, 5 + 2 ** 32)),
+    ("32", 5, "another length", (0, 8, 4)), ("32", 5, "an accumulator, with no stripe", (12, 4, 1)),
+    ("32", 5, "the last accumulator, with no stripe", (24, 4, 1)), ("32", 5, "another seed", (8, 4, 8)),
+    ("32", 5, "a length that is lost, and a whole stripe waits", (48, 8, 16), LOST),
+    ("32", 5, "a length that is lost, and 2^63 bytes wait", (48, 8, 2 ** 63), LOST),
+    ("64", 5, "a length that is lost, and a whole stripe waits", (80, 8, 32), LOST),
+    ("64", 5, "a length that is lost, and 2^63 bytes wait", (80, 8, 2 ** 63), LOST),
+    ("64", 5, "fewer bytes wait", (80, 8, 4)), ("64", 5, "more bytes wait", (80, 8, 6)),
+    ("64", 5, "a whole stripe waits", (80, 8, 32)), ("64", 5, "another length", (0, 8, 2 ** 63 + 4)),
+    ("64", 5, "an accumulator, with no stripe", (16, 8, 1)), ("64", 5, "the last accumulator, with no stripe", (40, 8, 1)),
+    ("64", 5, "another seed", (8, 8, 8)), ("64", 40, "fewer bytes wait", (80, 8, 7)),
+    ("3-64", 5, "no byte waits", (672, 8, 0)), ("3-64", 5, "more bytes wait than there is room", (672, 8, 513)),
+    ("3-64", 5, "another length", (680, 8, 6)), ("3-64", 5, "2^63 bytes more", (680, 8, 5 + 2 ** 63)),
+    ("3-64", 5, "a stripe more", (152, 8, 1)), ("3-64", 5, "an accumulator, with no stripe", (16, 8, 1)),
+    ("3-64", 5, "the last accumulator, with no stripe", (72, 8, 1)), ("3-64", 5, "a place in the block", (80, 8, 1)),
+    ("3-64", 700, "a place behind the secret", (80, 8, 16)), ("3-64", 700, "no byte waits", (672, 8, 0)),
+    ("3-64", 700, "another length", (680, 8, 699)), ("3-64", 700, "a stripe fewer", (152, 8, 6)),
+    ("3-64", 5, "513 bytes are said to wait and to have been taken", (672, 8, 513), (680, 8, 513)),
+]
+
+
+def one_shots_with_short_secrets(machines):
+    """Each length of a secret that is too short: where the secret counts the call is refused, and else it is no
+    different."""
+    asked = [Request(name, way, n, size) for name in XXH3 for way in ("secret", "both") for n in (*SHORT, *LONG)
+             for size in range(LEAST_SECRET)]
+    is_served = [x for x in asked if x.kind == "both" and x.length in SHORT]
+    refused = [x for x in asked if x not in is_served]
+    served, complaints = compare(machines, is_served, calls.one_shot)
+    for vm in machines.values():
+        for request in refused:
+            calls.refused_one_shot(vm, request)
+            expect_not_asked(vm)
+    return f"{served} answered, {len(refused) * len(machines)} refused", complaints
+
+
+def streams_with_short_secrets(machines):
+    """A start with such a secret leaves the record as it was, and so do an update and a digest of a stream that is
+    there."""
+    count = 0
+    for vm in machines.values():
+        for size in range(LEAST_SECRET):
+            for way in ("secret", "both"):
+                calls.refused_start(vm, Request("3-64", way, 300, size))
+                expect_not_asked(vm)
+            refuse_short_secret(vm, Request("3-64", "secret", 300, size))
+            count += 2 + 3
+    return f"{count} refused", []
+
+
+def refuse_short_secret(vm, request):
+    """An update and a digest of a stream that is there, which are handed another secret, that is too short."""
+    it = started(vm, Request(request.hash_name, request.kind, request.length, LEAST_SECRET), request.length)
+    it.secret = calls.of_secret(request)
+    expect_refused(it, SECRET_TOO_SHORT)
+
+
+def expect_not_asked(vm):
+    """That the call didn't depend on whether the seed is 0, which would be another case."""
+    if vm.has_asked:
+        raise Unsupported("whether the seed is 0 was asked")
+
+
+def started(vm, request, taken):
+    it = Stream(vm, request)
+    it.start()
+    answered(it.update(0, taken))
+    return it
+
+
+def expect_refused(it, code):
+    """That an update and a digest are refused, by either hash of the family."""
+    before = dict(it.record.cells)
+    answered(it.update(0, it.request.length), code)
+    for name in XXH3 if it.family == "xxh3" else [it.request.hash_name]:
+        out = Memory("the value", calls.BYTES[name])
+        answered(it.digest(out, name), code)
+        expect_kept("the value", out, {})
+    expect_kept("the record", it.record, before)
+
+
+class WrongRecord(Request):
+    """A stream of which some fields are others then."""
+
+    def __init__(self, hash_name, taken, what, *fields):
+        super().__init__(hash_name, "seed", taken, seed=7)
+        self.what, self.fields = what, fields
+
+
+def refuse_record(vm, wrong):
+    it = started(vm, wrong, wrong.length)
+    for field in wrong.fields:
+        it.record.store(*field)
+    expect_refused(it, NOT_A_STREAM)
+
+
+def wrong_records(machines):
+    for vm in machines.values():
+        for wrong in WRONG_RECORDS:
+            refuse_record(vm, WrongRecord(*wrong))
+    return f"{len(WRONG_RECORDS) * len(machines)} refused", []

@@ -1,0 +1,185 @@
+"""What lies on the stack: numbers, polynomials and terms below 2 ^ width, addresses, and vectors as pairs of lanes of
+64 bits."""
+from terms import halves, operations
+from terms.llvm_text import Unsupported
+from terms.machine import BINARY, compare_numbers, rotated
+from terms.nodes import Node, Undecided
+from terms.polynomials import (Poly, constant_of, divided, is_natural, is_number, is_same, minus, plus, remainder, times,
+                               wrapped)
+from terms.rules import ones, zeros_below
+
+WORD = 64
+SPACE = 1 << 32          # what is handed to a call ends below
+LEAST_PLACE = 1024       # no object begins before
+
+
+class Trap(Unsupported):
+    """What ends a call with an error."""
+
+
+def low(x, width):
+    """The lowest bits of a value."""
+    if isinstance(x, int):
+        return x & ones(width)
+    if x.__class__ is Address:
+        raise Undecided(f"some bits of {x}")
+    return remainder(x, 1 << width) if isinstance(x, Poly) else operations.bits(x, 0, width)
+
+
+def high(x, width):
+    """What is left of a word behind so many bits."""
+    return BINARY["lshr"](WORD, x, width)
+
+
+def side_by_side(parts):
+    """(value, width) parts as one value, the first its lowest bits."""
+    if all(isinstance(x, int) for x, _ in parts):
+        out = at = 0
+        for x, width in parts:
+            out, at = out | x << at, at + width
+        return out
+    return operations.side_by_side(*parts)
+
+
+def decided(x, what):
+    """A number that a length, an amount or a place depends on."""
+    if not isinstance(x, int):
+        raise Undecided(f"{what} that depends on {x}")
+    return x
+
+
+def condition(x, what):
+    """Whether a number isn't 0, which a branch depends on."""
+    return compare("ne", 32, x, 0) if isinstance(x, (Poly, Address)) else decided(x, what)
+
+
+# ---- addresses
+
+class Address:
+    """A sum of places of objects, which aren't known, and an offset. The objects lie from LEAST_PLACE on and end below
+    2 ^ 32. None lies in another, be it empty."""
+    __slots__ = "counts", "offset"
+
+    def __init__(self, counts, offset):
+        self.counts, self.offset = counts, offset     # {object: how often its place is in the sum}
+
+    def __getattr__(self, name):
+        """What terms have an address hasn't: its bits are unknown."""
+        raise Undecided(f"{self} as a term")
+
+    def __repr__(self):
+        return " + ".join([*(f"{count} {memory.name}" for memory, count in self.counts.items()), str(self.offset)])
+
+    def place(self):
+        """(object, offset)"""
+        (memory, count), *others = self.counts.items()
+        if others or count != 1:
+            raise Undecided(f"an address by {self}")
+        return memory, self.offset
+
+    def near(self):
+        """The same, shown to be a number of 32 bits: in its object, at its end, or not far before it."""
+        memory, offset = self.place()
+        c = constant_of(offset)
+        offset = plus(offset, (c + SPACE // 2) % SPACE - SPACE // 2 - c)      # an offset is one mod 2 ^ 32
+        if not (is_natural(plus(offset, LEAST_PLACE - 1)) and is_natural(minus(memory.length, offset))):
+            raise Undecided(f"an address by {offset} of {memory.name}")
+        return Address(self.counts, offset)
+
+
+def address(memory, at=0):
+    return Address({memory: 1}, at)
+
+
+def counts_of(x):
+    return x.counts if x.__class__ is Address else {}
+
+
+def sum_of_addresses(width, a, b, sign):
+    """a + b or a - b, where one is an address."""
+    counts = dict(counts_of(a))
+    for memory, count in counts_of(b).items():
+        counts[memory] = counts.get(memory, 0) + sign * count
+    counts = {memory: count for memory, count in counts.items() if count}
+    a, b = (x.offset if x.__class__ is Address else x for x in (a, b))
+    if not (is_number(a) and is_number(b)):
+        raise Undecided("an address that depends on bytes")
+    offset = plus(a, times(sign, b))
+    if counts:
+        return Address(counts, offset)
+    return offset % (1 << width) if isinstance(offset, int) else wrapped(offset, width)
+
+
+def is_far(x, least):
+    """Whether the difference of two objects' places, which lie apart, is `least` or more, or else negative: then it is
+    no less than that as a number of 64 bits."""
+    places = {count: memory for memory, count in x.counts.items()}
+    if len(x.counts) != 2 or set(places) != {1, -1} or not isinstance(x.offset, int) or not 0 <= least <= SPACE:
+        return False
+    is_behind = is_natural(minus(plus(places[-1].length, x.offset), least))
+    is_before = is_natural(minus(minus(places[1].length, x.offset), 1))
+    return is_behind and is_before and -SPACE < x.offset < SPACE
+
+
+def compare_addresses(test, width, a, b):
+    if b.__class__ is int and b == 0 and test in ("eq", "ne"):       # no object lies at 0
+        a.near()
+        return int(test == "ne")
+    if width == WORD and isinstance(b, int) and test in ("lt_u", "ge_u") and is_far(a, b):
+        return int(test == "ge_u")
+    raise Undecided(f"{test} of {a} and {b}")
+
+
+# ---- operations
+
+NAMES = {"shr_u": "lshr", "rem_u": "urem"}       # those that have another name in terms/machine.py
+KEPT = "add", "mul", "and", "or", "shl", "lshr"  # which may be steps of a product by halves
+
+
+def binary(name, width, a, b):
+    if a.__class__ is Address or b.__class__ is Address:
+        if name not in ("add", "sub"):
+            raise Undecided(f"{name} of {a} and {b}")
+        return sum_of_addresses(width, a, b, 1 if name == "add" else -1)
+    if name in ("rotl", "rotr"):
+        return rotation(name, width, a, decided(b, "the amount of a rotation") % width)
+    if name in ("shl", "shr_u"):
+        b = decided(b, "the amount of a shift") % width
+    if name == "rem_u" and is_same(b, 0):
+        raise Trap("a division by 0")
+    if isinstance(a, Poly) and isinstance(b, int) and name == "and":
+        return masked(a, b, width)
+    if isinstance(a, Poly) and name == "xor" and is_same(b, ones(width)):
+        return minus(b, a)
+    name = NAMES.get(name, name)
+    answer = BINARY[name](width, a, b)
+    return halves.noted(name, a, b, answer) if width == WORD and name in KEPT else answer
+
+
+def masked(x, mask, width):
+    """A polynomial's bits under a run of ones."""
+    k = zeros_below(mask) if mask else 0
+    run = mask >> k
+    if run & run + 1:
+        return BINARY["and"](width, x, mask)
+    return times(low(divided(x, 1 << k)[0], run.bit_length()), 1 << k)
+
+
+def rotation(name, width, a, k):
+    k = k if name == "rotl" else -k % width
+    if isinstance(a, int):
+        return (a << k | a >> width - k) & ones(width)
+    if isinstance(a, Poly):
+        raise Undecided(f"a rotation of {a}")
+    return rotated(width, a, a, k)
+
+
+def compare(test, width, a, b):
+    """Whether a test holds, where the values or the facts decide it."""
+    if a.__class__ is Address:
+        return compare_addresses(test, width, a, b)
+    if is_number(a) and is_number(b):
+        return int(compare_numbers(("s" if test.endswith("_s") else "u") + test[:2], width, a, b))
+    if a is b and isinstance(a, Node) and test in ("eq", "ne"):
+        return int(test == "eq")
+    raise Undecided(f"{test} of {a} and {b}")
