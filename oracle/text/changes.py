@@ -255,7 +255,8 @@ def is_equal(text, known):
 def noticed(name, program, is_all):
     """(changes that were tried, those that aren't noticed and have no reason)."""
     nodes.forget()
-    cpu, draw = Processor(program, name), random.Random(1)
+    # Which changes are drawn doesn't depend on how many questions the ones before were asked.
+    cpu, draw, order = Processor(program, name), random.Random(1), random.Random(2)
     cpu.limit = LIMIT
     entries = definition.program().run()
     asked = questions(entries, is_all)
@@ -265,8 +266,8 @@ def noticed(name, program, is_all):
     for place, text, instructions in (next(changes) for _ in range(MANY if is_all else FEW)):
         has_reason = is_equal(text, known)
         reached = [question for k, question in enumerate(asked) if found[place] >> k & 1]
-        draw.shuffle(reached)
-        what = outcome(cpu, instructions, reached[:FEWEST if has_reason else MOST], entries, draw)
+        order.shuffle(reached)
+        what = outcome(cpu, instructions, reached[:FEWEST if has_reason else MOST], entries, order)
         told[what.split(":")[0]] += 1
         if what.startswith((CRASH, "WrongRule")) or what == UNNOTICED and not has_reason:
             bad.append(f"{what}: {text}")
