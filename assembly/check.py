@@ -303,9 +303,11 @@ def check_frames(report, library, target, text, room):
 def check_frames_elsewhere(report):
     """The crate's texts of targets that the toolchain doesn't compile for."""
     folder = os.path.join(TOP, 'rust', 'asm')
-    texts = {'riscv64': frames_of_text.of_riscv, 'aarch64-macos': frames_of_text.of_arm, 'aarch64-android': frames_of_text.of_arm,
-             'x86-64-windows': frames_of_text.of_windows, 'x86-64-v3-windows': frames_of_text.of_windows}
-    texts.update((f'{name}-macos', frames_of_text.as_on_linux(os.path.join(folder, f'{name}.s'))) for name in SETS['rust', 'x86-64'])
+    texts = {'riscv64': frames_of_text.of_riscv, 'aarch64-macos': frames_of_text.of_arm,
+             'aarch64-android': frames_of_text.of_arm, 'x86-64-windows': frames_of_text.of_windows,
+             'x86-64-v3-windows': frames_of_text.of_windows,
+             **{f'{name}-macos': frames_of_text.as_on_linux(os.path.join(folder, f'{name}.s'))
+                for name in SETS['rust', 'x86-64']}}
     for name, read in texts.items():
         path = os.path.join(folder, f'{name}.s')
         report.attempt(f'rust/asm/{name}.s: the frames', frames_of_text.are_right, path, read)

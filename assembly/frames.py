@@ -62,7 +62,8 @@ class X86(Processor):
 
 class Windows(X86):
     """x86-64 in Windows' convention, as clang writes it: six registers more are kept by their whole 16 bytes."""
-    numbers = {name: name for name in ('rbx', 'rbp', 'rdi', 'rsi', 'r12', 'r13', 'r14', 'r15', *(f'xmm{n}' for n in range(6, 16)))}
+    numbers = {name: name for name in ('rbx', 'rbp', 'rdi', 'rsi', 'r12', 'r13', 'r14', 'r15',
+                                       *(f'xmm{n}' for n in range(6, 16)))}
 
     def moved(self, text, depth, saved):
         if found := re.fullmatch(r'v?mov(?:[au]ps|dq[au]) %(xmm\d+), (\d*)\(%rsp\)', text):

@@ -20,7 +20,8 @@ def functions(lines):
 
 
 def faults(lines, read):
-    """How many instructions a text has, and what is wrong with the frames that are said of them. `read` compares a function."""
+    """How many instructions a text has, and what is wrong with the frames that are said of them: `read` compares those of
+    a function."""
     count, found = 0, []
     for function in functions(lines):
         compared = list(read(function))
@@ -83,7 +84,8 @@ EPILOGUE = re.compile(r'(addq \$\d+, %rsp\n)?(popq %\w+\n)*(retq\n|jmp (?!\.L)\S
 
 
 def codes_of(lines):
-    """The unwinder's codes: after how many instructions each holds, what it is, and its words; and how long the prologue is."""
+    """The unwinder's codes: after how many instructions each holds, what it is, and its words; and how many the prologue
+    has."""
     count, codes, prologue = 0, [], 0
     for line in lines:
         found = DIRECTIVE.match(line)
@@ -112,7 +114,8 @@ def unwound(codes, size):
 
 def compared_by_seh(lines):
     """At an epilogue the unwinder runs what is left of it. Elsewhere it undoes the codes of the prologue's instructions that
-    have run; a register that has been taken back may be read once more from its place, while that is above the stack pointer."""
+    have run; a register that has been taken back may be read once more from its place, while that is above the stack
+    pointer."""
     processor, name = frames.WINDOWS, lines[0].rstrip(':')
     steps = frames.steps_of(processor, lines)
     codes, prologue = codes_of(lines)
