@@ -2,7 +2,10 @@
 
 A script's first lines say what it does, of which releases it is, and which packages it needs. It runs in an empty folder on
 each library and has to print the same, where the loader took the library that is meant. On a library that stops at a hash it
-has to fail. What c/suits says of the program is compared with what happened."""
+has to end or print otherwise. What c/suits says of the program is compared with what happened.
+
+A script that names a source builds that, once with Debian's header and library and once with ours where Debian's header is
+gone. The program's own tests have to print the same on both, and something else on a library that stops."""
 import glob
 import os
 import re
@@ -22,15 +25,16 @@ PACKAGES = {'debootstrap': 'debootstrap', 'gcc': 'gcc', '/usr/include/stdio.h': 
 RELEASES = {'12': 'bookworm', '13': 'trixie'}
 DEBIANS = '/lib/x86_64-linux-gnu/libxxhash'
 CHECKS = os.path.join(C, 'checks')
-Script = namedtuple('Script', 'name releases packages')
+Script = namedtuple('Script', 'name releases packages source')
 
 
 def scripts():
     """The scripts, by what their first lines say."""
     for path in sorted(glob.glob(os.path.join(CHECKS, 'programs', '*.sh'))):
         with open(path) as file:
-            said = dict(re.findall(r'^# (Debian|packages): *(.*)$', file.read(), re.M))
-        yield Script(os.path.basename(path).removesuffix('.sh'), said['Debian'].split(), said['packages'].split())
+            said = dict(re.findall(r'^# (Debian|packages|source): *(.*)$', file.read(), re.M))
+        yield Script(os.path.basename(path).removesuffix('.sh'), said['Debian'].split(), said.get('packages', '').split(),
+                     said.get('source'))
 
 
 class Library:
@@ -40,23 +44,60 @@ class Library:
         self.root, self.folder = root, folder
 
     def run(self, script):
-        """How a script ends on this library, what it prints, and which library was loaded."""
+        """How a script ends on this library in an empty folder, what it prints, and which library was loaded."""
+        self.root.must('rm -rf work; mkdir work')
+        return self.followed(script, 'work')
+
+    def followed(self, script, folder, then=':'):
+        """How a script ends on this library in a folder, and what follows it there, what both print, and which library was
+        loaded."""
         variables = {'PROGRAMS': f'{TAKEN}/programs', 'LD_DEBUG': 'libs', 'LD_DEBUG_OUTPUT': f'{TAKEN}/logs/log',
                      **({'LD_LIBRARY_PATH': self.folder} if self.folder else {})}
         told = ' '.join(f'{name}={value}' for name, value in variables.items())
-        self.root.must('rm -rf work logs; mkdir work logs')
-        status, out = self.root.run(f'set -euo pipefail; cd work; export {told}\nsource "$PROGRAMS/{script.name}.sh"')
+        self.root.must('rm -rf logs; mkdir logs')
+        begin = f'set -euo pipefail; cd {folder}; export {told}'
+        status, out = self.root.run(f'{begin}\nsource "$PROGRAMS/{script.name}.sh"\n{then}')
         return status, out, self.root.run('grep -rhoE "calling init: .*libxxhash.so.*" logs | sort -u')[1]
+
+    def build(self, script, folder):
+        """Builds a source in a folder with this library, and its header where that isn't Debian's."""
+        prefix = os.path.dirname(self.folder) if self.folder else ''
+        told = f'export CPATH={prefix}/include LIBRARY_PATH={self.folder} LD_LIBRARY_PATH={self.folder}' if prefix else ':'
+        return self.root.must(f'cd {folder}; {told}\nsource {TAKEN}/programs/{script.name}.sh\nbuild')
 
 
 def same_on_both(theirs, ours, stopping, script):
-    wanted, found, stopped = theirs.run(script), ours.run(script), stopping.run(script)
-    want(wanted[0] == 0, f"on Debian's library: {wanted[1][-300:]}")
+    if script.source:
+        return built_on_both(theirs, ours, stopping, script)
+    wanted = theirs.run(script)
     want(DEBIANS in wanted[2], f"on Debian's library {wanted[2]} is loaded")
+    lines = compared(wanted, ours.run(script), stopping.run(script), ours)
+    return f'{lines} lines are the same, and a library that stops is noticed; c/suits: {judged(ours.root, script)}'
+
+
+def built_on_both(theirs, ours, stopping, script):
+    """Both builds, and the program's own tests on each. Debian's header is gone before the second build, and the first may
+    have taken its calls inlined."""
+    root, of_theirs, of_ours = ours.root, f'{script.source}-theirs', f'{script.source}-ours'
+    root.must(f'apt-get source -qq {script.source}; mv {script.source}-*/ {of_theirs}; cp -r {of_theirs} {of_ours}')
+    theirs.build(script, of_theirs)
+    root.must('mv /usr/include/xxhash.h /root')
+    try:
+        ours.build(script, of_ours)
+    finally:
+        root.must('mv /root/xxhash.h /usr/include')
+    lines = compared(*(side.followed(script, folder, 'check') for side, folder in ((theirs, of_theirs), (ours, of_ours),
+                                                                                   (stopping, of_ours))), ours)
+    return f"{lines} lines of its tests are the same on both headers, and a library that stops is noticed"
+
+
+def compared(wanted, found, stopped, ours):
+    """How many lines are the same on both, where each ran on its library and the one that stops was noticed."""
+    want(wanted[0] == 0, f"on Debian's library: {wanted[1][-300:]}")
     want(ours.folder in found[2] and DEBIANS not in found[2], f'on ours {found[2]} is loaded')
     want(found[:2] == wanted[:2], f'status {found[0]}: {found[1][-300:]}')
-    want(stopped[0] != 0, 'it never asks the library for a hash')
-    return f'{len(found[1].splitlines())} lines are the same, and a library that stops is noticed; c/suits: {judged(ours.root, script)}'
+    want(stopped[:2] != found[:2], 'it never asks the library for a hash')
+    return len(found[1].splitlines())
 
 
 def judged(root, script):
@@ -80,14 +121,14 @@ class Made(Built):
 
 
 def laid_out(room):
-    """A folder of what goes into the root: the scripts, c/suits, and the two libraries."""
+    """A folder of what goes into the root: the scripts, c/suits, the library with its headers, and one that stops."""
     built, taken = Made(room), os.path.join(room, 'taken')
     shutil.copytree(os.path.join(CHECKS, 'programs'), os.path.join(taken, 'programs'))
     shutil.copy(os.path.join(CHECKS, 'python_hashes.py'), os.path.join(taken, 'programs'))
     os.mkdir(os.path.join(taken, 'c'))
     for name in ('suits', 'libxxhash.map'):
         shutil.copy(os.path.join(C, name), os.path.join(taken, 'c'))
-    shutil.copytree(built.folder, os.path.join(taken, 'ours', 'lib'), symlinks=True)
+    shutil.copytree(built.prefix, os.path.join(taken, 'ours'), symlinks=True)
     os.mkdir(os.path.join(taken, 'stopping'))
     shutil.copy(built.wrong('stopping-library', '-DSTOPS'), os.path.join(taken, 'stopping'))
     return taken
@@ -98,6 +139,8 @@ def check_release(report, release, base, room):
     wanted = [script for script in scripts() if release in script.releases]
     with new_root(base, os.path.join(room, f'root-{release}'), RELEASES[release], laid_out(room), '') as root:
         root.install('binutils', 'python3', *{package for script in wanted for package in script.packages})
+        root.must('sed "s/^deb/deb-src/; q" /etc/apt/sources.list > /etc/apt/sources.list.d/sources.list; apt-get update -qq')
+        root.must(f'apt-get build-dep -y -qq {" ".join(script.source for script in wanted if script.source)}')
         libraries = [Library(root), Library(root, f'{TAKEN}/ours/lib'), Library(root, f'{TAKEN}/stopping')]
         for script in wanted:
             report.attempt(f'Debian {release}: {script.name}', same_on_both, *libraries, script)
