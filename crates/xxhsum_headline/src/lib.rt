@@ -3,7 +3,7 @@
 //! files and any ends, and is proved from the public contracts of the crates `xxhsum_*`.
 #![tactic(auto)]
 
-ghost use Rattle.std.specs.Prelude.{◌≡◌, ◌↔◌, ◌++◌, Bool, List, ℕ, Option, Result, true};
+ghost use Rattle.std.specs.Prelude.{◌≡◌, ◌↔◌, ◌++◌, Bool, List, ℕ, Option, Result, true, codes};
 ghost use Rattle.std.specs.List.{AllByRecursion};
 ghost use Rattle.std.specs.List.Sorted.{IsPermutation};
 ghost use Rattle.xxh_io.specs.Digest.{Took};
@@ -13,19 +13,20 @@ ghost use Rattle.xxhsum_audit.specs.Item.{HasSameDigest, IsAmong, Item};
 ghost use Rattle.xxhsum_audit.specs.Laws.{IsRight};
 ghost use Rattle.xxhsum_audit.specs.Merge.{Found, lines_in, names_in};
 ghost use Rattle.xxhsum_headline.specs.Headline.{IsLineOrMessage, PrintsBeginning};
+ghost use Rattle.xxhsum_line.specs.Entry.{Says};
 ghost use Rattle.xxhsum_line.specs.declared.printed.Shape.{Shape};
 ghost use Rattle.xxhsum_line.specs.declared.printed.Style.{Style};
 ghost use Rattle.xxhsum_program.specs.CheckList.{EndsAs, SaysList};
 ghost use Rattle.xxhsum_program.specs.EachHas.{EachHas};
-ghost use Rattle.xxhsum_program.specs.Findings.{Finding};
+ghost use Rattle.xxhsum_program.specs.Findings.{Finding, IsFinding};
 ghost use Rattle.xxhsum_program.specs.GoodList.{IsWell};
 ghost use Rattle.xxhsum_program.specs.HashNames.{SaysNames};
 ghost use Rattle.xxhsum_program.specs.Lines.{lines_of, told_line, written_line};
 ghost use Rattle.xxhsum_program.specs.ListEnd.{ListEnd};
-ghost use Rattle.xxhsum_program.specs.Outcomes.{Comes, are_digested};
+ghost use Rattle.xxhsum_program.specs.Outcomes.{Comes, IsValueOf, are_digested};
 ghost use Rattle.xxhsum_program.specs.PrintedIsGood.{PrintedIsGood};
 ghost use Rattle.xxhsum_program.specs.Run.{status_of};
-ghost use Rattle.xxhsum_program.specs.Said.{printed_list};
+ghost use Rattle.xxhsum_program.specs.Said.{named_text, printed_finding, printed_list};
 ghost use Rattle.xxhsum_program.specs.Told.{TellsOn};
 ghost use Rattle.xxhsum_program.specs.declared.outcome.Outcome.{Outcome};
 ghost use Rattle.xxhsum_program.specs.declared.stop.Stop.{Stop};
@@ -87,6 +88,19 @@ pub fn stops_early<S: Store, R: Source, W: Sink, E: Sink>()
 {}
 
 // ---- checks
+
+/// "OK" is said only of a file whose bytes have the line's value: what is printed of a line is "NAME: OK" only where the
+/// line says an algorithm, a value and this name, and reads of its file gave bytes with that value.
+pub fn ok_means_equal<S: Store>()
+    ensures { (store : S) (options : Options) (list : List ℕ) (number : ℕ) (line : List ℕ)
+        → (finding : Finding) (name : List ℕ)
+        → IsFinding S.Store S.File.Source store options.is_little_endian line finding
+        → printed_finding options list number finding ≡ named_text name (codes ": OK")
+        → (kind : Kind) × (value : ℕ) × Says options.is_little_endian line kind value name
+        × IsValueOf S.Store S.File.Source store kind name value }
+{
+    good_lists::ok_means_equal::<S>();
+}
 
 /// A good list means equal files: where a check comes to its end and the list is good, the file of each well-formed line
 /// has the line's value, or isn't there and was to be passed over.
