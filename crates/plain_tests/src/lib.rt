@@ -7,8 +7,6 @@
 #[cfg(test)]
 mod copies;
 #[cfg(test)]
-mod forged;
-#[cfg(test)]
 mod laws;
 #[cfg(test)]
 mod maps;

@@ -117,6 +117,21 @@ fn a_length_past_the_counter(rt: HostRuntime) -> Result<(), Fail> {
     Ok(())
 }
 
+// A record that no hasher made, of accumulators of zero and the greatest length: XXH32 has this value on paper.
+#[test]
+fn the_greatest_length_over_accumulators_of_zero(rt: HostRuntime) {
+    let mut record = record_32();
+    record.total_len = u64::MAX;
+    record.buffer_usage = 0;
+    record.core = xxhash32::Core {
+        v1: 0,
+        v2: 0,
+        v3: 0,
+        v4: 0,
+    };
+    assert!(rt; value_32(record) == Ok(0x0173_fb23));
+}
+
 #[test]
 fn usages_of_the_greatest_lengths(rt: HostRuntime) {
     let mut record = record_32();

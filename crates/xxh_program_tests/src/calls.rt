@@ -1,26 +1,25 @@
-//! The calls under test, over any ends, with no promise of their own: a test that calls them has nothing to carry of
-//! what they promise.
+//! The calls under test, with no promise of their own: a test that calls them has nothing to carry of what they promise.
 
 ghost use Rattle.std.specs.Prelude.{◌≡◌, false};
 
-use std::alloc::Global;
+use std::alloc::{AllocError, Global};
 use twox_hash::{XxHash32, XxHash64};
 use xxh_program::program::{
-    DigestError, Kind, Sink, Source, digest, digest_blocks, digest_from_32, digest_from_64,
-    read_on_32, read_on_64, run,
+    DigestError, FromRead, FromWrite, Kind, Sink, SliceSource, Source, digest, digest_blocks,
+    digest_from_32, digest_from_64, read_on_32, read_on_64, run,
 };
 
-/// By what bytes are digested: by a fresh hasher of a kind, or by a given one.
+/// By what bytes are digested: by a kind under a seed, by a hasher that has read `some` under 1234, or by blocks.
 #[derive(Clone, Copy)]
 pub(crate) enum Way {
-    Fresh(Kind),
+    Fresh(Kind, u32),
     From32,
     From64,
+    Blocks(u64),
 }
 
 pub(crate) fn digest_by<R: Source, W: Sink>(
     way: Way,
-    seed: u32,
     max_reads: u64,
     r: &mut R,
     w: &mut W,
@@ -29,59 +28,19 @@ pub(crate) fn digest_by<R: Source, W: Sink>(
     requires writer { W.has_failed w.old ≡ false }
 {
     match way {
-        Way::Fresh(kind) => digest_fresh(kind, seed, max_reads, r, w),
-        Way::From32 => digest_on_32(XxHash32::with_seed(seed), max_reads, r, w),
-        Way::From64 => digest_on_64(XxHash64::with_seed(u64::from(seed)), max_reads, r, w),
+        Way::Fresh(kind, seed) => digest(kind, u64::from(seed), max_reads, r, w),
+        Way::From32 => digest_from_32(some_32()?, max_reads, r, w),
+        Way::From64 => digest_from_64(some_64()?, max_reads, r, w),
+        Way::Blocks(size) => digest_blocks(r, w, size.max(1), max_reads),
     }
 }
 
-fn digest_fresh<R: Source, W: Sink>(
-    kind: Kind,
-    seed: u32,
-    max_reads: u64,
-    r: &mut R,
-    w: &mut W,
-) -> Result<(), DigestError>
-    requires reader { R.has_failed r.old ≡ false }
-    requires writer { W.has_failed w.old ≡ false }
-{
-    digest(kind, u64::from(seed), max_reads, r, w)
+fn some_32() -> Result<XxHash32, DigestError> {
+    read_on_32(XxHash32::with_seed(1234), 2, &mut SliceSource::new(b"some"))
 }
 
-pub(crate) fn digest_on_32<R: Source, W: Sink>(
-    hasher: XxHash32,
-    max_reads: u64,
-    r: &mut R,
-    w: &mut W,
-) -> Result<(), DigestError>
-    requires reader { R.has_failed r.old ≡ false }
-    requires writer { W.has_failed w.old ≡ false }
-{
-    digest_from_32(hasher, max_reads, r, w)
-}
-
-pub(crate) fn digest_on_64<R: Source, W: Sink>(
-    hasher: XxHash64,
-    max_reads: u64,
-    r: &mut R,
-    w: &mut W,
-) -> Result<(), DigestError>
-    requires reader { R.has_failed r.old ≡ false }
-    requires writer { W.has_failed w.old ≡ false }
-{
-    digest_from_64(hasher, max_reads, r, w)
-}
-
-pub(crate) fn blocks_by<R: Source, W: Sink>(
-    block: u64,
-    max_reads: u64,
-    r: &mut R,
-    w: &mut W,
-) -> Result<(), DigestError>
-    requires reader { R.has_failed r.old ≡ false }
-    requires writer { W.has_failed w.old ≡ false }
-{
-    digest_blocks(r, w, block.max(1), max_reads)
+fn some_64() -> Result<XxHash64, DigestError> {
+    read_on_64(XxHash64::with_seed(1234), 2, &mut SliceSource::new(b"some"))
 }
 
 pub(crate) fn run_by<R: Source, W: Sink, E: Sink>(
@@ -98,22 +57,43 @@ pub(crate) fn run_by<R: Source, W: Sink, E: Sink>(
     run(alloc, words, r, out, err)
 }
 
-pub(crate) fn reads_on_32<R: Source>(
-    hasher: XxHash32,
-    max_reads: u64,
-    r: &mut R,
-) -> Result<XxHash32, DigestError>
-    requires { R.has_failed r.old ≡ false }
-{
-    read_on_32(hasher, max_reads, r)
+/// What a run over memory came to: the exit status, both outputs, and how much of the input it left.
+#[derive(Drop)]
+pub(crate) struct Ran {
+    pub(crate) status: u8,
+    pub(crate) out: Vec<u8>,
+    pub(crate) err: Vec<u8>,
+    pub(crate) unread: usize,
 }
 
-pub(crate) fn reads_on_64<R: Source>(
-    hasher: XxHash64,
-    max_reads: u64,
-    r: &mut R,
-) -> Result<XxHash64, DigestError>
-    requires { R.has_failed r.old ≡ false }
-{
-    read_on_64(hasher, max_reads, r)
+impl Ran {
+    /// Whether all went well, all was read, and this was printed.
+    pub(crate) fn printed(&self, out: &[u8]) -> bool {
+        let quiet = self.status == 0 && self.err.is_empty() && self.unread == 0;
+        quiet && self.out.as_slice() == out
+    }
+}
+
+/// Runs the program over these words, which stand between single spaces.
+pub(crate) fn run_line(alloc: Global, line: &str, input: &[u8]) -> Result<Ran, AllocError> {
+    let words: Vec<&str> = line.split(' ').collect(alloc)?;
+    let mut r = FromRead::new(input);
+    let mut out = FromWrite::new(Vec::new(alloc));
+    let mut err = FromWrite::new(Vec::new(alloc));
+    let status = run_by(alloc, &words, &mut r, &mut out, &mut err);
+    Ok(Ran {
+        status,
+        out: out.into_inner(),
+        err: err.into_inner(),
+        unread: r.into_inner().len(),
+    })
+}
+
+/// The bytes 0 to 250 over and over.
+pub(crate) fn cycling(alloc: Global, len: usize) -> Result<Vec<u8>, AllocError> {
+    let mut bytes = Vec::new(alloc);
+    for i in 0..len {
+        bytes.push((i % 251) as u8)?;
+    }
+    Ok(bytes)
 }

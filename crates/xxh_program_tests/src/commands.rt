@@ -1,222 +1,150 @@
-//! What the program prints and answers.
+//! What the program prints and answers, over memory and over ends that fail.
 
-use crate::calls::run_by;
-use crate::ends::{Offered, Taken};
-use crate::over_memory::{Ran, run_line, run_words};
+use crate::calls::{Ran, cycling, run_by, run_line};
+use crate::digests::PAIRS;
 use std::alloc::{AllocError, Global};
-use xxh_program::program::ScriptSource;
+use xxh_program::program::{ScriptSink, ScriptSource};
 
-const USAGE: &[u8] =
-    b"xxh: usage: xxh hash|save|resume 32|64|3-64|3-128 [SEED|JSON] or xxh blocks SIZE\n";
+const SOME: &[u8] = b"some bytes";
 
-const BAD_SEED: &[u8] = b"xxh: bad seed\n";
+const RESUME_32: &str =
+    "resume 32 {\"buffer\":[72,101,108,108,111,44,32,119,111,114,108,100,33,0,0,0],\"buffer_usage\":14,\"core\":{\"v1\":606290984,\"v2\":2246822519,\"v3\":0,\"v4\":1640531535},\"seed\":0,\"total_len\":14}";
 
-const BAD_SIZE: &[u8] = b"xxh: bad size\n";
+const RESUME_64: &str =
+    "resume 64 {\"buffer\":[72,101,108,108,111,44,32,119,111,114,108,100,33,0,0,0,0,0,0,0,0,0,0,0,0,0,0,0,0,0,0,0],\"buffer_usage\":14,\"core\":{\"v1\":6983438078262162902,\"v2\":14029467366897019727,\"v3\":0,\"v4\":7046029288634856825},\"seed\":0,\"total_len\":14}";
 
-// Words, the input and the digits that are printed, which the C library answers too.
-const DIGESTS: &str = "\
-hash 64 1234,some bytes,eab55659a496d78b
-hash 64 0001234,some bytes,eab55659a496d78b
-hash 64,,ef46db3751d8e999
-hash 64 0,,ef46db3751d8e999
-hash 64 12539502615675809169,,4b6a04fcdf7a4672
-hash 32,,02cc5d05
-hash 32 0,*,e0fe705f
-hash 32 1120475511,,d6bf8459
-hash 3-64,,2d06800538d394c2
-hash 3-64 3735931646,,4aede68389c0e311
-hash 3-128,,99aa06d3014798d86001c324468d497f
-hash 3-128 0,,99aa06d3014798d86001c324468d497f
-hash 32,some bytes,29f97ecd
-hash 64,some bytes,55cfd3deadcabb2a
-hash 3-64,some bytes,45c97cf9b0447624
-hash 3-128,some bytes,99736577b441a1bbd3ec197fe371e984
-hash 32 1234,some bytes,92f68bd9
-hash 3-64 1234,some bytes,582ee33d9ad8c6e9
-hash 3-128 1234,some bytes,d13af43e9c4507cfc327b2ddc4f87078
-hash 32 4294967295,,9061da9d
-hash 32 4294967295,some bytes,17343bb3
-hash 64 18446744073709551615,,298f4c84b24f5380
-hash 64 18446744073709551615,some bytes,68cffc67a3e39e33
-hash 3-64 18446744073709551615,some bytes,f2bedbe5c1d104be
-hash 3-128 18446744073709551615,some bytes,bff237cde472fcf2e98c75f91e037435";
-
-// Words, the input and the digits, with commas between them.
-fn prints(alloc: Global, row: &str) -> Result<bool, AllocError> {
-    let (words, rest) = row.split_once(',').unwrap_or((row, ""));
-    let (input, digits) = rest.split_once(',').unwrap_or((rest, ""));
-    Ok(run_line(alloc, words, input.as_bytes())?.printed_line(digits))
-}
+// Words, the input, and what is printed: each command, by each of its kinds. The C library has the values and states.
+const PRINTED: [(&str, &[u8], &[u8]); 15] = [
+    ("hash 32", SOME, b"29f97ecd\n"),
+    ("hash 64", SOME, b"55cfd3deadcabb2a\n"),
+    ("hash 3-64", SOME, b"45c97cf9b0447624\n"),
+    ("hash 3-128", SOME, b"99736577b441a1bbd3ec197fe371e984\n"),
+    ("hash 32 4294967295", SOME, b"17343bb3\n"),
+    ("hash 64 18446744073709551615", SOME, b"68cffc67a3e39e33\n"),
+    (
+        "hash 3-64 18446744073709551615",
+        SOME,
+        b"f2bedbe5c1d104be\n",
+    ),
+    (
+        "hash 3-128 0001234",
+        SOME,
+        b"d13af43e9c4507cfc327b2ddc4f87078\n",
+    ),
+    ("hash 64", b"", b"ef46db3751d8e999\n"),
+    (
+        "save 32",
+        b"Hello, world!\0",
+        b"{\"buffer\":[72,101,108,108,111,44,32,119,111,114,108,100,33,0,0,0],\"buffer_usage\":14,\"core\":{\"v1\":606290984,\"v2\":2246822519,\"v3\":0,\"v4\":1640531535},\"seed\":0,\"total_len\":14}\n",
+    ),
+    (
+        "save 64 18446744073709551615",
+        SOME,
+        b"{\"buffer\":[115,111,109,101,32,98,121,116,101,115,0,0,0,0,0,0,0,0,0,0,0,0,0,0,0,0,0,0,0,0,0,0],\"buffer_usage\":10,\"core\":{\"v1\":6983438078262162901,\"v2\":14029467366897019726,\"v3\":18446744073709551615,\"v4\":7046029288634856824},\"seed\":18446744073709551615,\"total_len\":10}\n",
+    ),
+    (RESUME_32, b"", b"9e5e7e93\n"),
+    (RESUME_64, b"", b"7b06c531ea43e89f\n"),
+    ("blocks 2", &[0, 1, 0, 1, 0], PAIRS),
+    ("blocks 18446744073709551615", b"", b""),
+];
 
 #[test]
-fn digest_lines(rt: HostRuntime) -> Result<(), AllocError> {
-    for row in DIGESTS.lines() {
-        assert!(rt; prints(rt.alloc(), row)?, "{row}");
+fn what_each_command_prints(rt: HostRuntime) -> Result<(), AllocError> {
+    for (words, input, out) in PRINTED {
+        let ran = run_line(rt.alloc(), words, input)?;
+        assert!(rt; ran.printed(out), "{words}");
     }
     Ok(())
 }
 
-// Too few and too many words, no command, and kinds that the command does not have.
-const MISUSES: &str = "\
-
-hash
-64
-digest 64
-digest 64 1
-Hash 64
-hash 65
-hash 
-hash 3-256
-save
-save 65
-save 3-64
-save 3-64 1
-save 3-128
-save 3-128 x
-save 64 1 2
-resume
-resume 32
-resume 64
-resume 65 {}
-resume 3-64
-resume 3-64 {}
-resume 3-128 {}
-resume 64 {} 1
-hash 64 1234 
-hash 64 1 2 3
-hash 3-64 1 2
-hash 3-128 1 2
-blocks
-Blocks 4
-block 4
-blocks 4 5
-blocks 32 4 5";
+// Words and the line that tells what is wrong with them. No hasher has the states of the last three rows, by their
+// counts and by their accumulators.
+const REFUSED: &str = "\
+|xxh: usage: xxh hash|save|resume 32|64|3-64|3-128 [SEED|JSON] or xxh blocks SIZE
+hash 64 1 2|xxh: usage: xxh hash|save|resume 32|64|3-64|3-128 [SEED|JSON] or xxh blocks SIZE
+hash 32 4294967296|xxh: bad seed
+save 64 +1|xxh: bad seed
+blocks 0|xxh: bad size
+resume 32 {}|xxh: bad state
+resume 64 {}|xxh: bad state
+resume 32 {\"buffer\":[0,0,0,0,0,0,0,0,0,0,0,0,0,0,0,0],\"buffer_usage\":17,\"core\":{\"v1\":606290984,\"v2\":2246822519,\"v3\":0,\"v4\":1640531535},\"seed\":0,\"total_len\":14}|xxh: bad state
+resume 64 {\"buffer\":[0,0,0,0,0,0,0,0,0,0,0,0,0,0,0,0,0,0,0,0,0,0,0,0,0,0,0,0,0,0,0,0],\"buffer_usage\":14,\"core\":{\"v1\":1,\"v2\":14029467366897019727,\"v3\":0,\"v4\":7046029288634856825},\"seed\":0,\"total_len\":14}|xxh: bad state";
 
 // This line and status 2, and nothing is read or printed.
-fn is_refused(ran: &Ran, line: &[u8]) -> bool {
+fn is_refused(ran: &Ran, line: &str) -> bool {
     let quiet = ran.status == 2 && ran.out.is_empty() && ran.unread == 10;
-    quiet && ran.err.as_slice() == line
+    quiet && ran.err.as_slice().strip_suffix(b"\n") == Some(line.as_bytes())
 }
 
-// The first row that is not refused by this line, if there is one.
-fn not_refused<'a>(
-    alloc: Global,
-    rows: &'a str,
-    line: &[u8],
-) -> Result<Option<&'a str>, AllocError> {
-    for row in rows.lines() {
-        if !is_refused(&run_line(alloc, row, b"some bytes")?, line) {
-            return Ok(Some(row));
-        }
+#[test]
+fn words_that_are_refused(rt: HostRuntime) -> Result<(), AllocError> {
+    for row in REFUSED.lines() {
+        let (words, line) = row.split_once('|').unwrap_or((row, ""));
+        let ran = run_line(rt.alloc(), words, SOME)?;
+        assert!(rt; is_refused(&ran, line), "{words}");
     }
-    Ok(None)
+    Ok(())
 }
 
-#[test]
-fn words_that_are_no_command(rt: HostRuntime) {
-    assert!(rt; is_refused(&run_words(rt.alloc(), &[], b"some bytes"), USAGE));
-    assert_eq!(rt; not_refused(rt.alloc(), MISUSES, USAGE), Ok(None));
-}
-
-// No digits, other characters, and numbers that are too great.
-const NO_SEEDS: &str = "\
-hash 64 18446744073709551616
-hash 64 99999999999999999999999999
-hash 32 4294967296
-hash 32 18446744073709551616
-hash 64 
-hash 64 +1
-hash 64 -1
-hash 64 1x
-hash 64 0x1
-hash 64 ١
-hash 3-64 18446744073709551616
-hash 3-64 -1
-hash 3-128 18446744073709551616
-hash 3-128 1x
-save 32 4294967296
-save 32 x
-save 32 
-save 64 18446744073709551616
-save 64 +1";
-
-#[test]
-fn words_that_are_no_seed(rt: HostRuntime) {
-    assert_eq!(rt; not_refused(rt.alloc(), NO_SEEDS, BAD_SEED), Ok(None));
-}
-
-// No block, no digits, other characters, and numbers that are too great.
-const NO_SIZES: &str = "\
-blocks 0
-blocks 000
-blocks 
-blocks +1
-blocks -1
-blocks 4k
-blocks 0x10
-blocks 4096.0
-blocks 18446744073709551616
-blocks 99999999999999999999999999";
-
-#[test]
-fn words_that_are_no_size(rt: HostRuntime) {
-    assert_eq!(rt; not_refused(rt.alloc(), NO_SIZES, BAD_SIZE), Ok(None));
-}
-
-// Over ends of which one fails: the status, what is printed by fives, and what is told by sevens.
-fn ends_with(
+// Where the second read fails, nothing is printed; where there is room for eight bytes, those are. Either is told.
+fn tells(
     alloc: Global,
-    words: [&str; 3],
+    line: &str,
     read_fails: u64,
-    out: (usize, &[u8]),
-    err: (usize, &[u8]),
-    status: u8,
-) -> bool {
-    let mut r = ScriptSource::new(b"some bytes", &[4, 6], read_fails);
-    let mut printed = Taken::new(alloc, out.0, 5);
-    let mut told = Taken::new(alloc, err.0, 7);
-    let given = run_by(alloc, &words, &mut r, &mut printed, &mut told);
-    given == status && printed.holds(out.1) && told.holds(err.1)
+    printed: usize,
+    told: &[u8],
+) -> Result<bool, AllocError> {
+    let words: Vec<&str> = line.split(' ').collect(alloc)?;
+    let mut r = ScriptSource::new(SOME, &[4, 6], read_fails);
+    let mut out = ScriptSink::<8>::new(1000, 0);
+    let mut err = ScriptSink::<40>::new(7, 0);
+    let status = run_by(alloc, &words, &mut r, &mut out, &mut err);
+    Ok(status == 1 && out.bytes().len() == printed && err.bytes() == told)
 }
 
-const HASH: [&str; 3] = ["hash", "64", "1234"];
-
 #[test]
-fn ends_that_fail(rt: HostRuntime) {
-    let line = b"eab55659a496d78b\n".as_slice();
-    let told = (100, b"xxh: read failed\n".as_slice());
-    for fail_at in 1..4 {
+fn ends_that_fail(rt: HostRuntime) -> Result<(), AllocError> {
+    for line in [
+        "hash 64", "save 32", "save 64", RESUME_32, RESUME_64, "blocks 5",
+    ] {
         assert!(rt;
-            ends_with(rt.alloc(), HASH, fail_at, (17, b""), told, 1),
-            "{fail_at}"
+            tells(rt.alloc(), line, 1, 0, b"xxh: read failed\n")?,
+            "{line}"
+        );
+        assert!(rt;
+            tells(rt.alloc(), line, 0, 8, b"xxh: write failed\n")?,
+            "{line}"
         );
     }
-    let told = (100, b"xxh: write failed\n".as_slice());
-    for room in 0..17usize {
-        let out = (room, line.get(..room).unwrap_or(line));
-        assert!(rt; ends_with(rt.alloc(), HASH, 0, out, told, 1), "{room}");
-    }
+    Ok(())
 }
 
-#[test]
-fn a_fault_that_cannot_be_told(rt: HostRuntime) {
-    assert!(rt; ends_with(rt.alloc(), HASH, 1, (17, b""), (5, b"xxh: "), 1));
-    assert!(rt; ends_with(rt.alloc(), ["hash", "64", "x"], 0, (17, b""), (0, b""), 2));
-}
-
-// Each read of these words is offered so many bytes.
-fn offers(alloc: Global, words: [&str; 3], bytes: usize) -> bool {
-    let mut r = Offered::new(&[7; 200000]);
-    let mut out = Taken::new(alloc, 1000, 1000);
-    let mut err = Taken::new(alloc, 1000, 1000);
+// How many reads these words make where each gives all that is offered.
+fn reads_of(alloc: Global, line: &str, bytes: &[u8]) -> Result<u64, AllocError> {
+    let words: Vec<&str> = line.split(' ').collect(alloc)?;
+    let mut r = ScriptSource::new(bytes, &[1000000; 10], 0);
+    let mut out = ScriptSink::<1000>::new(1000, 0);
+    let mut err = ScriptSink::<40>::new(40, 0);
     let status = run_by(alloc, &words, &mut r, &mut out, &mut err);
-    status == 0 && r.each_was(bytes)
+    Ok(if status == 0 { r.reads() } else { 0 })
 }
 
+// Two reads take all that is offered twice, and one byte more wants one more. Then comes the end.
 #[test]
-fn reads_are_long_where_nothing_is_saved(rt: HostRuntime) {
-    assert!(rt; offers(rt.alloc(), ["hash", "64", "1"], 131072));
-    assert!(rt; offers(rt.alloc(), ["hash", "3-128", "1"], 131072));
-    assert!(rt; offers(rt.alloc(), ["save", "32", "1"], 4096));
-    assert!(rt; offers(rt.alloc(), ["save", "64", "1"], 4096));
+fn reads_are_long_where_nothing_is_saved(rt: HostRuntime) -> Result<(), AllocError> {
+    for (line, offered) in [
+        ("hash 64 1", 131072),
+        ("blocks 131072", 131072),
+        ("save 32 1", 4096),
+        ("save 64 1", 4096),
+    ] {
+        let bytes = cycling(rt.alloc(), 2 * offered + 1)?;
+        let shorter = bytes.get(..2 * offered).unwrap_or(b"");
+        assert!(rt; reads_of(rt.alloc(), line, shorter)? == 3, "{line}");
+        assert!(rt;
+            reads_of(rt.alloc(), line, bytes.as_slice())? == 4,
+            "{line}"
+        );
+    }
+    Ok(())
 }

@@ -1,11 +1,11 @@
-//! Tests of the digest engine and of the program `xxh`, through the public calls of `xxh_program` alone.
+//! Tests of the digest engine and of the program `xxh`, of what no clause says: outside vectors, printed texts, how many
+//! bytes a read is offered, and that memory is wanted only where there is none. Each public call of `xxh_program` is made
+//! once, and once with a read and a write that fail in mid-stream.
 //!
 //! Each call stands in a small function with no contract, so that a test, which calls it in a loop over a table, has
-//! nothing to prove of it. Tables are texts where they can be, one row a line.
+//! nothing to prove of it.
 #![tactic(auto)]
 
-#[cfg(test)]
-mod blocks;
 #[cfg(test)]
 mod calls;
 #[cfg(test)]
@@ -13,16 +13,6 @@ mod commands;
 #[cfg(test)]
 mod digests;
 #[cfg(test)]
-mod ends;
-#[cfg(test)]
-mod goes_on;
-#[cfg(test)]
-mod inputs;
-#[cfg(test)]
-mod over_memory;
+mod lengths;
 #[cfg(test)]
 mod process;
-#[cfg(test)]
-mod standard_ends;
-#[cfg(test)]
-mod states;

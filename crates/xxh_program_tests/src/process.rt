@@ -1,10 +1,9 @@
 //! The program over a process of the tests: its arguments, its streams, and the flush at the end.
 
-use std::alloc::{Alloc, Global};
+use std::alloc::{Alloc, AllocError, Global};
 use std::env::{Env, FillError};
 use std::io;
 use std::io::{ErrorKind, Write};
-use std::test::Fail;
 use xxh_program::program::run_process;
 
 /// The arguments of a process, the program's name first, and its memory.
@@ -126,27 +125,20 @@ fn the_words_are_those_after_the_name(rt: HostRuntime) {
 const USAGE: &[u8] =
     b"xxh: usage: xxh hash|save|resume 32|64|3-64|3-128 [SEED|JSON] or xxh blocks SIZE\n";
 
-// The usage line and the status 2.
-fn is_no_command(alloc: Global, words: &[&[u8]]) -> bool {
-    run_with(alloc, words, false).refused(2, USAGE)
-}
+// No argument, and in the name, a command, a seed and one word too many what is not UTF-8.
+const NO_WORDS: [&[&[u8]]; 5] = [
+    &[],
+    &[b"xxh\xff", b"hash", b"64"],
+    &[b"xxh", b"\xff", b"64"],
+    &[b"xxh", b"hash", b"64", b"\xc3"],
+    &[b"xxh", b"hash", b"64", b"1", b"\x80"],
+];
 
 #[test]
-fn words_that_are_no_command(rt: HostRuntime) {
-    assert!(rt; is_no_command(rt.alloc(), &[b"xxh", b"hash", b"64", b"1", b"2"]));
-    assert!(rt; is_no_command(rt.alloc(), &[b"xxh", b"hash", b"64 "]));
-    assert!(rt; is_no_command(rt.alloc(), &[b"xxh", b" hash", b"64"]));
-    assert!(rt; is_no_command(rt.alloc(), &[b"xxh"]));
-    assert!(rt; is_no_command(rt.alloc(), &[]));
-}
-
-// The name, a command, a seed, and one word too many.
-#[test]
-fn arguments_that_are_not_utf_8(rt: HostRuntime) {
-    assert!(rt; is_no_command(rt.alloc(), &[b"xxh\xff", b"hash", b"64"]));
-    assert!(rt; is_no_command(rt.alloc(), &[b"xxh", b"\xff", b"64"]));
-    assert!(rt; is_no_command(rt.alloc(), &[b"xxh", b"hash", b"64", b"\xc3"]));
-    assert!(rt; is_no_command(rt.alloc(), &[b"xxh", b"hash", b"64", b"1", b"\x80"]));
+fn arguments_that_are_no_words(rt: HostRuntime) {
+    for words in NO_WORDS {
+        assert!(rt; run_with(rt.alloc(), words, false).refused(2, USAGE));
+    }
 }
 
 // The line was printed before; what comes of it is told.
@@ -167,7 +159,7 @@ fn a_flush_that_fails(rt: HostRuntime) {
 
 // A word that is longer than any buffer of the system's.
 #[test]
-fn a_long_word(rt: HostRuntime) -> Result<(), Fail> {
+fn a_long_word(rt: HostRuntime) -> Result<(), AllocError> {
     let mut zeros = Vec::new(rt.alloc());
     for _ in 0..10000u64 {
         zeros.push(b'0')?;

@@ -4,6 +4,7 @@ mod GoodListFacts
 pub mod HashFacts
 mod LineEndFacts
 mod LineFacts
+mod OkFacts
 mod OutcomeFacts
 mod PrintedIsGoodFacts
 mod PrintedListFacts

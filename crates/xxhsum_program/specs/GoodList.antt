@@ -1,5 +1,5 @@
--- What a good list says of its files.
-use Rattle.std.specs.Prelude.{◌≡◌, ◌⊎◌, ℕ, Bool, true, List, Option}
+-- What a good list says of its files, and what a line that says OK does.
+use Rattle.std.specs.Prelude.{◌≡◌, ◌⊎◌, ℕ, Bool, true, List, Option, codes}
 use Rattle.std.specs.List.{AllByRecursion}
 use Rattle.xxh_io.specs.declared.kind.Kind.{Kind}
 use Rattle.xxh_io.specs.Rules.{SourceRules}
@@ -12,6 +12,7 @@ use Rattle.xxhsum_program.specs.CheckList.{FindsLines, MeetsLines, is_good_list}
 use Rattle.xxhsum_program.specs.Findings.{Finding, IsFinding}
 use Rattle.xxhsum_program.specs.ListEnd.{ListEnd}
 use Rattle.xxhsum_program.specs.Outcomes.{IsValueOf}
+use Rattle.xxhsum_program.specs.Said.{named_text, printed_finding}
 
 -- there is no file of this name, and that is passed over
 abbrev pub IsPassedOver : {S F : Type 0} → StoreRules S F → S → Bool → List ℕ → Type 0
@@ -34,3 +35,12 @@ GoodMeansEqual {S} {F} {R} opening reading list_reading =
     → is_good_list options findings end ≡ true
     → (lines : List (List ℕ)) × MeetsLines list_reading source lines end
     × AllByRecursion (IsWell opening reading store options) lines
+
+-- What is printed of a line is "NAME: OK" only where the line says a kind, a value and this name, and its file has the value.
+abbrev pub OkMeansEqual : {S F : Type 0} → StoreRules S F → SourceRules F → Type 0
+OkMeansEqual {S} opening reading =
+    (store : S) (options : Options) (list : List ℕ) (number : ℕ) (line : List ℕ) (finding : Finding) (name : List ℕ)
+    → IsFinding opening reading store options.is_little_endian line finding
+    → printed_finding options list number finding ≡ named_text name (codes ": OK")
+    → (kind : Kind) × (value : ℕ) × Says options.is_little_endian line kind value name
+    × IsValueOf opening reading store kind name value

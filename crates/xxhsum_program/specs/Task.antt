@@ -2,11 +2,13 @@
 use Rattle.std.specs.Prelude.{◌≡◌, ℕ, Bool, true, false, ◌&&◌, not, List, [], ◌∷◌, ◌++◌, Option, Some, None, codes, drop, get_or, length, nat_eq, if◌then◌else◌}
 use Rattle.std.specs.List.{concat}
 use Rattle.xxhsum_program.specs.declared.process.Terminals.{Terminals}
-use Rattle.xxhsum_program.specs.declared.usage.TheConstants.{ABOUT, NO_BENCHMARK, OPTIONS, TITLE}
+use Rattle.xxhsum_program.specs.declared.usage.TheConstants.{ABOUT, BEFORE, BEHIND, NO_BENCHMARK, TITLE}
 use Rattle.xxhsum_program.specs.Arguments.{IsLastPart}
 use Rattle.xxhsum_line.specs.Escapes.{one_line}
 use Rattle.xxhsum_words.specs.Name.{kind_of_program}
 use Rattle.xxhsum_words.specs.Options.{asked_of}
+use Rattle.xxhsum_words.specs.Table.{rows_text}
+use Rattle.xxhsum_words.specs.declared.table.TheConstants.{ROWS}
 use Rattle.xxhsum_words.specs.declared.options.Asked.{Asked}
 use Rattle.xxhsum_words.specs.declared.options.Asked.TheVariants.{Run, Benchmark, Version, Help, WrongOption, NulsInList, InputBesideNames, NumberTooLarge}
 use Rattle.xxhsum_words.specs.declared.options.Options.{Options}
@@ -25,7 +27,8 @@ IsProgram (path ∷ words) program = IsLastPart path program
 abbrev pub usage_text : List ℕ → List ℕ
 usage_text program =
     one_line (concat (program ∷ TITLE.now ∷ [])) ++ ABOUT.now
-    ++ one_line (concat (codes "Usage: " ∷ program ∷ codes " [OPTION].. [FILE].." ∷ [])) ++ OPTIONS.now
+    ++ one_line (concat (codes "Usage: " ∷ program ∷ codes " [OPTION].. [FILE].." ∷ []))
+    ++ BEFORE.now ++ rows_text ROWS ++ BEHIND.now
 
 -- the same behind a line that says what is wrong with the words
 abbrev pub wrong_text : List ℕ → List ℕ → List ℕ

@@ -1,9 +1,10 @@
-//! What a good list says of its files, as a law about the check of lists.
+//! What a good list says of its files, and what a line that says OK does, as laws about the check of lists.
 
-ghost use Rattle.xxhsum_program.specs.GoodList.{GoodMeansEqual};
+ghost use Rattle.xxhsum_program.specs.GoodList.{GoodMeansEqual, OkMeansEqual};
 
 use xxh_io::ends::Source;
 use xxhsum_files::store::Store;
+use xxhsum_line::laws::laws_of_lines;
 
 /// A law, with nothing to run: the file of each well-formed line of a good list has the line's value, or the store says that
 /// there is no file of that name and the options pass over it. `check_list` says that its lines are found so, and that it
@@ -11,3 +12,10 @@ use xxhsum_files::store::Store;
 pub fn good_means_equal<S: Store, R: Source>()
     ensures { GoodMeansEqual S.Store S.File.Source R.Source }
 {}
+
+/// A law, with nothing to run: "OK" is said only of a file whose bytes have the line's value, whatever stands in names.
+pub fn ok_means_equal<S: Store>()
+    ensures { OkMeansEqual S.Store S.File.Source }
+{
+    laws_of_lines();
+}

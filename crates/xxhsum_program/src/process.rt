@@ -14,7 +14,7 @@ use crate::progress::{Meter, time_of};
 use crate::screen::Ticks;
 use crate::stop::Stop;
 use crate::tell::{tell, tell_line};
-use crate::usage::{ABOUT, NO_BENCHMARK, OPTIONS, TITLE};
+use crate::usage::{ABOUT, BEFORE, BEHIND, NO_BENCHMARK, TITLE, tell_options};
 use crate::watched::{Watched, WatchedFiles};
 use std::alloc::Global;
 use xxh_io::ends::{Sink, Source};
@@ -217,7 +217,9 @@ fn tell_usage<E: Sink>(program: &[u8], err: &mut E)
     tell_line(&[program, TITLE], err);
     tell(ABOUT, err);
     tell_line(&[b"Usage: ", program, b" [OPTION].. [FILE].."], err);
-    tell(OPTIONS, err);
+    tell(BEFORE, err);
+    tell_options(err);
+    tell(BEHIND, err);
 }
 
 // Does what is asked for over the files and the input, whose reads are shown on the screen or not.

@@ -1,5 +1,13 @@
 //! The help and the version.
 
+ghost use Rattle.std.specs.Prelude.{◌≡◌, [], ◌∷◌, map};
+ghost use Rattle.xxhsum_program.specs.Told.{TellsOn};
+ghost use Rattle.xxhsum_words.specs.Table.{letter_text, row_text, rows_text, seen};
+
+use crate::tell::tell_parts;
+use xxh_io::ends::Sink;
+use xxhsum_words::table::{Does, NO_LETTER, ROWS};
+
 // The first line of both, after the program's name.
 pub(crate) const TITLE: &[u8] =
     b" 0.1.0 of twox_hash, with the words of xxhsum 0.8.1 and the lines of 0.8.3";
@@ -7,30 +15,55 @@ pub(crate) const TITLE: &[u8] =
 pub(crate) const ABOUT: &[u8] =
     b"Prints or checks the digests of files by xxHash: XXH32, XXH64, XXH3.\n\n";
 
-pub(crate) const OPTIONS: &[u8] = b"
+// What stands before the options of the table, and behind them.
+pub(crate) const BEFORE: &[u8] = b"
 With no FILE, or when FILE is -, read standard input.
 
   -H#                 the algorithm: 0 or 32, 1 or 64 (default), 2 or 128, 3 (XXH3 of 64 bits)
-  -c, --check         read checksums from the FILEs and check them
-  --audit             compare FILES with the checksum list that is the first FILE
-  --files-from, --filelist
-                      read the names of files from the FILEs, one name a line
-  --files0-from       the same, each name ended by a NUL
-  --tag               print BSD-style checksum lines
-  --little-endian     digests with their lowest byte first
-  -z, --zero          end each line with NUL, and disable escaping; not with -c or --audit
-  --binary            ignored: files are read as they are
-  -q, --quiet         no progress; with -c: don't print OK for each successfully verified file
-  --status            no progress; with -c: don't print anything, the exit status shows success
-  --ignore-missing    with -c: don't fail or report status for missing files
-  --strict            with -c: exit non-zero for improperly formatted checksum lines
-  -w, --warn          with -c: warn about improperly formatted checksum lines
-  -h, --help          print this help
-  -V, --version       print the version
+";
 
+pub(crate) const BEHIND: &[u8] = b"
 When standard error is a terminal, the progress of long files is shown there.
 
 The exit status is 0 if every file was read and matches its checksum, if there is one, and else 1.
 ";
 
 pub(crate) const NO_BENCHMARK: &[u8] = b": this xxhsum has no benchmark";
+
+// Tells the lines of all options that the help has.
+pub(crate) fn tell_options<E: Sink>(err: &mut E)
+    ensures { TellsOn E.Sink (rows_text ROWS) err.old err.new }
+{
+    tell_rows(&ROWS, err);
+}
+
+// Tells the lines of these options.
+fn tell_rows<E: Sink>(rows: &[(u8, &str, Does, &str)], err: &mut E)
+    ensures { TellsOn E.Sink (rows_text (map seen rows.now)) err.old err.new }
+{
+    if let Some((row, rest)) = rows.split_first() {
+        tell_row(row.0, row.1.as_bytes(), row.3.as_bytes(), err);
+        tell_rows(rest, err);
+    }
+}
+
+// Tells the line of an option, unless the help has none.
+fn tell_row<'a, E: Sink>(letter: u8, name: &'a [u8], help: &'a [u8], err: &mut E)
+    ensures { TellsOn E.Sink (row_text letter name.now help.now) err.old err.new }
+{
+    if help.len() == 0 {
+        return;
+    }
+    let short = [b'-', letter, b',', b' '];
+    let shown = shown_letter(letter, &short);
+    let parts: [&[u8]; 6] = [b"  ", shown, b"--", name, help, b"\n"];
+    tell_parts(&parts, err);
+}
+
+// What stands before the name of an option with this letter.
+fn shown_letter<'a>(letter: u8, short: &'a [u8; 4]) -> &'a [u8]
+    requires { short.now ≡ 45 ∷ letter ∷ 44 ∷ 32 ∷ [] }
+    ensures { result.now ≡ letter_text letter }
+{
+    if letter == NO_LETTER { b"" } else { short }
+}

@@ -1,17 +1,19 @@
 -- What a word of letters does, each an option.
 use Rattle.std.proofs.Common.{zero, suc}
-use Rattle.std.specs.Prelude.{ℕ, List, [], ◌∷◌, true, ◌==◌, ◌||◌, Option, Some, None, if◌then◌else◌}
+use Rattle.std.specs.Prelude.{ℕ, List, [], ◌∷◌, ◌==◌, ◌||◌, Option, Some, None, if◌then◌else◌}
 use Rattle.std.specs.declared.result.Result.{Result}
 use Rattle.std.specs.declared.result.Result.TheVariants.{Ok, Err}
 use Rattle.xxh_io.specs.declared.kind.Kind.{Kind}
 use Rattle.xxh_io.specs.declared.kind.Kind.TheVariants.{X32, X64, X3_64, X3_128}
 use Rattle.xxhsum_words.specs.declared.letters.Letter.{Letter}
 use Rattle.xxhsum_words.specs.declared.number.Number.{Number}
-use Rattle.xxhsum_words.specs.declared.options.Asked.TheVariants.{Benchmark, Version, Help, NumberTooLarge}
+use Rattle.xxhsum_words.specs.declared.options.Asked.TheVariants.{NumberTooLarge}
 use Rattle.xxhsum_words.specs.declared.options.Options.{Options}
 use Rattle.xxhsum_words.specs.declared.options.Step.{Step}
-use Rattle.xxhsum_words.specs.declared.options.Step.TheVariants.{Takes, IsWrong, Settles}
+use Rattle.xxhsum_words.specs.declared.options.Step.TheVariants.{EndsAfter, EndsBefore, IsWrong, Settles, Takes}
 use Rattle.xxhsum_words.specs.Number.{number_of}
+use Rattle.xxhsum_words.specs.Table.{of_letter}
+use Rattle.xxhsum_words.specs.declared.table.TheConstants.{ROWS}
 
 -- the kind of this number of -H
 abbrev pub numbered_kind : ℕ → Option Kind
@@ -22,9 +24,13 @@ numbered_kind number =
     else if number == 3 then Some X3_64
     else None
 
--- a letter with no others that belong to it
-abbrev pub alone : Options → Result Letter Step
-alone options = Ok (record { options = options; taken = 0 })
+-- a letter that no others belong to, by what it does
+abbrev pub alone : Step → Result Letter Step
+alone (Takes options) = Ok (record { options = options; taken = 0 })
+alone EndsBefore = Err EndsBefore
+alone EndsAfter = Err EndsAfter
+alone IsWrong = Err IsWrong
+alone (Settles asked) = Err (Settles asked)
 
 -- H: its number names the kind
 abbrev pub with_kind : Options → ℕ → Option Kind → Result Letter Step
@@ -46,23 +52,13 @@ past_number options None = Err (Settles NumberTooLarge)
 abbrev pub skipped_number : Options → List ℕ → Result Letter Step
 skipped_number options after = past_number options (number_of after)
 
--- what a letter does that stands before these others
+-- what a letter does that stands before these others: `-` is no letter, and H, i and B have a number
 abbrev pub letter_of : Options → ℕ → List ℕ → Result Letter Step
 letter_of options letter after =
-    -- V, h, b
-    if letter == 86 then Err (Settles Version)
-    else if letter == 104 then Err (Settles Help)
-    else if letter == 98 then Err (Settles Benchmark)
-    -- H
+    if letter == 45 then Err IsWrong
     else if letter == 72 then kind_step options after
-    -- i, B
     else if letter == 105 || letter == 66 then skipped_number options after
-    -- c, q, w, z
-    else if letter == 99 then alone (record options { checks = true })
-    else if letter == 113 then alone (record options { is_quiet = true })
-    else if letter == 119 then alone (record options { warns = true })
-    else if letter == 122 then alone (record options { ends_in_nul = true })
-    else Err IsWrong
+    else alone (of_letter ROWS options letter)
 
 -- the letters that belong to this one are passed over
 abbrev pub after_letter : Result Letter Step → (ℕ → Options → Step) → Step

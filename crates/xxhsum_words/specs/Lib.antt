@@ -2,3 +2,4 @@ pub mod Letters
 pub mod Name
 pub mod Number
 pub mod Options
+pub mod Table

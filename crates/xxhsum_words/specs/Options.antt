@@ -2,7 +2,7 @@
 use Rattle.std.specs.Prelude.{ℕ, ◌+◌, Bool, List, [], ◌∷◌, drop, length, true, false, bytes_eq, nat_lt, ◌&&◌, ◌||◌, codes, if◌then◌else◌}
 use Rattle.xxh_io.specs.declared.kind.Kind.{Kind}
 use Rattle.xxhsum_words.specs.declared.options.Asked.{Asked}
-use Rattle.xxhsum_words.specs.declared.options.Asked.TheVariants.{Run, Benchmark, Version, Help, WrongOption, NulsInList, InputBesideNames}
+use Rattle.xxhsum_words.specs.declared.options.Asked.TheVariants.{Run, WrongOption, NulsInList, InputBesideNames}
 use Rattle.xxhsum_words.specs.declared.options.NamesFrom.{NamesFrom}
 use Rattle.xxhsum_words.specs.declared.options.NamesFrom.TheVariants.{Words, Lines, Nuls}
 use Rattle.xxhsum_words.specs.declared.options.Options.{Options}
@@ -10,6 +10,8 @@ use Rattle.xxhsum_words.specs.declared.options.Step.{Step}
 use Rattle.xxhsum_words.specs.declared.options.Step.TheVariants.{Takes, EndsBefore, EndsAfter, IsWrong, Settles}
 use Rattle.xxhsum_words.specs.Letters.{letters_step}
 use Rattle.xxhsum_words.specs.Number.{begins_with}
+use Rattle.xxhsum_words.specs.Table.{of_name}
+use Rattle.xxhsum_words.specs.declared.table.TheConstants.{ROWS}
 
 -- no option was read
 abbrev pub no_options : Kind → Options
@@ -29,50 +31,10 @@ no_options kind = record {
   takes_terminal = false;
 }
 
--- what `--` and this name do, where it is the last option that is read
-abbrev pub long_end : List ℕ → Step
-long_end name =
-    if bytes_eq name (codes "") then EndsAfter
-    else if bytes_eq name (codes "help") then Settles Help
-    else if bytes_eq name (codes "version") then Settles Version
-    else if bytes_eq name (codes "bench-all") then Settles Benchmark
-    else IsWrong
-
--- what `--` and this name do, where it is of missing files or of how lines end; files are read as they are, so `--binary`
--- does nothing
-abbrev pub further_step : Options → List ℕ → Step
-further_step options name =
-    if bytes_eq name (codes "ignore-missing") then Takes (record options { ignores_missing = true })
-    else if bytes_eq name (codes "zero") then Takes (record options { ends_in_nul = true })
-    else if bytes_eq name (codes "binary") then Takes options
-    else long_end name
-
--- what `--` and this name do, where it is of whole trees
-abbrev pub tree_step : Options → List ℕ → Step
-tree_step options name =
-    if bytes_eq name (codes "audit") then Takes (record options { audits = true })
-    else if bytes_eq name (codes "files-from") || bytes_eq name (codes "filelist")
-    then Takes (record options { names_from = Lines })
-    else if bytes_eq name (codes "files0-from") then Takes (record options { names_from = Nuls })
-    else further_step options name
-
--- what `--` and this name do
-abbrev pub long_step : Options → List ℕ → Step
-long_step options name =
-    if bytes_eq name (codes "check") then Takes (record options { checks = true })
-    else if bytes_eq name (codes "quiet") then Takes (record options { is_quiet = true })
-    else if bytes_eq name (codes "status") then Takes (record options { is_status_only = true })
-    else if bytes_eq name (codes "strict") then Takes (record options { is_strict = true })
-    else if bytes_eq name (codes "warn") then Takes (record options { warns = true })
-    else if bytes_eq name (codes "tag") then Takes (record options { is_tagged = true })
-    else if bytes_eq name (codes "little-endian")
-    then Takes (record options { is_little_endian = true })
-    else tree_step options name
-
 -- what the word does after words that made these options
 abbrev pub word_step : Options → List ℕ → Step
 word_step options word =
-    if begins_with (codes "--") word then long_step options (drop 2 word)
+    if begins_with (codes "--") word then of_name ROWS options (drop 2 word)
     else if bytes_eq word (codes "-") then Takes (record options { takes_terminal = true })
     else if begins_with (codes "-") word then letters_step 0 options (drop 1 word)
     else EndsBefore

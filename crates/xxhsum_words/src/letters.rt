@@ -1,10 +1,11 @@
 //! A word of letters, each an option, after a single `-`.
 
 ghost use Rattle.std.specs.Prelude.{◌≡◌, ◌≤◌, length, IfOk};
-ghost use Rattle.xxhsum_words.specs.Letters.{kind_step, letter_of, letters_step, numbered_kind, skipped_number};
+ghost use Rattle.xxhsum_words.specs.Letters.{alone, kind_step, letter_of, letters_step, numbered_kind, skipped_number};
 
 use crate::number::number_at;
 use crate::options::{Asked, Options, Step};
+use crate::table::{NO_LETTER, letter_step};
 use xxh_io::kind::Kind;
 
 /// A letter that was read: the options after it, and how many of the letters that follow belong to it.
@@ -32,23 +33,27 @@ pub(crate) fn letters(word: &[u8], mut options: Options) -> Step
 }
 
 // What a letter does that stands before these others. An error is what its word does, whatever follows.
-fn letter_at(letter: u8, after: &[u8], mut options: Options) -> Result<Letter, Step>
+fn letter_at(letter: u8, after: &[u8], options: Options) -> Result<Letter, Step>
     ensures letter { result ≡ letter_of options letter after.now }
     ensures within { IfOk result (λ read. read.taken ≤ length after.now) }
 {
     match letter {
-        b'V' => return Err(Step::Settles(Asked::Version)),
-        b'h' => return Err(Step::Settles(Asked::Help)),
-        b'b' => return Err(Step::Settles(Asked::Benchmark)),
-        b'H' => return kind_letter(after, options),
-        b'i' | b'B' => return skipped_letter(after, options),
-        b'c' => options.checks = true,
-        b'q' => options.is_quiet = true,
-        b'w' => options.warns = true,
-        b'z' => options.ends_in_nul = true,
-        _ => return Err(Step::IsWrong),
+        NO_LETTER => Err(Step::IsWrong),
+        b'H' => kind_letter(after, options),
+        b'i' | b'B' => skipped_letter(after, options),
+        _ => alone(letter_step(letter, options)),
     }
-    Ok(Letter { options, taken: 0 })
+}
+
+// A letter that no others belong to, by what it does.
+fn alone(step: Step) -> Result<Letter, Step>
+    ensures letter { result ≡ alone step }
+    ensures within { IfOk result (λ read. read.taken ≡ 0) }
+{
+    match step {
+        Step::Takes(options) => Ok(Letter { options, taken: 0 }),
+        Step::EndsBefore | Step::EndsAfter | Step::IsWrong | Step::Settles(_) => Err(step),
+    }
 }
 
 // `H`: the number after it names the kind.

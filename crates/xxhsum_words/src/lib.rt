@@ -5,3 +5,4 @@ mod letters;
 pub mod name;
 mod number;
 pub mod options;
+pub mod table;

@@ -1,9 +1,10 @@
 //! The words of the command line.
 
-ghost use Rattle.std.specs.Prelude.{◌≡◌, bytes_eq, drop, map};
-ghost use Rattle.xxhsum_words.specs.Options.{asked_of, further_step, have_input, leaves_input, lists_before, long_end, long_step, run_from, tree_step, word_step};
+ghost use Rattle.std.specs.Prelude.{◌≡◌, drop, map};
+ghost use Rattle.xxhsum_words.specs.Options.{asked_of, have_input, leaves_input, lists_before, run_from, word_step};
 
 use crate::letters::letters;
+use crate::table::name_step;
 use xxh_io::kind::Kind;
 
 /// Where the names of a run come from.
@@ -182,7 +183,7 @@ fn have_input(names: &[Vec<u8>]) -> bool
     ensures { result ≡ have_input (map (λ name. name.items) names.now) }
 {
     for name in names {
-        if is(name, "-") {
+        if name.as_slice() == b"-".as_slice() {
             return true;
         }
     }
@@ -194,7 +195,7 @@ fn word_step(word: &[u8], options: Options) -> Step
     ensures { result ≡ word_step options word.now }
 {
     if let Some(name) = word.strip_prefix(b"--") {
-        return long_step(name, options);
+        return name_step(name, options);
     }
     match word.strip_prefix(b"-") {
         Some([]) => Step::Takes(Options {
@@ -204,82 +205,4 @@ fn word_step(word: &[u8], options: Options) -> Step
         Some(rest) => letters(rest, options),
         None => Step::EndsBefore,
     }
-}
-
-// What `--` and this name do.
-fn long_step(name: &[u8], mut options: Options) -> Step
-    ensures { result ≡ long_step options name.now }
-{
-    if is(name, "check") {
-        options.checks = true;
-    } else if is(name, "quiet") {
-        options.is_quiet = true;
-    } else if is(name, "status") {
-        options.is_status_only = true;
-    } else if is(name, "strict") {
-        options.is_strict = true;
-    } else if is(name, "warn") {
-        options.warns = true;
-    } else if is(name, "tag") {
-        options.is_tagged = true;
-    } else if is(name, "little-endian") {
-        options.is_little_endian = true;
-    } else {
-        return tree_step(name, options);
-    }
-    Step::Takes(options)
-}
-
-// What `--` and this name do, where it is of whole trees.
-fn tree_step(name: &[u8], mut options: Options) -> Step
-    ensures { result ≡ tree_step options name.now }
-{
-    if is(name, "audit") {
-        options.audits = true;
-    } else if is(name, "files-from") || is(name, "filelist") {
-        options.names_from = NamesFrom::Lines;
-    } else if is(name, "files0-from") {
-        options.names_from = NamesFrom::Nuls;
-    } else {
-        return further_step(name, options);
-    }
-    Step::Takes(options)
-}
-
-// What `--` and this name do, where it is of missing files or of how lines end.
-fn further_step(name: &[u8], mut options: Options) -> Step
-    ensures { result ≡ further_step options name.now }
-{
-    if is(name, "ignore-missing") {
-        options.ignores_missing = true;
-    } else if is(name, "zero") {
-        options.ends_in_nul = true;
-    } else if !is(name, "binary") {
-        return long_end(name);
-    }
-    Step::Takes(options)
-}
-
-// What `--` and this name do, where it is the last option that is read.
-fn long_end(name: &[u8]) -> Step
-    ensures { result ≡ long_end name.now }
-{
-    if is(name, "") {
-        Step::EndsAfter
-    } else if is(name, "help") {
-        Step::Settles(Asked::Help)
-    } else if is(name, "version") {
-        Step::Settles(Asked::Version)
-    } else if is(name, "bench-all") {
-        Step::Settles(Asked::Benchmark)
-    } else {
-        Step::IsWrong
-    }
-}
-
-// Whether the bytes are this text's.
-fn is(bytes: &[u8], text: &str) -> bool
-    ensures { result ≡ bytes_eq bytes.now text.now }
-{
-    bytes == text.as_bytes()
 }

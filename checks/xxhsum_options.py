@@ -1,0 +1,60 @@
+"""The options of `xxhsum`, by its help, its page, its manual page and the cases: each has to have those of the help."""
+import os
+import re
+import subprocess
+
+from xxhsum_cases import CASES
+
+DOCS = os.path.join(os.path.dirname(os.path.dirname(os.path.abspath(__file__))), 'docs')
+# What the pages have beside the options: standard input, and the end of the options.
+MARKS = {'-', '--'}
+
+
+def section(path, begins, ends):
+    """A section of a page, from the line that begins it to the next one that begins so."""
+    with open(os.path.join(DOCS, path), encoding='utf-8') as file:
+        text = file.read()
+    return text.split(begins, 1)[1].split(ends, 1)[0]
+
+
+def of_help(program):
+    """The words that begin lines of the help, the algorithm's without its number."""
+    text = subprocess.run([program, '--help'], stderr=subprocess.PIPE, text=True, check=True).stderr
+    return {word for line in text.splitlines() if line.startswith('  -')
+            for word in re.findall(r'(?:^|, )(--?[\w-]+)', line[2:].split('  ')[0].replace('#', ''))}
+
+
+def of_page():
+    rows = re.findall(r'^\| (`.*?) \|', section('XXHSUM.md', '## The options\n', '\n## '), re.M)
+    return {re.sub(r'^-H\d+$', '-H', word) for row in rows for word in re.findall(r'`(.*?)`', row)} - MARKS
+
+
+def of_manual():
+    heads = re.findall(r'^\.TP\n\.BR? (.*)$', section('xxhsum.1', '.SH OPTIONS\n', '\n.SH '), re.M)
+    words = {word for head in heads for word in re.findall(r'--?[\w-]*', head.replace('\\', ''))}
+    return {re.sub(r'^-H\d+$', '-H', word) for word in words} - MARKS
+
+
+def of_cases():
+    """What stands as a word of some case, of letters each."""
+    words = {word for case in CASES for word in case.words if isinstance(word, str) and word.startswith('-')}
+    return words | {f'-{letter}' for word in words if re.fullmatch(r'-\w+', word) for letter in word[1:]}
+
+
+def differences(of_program):
+    """Where the options aren't those of the program, and what differs."""
+    for place, found in (('docs/XXHSUM.md', of_page()), ('docs/xxhsum.1', of_manual()), ('the cases', of_cases() & of_program)):
+        if found != of_program:
+            yield place, sorted(found ^ of_program)
+
+
+def over_pages(program, report):
+    """Compares the three with the help, and with a help that has one option more, which each has to notice."""
+    asked = of_help(program)
+    wrong = dict(differences(asked))
+    for place, words in wrong.items():
+        print(f'{program}: the options of {place} are not those of the help: {", ".join(words)}')
+    noticed = dict(differences(asked | {'--planted'}))
+    print(f'the options of the help: {len(asked)}, which {3 - len(wrong)} of 3 places have; {len(noticed)} notice one more')
+    passed = (3 - len(wrong)) + len(noticed)
+    report.count(passed, 6 - passed)

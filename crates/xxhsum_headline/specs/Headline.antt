@@ -1,0 +1,21 @@
+-- The words of the headline.
+use Rattle.std.specs.Prelude.{◌≡◌, ◌⊎◌, ℕ, false, List, [], ◌++◌}
+use Rattle.xxh_io.specs.Digest.{Took}
+use Rattle.xxh_io.specs.Rules.{SinkRules}
+use Rattle.xxh_io.specs.declared.kind.Kind.{Kind}
+use Rattle.xxhsum_line.specs.Laws.{IsOneLine}
+use Rattle.xxhsum_line.specs.declared.printed.Shape.{Shape}
+use Rattle.xxhsum_program.specs.Lines.{printed_line, told_line}
+use Rattle.xxhsum_program.specs.declared.outcome.Outcome.{Outcome}
+
+-- one line on standard output and no message, or one message on standard error and no line
+abbrev pub IsLineOrMessage : Kind → Shape → List ℕ → Outcome → Type 0
+IsLineOrMessage kind shape name outcome =
+    (IsOneLine (printed_line kind shape name outcome) × (told_line name outcome ≡ []))
+    ⊎ ((printed_line kind shape name outcome ≡ []) × IsOneLine (told_line name outcome))
+
+-- a beginning of the lines was printed, and then a write may have failed
+abbrev pub PrintsBeginning : {W : Type 0} → SinkRules W → List ℕ → W → W → Type 0
+PrintsBeginning {W} writing lines old new =
+    (front rest : List ℕ) × (met : W) × (lines ≡ front ++ rest) × Took writing front old met
+    × ((new ≡ met) ⊎ writing.refuses met new)

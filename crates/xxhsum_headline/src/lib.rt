@@ -1,0 +1,138 @@
+//! The headline of `xxhsum`, as functions whose contracts are its sentences, for whoever reads nothing else. There is
+//! nothing to run: each is a law about what the contract of `run` (`xxhsum_tree`) says that a run does, over any store of
+//! files and any ends, and is proved from the public contracts of the crates `xxhsum_*`.
+#![tactic(auto)]
+
+ghost use Rattle.std.specs.Prelude.{◌≡◌, ◌↔◌, ◌++◌, Bool, List, ℕ, Option, Result, true, codes};
+ghost use Rattle.std.specs.List.{AllByRecursion};
+ghost use Rattle.std.specs.List.Sorted.{IsPermutation};
+ghost use Rattle.xxh_io.specs.Digest.{Took};
+ghost use Rattle.xxh_io.specs.declared.kind.Kind.{Kind};
+ghost use Rattle.xxhsum_audit.specs.Audit.{IsAudit, missing_in, new_in};
+ghost use Rattle.xxhsum_audit.specs.Item.{HasSameDigest, IsAmong, Item};
+ghost use Rattle.xxhsum_audit.specs.Laws.{IsRight};
+ghost use Rattle.xxhsum_audit.specs.Merge.{Found, lines_in, names_in};
+ghost use Rattle.xxhsum_headline.specs.Headline.{IsLineOrMessage, PrintsBeginning};
+ghost use Rattle.xxhsum_line.specs.Entry.{Says};
+ghost use Rattle.xxhsum_line.specs.declared.printed.Shape.{Shape};
+ghost use Rattle.xxhsum_line.specs.declared.printed.Style.{Style};
+ghost use Rattle.xxhsum_program.specs.CheckList.{EndsAs, SaysList};
+ghost use Rattle.xxhsum_program.specs.EachHas.{EachHas};
+ghost use Rattle.xxhsum_program.specs.Findings.{Finding, IsFinding};
+ghost use Rattle.xxhsum_program.specs.GoodList.{IsWell};
+ghost use Rattle.xxhsum_program.specs.HashNames.{SaysNames};
+ghost use Rattle.xxhsum_program.specs.Lines.{lines_of, told_line, written_line};
+ghost use Rattle.xxhsum_program.specs.ListEnd.{ListEnd};
+ghost use Rattle.xxhsum_program.specs.Outcomes.{Comes, IsValueOf, are_digested};
+ghost use Rattle.xxhsum_program.specs.PrintedIsGood.{PrintedIsGood};
+ghost use Rattle.xxhsum_program.specs.Run.{status_of};
+ghost use Rattle.xxhsum_program.specs.Said.{named_text, printed_finding, printed_list};
+ghost use Rattle.xxhsum_program.specs.Told.{TellsOn};
+ghost use Rattle.xxhsum_program.specs.declared.outcome.Outcome.{Outcome};
+ghost use Rattle.xxhsum_program.specs.declared.stop.Stop.{Stop};
+ghost use Rattle.xxhsum_words.specs.declared.options.Options.{Options};
+
+use xxh_io::ends::{Sink, Source};
+use xxhsum_audit::laws::laws_of_audits;
+use xxhsum_files::store::Store;
+use xxhsum_line::laws::laws_of_lines;
+use xxhsum_program::{good_lists, printed_lists};
+
+// ---- the status
+
+/// The exit status is 0 exactly where a run came to its end and all is well. A failed write or want of memory is never 0.
+pub fn status()
+    ensures { (done : Result Bool Stop) → (status_of done ≡ 0) ↔ (done ≡ Ok true) }
+{}
+
+// ---- fingerprints
+
+/// A run over names that came to its end: each name has one outcome, in their order: the value of exactly the bytes that
+/// the reads of its file gave, or why there is none. Standard output has the lines of those with a value, standard error
+/// the messages of the others, and all is well exactly where each has a value.
+pub fn each_name_once<S: Store, W: Sink, E: Sink>()
+    ensures { (store : S) (kind : Kind) (style : Style) (names : List (List ℕ)) (w_old w_new : W)
+        → (e_old e_new : E) (all : Bool)
+        → SaysNames S.Store S.File.Source W.Sink E.Sink store kind style names w_old w_new
+        e_old e_new (Ok all)
+        → (outcomes : List Outcome)
+        × EachHas (Comes S.Store S.File.Source store kind) names outcomes
+        × Took W.Sink (lines_of (written_line kind style) names outcomes) w_old w_new
+        × TellsOn E.Sink (lines_of told_line names outcomes) e_old e_new
+        × (all ≡ are_digested outcomes) }
+{}
+
+/// Whatever bytes a name has, its outcome is one line and no message, or one message and no line.
+pub fn one_line_a_name()
+    ensures { (kind : Kind) (shape : Shape) (name : List ℕ) (outcome : Outcome)
+        → IsLineOrMessage kind shape name outcome }
+{
+    laws_of_lines();
+}
+
+/// A run that stops has printed a beginning of the lines of the names that it came to, or of what is said of a list.
+pub fn stops_early<S: Store, R: Source, W: Sink, E: Sink>()
+    ensures names { (store : S) (kind : Kind) (style : Style) (names : List (List ℕ))
+        → (w_old w_new : W) (e_old e_new : E) (stop : Stop)
+        → SaysNames S.Store S.File.Source W.Sink E.Sink store kind style names w_old w_new
+        e_old e_new (Err stop)
+        → (done rest : List (List ℕ)) × (outcomes : List Outcome) × (names ≡ done ++ rest)
+        × EachHas (Comes S.Store S.File.Source store kind) done outcomes
+        × PrintsBeginning W.Sink (lines_of (written_line kind style) done outcomes) w_old w_new }
+    ensures list { (store : S) (options : Options) (name : List ℕ) (source : R)
+        → (w_old w_new : W) (e_old e_new : E) (stop : Stop)
+        → SaysList S.Store S.File.Source R.Source W.Sink E.Sink store options name source
+        w_old w_new e_old e_new (Err stop)
+        → (findings : List Finding) × (end : Option ListEnd)
+        × PrintsBeginning W.Sink (printed_list options name findings end) w_old w_new }
+{}
+
+// ---- checks
+
+/// "OK" is said only of a file whose bytes have the line's value: what is printed of a line is "NAME: OK" only where the
+/// line says an algorithm, a value and this name, and reads of its file gave bytes with that value.
+pub fn ok_means_equal<S: Store>()
+    ensures { (store : S) (options : Options) (list : List ℕ) (number : ℕ) (line : List ℕ)
+        → (finding : Finding) (name : List ℕ)
+        → IsFinding S.Store S.File.Source store options.is_little_endian line finding
+        → printed_finding options list number finding ≡ named_text name (codes ": OK")
+        → (kind : Kind) × (value : ℕ) × Says options.is_little_endian line kind value name
+        × IsValueOf S.Store S.File.Source store kind name value }
+{
+    good_lists::ok_means_equal::<S>();
+}
+
+/// A good list means equal files: where a check comes to its end and the list is good, the file of each well-formed line
+/// has the line's value, or isn't there and was to be passed over.
+pub fn good_means_equal<S: Store, R: Source, W: Sink, E: Sink>()
+    ensures { (store : S) (options : Options) (name : List ℕ) (source : R) (w_old w_new : W)
+        → (e_old e_new : E)
+        → SaysList S.Store S.File.Source R.Source W.Sink E.Sink store options name source
+        w_old w_new e_old e_new (Ok true)
+        → (lines : List (List ℕ)) × (end : ListEnd) × EndsAs R.Source source lines end
+        × AllByRecursion (IsWell S.Store S.File.Source store options) lines }
+{
+    good_lists::good_means_equal::<S, R>();
+}
+
+/// What is printed is accepted back, line for line, of any names: the lines that a run prints are a good list while the
+/// files stay as they are.
+pub fn printed_is_accepted<S: Store, R: Source + Drop>()
+    ensures { PrintedIsGood S.Store S.File.Source R.Source }
+{
+    printed_lists::printed_is_good::<S, R>();
+}
+
+// ---- audits
+
+/// An audit tells each line of the list once and each name once, each in the class that it has, and leaves no line missing
+/// that has the digest of a new name.
+pub fn audit_classes()
+    ensures { (lines names : List Item) (found : List Found) → IsAudit lines names found
+        → IsPermutation lines (lines_in found) × IsPermutation names (names_in found)
+        × ((one : Found) → IsAmong found one → IsRight lines names one)
+        × ((line name : Item) → IsAmong (missing_in found) line → IsAmong (new_in found) name
+        → HasSameDigest line name → ⊥) }
+{
+    laws_of_audits();
+}

@@ -1,0 +1,96 @@
+-- A line that says "NAME: OK" is said of a file that has the line's value alone.
+use Rattle.std.proofs.Common.{◌≡◌, ◌≢◌, ◌+◌, ℕ, Bool, true, false, List, [], ◌∷◌, ◌++◌, refl, sym, ap, ◌∙◌, subst, arith, codes, decimal, drop, length, if◌then◌else◌}
+use Rattle.std.specs.List.{concat}
+use Rattle.std.proofs.lemmas.List.{append_assoc, append_cancel_right, length_push, same_from_push}
+use Rattle.std.proofs.lemmas.Option.{same_Some}
+use Rattle.xxh_io.specs.Rules.{SourceRules}
+use Rattle.xxhsum_files.specs.Rules.{StoreRules}
+use Rattle.xxhsum_line.specs.Entry.{Says}
+use Rattle.xxhsum_line.specs.Escapes.{escaped, mark_of, needs_escape, one_line, unescaped}
+use Rattle.xxhsum_line.specs.Laws.{EscapeIsUndone, PlainNamesStay}
+use Rattle.xxhsum_program.specs.Findings.{Ignored, Improper, Proper}
+use Rattle.xxhsum_program.specs.Found.{IsFound}
+use Rattle.xxhsum_program.specs.GoodList.{OkMeansEqual}
+use Rattle.xxhsum_program.specs.Outcomes.{IsValueOf, reason_text}
+use Rattle.xxhsum_program.specs.Said.{found_text, is_silent, named_text}
+use Rattle.xxhsum_program.specs.declared.entry.Found.{Found}
+use Rattle.xxhsum_program.specs.declared.entry.Found.TheVariants.{Same, Different, Unread}
+
+-- ---- one line is that of one text, and of some
+
+by-marks : EscapeIsUndone → PlainNamesStay → (a b : List ℕ) (m n : Bool) → needs_escape a ≡ m → needs_escape b ≡ n
+    → (if m then 92 ∷ [] else []) ++ escaped a ++ 10 ∷ [] ≡ (if n then 92 ∷ [] else []) ++ escaped b ++ 10 ∷ [] → a ≡ b
+by-marks undone stay a b true true of_a of_b is =
+    let both : 92 ∷ escaped a ≡ 92 ∷ escaped b = append_cancel_right (92 ∷ escaped a) (92 ∷ escaped b) (10 ∷ []) is in
+    same_Some a b (sym (undone a) ∙ ap (λ l. unescaped (drop 1 l)) both ∙ undone b)
+by-marks undone stay a b false false of_a of_b is =
+    sym (stay a of_a) ∙ append_cancel_right (escaped a) (escaped b) (10 ∷ []) is ∙ stay b of_b
+by-marks undone stay a b true false of_a of_b is =
+    let whole : 92 ∷ escaped a ≡ b = append_cancel_right (92 ∷ escaped a) (escaped b) (10 ∷ []) is ∙ stay b of_b in
+    let no : true ≡ false = ap needs_escape whole ∙ of_b in cc
+by-marks undone stay a b false true of_a of_b is =
+    let whole : 92 ∷ escaped b ≡ a = sym (append_cancel_right (escaped a) (92 ∷ escaped b) (10 ∷ []) is) ∙ stay a of_a in
+    let no : true ≡ false = ap needs_escape whole ∙ of_a in cc
+
+texts-same : EscapeIsUndone → PlainNamesStay → (a b : List ℕ) → one_line a ≡ one_line b → a ≡ b
+texts-same undone stay a b is = by-marks undone stay a b (needs_escape a) (needs_escape b) refl refl is
+
+some-line : (text : List ℕ) → [] ≡ one_line text → ⊥
+some-line text is =
+    let no : 0 ≡ length (mark_of text ++ escaped text) + 1 = ap length is ∙ length_push (mark_of text ++ escaped text) 10 in
+    absurd (omega (arith, no))
+
+-- ---- the last byte of a text
+
+abbrev Ends : ℕ → List ℕ → Type 0
+Ends c text = (front : List ℕ) × (text ≡ front ++ c ∷ [])
+
+behind : (x text : List ℕ) (c : ℕ) → Ends c text → Ends c (x ++ text)
+behind x text c (front, is) = (x ++ front, ap (λ t. x ++ t) is ∙ sym (append_assoc x front (c ∷ [])))
+
+not-both : (c d : ℕ) (a b : List ℕ) → c ≢ d → Ends c a → Ends d b → a ≡ b → ⊥
+not-both c d a b differ (front, of_a) (other, of_b) is =
+    differ (same_from_push front other c d (sym of_a ∙ is ∙ of_b)).1
+
+ok-ends : (name : List ℕ) → Ends 75 (concat (name ∷ codes ": OK" ∷ []))
+ok-ends name = behind name (codes ": OK") 75 (codes ": O", refl)
+
+failed-ends : (name : List ℕ) → Ends 68 (concat (name ∷ codes ": FAILED" ∷ []))
+failed-ends name = behind name (codes ": FAILED") 68 (codes ": FAILE", refl)
+
+unread-ends : (list : List ℕ) (number : ℕ) (name why : List ℕ)
+    → Ends 46 (concat (list ∷ codes ":" ∷ decimal number ∷ codes ": Could not open or read '" ∷ name ∷ codes "': " ∷ why ∷ codes "." ∷ []))
+unread-ends list number name why =
+    let last : Ends 46 (concat (why ∷ codes "." ∷ [])) = behind why (codes ".") 46 ([], refl) in
+    let quoted = behind name _ 46 (behind (codes "': ") _ 46 last) in
+    behind list _ 46 (behind (codes ":") _ 46 (behind (decimal number) _ 46 (behind (codes ": Could not open or read '") _ 46 quoted)))
+
+-- ---- a line of a list
+
+spoken : (silent : Bool) (text shown : List ℕ) → (if silent then [] else shown) ≡ one_line text → shown ≡ one_line text
+spoken true text shown is = absurd (some-line text is)
+spoken false text shown is = is
+
+found-same : EscapeIsUndone → PlainNamesStay → (quiet : Bool) (list : List ℕ) (number : ℕ) (said name : List ℕ) (found : Found)
+    → found_text quiet list number said found ≡ named_text name (codes ": OK") → (found ≡ Same) × (said ≡ name)
+found-same undone stay quiet list number said name Same is =
+    let whole = spoken quiet (concat (name ∷ codes ": OK" ∷ [])) (named_text said (codes ": OK")) is in
+    let texts = texts-same undone stay (concat (said ∷ codes ": OK" ∷ [])) (concat (name ∷ codes ": OK" ∷ [])) whole in
+    (refl, append_cancel_right said name (codes ": OK") texts)
+found-same undone stay quiet list number said name Different is =
+    absurd (not-both 68 75 _ _ (λ no. absurd (omega (arith, no))) (failed-ends said) (ok-ends name) (texts-same undone stay _ _ is))
+found-same undone stay quiet list number said name (Unread reason) is =
+    absurd (not-both 46 75 _ _ (λ no. absurd (omega (arith, no))) (unread-ends list number said (reason_text reason)) (ok-ends name) (texts-same undone stay _ _ is))
+
+pub ok-means-equal : {S F : Type 0} (opening : StoreRules S F) (reading : SourceRules F) → EscapeIsUndone → PlainNamesStay → OkMeansEqual opening reading
+ok-means-equal opening reading undone stay store options list number line Ignored name finds is = absurd (some-line (concat (name ∷ codes ": OK" ∷ [])) is)
+ok-means-equal opening reading undone stay store options list number line Improper name finds is = absurd (some-line (concat (name ∷ codes ": OK" ∷ [])) is)
+ok-means-equal opening reading undone stay store options list number line (Proper said found) name (kind, value, says, of_file) is =
+    let shown = spoken (is_silent options found) (concat (name ∷ codes ": OK" ∷ [])) (found_text options.is_quiet list number said found) is in
+    let same = found-same undone stay options.is_quiet list number said name found shown in
+    let equal : IsValueOf opening reading store kind said value = subst (λ f. IsFound opening reading store kind value said f) same.0 of_file in (
+      kind,
+      value,
+      subst (λ n. Says options.is_little_endian line kind value n) same.1 says,
+      subst (λ n. IsValueOf opening reading store kind n value) same.1 equal,
+    )

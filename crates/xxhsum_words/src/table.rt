@@ -1,0 +1,207 @@
+//! The options, each said once: its letter, its name, what it does, and what the help says of it.
+
+ghost use Rattle.std.specs.Prelude.{◌≡◌, map};
+ghost use Rattle.xxhsum_words.specs.Table.{does_step, of_letter, of_name, seen};
+
+use crate::options::{Asked, NamesFrom, Options, Step};
+
+/// What an option does.
+#[derive(Clone, Copy, Debug, PartialEq, Eq)]
+pub enum Does {
+    /// The names are lists, whose lines are compared with their files.
+    Checks,
+    /// The first name is a list, whose lines are put beside the other names.
+    Audits,
+    /// The names stand in lists of this form.
+    Lists(NamesFrom),
+    /// Lines are printed as BSD has them.
+    Tags,
+    /// Digests have their lowest byte first.
+    TurnsRound,
+    /// Lines end with a NUL.
+    EndsInNul,
+    /// Nothing: files are read as they are.
+    Nothing,
+    /// Nothing is said of a file that is as its line has it.
+    Quiets,
+    /// A comparison prints no result.
+    Silences,
+    /// Files that aren't there are passed over.
+    IgnoresMissing,
+    /// A malformed line makes its list a bad one.
+    IsStrict,
+    /// Malformed lines are reported.
+    Warns,
+    /// The words behind it are names.
+    EndsOptions,
+    /// It asks for this, whatever follows.
+    Asks(Asked),
+}
+
+/// The letter of an option that has none.
+pub const NO_LETTER: u8 = b'-';
+
+/// All options but those whose letter has a number: the letter behind `-`, the name behind `--`, what it does, and what
+/// the help has behind the name, which is nothing where the help has no line for it.
+pub const ROWS: [(u8, &str, Does, &str); 18] = [
+    (
+        b'c',
+        "check",
+        Does::Checks,
+        "         read checksums from the FILEs and check them",
+    ),
+    (
+        b'-',
+        "audit",
+        Does::Audits,
+        "             compare FILES with the checksum list that is the first FILE",
+    ),
+    (
+        b'-',
+        "files-from",
+        Does::Lists(NamesFrom::Lines),
+        ", --filelist\n                      read the names of files from the FILEs, one name a line",
+    ),
+    (b'-', "filelist", Does::Lists(NamesFrom::Lines), ""),
+    (
+        b'-',
+        "files0-from",
+        Does::Lists(NamesFrom::Nuls),
+        "       the same, each name ended by a NUL",
+    ),
+    (
+        b'-',
+        "tag",
+        Does::Tags,
+        "               print BSD-style checksum lines",
+    ),
+    (
+        b'-',
+        "little-endian",
+        Does::TurnsRound,
+        "     digests with their lowest byte first",
+    ),
+    (
+        b'z',
+        "zero",
+        Does::EndsInNul,
+        "          end each line with NUL, and disable escaping; not with -c or --audit",
+    ),
+    (
+        b'-',
+        "binary",
+        Does::Nothing,
+        "            ignored: files are read as they are",
+    ),
+    (
+        b'q',
+        "quiet",
+        Does::Quiets,
+        "         no progress; with -c: don't print OK for each successfully verified file",
+    ),
+    (
+        b'-',
+        "status",
+        Does::Silences,
+        "            no progress; with -c: don't print anything, the exit status shows success",
+    ),
+    (
+        b'-',
+        "ignore-missing",
+        Does::IgnoresMissing,
+        "    with -c: don't fail or report status for missing files",
+    ),
+    (
+        b'-',
+        "strict",
+        Does::IsStrict,
+        "            with -c: exit non-zero for improperly formatted checksum lines",
+    ),
+    (
+        b'w',
+        "warn",
+        Does::Warns,
+        "          with -c: warn about improperly formatted checksum lines",
+    ),
+    (
+        b'h',
+        "help",
+        Does::Asks(Asked::Help),
+        "          print this help",
+    ),
+    (
+        b'V',
+        "version",
+        Does::Asks(Asked::Version),
+        "       print the version",
+    ),
+    (b'-', "", Does::EndsOptions, ""),
+    (b'b', "bench-all", Does::Asks(Asked::Benchmark), ""),
+];
+
+// What `--` and this name do, after words that made these options.
+pub(crate) fn name_step(name: &[u8], options: Options) -> Step
+    ensures { result ≡ of_name ROWS options name.now }
+{
+    name_in(&ROWS, name, options)
+}
+
+// What the first of these rows with this name does.
+fn name_in(rows: &[(u8, &str, Does, &str)], name: &[u8], options: Options) -> Step
+    ensures { result ≡ of_name (map seen rows.now) options name.now }
+{
+    match rows.split_first() {
+        Some((row, rest)) => {
+            if name == row.1.as_bytes() {
+                return does_step(row.2, options);
+            }
+            name_in(rest, name, options)
+        }
+        None => Step::IsWrong,
+    }
+}
+
+// What `-` and this letter do, after words that made these options.
+pub(crate) fn letter_step(letter: u8, options: Options) -> Step
+    ensures { result ≡ of_letter ROWS options letter }
+{
+    letter_in(&ROWS, letter, options)
+}
+
+// What the first of these rows with this letter does.
+fn letter_in(rows: &[(u8, &str, Does, &str)], letter: u8, options: Options) -> Step
+    ensures { result ≡ of_letter (map seen rows.now) options letter }
+{
+    match rows.split_first() {
+        Some((row, rest)) => {
+            if letter == row.0 {
+                return does_step(row.2, options);
+            }
+            letter_in(rest, letter, options)
+        }
+        None => Step::IsWrong,
+    }
+}
+
+// What an option does, after words that made these options.
+fn does_step(does: Does, mut options: Options) -> Step
+    ensures { result ≡ does_step does options }
+{
+    match does {
+        Does::Checks => options.checks = true,
+        Does::Audits => options.audits = true,
+        Does::Lists(from) => options.names_from = from,
+        Does::Tags => options.is_tagged = true,
+        Does::TurnsRound => options.is_little_endian = true,
+        Does::EndsInNul => options.ends_in_nul = true,
+        Does::Nothing => {}
+        Does::Quiets => options.is_quiet = true,
+        Does::Silences => options.is_status_only = true,
+        Does::IgnoresMissing => options.ignores_missing = true,
+        Does::IsStrict => options.is_strict = true,
+        Does::Warns => options.warns = true,
+        Does::EndsOptions => return Step::EndsAfter,
+        Does::Asks(asked) => return Step::Settles(asked),
+    }
+    Step::Takes(options)
+}
