@@ -121,17 +121,10 @@ def is_same(a, b):
 def given(*more):
     """What holds inside of a `with`. A fact `v - c` says where the variable v begins."""
     size, bounds = len(facts), dict(least)
-    for fact in more:
-        parts = parts_of(fact)
-        name = next(iter(names_of(fact)), None)
-        if parts == {(name,): 1, (): parts.get((), 0)} and parts[()] < 0:
-            least[name] = max(least.get(name, 0), -parts[()])
-        elif isinstance(fact, Poly):
-            facts.append(fact)
-        elif fact < 0:
-            raise Undecided("facts that can't be")
-    known.clear()
     try:
+        for fact in more:
+            suppose(fact)
+        known.clear()
         expect_possible()
         yield
     finally:
@@ -139,6 +132,17 @@ def given(*more):
         least.clear()
         least.update(bounds)
         known.clear()
+
+
+def suppose(fact):
+    parts = parts_of(fact)
+    name = next(iter(names_of(fact)), None)
+    if parts == {(name,): 1, (): parts.get((), 0)} and parts[()] < 0:
+        least[name] = max(least.get(name, 0), -parts[()])
+    elif isinstance(fact, Poly):
+        facts.append(fact)
+    elif fact < 0:
+        raise Undecided("facts that can't be")
 
 
 def at_most(x, bound):

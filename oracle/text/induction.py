@@ -10,7 +10,7 @@ go. The flags are unset at a head."""
 import contextlib
 
 from terms.loops import REFUSALS, NotShown, agree
-from terms.memory import Input
+from terms.memory import RUNS, Input
 from terms.nodes import Node, Undecided
 from terms.polynomials import divided, given, is_natural, is_number, minus, plus, times, variable
 from terms.polynomials import is_same as is_same_number
@@ -75,7 +75,7 @@ def cells_of(cpu):
     out = {("register", name): x for name, x in cpu.registers.items()}
     out.update({("lane", k, lane): x for k, lanes in enumerate(cpu.vectors) for lane, x in enumerate(lanes)})
     for memory in [cpu.stack, *cpu.live]:
-        out.update({(memory, at, size): x for at, (size, x) in memory.cells.items()})
+        out.update({(memory, at, cell[0]): cell[1] for at, cell in memory.cells.items() if at != RUNS})
     return out
 
 
@@ -94,8 +94,9 @@ class Head(Exception):
 class Loops:
     """Asked wherever a loop may begin: at each place that its section jumps back to."""
 
-    def __init__(self, program, family):
+    def __init__(self, program, family, proof=None):
         self.program, self.family, self.told, self.refused, self.known = program, family, [], [], {}
+        self.proof = proof or Proof
         self.running, self.stop, self.is_guessing, self.given_up = {}, None, False, set()
 
     def heads(self, section):
@@ -120,7 +121,7 @@ class Loops:
                 raise NotShown(f"the loop at {place[0]} {place[1]:x} isn't left")
             return place
         if place[1] in self.heads(place[0]) and not self.is_guessing and place not in self.given_up:
-            if Proof(self, cpu, place).show():
+            if self.proof(self, cpu, place).show():
                 self.running[place] = self.heads(place[0])[place[1]]
             elif None in self.running.values():      # a number of turns within another's turn
                 self.given_up.add(place)
@@ -133,6 +134,7 @@ class Proof:
     def __init__(self, loops, cpu, head):
         self.loops, self.cpu, self.family, self.head = loops, cpu, loops.family, head
         self.original, self.flags = cells_of(cpu), (cpu.flags, cpu.carry)
+        self.runs = {memory: memory.runs() for memory in [cpu.stack, *cpu.live]}
         self.forget()
 
     def forget(self):
@@ -251,6 +253,7 @@ class Proof:
         for memory in [cpu.stack, *cpu.live]:
             memory.cells = {cell[1]: (cell[2], x) for cell, x in now.items()
                             if cell[0] is memory and cell not in self.unset}
+            memory.cells.update({RUNS: runs for runs in [self.runs[memory]] if runs})
 
     def supposed(self, first, k):
         """New symbols, which are the definition's words after k turns."""
@@ -278,6 +281,8 @@ class Proof:
     def compare(self, first, k):
         """That the state is that of the head after k turns; what else changes may be anything from here on."""
         said, now = self.family.words(plus(first, times(self.step, k))), cells_of(self.cpu)
+        if any(memory.runs() != runs for memory, runs in self.runs.items()):
+            raise NotShown(f"{self.family.name}: a turn stores to a run")
         for cell in {*self.start, *now} - self.unset:
             x = now.get(cell)
             if cell in self.words:
@@ -294,8 +299,8 @@ class Proof:
 
     # ---- a guess
 
-    def guess(self, first, turns):
-        """Two turns tell the words, the steps and what is left."""
+    def guess(self, first, turns, is_twice=True):
+        """Two turns, or one, tell the words, the steps and what is left."""
         self.forget()
         self.enter(0)
         self.loops.is_guessing = True
@@ -303,7 +308,8 @@ class Proof:
             with given(minus(self.family.total, plus(first, turns))):
                 self.turn()
                 once = cells_of(self.cpu)
-                self.turn()
+                if is_twice:
+                    self.turn()
         except REFUSALS:
             return False
         finally:
@@ -314,7 +320,7 @@ class Proof:
             return False
         for cell in changed - set(self.words):
             step = step_between(self.start.get(cell), once.get(cell))
-            if step is None or not same(twice.get(cell), moved(once[cell], step, 1)):
+            if step is None or is_twice and not same(twice.get(cell), moved(once[cell], step, 1)):
                 self.unset.add(cell)
             else:
                 self.places[cell] = self.start[cell], step

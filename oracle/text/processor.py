@@ -185,6 +185,11 @@ class Processor:
             return operand.value & ones(width)
         return self.load(*self.place(operand, instruction), width // 8)
 
+    def whole(self, operand):
+        """The register that an operand begins, or None."""
+        name, first, _ = PARTS[operand.name] if isinstance(operand, Register) else (None, 1, 0)
+        return None if first else self.registers[name]
+
     def put(self, operand, width, x, instruction):
         if isinstance(operand, Register):
             self.put_register(*PARTS[operand.name], x)

@@ -11,8 +11,8 @@ from terms.polynomials import variable
 from terms.processes import Row
 from terms.sides import TOP, Request
 
-from . import (any_updates, calls, changes, every_length, exports, lanes, on_processor, one_shots, planted, scalar,
-               streams)
+from . import (any_updates, calls, changes, covered, every_length, exports, lanes, on_processor, one_shots, planted,
+               scalar, streams, xxh3_updates)
 from .instructions import TABLE, V2, V3
 from .objects import Program
 from .processor import Processor
@@ -26,6 +26,9 @@ FEW_STREAMS = [(0,), (5, 2), (33, 1), (70, 33, 64), (200, 31, 160), (240, 239), 
                (600, 512, 599), (1100, 64), (1500, 40, 1100)]
 MANY_STREAMED = [1500, 2200, 3000, 4200]
 SOME_UPDATES, UPDATE_PARTS = 97, 4                  # updates of streams, in a sample and in parts
+# Cases of XXH3's streams: how many are a sample, and in how many parts all are.
+XXH3_CASES = {xxh3_updates.UPDATES: (4, 6), xxh3_updates.DIGESTS: (4, 1), xxh3_updates.STRIPES: (2, 2)}
+COVERED = 300, 3000                                 # points that the cases of XXH3's updates have, and with --all
 SOME_SECRETS = [*range(136, 144), *range(190, 202), 256, 257, 576, 999, 1000]
 LONGER_SECRETS = range(every_length.LONGEST_KEPT + 1, 1001)
 MOST_NODES = 400_000                                # of the cases of a proof
@@ -127,7 +130,32 @@ def stream_rows(texts, is_all):
                 least = count // (UPDATE_PARTS if is_all else SOME_UPDATES)
                 out.append(counted(f"streams of XXH{hash_name}: any updates, to 2^64 - 1 bytes, {name}, {words}", least,
                                    functools.partial(any_streams, name, program, hash_name, part)))
+    return out + xxh3_rows(texts, is_all)
+
+
+def xxh3_rows(texts, is_all):
+    """Streams of XXH3 of any updates: all that is to be shown, in parts, or some cases of each kind."""
+    out = [counted("each update of XXH3 has its row", COVERED[is_all], functools.partial(points_left_out, texts, is_all))]
+    for name, program in texts.items():
+        for what, (some, parts) in XXH3_CASES.items():
+            for part in range(parts) if is_all else [None]:
+                words = f"part {part + 1} of {parts}" if is_all else "some cases"
+                out.append(counted(f"streams of XXH3: {what}, to 2^64 - 1 bytes, {name}, {words}", some,
+                                   functools.partial(any_xxh3, name, program, what, part)))
     return out
+
+
+def points_left_out(texts, is_all):
+    """(points that are looked at, those that no case has)."""
+    (name, program), *_ = texts.items()
+    proof, count = xxh3_updates.Xxh3Updates(Processor(program, name)), COVERED[is_all] // 3
+    return 3 * count, [f"no case has {point}" for point in covered.left_out(proof, count)][:5]
+
+
+def any_xxh3(name, program, what, part):
+    proof = xxh3_updates.Xxh3Updates(Processor(program, name))
+    asked, (some, parts) = proof.questions()[what], XXH3_CASES[what]
+    return count_shown(proof, asked[::len(asked) // some] if part is None else asked[part::parts])
 
 
 def few_streams(hash_name, kind, secret):

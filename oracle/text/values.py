@@ -137,9 +137,11 @@ def with_number(word, width, a, b):
     below, _, known = split(a)
     if b < 1 << known:
         return below & b
-    if width == WORD and not (WHOLE - b) & (WHOLE - b - 1):      # the low bits are taken away
+    low_bit = b & -b
+    if b and not b + low_bit & b + low_bit - 1:      # a run of bits: with none above it, the low bits are taken away
         with contextlib.suppress(Undecided):
-            return minus(a, divided(a, WHOLE - b)[1])
+            if is_natural(minus(b + low_bit - 1, a)):
+                return minus(a, divided(a, low_bit)[1])
     return BINARY["and"](width, term_of(a, WORD) if b & b + 1 else a, b)
 
 
