@@ -14,6 +14,7 @@ DEPTH = 4                     # how often a fact may be taken away
 TRIED, KEPT = 60, 8           # points that are drawn, and how many are kept
 SEARCHED = 20000              # how many are drawn until one is found
 CHOICES = 0, 1, 2, 3, 5, 62, 200
+FURTHER = 0, 1, 7, 15, 480, 1 << 20, 1 << 32     # where none of these was found
 
 facts, least, known = [], {}, {}   # polynomials >= 0; variable -> its least value; what was decided under these facts
 possible = {}                      # a set of facts -> points at which they hold
@@ -176,8 +177,9 @@ def expect_possible():
     key = known["facts' key"] = frozenset([*map(repr, facts), *least.items()])
     if key not in possible:
         names, draw, found = sorted(names_of(*facts)), random.Random(1), []
-        for attempt in range(SEARCHED):
-            point = {name: least.get(name, 0) + (draw.choice(CHOICES) if attempt else 0) for name in names}
+        for attempt in range(2 * SEARCHED):
+            choices = CHOICES if attempt < SEARCHED else FURTHER
+            point = {name: least.get(name, 0) + (draw.choice(choices) if attempt else 0) for name in names}
             if all(value_at(fact, point) >= 0 for fact in facts):
                 found.append(point)
             if len(found) == KEPT or found and attempt > TRIED:

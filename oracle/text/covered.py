@@ -99,6 +99,23 @@ def without_taken(cases, facts, names, count):
     return out
 
 
+def without_one_shot(cases, facts, count):
+    """Lengths and secrets that no case has, of blocks of any number of stripes but 16."""
+    cases, out, draw = list(cases), [], random.Random(6)
+    while count:
+        q = draw.choice((*STRIPES, draw.randrange(9, 600), draw.randrange(9, 1 << 33)))
+        n = draw.choice((*EDGES, *FAR_OFF, draw.randrange(1 << 16), 1 << 38, draw.randrange(1 << 63),
+                         64 * q * draw.randrange(5))) + draw.randrange(-2, 3)
+        if q != 16 and n > 240:
+            count -= 1
+            K, t = divmod(n - 1, 64)
+            B, J = divmod(K, q)
+            point = {"q": q, "u": draw.randrange(8), "B": B, "J": J, "t": t}
+            if not any(has(point, [*case.facts, *facts], [(case.blocks, B), (case.more, J)]) for case in cases):
+                out.append((q, n))
+    return out
+
+
 def sum_of(parts):
     return plus(*(part.turns for part in parts))
 

@@ -24,12 +24,10 @@ NEAR = 0, 1, -1, -2, -4           # stripes that lie between a pointer and what 
 
 class Family:
     """What the definition says: after(k)(j), word j of `count` after k stripes, of so many bytes each and of which
-    there are `total`. suppose(k, values) makes these values the words for k. `blocks` has the stripes of a block and
-    how many blocks there are, where a loop may count the stripes of a block."""
+    there are `total`. suppose(k, values) makes these values the words for k."""
 
-    def __init__(self, name, stripe, total, count, after, suppose, blocks=None):
+    def __init__(self, name, stripe, total, count, after, suppose):
         self.name, self.stripe, self.total, self.count, self.after = name, stripe, total, count, after
-        self.blocks = blocks
         self.put, self.known = suppose, {}
 
     def word(self, k, j):
@@ -145,16 +143,15 @@ class Proof:
         """Shows the loop, and leaves the processor at its head before the last turn: from there it runs on. False, and
         the state as it was, where it isn't one of the family: then it is run, turn by turn."""
         for first in self.firsts():
-            for way in (self.by_blocks, self.by_turns):
-                try:
-                    if way(first):
-                        self.loops.told.append(self.told(first))
-                        return True
-                except REFUSALS as error:
-                    self.loops.refused.append(f"{self.head[0]} {self.head[1]:x} from {first}: {error}")
-                self.forget()
-                self.enter(0)
-                self.cpu.flags, self.cpu.carry = self.flags
+            try:
+                if self.by_turns(first):
+                    self.loops.told.append(self.told(first))
+                    return True
+            except REFUSALS as error:
+                self.loops.refused.append(f"{self.head[0]} {self.head[1]:x} from {first}: {error}")
+            self.forget()
+            self.enter(0)
+            self.cpu.flags, self.cpu.carry = self.flags
         return False
 
     def firsts(self):
@@ -193,43 +190,6 @@ class Proof:
                 self.compare(first, plus(k, 1))
         self.enter(last, self.supposed(first, last))
         return True
-
-    def by_blocks(self, first):
-        """The loop over the stripes of all blocks, which counts those of a block: after k = q b + j stripes, j < q, a
-        cell that begins at 0 is a multiple of j, and one that goes on from elsewhere a multiple of k."""
-        is_asked = self.family.blocks and isinstance(first, int)
-        if not is_asked or not self.guess(first, FIRST_TURNS[-1]) or self.step > 1:
-            return False
-        (q, blocks), b, j = self.family.blocks, *(variable(self.cpu.new_name(name)) for name in "bj")
-        self.counts = {cell: step for cell, (x, step) in self.places.items()
-                       if isinstance(x, int) and x == step * first and step}
-        for cell in self.counts:
-            del self.places[cell]
-        size = None
-        with given(minus(minus(blocks, 1), b)):
-            while size != len(self.unset):
-                size = len(self.unset)
-                with given(minus(minus(q, 2), j)):
-                    self.enter_at(first, b, j)
-                    self.turn()
-                    self.compare_at(first, b, plus(j, 1))
-                self.enter_at(first, b, minus(q, 1))
-                self.turn()
-                self.compare_at(first, plus(b, 1), 0)
-        self.enter_at(first, blocks, 0)
-        return True
-
-    def at(self, first, b, j):
-        """Stripes behind the first, where the counts are those of j."""
-        self.start.update({cell: times(step, j) for cell, step in self.counts.items()})
-        return minus(plus(times(self.family.blocks[0], b), j), first)
-
-    def enter_at(self, first, b, j):
-        k = self.at(first, b, j)
-        self.enter(k, self.supposed(first, k))
-
-    def compare_at(self, first, b, j):
-        self.compare(first, self.at(first, b, j))
 
     def told(self, first):
         words = sorted(f"{name_of(cell)} has word {j}" for cell, j in self.words.items())

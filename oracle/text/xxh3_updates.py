@@ -14,7 +14,7 @@ import functools
 
 from terms import definition, nodes
 from terms.definition import Bytes, suppositions
-from terms.every_length import LONGEST
+from terms.every_length import LONGEST, LONGEST_SECRET
 from terms.loops import REFUSALS, NotShown
 from terms.memory import RUNS, Piece
 from terms.nodes import is_same
@@ -101,6 +101,10 @@ class Xxh3Updates:
         self.q, self.secret_length = q, plus(64, times(8, q), u)
         self.facts = [minus(7, u), minus(q, LEAST), at_most(self.secret_length, LONGEST_KEPT)]
         self.forget()
+
+    def facts_of_any(self):
+        """The same, of a secret that no state has to keep."""
+        return [*self.facts[:2], at_most(self.secret_length, LONGEST_SECRET)]
 
     def forget(self):
         nodes.forget()
@@ -362,7 +366,7 @@ class Xxh3Updates:
         """That a function is what its summary says of what some parts are together."""
         place, turns, end = parts[0].start, plus(*(part.turns for part in parts)), parts[-1].end
         self.begin(plus(times(64, self.stripes(end)), variable("rest")))
-        with given(*self.facts, *facts, at_most(self.source.length, LONGEST)):
+        with given(*self.facts_of_any(), *facts, at_most(self.source.length, LONGEST)):
             words = self.accumulators(place)
             cells = [(8 * i, 8, x) for i, x in enumerate(words)]
             cells += [(PLACE, 8, place[1])] if summary.has_place else []
