@@ -23,6 +23,7 @@ from .processor import NO_LIMIT
 from .values import address
 
 UNROLLED = {"32": 8, "64": 2}     # stripes that a text takes at once, or a part of them
+LEAST = {"32": 2, "64": 1}        # such turns that the cases have at least: below, lengths are asked one by one
 PREFETCHED = 31_744               # bytes from which on the texts of XXH3 have loops of their own
 LIMIT = 30_000                    # instructions that a case may run: else a loop is run that should be shown
 SHORTEST = 136                    # bytes of a secret
@@ -41,21 +42,21 @@ def plain_cases(hash_name):
     for c in range(UNROLLED[hash_name]):
         for r in range(stripe):
             stripes = plus(times(UNROLLED[hash_name], turns), c)
-            yield Case(plus(times(stripe, stripes), r), stripes, [minus(turns, 1)], {})
+            yield Case(plus(times(stripe, stripes), r), stripes, [minus(turns, LEAST[hash_name])], {})
 
 
 def xxh3_case(blocks, J, *facts, is_near=False):
     """A case of so many blocks and stripes more, below PREFETCHED bytes where it is near."""
     stripes, t = plus(times(DERIVED, blocks), J), variable("t")
     n = plus(times(64, stripes), t, 1)
-    of_n = [at_most(n, PREFETCHED - 1)] if is_near else []
+    of_n = [at_most(n, PREFETCHED - 1)] if is_near else [at_most(stripes, LONGEST // 64)]
     return Case(n, stripes, [at_most(t, 63), *of_n, *facts], {"t": range(64)})
 
 
 def derived_cases():
     turns = variable(TURNS)
     for J in range(DERIVED):
-        yield xxh3_case(turns, J, minus(turns, 1), is_near=True)
+        yield xxh3_case(turns, J, minus(turns, 1), at_most(turns, PREFETCHED // 1024 - 1), is_near=True)
         yield xxh3_case(turns, J, minus(turns, FAR // DERIVED))
 
 
@@ -74,7 +75,8 @@ def of_secret():
 def with_rest(case, rest):
     """With a secret of `rest` bytes more than its stripes ask for: 0, or 1 to 7."""
     u = variable("u")
-    return case._replace(rest=u, facts=[*case.facts, minus(u, 1), at_most(u, 7)]) if rest else case._replace(rest=0)
+    facts, others = [*case.facts, minus(u, 1), at_most(u, 7)], {**case.others, "u": [1]}
+    return case._replace(rest=u, facts=facts, others=others) if rest else case
 
 
 # ---- that these are all
@@ -119,7 +121,7 @@ def left_out(found, first, period):
                 break
             at = max(at, most + 1)
         else:
-            out.append(rest + period * at)
+            out += [rest + period * at] if rest + period * at <= LONGEST else []
     return sorted(out)
 
 

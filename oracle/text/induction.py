@@ -4,9 +4,9 @@ A cell is a register, a lane of a vector, or a cell of the stack or of another o
 loop's head after k turns some cells hold the words that the definition says of so many stripes. Which ones isn't said:
 they are those that hold the definition's words at the start, and those of some stripes more after a first turn. Of the
 other cells that the turn changes some go on by a step, and what is left may be anything at the head. All of that is a
-guess, which a turn from k = any number then shows: the words have to be there, whatever is said to go on has to go on,
-and a cell that does anything else may be anything, and the turn is run once more. A cell that has a word is never let
-go. The flags are unset at a head."""
+guess, which a turn from k = any number then shows: the words have to be there, and a cell that does anything else than
+what is said may be anything, and the turn is run once more. A cell that has a word is never let go. The flags are unset
+at a head."""
 import contextlib
 
 from terms.loops import REFUSALS, NotShown, agree
@@ -102,7 +102,7 @@ class Loops:
         if section not in self.known:
             found = self.known[section] = {}
             for at, x in self.program.sections.get(section, {}).items():
-                if x.mnemonic[0] == "j" and x.target[0] == section and x.target[1] <= at:
+                if x.target and x.target[0] == section and x.target[1] <= at:
                     found[x.target[1]] = max(at, found.get(x.target[1], 0))
         return self.known[section]
 
@@ -209,7 +209,7 @@ class Proof:
             if cell[0] == "register":
                 cpu.registers[cell[1]] = cpu.fresh("unset") if cell in self.unset else x
             elif cell[0] == "lane":
-                cpu.vectors[cell[1]][cell[2]] = None if cell in self.unset else x
+                cpu.vectors[cell[1]][cell[2]] = cpu.unset_lane() if cell in self.unset else x
         for memory in [cpu.stack, *cpu.live]:
             memory.cells = {cell[1]: (cell[2], x) for cell, x in now.items()
                             if cell[0] is memory and cell not in self.unset}
@@ -253,8 +253,10 @@ class Proof:
                 expected = self.start.get(cell)
             if same(x, expected):
                 continue
-            if cell in self.words or cell in self.places or cell in self.counts:
+            if cell in self.words:
                 raise NotShown(f"{self.family.name}: {name_of(cell)} is {x} and not {expected}")
+            for known in (self.places, self.counts):
+                known.pop(cell, None)
             self.unset.add(cell)
 
     # ---- a guess

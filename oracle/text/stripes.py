@@ -5,6 +5,7 @@ A place is (b, j): b blocks and j stripes of the next one. A loop goes on from a
 turn; its counter of a block's stripes begins again where a block ends. Whether a cell goes on or begins again is
 guessed from a turn that ends a block, and then shown with all else."""
 import collections
+import functools
 
 from terms.definition import suppositions
 from terms.loops import REFUSALS, NotShown
@@ -13,10 +14,8 @@ from terms.nodes import Node
 from terms.polynomials import divided, given, is_natural, minus, plus, times, variable
 from terms.polynomials import is_same as is_same_number
 
-from .instructions import WIDE
 from .induction import Family, Proof, cells_of, moved, same
 from .memory import ENTRY
-from .processor import ARGUMENTS, KEPT
 
 # Stripes that are taken one after another: from a place on, how many, and where that leads.
 Part = collections.namedtuple("Part", "start turns end")
@@ -61,7 +60,7 @@ class StripesProof(Proof):
 
     def forget(self):
         super().forget()
-        self.bases = {}          # of a counter of a block's stripes: what it is at the block's beginning, and its step
+        self.counts = {}         # of a counter of a block's stripes: what it is at the block's beginning, and its step
 
     def show(self):
         known = self.family.supposed()
@@ -144,9 +143,8 @@ class StripesProof(Proof):
                 base = moved(x, step, minus(0, at))
                 if not is_same_number(step, 0) and not same(now.get(cell), moved(x, step, plus(k, 1))) \
                         and same(now.get(cell), base):
-                    self.bases[cell] = base, step
+                    self.counts[cell] = base, step
                     del self.places[cell]
-        self.counts = dict(self.bases)
 
     def left_at_end(self, first, left, end):
         """How many turns are left where the head is come to for the last time: 0, or 1 where the loop is left behind
@@ -164,7 +162,7 @@ class StripesProof(Proof):
         return self.ends_with
 
     def enter_at(self, first, k, i):
-        self.start.update({cell: moved(base, step, i) for cell, (base, step) in self.bases.items()})
+        self.start.update({cell: moved(base, step, i) for cell, (base, step) in self.counts.items()})
         self.enter(k, self.supposed(first, k))
 
     def kinds_of_turns(self):
@@ -187,7 +185,7 @@ class StripesProof(Proof):
                 self.enter_at(first, k, i)
                 self.turn()
                 then = 0 if is_same_number(plus(i, 1), self.in_turns()[1]) else plus(i, 1)
-                self.start.update({cell: moved(base, step, then) for cell, (base, step) in self.bases.items()})
+                self.start.update({cell: moved(base, step, then) for cell, (base, step) in self.counts.items()})
                 self.compare(first, plus(k, 1))
 
 
@@ -203,52 +201,42 @@ class Summary:
 
     def put_into(self, cpu, family, source, secret):
         """Calls of the function take parts of the family, of a message and under a secret, each an input."""
-        section, at = cpu.program.functions[self.name]
-        cpu.code[section][at] = (lambda cpu, _: self.call(cpu, family, source, secret)), cpu.code[section][at][1]
-
-    def take_out(self, cpu, kept):
-        section, at = cpu.program.functions[self.name]
-        cpu.code[section][at] = kept
+        cpu.replaced[cpu.program.functions[self.name]] = functools.partial(self.call, cpu, family, source, secret)
 
     def call(self, cpu, family, source, secret):
-        to, taken, stripes, length, own, own_length = (cpu.registers[name] for name in ARGUMENTS)
-        stack, sp = cpu.registers["rsp"].place()
-        self.expect("the stack", (sp + 8) % 16 == 0 and sp >= LEAST_ENTRY)
+        to, taken, stripes, length, own, own_length = (cpu.registers[name] for name in cpu.TAKES_STRIPES)
+        stack, floor = cpu.frame()
+        self.expect("the stack", floor % 16 == 0 and floor >= LEAST_ENTRY)
         (room, first), (memory, place) = to.place(), taken.place()
         is_apart = room is not memory or abs(first - place) >= self.size
-        self.expect("the records", is_apart and room is stack and first > sp and (memory is not stack or place > sp))
-        words = [cpu.load(memory, plus(place, 8 * i), 8) for i in range(8)]
-        begun = cpu.load(memory, plus(place, PLACE), 8) if self.has_place else 0
+        self.expect("the records",
+                    is_apart and room is stack and first >= floor and (memory is not stack or place >= floor))
+        words = [memory.load(plus(place, 8 * i), 8) for i in range(8)]
+        begun = memory.load(plus(place, PLACE), 8) if self.has_place else 0
         part = next((part for part in family.parts if is_same_number(length, times(64, part.turns)) and
                      is_same_number(begun, part.start[1]) and
                      all(map(same, words, family.words(family.stripes(part.start))))), None)
-        self.expect(f"the stripes, {length} bytes from {begun} on", part)
+        self.expect(f"the stripes, {length} bytes from {begun} on", part is not None)
         at, end = family.stripes(part.start), family.stripes(part.end)
         self.expect("the number of stripes",
                     is_natural(minus(part.turns, self.least)) and is_same_number(end, plus(at, part.turns)))
         self.expect("the piece", is_same_number(length, 0) or is_at(stripes, source, times(64, at), length))
         self.expect("the secret", is_same_number(own_length, secret.length) and is_at(own, secret, 0, own_length))
-        return self.leave(cpu, family, part, stack, sp, first)
+        return self.leave(cpu, family, part, stack, first)
 
-    def leave(self, cpu, family, part, stack, sp, first):
+    def leave(self, cpu, family, part, stack, first):
         values = family.words(family.stripes(part.start))
         if not is_same_number(part.turns, 0):
             values = [cpu.fresh("word") for _ in range(8)]
             family.suppose(family.stripes(part.end), values)
-        stack.forget_below(sp)
         for i, x in enumerate(values):
             stack.store(first + 8 * i, 8, x)
         if self.has_place:
             stack.store(first + PLACE, 8, part.end[1])
-        for register in WIDE:
-            if register not in KEPT and register != "rsp":
-                cpu.registers[register] = cpu.fresh(register)
-        cpu.forget_vectors()
-        cpu.forget_flags()
-        return cpu.pop()
+        return cpu.return_from_another()
 
     def expect(self, what, holds):
-        if holds is None or holds is False:
+        if not holds:
             raise NotShown(f"a call of {self.name}: {what}")
 
 

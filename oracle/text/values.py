@@ -98,6 +98,9 @@ def low_bits(a, mask):
 
 # ---- words
 
+quotients = nodes.memo()     # the number of a term that is a polynomial moved down -> that, and by how much
+
+
 def arithmetic(word, width, a, b):
     """An operation of a width on two values."""
     kinds = {a.__class__, b.__class__}
@@ -109,7 +112,10 @@ def arithmetic(word, width, a, b):
         return with_address(word, width, a, b)
     if Poly in kinds and isinstance(b, int) and word in ("xor", "and"):
         return with_number(word, width, a, b)
-    return BINARY[word](width, a, b)
+    answer = BINARY[word](width, a, b)
+    if word == "lshr" and isinstance(a, Poly) and isinstance(answer, Node) and isinstance(b, int):
+        quotients[answer.number] = a, b
+    return answer
 
 
 def masked(word, a, b):

@@ -91,8 +91,6 @@ EMPTY = Start((0, 0), 0, 0, (0, 0), [])
 class Xxh3Updates:
     def __init__(self, cpu):
         self.cpu, self.told, self.refused = cpu, [], []
-        self.kept = {x.name: cpu.code[cpu.program.functions[x.name][0]][cpu.program.functions[x.name][1]]
-                     for x in (TAKE, TAKE_MANY, TAKE_BLOCKS)}
         self.use(variable("q"))
 
     def use(self, q):
@@ -100,7 +98,7 @@ class Xxh3Updates:
         u = variable("u")
         self.q, self.secret_length = q, plus(64, times(8, q), u)
         self.facts = [minus(7, u), minus(q, LEAST), at_most(self.secret_length, LONGEST_KEPT)]
-        self.forget()
+        self.read()
 
     def facts_of_any(self):
         """The same, of a secret that no state has to keep."""
@@ -108,6 +106,10 @@ class Xxh3Updates:
 
     def forget(self):
         nodes.forget()
+        self.read()
+
+    def read(self):
+        """The definition's texts, and a secret."""
         suppositions.clear()
         self.texts = definition.program().run(traced=suppositions)
         self.secret_source = Source("s", self.secret_length)
@@ -213,21 +215,19 @@ class Xxh3Updates:
             if parts and not is_natural(minus(self.stripes(end[0]), 4)):
                 raise NotShown("fewer than four stripes are taken")
 
-    def run(self, live, name, parts, *arguments, summaries=(), not_zero=()):
+    def run(self, live, name, parts, *arguments, summaries=(), not_zero=(), **more):
         """Calls a function, with loops over stripes shown, and with summaries of other functions."""
         cpu, family = self.cpu, self.family(*parts)
         cpu.not_zero, cpu.live, cpu.loops, cpu.limit = not_zero, live, Loops(cpu.program, family, StripesProof), LIMIT
         for summary in summaries:
             summary.put_into(cpu, family, self.source, self.secret_source)
         try:
-            return cpu.call(name, *arguments)
+            return cpu.call(name, *arguments, **more)
         except REFUSALS as error:
             raise NotShown("; ".join([str(error), *cpu.loops.refused])) from error
         finally:
             self.told, self.refused = cpu.loops.told, cpu.loops.refused
-            for summary in summaries:
-                summary.take_out(cpu, self.kept[summary.name])
-            cpu.loops, cpu.limit = None, NO_LIMIT
+            cpu.loops, cpu.limit, cpu.replaced = None, NO_LIMIT, {}
 
     def small_pieces(self):
         """Pieces that the buffer has room for: as arguments of `update`."""
@@ -375,13 +375,13 @@ class Xxh3Updates:
                        alignment=8)
             piece = Piece(self.source, times(64, self.stripes(place)), times(64, turns))
             self.run([to, taken], summary.name, parts, address(to), address(taken), address(piece), piece.length,
-                     address(self.secret_source), self.secret_length, summaries=summaries)
+                     address(self.secret_source), self.secret_length, summaries=summaries, into=self.cpu.TAKES_STRIPES)
             expected = [self.after(self.stripes(end))(i) for i in range(8)] + [end[1]] * summary.has_place
             for memory, cells in (to, expected), (taken, [x for *_, x in cells]):
                 for k, x in enumerate(cells):
                     if not same(memory.load(8 * k, 8), x):
                         raise NotShown(f"{summary.name}: {memory.name} at {8 * k} is {memory.load(8 * k, 8)} and not {x}")
-            if min(self.cpu.stack.cells) < ENTRY - DEEP:
+            if min(self.cpu.stack.cells, default=ENTRY) < ENTRY - DEEP:
                 raise NotShown(f"{summary.name}: more than {DEEP} bytes of stack")
 
     def all_taken(self):
@@ -426,7 +426,8 @@ class Xxh3Updates:
                     for rest in range(4):
                         parts = [Part(start, front, at), Part(at, turns, end),
                                  Part(end, rest, (end[0], plus(end[1], rest)))]
-                        yield parts, [*of_a, *of_e]
+                        least = front + rest + 16 - (at[1] if isinstance(at[1], int) else 8) + 4 * bool(of_e)
+                        yield parts, [*of_a, *of_e, at_most(D, (FAR - 1 - least) // 16)]
 
     @staticmethod
     def by_blocks():
