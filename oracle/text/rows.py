@@ -1,5 +1,6 @@
 """The rows of oracle/machine-text: what is asked of the texts, and the least number of cases that each has."""
 import functools
+import itertools
 import os
 import subprocess
 import tempfile
@@ -46,8 +47,13 @@ def assembled(source, to):
     return Program(to)
 
 
+def makers(texts):
+    """Name -> what makes a processor of that text."""
+    return {name: functools.partial(Processor, program, name) for name, program in texts.items()}
+
+
 def processors(texts):
-    return {name: Processor(program, name) for name, program in texts.items()}
+    return {name: make() for name, make in makers(texts).items()}
 
 
 def counted(title, least, ask):
@@ -121,36 +127,35 @@ def stream_rows(texts, is_all):
     out.append(counted("each update of XXH32 and XXH64 has its row", 2, updates_left_out))
     for hash_name in any_updates.LAYOUTS:
         count = len(list(any_updates.updates(hash_name)))
-        for name, program in texts.items():
+        for name, make in makers(texts).items():
             for part in range(UPDATE_PARTS) if is_all else [None]:
                 words = f"part {part + 1} of {UPDATE_PARTS}" if is_all else f"each {SOME_UPDATES}th case"
                 least = count // (UPDATE_PARTS if is_all else SOME_UPDATES)
                 out.append(counted(f"streams of XXH{hash_name}: any updates, to 2^64 - 1 bytes, {name}, {words}", least,
-                                   functools.partial(any_streams, name, program, hash_name, part)))
-    return out + xxh3_rows(texts, is_all)
+                                   functools.partial(any_streams, make, hash_name, part)))
+    return out + xxh3_rows(makers(texts), is_all)
 
 
-def xxh3_rows(texts, is_all):
+def xxh3_rows(made, is_all):
     """Streams of XXH3 of any updates: all that is to be shown, in parts, or some cases of each kind."""
-    out = [counted("each update of XXH3 has its row", COVERED[is_all], functools.partial(points_left_out, texts, is_all))]
-    for name, program in texts.items():
+    out = [counted("each update of XXH3 has its row", COVERED[is_all], functools.partial(points_left_out, made, is_all))]
+    for name, make in made.items():
         for what, (some, parts) in XXH3_CASES.items():
             for part in range(parts) if is_all else [None]:
                 words = f"part {part + 1} of {parts}" if is_all else "some cases"
                 out.append(counted(f"streams of XXH3: {what}, to 2^64 - 1 bytes, {name}, {words}", some,
-                                   functools.partial(any_xxh3, name, program, what, part)))
+                                   functools.partial(any_xxh3, make, what, part)))
     return out
 
 
-def points_left_out(texts, is_all):
+def points_left_out(made, is_all):
     """(points that are looked at, those that no case has)."""
-    (name, program), *_ = texts.items()
-    proof, count = xxh3_updates.Xxh3Updates(Processor(program, name)), COVERED[is_all] // 3
+    proof, count = xxh3_updates.Xxh3Updates(next(iter(made.values()))()), COVERED[is_all] // 3
     return 3 * count, [f"no case has {point}" for point in covered.left_out(proof, count)][:5]
 
 
-def any_xxh3(name, program, what, part):
-    proof = xxh3_updates.Xxh3Updates(Processor(program, name))
+def any_xxh3(make, what, part):
+    proof = xxh3_updates.Xxh3Updates(make())
     asked, (some, parts) = proof.questions()[what], XXH3_CASES[what]
     return count_shown(proof, asked[::len(asked) // some] if part is None else asked[part::parts])
 
@@ -166,9 +171,9 @@ def updates_left_out():
     return len(any_updates.LAYOUTS) - len(bad), bad
 
 
-def any_streams(name, program, hash_name, part):
+def any_streams(make, hash_name, part):
     """Reset, digests, and the updates of a part, or a sample of them."""
-    proof = any_updates.AnyUpdates(Processor(program, name), hash_name)
+    proof = any_updates.AnyUpdates(make(), hash_name)
     cases = list(any_updates.updates(hash_name))
     asked = [functools.partial(proof.update, one) for one in
              (cases[::SOME_UPDATES] if part is None else cases[part::UPDATE_PARTS])]
@@ -193,31 +198,38 @@ def count_shown(proof, asked):
 # ---- every length
 
 def every_length_rows(texts, is_all):
+    made = makers(texts)
     out = [counted("every length of XXH32 and XXH64 has its row", 2, plain_left_out)]
     out += [counted("every length of XXH3 has its row", 2, xxh3_left_out)] if is_all else []
-    out.append(counted("every length with any secret has its row", COVERED[is_all],
-                       functools.partial(secrets_left_out, texts, is_all)))
-    for kind in ["32", "64", *(f"{name}:{way}" for name in ("3-64", "3-128") for way in ("default", "seed"))]:
-        asked = every_length.cases(kind)
-        for seed in [None, 0] if kind.endswith("seed") else [None]:
-            title = f"XXH{kind.replace(':', ', ')}{' 0' if seed == 0 else ''}: every length to 2^64 - 1"
-            out += of_every_length(texts, kind, title, asked, seed) if is_all or ":" not in kind else []
-    for kind in ANY_SECRET if is_all else ():
-        out += [counted(f"XXH{kind.replace(':', ', ')} of any length: 0 to 240 bytes, {name}", 241,
-                        functools.partial(up_to_240, name, program, kind)) for name, program in texts.items()]
-        title = f"XXH{kind.replace(':', ', ')} of 192 to 199 bytes: every length from 241 on"
-        out += of_every_length(texts, kind, title, every_length.of_secret())
+    for kind in every_length.UNROLLED:
+        out += of_every_length(made, kind, f"XXH{kind}: every length to 2^64 - 1", every_length.cases(kind))
+    return out + long_rows(made, is_all)
+
+
+def long_rows(made, is_all):
+    """XXH3 of every length: all cases, or some with a secret."""
+    out = [counted("every length with any secret has its row", COVERED[is_all],
+                   functools.partial(secrets_left_out, made, is_all))]
+    for hash_name, way in itertools.product(("3-64", "3-128"), ("default", "seed")) if is_all else ():
+        kind = f"{hash_name}:{way}"
+        for seed in (None, 0) if way == "seed" else (None,):
+            title = f"XXH{hash_name}, {way}{' 0' if seed == 0 else ''}: every length to 2^64 - 1"
+            out += of_every_length(made, kind, title, every_length.cases(kind), seed)
     for kind in ANY_SECRET if is_all else ANY_SECRET[:1]:
-        words = "" if is_all else ", some cases"
-        title = f"XXH{kind.replace(':', ', ')} of any other length: every length from 241 on"
-        out += [counted(f"{title}, {name}{words}", 4, functools.partial(any_secrets, name, program, kind, is_all))
-                for name, program in texts.items()]
+        title, words = f"XXH{kind.replace(':', ', ')} of", "" if is_all else ", some cases"
+        out += [counted(f"{title} any other length: every length from 241 on, {name}{words}", 4,
+                        functools.partial(any_secrets, make, kind, is_all)) for name, make in made.items()]
+        if is_all:
+            out += [counted(f"{title} any length: 0 to 240 bytes, {name}", 241,
+                            functools.partial(up_to_240, make, kind)) for name, make in made.items()]
+            out += of_every_length(made, kind, f"{title} 192 to 199 bytes: every length from 241 on",
+                                   every_length.of_secret())
     return out
 
 
-def of_every_length(texts, kind, title, asked, seed=None):
-    return [counted(f"{title}, {name}", len(asked), functools.partial(shown, name, program, kind, asked, seed))
-            for name, program in texts.items()]
+def of_every_length(made, kind, title, asked, seed=None):
+    return [counted(f"{title}, {name}", len(asked), functools.partial(shown, make, kind, asked, seed))
+            for name, make in made.items()]
 
 
 def plain_left_out():
@@ -238,26 +250,26 @@ def told_left_out(found):
     return len(found), [f"{name}: no row has {left[:5]}" for name, left in found.items() if left]
 
 
-def shown(name, program, kind, asked, seed):
-    proof = every_length.EveryLength(Processor(program, name), kind)
+def shown(make, kind, asked, seed):
+    proof = every_length.EveryLength(make(), kind)
     return count_shown(proof, [functools.partial(proof.show, case, seed) for case in asked])
 
 
-def secrets_left_out(texts, is_all):
-    (name, program), *_ = texts.items()
-    proof = any_secret.AnySecret(Processor(program, name))
+def secrets_left_out(made, is_all):
+    """The same of lengths and secrets."""
+    proof = any_secret.AnySecret(next(iter(made.values()))())
     found = covered.without_one_shot(proof.cases(), proof.facts_of_any(), COVERED[is_all])
     return COVERED[is_all], [f"no case has {point}" for point in found[:5]]
 
 
-def any_secrets(name, program, kind, is_all):
+def any_secrets(make, kind, is_all):
     hash_name, _, way = kind.partition(":")
-    proof = any_secret.AnySecret(Processor(program, name))
+    proof = any_secret.AnySecret(make())
     return count_shown(proof, proof.questions(way, hash_name[2:])[::1 if is_all else 4])
 
 
-def up_to_240(name, program, kind):
-    proof = every_length.EveryLength(Processor(program, name), kind)
+def up_to_240(make, kind):
+    proof = every_length.EveryLength(make(), kind)
     return count_shown(proof, [functools.partial(proof.show_short, n) for n in range(241)])
 
 

@@ -62,7 +62,7 @@ class Processor:
 
     def __init__(self, program):
         self.program, self.not_zero, self.used, self.made = program, [], set(), 0
-        self.loops, self.live, self.limit, self.replaced = None, [], MOST_STEPS, {}
+        self.loops, self.live, self.replaced, self.limit, self.steps = None, [], {}, MOST_STEPS, 0
         self.constants = {name: Constants(name, *x) for name, x in program.constants.items()}
 
     def new_name(self, prefix):

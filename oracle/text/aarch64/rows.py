@@ -9,7 +9,8 @@ from terms.processes import Row
 from terms.rows import title_of
 from terms.sides import TOP
 
-from .. import calls, one_shots, streams
+from .. import calls, every_length, one_shots, streams
+from .. import rows as shared
 from . import on_qemu
 from .objects import Program
 from .table import Processor
@@ -39,8 +40,17 @@ def choose(given, found):
     for name in ("3-64", "3-128"):
         out.append(Row(f"XXH{name}, secrets of 0 to 135 bytes", functools.partial(short_secrets, found, name)))
     out += [Row(f"the other calls: {ask.__name__.replace('_', ' ')}", functools.partial(other, found, ask)) for ask in OTHERS]
+    made = {"aarch64": functools.partial(Processor, found)}
+    out += every_length_rows(made, given.all)
     out.append(Row("the table of instructions beside qemu", on_qemu.tell))
     return [row for row in out if given.only in row.title]
+
+
+def every_length_rows(made, is_all):
+    """XXH64 and XXH3 of every length, and streams of XXH3 of any updates, by induction; some cases, or all."""
+    asked = every_length.cases("64")
+    return [*shared.of_every_length(made, "64", "XXH64: every length to 2^64 - 1", asked),
+            *shared.long_rows(made, is_all), *shared.xxh3_rows(made, is_all)]
 
 
 def compared(title, found, kind, lengths, is_stream=False):
