@@ -188,7 +188,8 @@ class EveryLength:
     def call(self, case, stripe, count, after, *arguments):
         name = f"XXH{self.kind} of {case.length} bytes"
         family = Family(name, stripe, case.stripes, count, after,
-                        lambda k, values: suppositions.suppose(after(k), values))
+                        lambda k, values: suppositions.suppose(after(k), values),
+                        self.cpu.TOGETHER if stripe == 16 else 1)
         loops = Loops(self.cpu.program, family)
         if isinstance(case.length, Poly):
             self.cpu.loops, self.cpu.limit = loops, LIMIT

@@ -15,7 +15,7 @@ from terms.nodes import Node, Undecided
 from terms.polynomials import divided, given, is_natural, is_number, minus, plus, times, variable
 from terms.polynomials import is_same as is_same_number
 
-from .values import Address
+from .values import Address, joined
 
 STEPS = 1, 2, 4, 8, 16            # stripes that a turn takes
 FIRST_TURNS = 64, 4               # so many stripes are left where a first turn is tried
@@ -24,20 +24,29 @@ NEAR = 0, 1, -1, -2, -4           # stripes that lie between a pointer and what 
 
 class Family:
     """What the definition says: after(k)(j), word j of `count` after k stripes, of so many bytes each and of which
-    there are `total`. suppose(k, values) makes these values the words for k."""
+    there are `total`. suppose(k, values) makes these values the words for k. `together` is how many words of 32 bits
+    lie in a cell."""
 
-    def __init__(self, name, stripe, total, count, after, suppose):
+    def __init__(self, name, stripe, total, count, after, suppose, together=1):
         self.name, self.stripe, self.total, self.count, self.after = name, stripe, total, count, after
-        self.put, self.known = suppose, {}
+        self.put, self.known, self.together = suppose, {}, together
 
     def word(self, k, j):
+        """What cell j holds after k stripes: a word, or some."""
         key = repr(k), j
         if key not in self.known:
-            self.known[key] = self.after(k)(j)
+            n = self.together
+            self.known[key] = self.cell([self.after(k)(i) for i in range(n * j, n * j + n)])
         return self.known[key]
 
+    def cell(self, words):
+        return words[0] if self.together == 1 else joined(*((word, 32) for word in words))
+
     def words(self, k):
-        return [self.word(k, j) for j in range(self.count)]
+        return [self.word(k, j) for j in range(self.cell_count())]
+
+    def cell_count(self):
+        return self.count // self.together
 
     def suppose(self, k, values):
         self.known.clear()       # what was said before may stand on other suppositions
@@ -45,7 +54,7 @@ class Family:
 
     def seem(self, k, is_there):
         """Whether all words for k are there; asked one by one, since each may be dear."""
-        return all(is_there(self.word(k, j)) for j in range(self.count))
+        return all(is_there(self.word(k, j)) for j in range(self.cell_count()))
 
 
 # ---- cells
@@ -217,10 +226,10 @@ class Proof:
 
     def supposed(self, first, k):
         """New symbols, which are the definition's words after k turns."""
-        width = 32 if self.family.stripe == 16 else 64
-        values = [self.cpu.fresh("word", width) for _ in range(self.family.count)]
-        self.family.suppose(plus(first, times(self.step, k)), values)
-        return values
+        family, width = self.family, 32 if self.family.stripe == 16 else 64
+        values = [self.cpu.fresh("word", width) for _ in range(family.count)]
+        family.suppose(plus(first, times(self.step, k)), values)
+        return [family.cell(values[k:k + family.together]) for k in range(0, family.count, family.together)]
 
     def turn(self):
         """From the head to the head."""

@@ -33,6 +33,8 @@ class Processor:
 
     TAKES_STRIPES = ARGUMENTS     # where the arguments lie of a function that gives a record in memory
 
+    TOGETHER = 1                  # accumulators of 32 bits that one-shots have in a cell
+
     def __init__(self, program, name):
         self.program, self.name = program, name
         self.constants = {key: Constants(key, *x) for key, x in program.constants.items()}

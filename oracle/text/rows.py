@@ -124,16 +124,21 @@ def stream_rows(texts, is_all):
     out = []
     for kind in comparison.kinds(STREAM_SECRETS if is_all else SECRETS):
         out.append(compared(texts, f"streams of {title_of(*kind)}", few_streams(*kind), streams))
-    out.append(counted("each update of XXH32 and XXH64 has its row", 2, updates_left_out))
+    return [*out, *plain_stream_rows(makers(texts), is_all), *xxh3_rows(makers(texts), is_all)]
+
+
+def plain_stream_rows(made, is_all):
+    """Streams of XXH32 and XXH64 of any updates: all cases, in parts, or some."""
+    out = [counted("each update of XXH32 and XXH64 has its row", 2, updates_left_out)]
     for hash_name in any_updates.LAYOUTS:
         count = len(list(any_updates.updates(hash_name)))
-        for name, make in makers(texts).items():
+        for name, make in made.items():
             for part in range(UPDATE_PARTS) if is_all else [None]:
                 words = f"part {part + 1} of {UPDATE_PARTS}" if is_all else f"each {SOME_UPDATES}th case"
                 least = count // (UPDATE_PARTS if is_all else SOME_UPDATES)
                 out.append(counted(f"streams of XXH{hash_name}: any updates, to 2^64 - 1 bytes, {name}, {words}", least,
                                    functools.partial(any_streams, make, hash_name, part)))
-    return out + xxh3_rows(makers(texts), is_all)
+    return out
 
 
 def xxh3_rows(made, is_all):

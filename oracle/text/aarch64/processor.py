@@ -58,6 +58,7 @@ class Processor:
     `limit` and `replaced` are what they are of ../processor.py."""
 
     TAKES_STRIPES = ARGUMENTS[:6]                 # where the arguments lie of a function that gives a record in memory
+    TOGETHER = 2                                  # accumulators of 32 bits that one-shots have in a cell
     carry = None                                  # what `flags` has
 
     def __init__(self, program):

@@ -47,10 +47,11 @@ def choose(given, found):
 
 
 def every_length_rows(made, is_all):
-    """XXH64 and XXH3 of every length, and streams of XXH3 of any updates, by induction; some cases, or all."""
-    asked = every_length.cases("64")
-    return [*shared.of_every_length(made, "64", "XXH64: every length to 2^64 - 1", asked),
-            *shared.long_rows(made, is_all), *shared.xxh3_rows(made, is_all)]
+    """All hashes of every length, and streams of any updates, by induction; some cases, or all."""
+    out = [row for kind in every_length.UNROLLED for row in
+           shared.of_every_length(made, kind, f"XXH{kind}: every length to 2^64 - 1", every_length.cases(kind))]
+    return [*out, *shared.long_rows(made, is_all), *shared.plain_stream_rows(made, is_all),
+            *shared.xxh3_rows(made, is_all)]
 
 
 def compared(title, found, kind, lengths, is_stream=False):
