@@ -14,6 +14,7 @@ DEPTH = 4                     # how often a fact may be taken away
 TRIED, KEPT = 60, 8           # points that are drawn, and how many are kept
 SEARCHED = 20000              # how many are drawn until one is found
 CHOICES = 0, 1, 2, 3, 5, 62, 200
+FURTHER = 0, 1, 7, 15, 480, 1 << 20, 1 << 32     # where none of these was found
 
 facts, least, known = [], {}, {}   # polynomials >= 0; variable -> its least value; what was decided under these facts
 possible = {}                      # a set of facts -> points at which they hold
@@ -121,17 +122,10 @@ def is_same(a, b):
 def given(*more):
     """What holds inside of a `with`. A fact `v - c` says where the variable v begins."""
     size, bounds = len(facts), dict(least)
-    for fact in more:
-        parts = parts_of(fact)
-        name = next(iter(names_of(fact)), None)
-        if parts == {(name,): 1, (): parts.get((), 0)} and parts[()] < 0:
-            least[name] = max(least.get(name, 0), -parts[()])
-        elif isinstance(fact, Poly):
-            facts.append(fact)
-        elif fact < 0:
-            raise Undecided("facts that can't be")
-    known.clear()
     try:
+        for fact in more:
+            suppose(fact)
+        known.clear()
         expect_possible()
         yield
     finally:
@@ -139,6 +133,17 @@ def given(*more):
         least.clear()
         least.update(bounds)
         known.clear()
+
+
+def suppose(fact):
+    parts = parts_of(fact)
+    name = next(iter(names_of(fact)), None)
+    if parts == {(name,): 1, (): parts.get((), 0)} and parts[()] < 0:
+        least[name] = max(least.get(name, 0), -parts[()])
+    elif isinstance(fact, Poly):
+        facts.append(fact)
+    elif fact < 0:
+        raise Undecided("facts that can't be")
 
 
 def at_most(x, bound):
@@ -172,8 +177,9 @@ def expect_possible():
     key = known["facts' key"] = frozenset([*map(repr, facts), *least.items()])
     if key not in possible:
         names, draw, found = sorted(names_of(*facts)), random.Random(1), []
-        for attempt in range(SEARCHED):
-            point = {name: least.get(name, 0) + (draw.choice(CHOICES) if attempt else 0) for name in names}
+        for attempt in range(2 * SEARCHED):
+            choices = CHOICES if attempt < SEARCHED else FURTHER
+            point = {name: least.get(name, 0) + (draw.choice(choices) if attempt else 0) for name in names}
             if all(value_at(fact, point) >= 0 for fact in facts):
                 found.append(point)
             if len(found) == KEPT or found and attempt > TRIED:

@@ -15,7 +15,7 @@ from terms.loops import REFUSALS, NotShown
 from terms.nodes import WrongRule, is_same
 from terms.sides import Request
 
-from . import calls, one_shots, streams
+from . import calls, one_shots, streams, xxh3_updates
 from .instructions import PARTS, SETS, TABLE, VECTORS, letters
 from .objects import Immediate, Place, Register
 from .processor import Processor
@@ -24,6 +24,7 @@ EQUAL = os.path.join(os.path.dirname(os.path.abspath(__file__)), "equal_changes.
 LIMIT = 300_000                   # instructions of a changed text's call
 MOST, NEAR, FEWEST = 200, 20, 10  # questions that a change is asked, requests near to them, and if it has a reason
 MANY, FEW = 100, 50               # changes of a text, with --all and without
+UPDATES = 8                       # cases of updates of XXH3 that a change is asked, with --all
 IDLE = "nop", "prefetcht0", "vzeroupper", "ud2"
 UNNOTICED, CRASH = "unnoticed", "A CRASH"
 ALIKE = [("je", "jne"), ("jb", "jbe"), ("ja", "jae"), ("jb", "jae"), ("sete", "setne"), ("cmovb", "cmovae"),
@@ -93,7 +94,16 @@ def questions(entries, is_all):
               calls.without_mark, calls.out_of_range, calls.refused_resets, calls.updates_of_nothing,
               calls.null_pointers, calls.derived_secret, some_secrets]
     return [*(of_request(request, entries) for request in asked),
-            *(Question(call.__name__, silent(call)) for call in others)]
+            *(Question(call.__name__, silent(call)) for call in [*others, *map(update, range(UPDATES * is_all))])]
+
+
+def update(k):
+    """One of some cases of an update of XXH3, from any state to any other."""
+    def ask(cpu):
+        proof = xxh3_updates.Xxh3Updates(cpu)
+        cases = list(proof.all_updates())
+        proof.update(*cases[k * len(cases) // UPDATES])
+    return ask
 
 
 def some_secrets(cpu):
@@ -248,6 +258,12 @@ def reasons():
         return dict(line.strip().split(" | ") for line in file if line.strip() and not line.startswith("#"))
 
 
+def few(asked, most):
+    """So many of the requests, and the calls that compare by themselves."""
+    return [*[question for question in asked if question.request][:most],
+            *(question for question in asked if not question.request)]
+
+
 def is_equal(text, known):
     return any(all(word in text for word in words.split(" & ")) for words in known)
 
@@ -267,7 +283,7 @@ def noticed(name, program, is_all):
         has_reason = is_equal(text, known)
         reached = [question for k, question in enumerate(asked) if found[place] >> k & 1]
         order.shuffle(reached)
-        what = outcome(cpu, instructions, reached[:FEWEST if has_reason else MOST], entries, order)
+        what = outcome(cpu, instructions, few(reached, FEWEST if has_reason else MOST), entries, order)
         told[what.split(":")[0]] += 1
         if what.startswith((CRASH, "WrongRule")) or what == UNNOTICED and not has_reason:
             bad.append(f"{what}: {text}")

@@ -1,11 +1,10 @@
 """The one-shots of a text of every length, by induction over its loops.
 
 XXH32 and XXH64: stripe * (u b + c) + r bytes, where a text takes u stripes at once, b is any number from 1 on, c below
-u and r below a stripe. XXH3, above what is asked one by one: 64 (q B + J) + t + 1 bytes, q stripes in a block, B
-blocks, J below q, and t below 64. With the default secret and one that a seed derives q is 16; a secret that is given
-has 64 + 8 q + u bytes, u below 8, and q is a number from 9 to 24. The texts have ways of their own from 31,744 bytes
-on, and where the stripes come to 2 ^ 32; `left_out` computes that the cases have all lengths but those that it
-gives."""
+u and r below a stripe. XXH3, above what is asked one by one: 64 (16 B + J) + t + 1 bytes, B blocks of 16 stripes, J
+below 16, and t below 64, with the default secret, with one that a seed derives, and with one of 192 to 199 bytes
+(any_secret.py has the others). The texts have ways of their own from 31,744 bytes on; `left_out` computes that the
+cases have all lengths but those that it gives."""
 import collections
 import itertools
 
@@ -24,15 +23,16 @@ from .processor import NO_LIMIT
 from .values import address
 
 UNROLLED = {"32": 8, "64": 2}     # stripes that a text takes at once, or a part of them
+LEAST = {"32": 2, "64": 1}        # such turns that the cases have at least: below, lengths are asked one by one
 PREFETCHED = 31_744               # bytes from which on the texts of XXH3 have loops of their own
 LIMIT = 30_000                    # instructions that a case may run: else a loop is run that should be shown
-SHORTEST, LONGEST_KEPT = 136, 263 # bytes of secrets that the cases have
+SHORTEST = 136                    # bytes of a secret
 TURNS, FAR, MANY = "turns", 496, 1 << 32      # stripes from which on a text takes other ways
-DERIVED, KEPT = 16, range(9, 25)  # stripes of a block: by default, and with the secrets that streams take too
+DERIVED = 16                      # stripes of a block, by default
 
 # A case: its length, and the stripes in it that are accumulated, in the variable `turns` and others; facts; the values
-# of the others; the stripes of a block; and how many blocks there are, where a loop may count the stripes of one.
-Case = collections.namedtuple("Case", "length stripes facts others block blocks rest", defaults=(None, None, 0))
+# of the others; and how many bytes a secret has behind its stripes.
+Case = collections.namedtuple("Case", "length stripes facts others rest", defaults=(0,))
 
 
 # ---- the cases
@@ -42,39 +42,22 @@ def plain_cases(hash_name):
     for c in range(UNROLLED[hash_name]):
         for r in range(stripe):
             stripes = plus(times(UNROLLED[hash_name], turns), c)
-            yield Case(plus(times(stripe, stripes), r), stripes, [minus(turns, 1)], {})
+            yield Case(plus(times(stripe, stripes), r), stripes, [minus(turns, LEAST[hash_name])], {})
 
 
-def xxh3_case(q, blocks, J, *facts, is_near=False):
+def xxh3_case(blocks, J, *facts, is_near=False):
     """A case of so many blocks and stripes more, below PREFETCHED bytes where it is near."""
-    stripes, t = plus(times(q, blocks), J), variable("t")
+    stripes, t = plus(times(DERIVED, blocks), J), variable("t")
     n = plus(times(64, stripes), t, 1)
-    others = {"t": range(64), **({"J": range(q)} if isinstance(J, Poly) else {})}
-    of_n = [at_most(n, PREFETCHED - 1)] if is_near else []
-    return Case(n, stripes, [at_most(t, 63), *of_n, *facts], others, q, blocks)
+    of_n = [at_most(n, PREFETCHED - 1)] if is_near else [at_most(stripes, LONGEST // 64)]
+    return Case(n, stripes, [at_most(t, 63), *of_n, *facts], {"t": range(64)})
 
 
-def derived_cases(q=DERIVED):
+def derived_cases():
     turns = variable(TURNS)
-    for J in range(q):
-        yield xxh3_case(q, turns, J, minus(turns, 1), is_near=True)
-        yield xxh3_case(q, turns, J, minus(turns, FAR // q))
-
-
-def own_cases(q):
-    """With a secret that is given, of q stripes a block, above 240 bytes."""
-    turns, J, far, many = variable(TURNS), variable("J"), FAR // q, MANY // q
-    yield xxh3_case(q, 0, J, minus(J, 4), at_most(J, q - 1))
-    for more, of_J in ((0, []), (J, [minus(J, 1), at_most(J, q - 1)])):
-        yield xxh3_case(q, turns, more, *of_J, minus(turns, 1), is_near=True)
-        yield xxh3_case(q, turns, more, *of_J, minus(turns, far + 1), at_most(turns, many - 1))
-        yield xxh3_case(q, turns, more, *of_J, minus(turns, many + 1))
-    yield from (xxh3_case(q, turns, more, minus(turns, many), at_most(turns, many)) for more in range(q))
-    least = FAR - q * far          # stripes behind these blocks, from which on the other way is taken
-    here = [minus(turns, far), at_most(turns, far)]
-    yield between(q)
-    yield from [] if least else [xxh3_case(q, turns, 0, *here)]
-    yield xxh3_case(q, turns, J, *here, minus(J, max(1, least)), at_most(J, q - 1))
+    for J in range(DERIVED):
+        yield xxh3_case(turns, J, minus(turns, 1), at_most(turns, PREFETCHED // 1024 - 1), is_near=True)
+        yield xxh3_case(turns, J, minus(turns, FAR // DERIVED))
 
 
 def cases(kind):
@@ -82,32 +65,18 @@ def cases(kind):
     return list(plain_cases(kind) if kind in UNROLLED else derived_cases())
 
 
-def with_rests(q):
-    return [with_rest(case, rest) for case in of_secret(q) for rest in (False, True)]
-
-
-def between(q):
-    """PREFETCHED bytes, which have one stripe less than FAR, and no byte more would be near."""
-    turns, (blocks, J) = variable(TURNS), divmod(FAR - 1, q)
-    stripes = plus(times(q, turns), J)
-    return Case(plus(times(64, stripes), 64), stripes, [minus(turns, blocks), at_most(turns, blocks)], {}, q, turns)
-
-
-def of_secret(q):
-    """Above 240 bytes. The texts ask whether a secret has 192 bytes."""
-    yield xxh3_case(q, 0, 3, minus(variable("t"), 48))
-    if q != DERIVED:
-        yield from own_cases(q)
-        return
-    yield from (xxh3_case(q, 0, J) for J in range(4, q))
-    yield from derived_cases()
-    yield Case(PREFETCHED, FAR - 1, [], {}, q)
+def of_secret():
+    """Above 240 bytes with a secret of 192 to 199 bytes. The texts ask whether it has 192."""
+    found = [xxh3_case(0, 3, minus(variable("t"), 48)), *(xxh3_case(0, J) for J in range(4, DERIVED))]
+    found += [*derived_cases(), Case(PREFETCHED, FAR - 1, [], {})]
+    return [with_rest(case, rest) for case in found for rest in (False, True)]
 
 
 def with_rest(case, rest):
     """With a secret of `rest` bytes more than its stripes ask for: 0, or 1 to 7."""
     u = variable("u")
-    return case._replace(rest=u, facts=[*case.facts, minus(u, 1), at_most(u, 7)]) if rest else case._replace(rest=0)
+    facts, others = [*case.facts, minus(u, 1), at_most(u, 7)], {**case.others, "u": [1]}
+    return case._replace(rest=u, facts=facts, others=others) if rest else case
 
 
 # ---- that these are all
@@ -152,7 +121,7 @@ def left_out(found, first, period):
                 break
             at = max(at, most + 1)
         else:
-            out.append(rest + period * at)
+            out += [rest + period * at] if rest + period * at <= LONGEST else []
     return sorted(out)
 
 
@@ -205,7 +174,7 @@ class EveryLength:
         seed = seed_symbol(self.hash_name) if fixed is None else fixed
         seed = [seed] if self.way in ("seed", "both") else []
         if self.way in ("secret", "both"):
-            given_secret = Input("s", plus(64 + 8 * case.block, case.rest))
+            given_secret = Input("s", plus(64 + 8 * DERIVED, case.rest))
             secret, handed = Bytes(given_secret, 0, given_secret.length), [address(given_secret), given_secret.length]
         else:
             secret = self.texts["effective_secret"](self.texts["derived_secret"](seed[0] if seed else 0), message)
@@ -220,7 +189,7 @@ class EveryLength:
         name = f"XXH{self.kind} of {case.length} bytes"
         family = Family(name, stripe, case.stripes, count, after,
                         lambda k, values: suppositions.suppose(after(k), values),
-                        (case.block, case.blocks) if isinstance(case.blocks, Poly) else None)
+                        self.cpu.TOGETHER if stripe == 16 else 1)
         loops = Loops(self.cpu.program, family)
         if isinstance(case.length, Poly):
             self.cpu.loops, self.cpu.limit = loops, LIMIT

@@ -13,7 +13,7 @@ from terms.nodes import OPAQUE, Node, Undecided
 from terms.polynomials import is_natural, is_number, is_same, lifted, minus, plus
 
 from .memory import ENTRY
-from .values import Address, Either
+from .values import Address, Either, quotients
 
 Flags = collections.namedtuple("Flags", "kind width a b result")
 FAR = 1 << 62                     # no object goes up to there
@@ -85,6 +85,9 @@ def is_below(cpu, a, b):
         return is_below_as_places(cpu, a, b)
     if is_number(a) and is_number(b):
         return TESTS["lt"](a, b)
+    if isinstance(a, Node) and a.number in quotients and isinstance(b, int):
+        x, k = quotients[a.number]
+        return TESTS["lt"](x, b << k)
     return operations.is_below(lifted(a), lifted(b))
 
 

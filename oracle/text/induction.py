@@ -4,18 +4,18 @@ A cell is a register, a lane of a vector, or a cell of the stack or of another o
 loop's head after k turns some cells hold the words that the definition says of so many stripes. Which ones isn't said:
 they are those that hold the definition's words at the start, and those of some stripes more after a first turn. Of the
 other cells that the turn changes some go on by a step, and what is left may be anything at the head. All of that is a
-guess, which a turn from k = any number then shows: the words have to be there, whatever is said to go on has to go on,
-and a cell that does anything else may be anything, and the turn is run once more. A cell that has a word is never let
-go. The flags are unset at a head."""
+guess, which a turn from k = any number then shows: the words have to be there, and a cell that does anything else than
+what is said may be anything, and the turn is run once more. A cell that has a word is never let go. The flags are unset
+at a head."""
 import contextlib
 
 from terms.loops import REFUSALS, NotShown, agree
-from terms.memory import Input
+from terms.memory import RUNS, Input
 from terms.nodes import Node, Undecided
 from terms.polynomials import divided, given, is_natural, is_number, minus, plus, times, variable
 from terms.polynomials import is_same as is_same_number
 
-from .values import Address
+from .values import Address, joined
 
 STEPS = 1, 2, 4, 8, 16            # stripes that a turn takes
 FIRST_TURNS = 64, 4               # so many stripes are left where a first turn is tried
@@ -24,22 +24,29 @@ NEAR = 0, 1, -1, -2, -4           # stripes that lie between a pointer and what 
 
 class Family:
     """What the definition says: after(k)(j), word j of `count` after k stripes, of so many bytes each and of which
-    there are `total`. suppose(k, values) makes these values the words for k. `blocks` has the stripes of a block and
-    how many blocks there are, where a loop may count the stripes of a block."""
+    there are `total`. suppose(k, values) makes these values the words for k. `together` is how many words of 32 bits
+    lie in a cell."""
 
-    def __init__(self, name, stripe, total, count, after, suppose, blocks=None):
+    def __init__(self, name, stripe, total, count, after, suppose, together=1):
         self.name, self.stripe, self.total, self.count, self.after = name, stripe, total, count, after
-        self.blocks = blocks
-        self.put, self.known = suppose, {}
+        self.put, self.known, self.together = suppose, {}, together
 
     def word(self, k, j):
+        """What cell j holds after k stripes: a word, or some."""
         key = repr(k), j
         if key not in self.known:
-            self.known[key] = self.after(k)(j)
+            n = self.together
+            self.known[key] = self.cell([self.after(k)(i) for i in range(n * j, n * j + n)])
         return self.known[key]
 
+    def cell(self, words):
+        return words[0] if self.together == 1 else joined(*((word, 32) for word in words))
+
     def words(self, k):
-        return [self.word(k, j) for j in range(self.count)]
+        return [self.word(k, j) for j in range(self.cell_count())]
+
+    def cell_count(self):
+        return self.count // self.together
 
     def suppose(self, k, values):
         self.known.clear()       # what was said before may stand on other suppositions
@@ -47,7 +54,7 @@ class Family:
 
     def seem(self, k, is_there):
         """Whether all words for k are there; asked one by one, since each may be dear."""
-        return all(is_there(self.word(k, j)) for j in range(self.count))
+        return all(is_there(self.word(k, j)) for j in range(self.cell_count()))
 
 
 # ---- cells
@@ -75,7 +82,7 @@ def cells_of(cpu):
     out = {("register", name): x for name, x in cpu.registers.items()}
     out.update({("lane", k, lane): x for k, lanes in enumerate(cpu.vectors) for lane, x in enumerate(lanes)})
     for memory in [cpu.stack, *cpu.live]:
-        out.update({(memory, at, size): x for at, (size, x) in memory.cells.items()})
+        out.update({(memory, at, cell[0]): cell[1] for at, cell in memory.cells.items() if at != RUNS})
     return out
 
 
@@ -94,8 +101,9 @@ class Head(Exception):
 class Loops:
     """Asked wherever a loop may begin: at each place that its section jumps back to."""
 
-    def __init__(self, program, family):
+    def __init__(self, program, family, proof=None):
         self.program, self.family, self.told, self.refused, self.known = program, family, [], [], {}
+        self.proof = proof or Proof
         self.running, self.stop, self.is_guessing, self.given_up = {}, None, False, set()
 
     def heads(self, section):
@@ -103,7 +111,7 @@ class Loops:
         if section not in self.known:
             found = self.known[section] = {}
             for at, x in self.program.sections.get(section, {}).items():
-                if x.mnemonic[0] == "j" and x.target[0] == section and x.target[1] <= at:
+                if x.target and x.target[0] == section and x.target[1] <= at:
                     found[x.target[1]] = max(at, found.get(x.target[1], 0))
         return self.known[section]
 
@@ -120,7 +128,7 @@ class Loops:
                 raise NotShown(f"the loop at {place[0]} {place[1]:x} isn't left")
             return place
         if place[1] in self.heads(place[0]) and not self.is_guessing and place not in self.given_up:
-            if Proof(self, cpu, place).show():
+            if self.proof(self, cpu, place).show():
                 self.running[place] = self.heads(place[0])[place[1]]
             elif None in self.running.values():      # a number of turns within another's turn
                 self.given_up.add(place)
@@ -133,6 +141,7 @@ class Proof:
     def __init__(self, loops, cpu, head):
         self.loops, self.cpu, self.family, self.head = loops, cpu, loops.family, head
         self.original, self.flags = cells_of(cpu), (cpu.flags, cpu.carry)
+        self.runs = {memory: memory.runs() for memory in [cpu.stack, *cpu.live]}
         self.forget()
 
     def forget(self):
@@ -143,16 +152,15 @@ class Proof:
         """Shows the loop, and leaves the processor at its head before the last turn: from there it runs on. False, and
         the state as it was, where it isn't one of the family: then it is run, turn by turn."""
         for first in self.firsts():
-            for way in (self.by_blocks, self.by_turns):
-                try:
-                    if way(first):
-                        self.loops.told.append(self.told(first))
-                        return True
-                except REFUSALS as error:
-                    self.loops.refused.append(f"{self.head[0]} {self.head[1]:x} from {first}: {error}")
-                self.forget()
-                self.enter(0)
-                self.cpu.flags, self.cpu.carry = self.flags
+            try:
+                if self.by_turns(first):
+                    self.loops.told.append(self.told(first))
+                    return True
+            except REFUSALS as error:
+                self.loops.refused.append(f"{self.head[0]} {self.head[1]:x} from {first}: {error}")
+            self.forget()
+            self.enter(0)
+            self.cpu.flags, self.cpu.carry = self.flags
         return False
 
     def firsts(self):
@@ -192,43 +200,6 @@ class Proof:
         self.enter(last, self.supposed(first, last))
         return True
 
-    def by_blocks(self, first):
-        """The loop over the stripes of all blocks, which counts those of a block: after k = q b + j stripes, j < q, a
-        cell that begins at 0 is a multiple of j, and one that goes on from elsewhere a multiple of k."""
-        is_asked = self.family.blocks and isinstance(first, int)
-        if not is_asked or not self.guess(first, FIRST_TURNS[-1]) or self.step > 1:
-            return False
-        (q, blocks), b, j = self.family.blocks, *(variable(self.cpu.new_name(name)) for name in "bj")
-        self.counts = {cell: step for cell, (x, step) in self.places.items()
-                       if isinstance(x, int) and x == step * first and step}
-        for cell in self.counts:
-            del self.places[cell]
-        size = None
-        with given(minus(minus(blocks, 1), b)):
-            while size != len(self.unset):
-                size = len(self.unset)
-                with given(minus(minus(q, 2), j)):
-                    self.enter_at(first, b, j)
-                    self.turn()
-                    self.compare_at(first, b, plus(j, 1))
-                self.enter_at(first, b, minus(q, 1))
-                self.turn()
-                self.compare_at(first, plus(b, 1), 0)
-        self.enter_at(first, blocks, 0)
-        return True
-
-    def at(self, first, b, j):
-        """Stripes behind the first, where the counts are those of j."""
-        self.start.update({cell: times(step, j) for cell, step in self.counts.items()})
-        return minus(plus(times(self.family.blocks[0], b), j), first)
-
-    def enter_at(self, first, b, j):
-        k = self.at(first, b, j)
-        self.enter(k, self.supposed(first, k))
-
-    def compare_at(self, first, b, j):
-        self.compare(first, self.at(first, b, j))
-
     def told(self, first):
         words = sorted(f"{name_of(cell)} has word {j}" for cell, j in self.words.items())
         places = sorted(f"{name_of(cell)} = {moved(x, step, variable('k'))}" for cell, (x, step) in self.places.items())
@@ -247,17 +218,18 @@ class Proof:
             if cell[0] == "register":
                 cpu.registers[cell[1]] = cpu.fresh("unset") if cell in self.unset else x
             elif cell[0] == "lane":
-                cpu.vectors[cell[1]][cell[2]] = None if cell in self.unset else x
+                cpu.vectors[cell[1]][cell[2]] = cpu.unset_lane() if cell in self.unset else x
         for memory in [cpu.stack, *cpu.live]:
             memory.cells = {cell[1]: (cell[2], x) for cell, x in now.items()
                             if cell[0] is memory and cell not in self.unset}
+            memory.cells.update({RUNS: runs for runs in [self.runs[memory]] if runs})
 
     def supposed(self, first, k):
         """New symbols, which are the definition's words after k turns."""
-        width = 32 if self.family.stripe == 16 else 64
-        values = [self.cpu.fresh("word", width) for _ in range(self.family.count)]
-        self.family.suppose(plus(first, times(self.step, k)), values)
-        return values
+        family, width = self.family, 32 if self.family.stripe == 16 else 64
+        values = [self.cpu.fresh("word", width) for _ in range(family.count)]
+        family.suppose(plus(first, times(self.step, k)), values)
+        return [family.cell(values[k:k + family.together]) for k in range(0, family.count, family.together)]
 
     def turn(self):
         """From the head to the head."""
@@ -278,6 +250,8 @@ class Proof:
     def compare(self, first, k):
         """That the state is that of the head after k turns; what else changes may be anything from here on."""
         said, now = self.family.words(plus(first, times(self.step, k))), cells_of(self.cpu)
+        if any(memory.runs() != runs for memory, runs in self.runs.items()):
+            raise NotShown(f"{self.family.name}: a turn stores to a run")
         for cell in {*self.start, *now} - self.unset:
             x = now.get(cell)
             if cell in self.words:
@@ -288,14 +262,16 @@ class Proof:
                 expected = self.start.get(cell)
             if same(x, expected):
                 continue
-            if cell in self.words or cell in self.places or cell in self.counts:
+            if cell in self.words:
                 raise NotShown(f"{self.family.name}: {name_of(cell)} is {x} and not {expected}")
+            for known in (self.places, self.counts):
+                known.pop(cell, None)
             self.unset.add(cell)
 
     # ---- a guess
 
-    def guess(self, first, turns):
-        """Two turns tell the words, the steps and what is left."""
+    def guess(self, first, turns, is_twice=True):
+        """Two turns, or one, tell the words, the steps and what is left."""
         self.forget()
         self.enter(0)
         self.loops.is_guessing = True
@@ -303,7 +279,8 @@ class Proof:
             with given(minus(self.family.total, plus(first, turns))):
                 self.turn()
                 once = cells_of(self.cpu)
-                self.turn()
+                if is_twice:
+                    self.turn()
         except REFUSALS:
             return False
         finally:
@@ -314,7 +291,7 @@ class Proof:
             return False
         for cell in changed - set(self.words):
             step = step_between(self.start.get(cell), once.get(cell))
-            if step is None or not same(twice.get(cell), moved(once[cell], step, 1)):
+            if step is None or is_twice and not same(twice.get(cell), moved(once[cell], step, 1)):
                 self.unset.add(cell)
             else:
                 self.places[cell] = self.start[cell], step

@@ -7,7 +7,7 @@ import collections
 from terms.llvm_text import Unsupported
 from terms.memory import Memory, Unset
 from terms.nodes import Node
-from terms.polynomials import Poly, is_natural, lifted, minus, plus
+from terms.polynomials import Poly, is_natural, is_same, lifted, minus, plus
 
 STACK = 1 << 14                   # bytes of stack that a call may use
 ENTRY = STACK - 64                # where the caller's frame begins, a multiple of 16
@@ -38,6 +38,13 @@ class Words(Memory):
         if all(isinstance(self.cells[first][1], (int, Node)) for first in near):
             return super().load(at, n)
         return Memory(self.name, self.length, self.in_bits(near)).load(at, n)
+
+    def keeps_runs(self, at, n):
+        """Whether what is copied there is a run of an input."""
+        return not (isinstance(at, int) and isinstance(n, int))
+
+    def take(self, at, n, source, first):
+        raise Unsupported(f"a copy of {n} bytes to {at} of {self.name}")
 
     def in_bits(self, firsts):
         """Some of the cells, those that have bits: (offset, size, number or term)."""
@@ -83,12 +90,13 @@ class Stack(Words):
 
 
 def copy(to, source, n, may_overlap):
-    """memcpy, or memmove where they may overlap: of a length that is a number, from one address to another."""
-    if not isinstance(n, int):
-        raise Unsupported(f"a copy of {n} bytes")
-    if not n:
+    """memcpy, or memmove where they may overlap, from one address to another."""
+    if is_same(n, 0):
         return
     (memory, at), (source, first) = to.place(), source.place()
+    if memory.keeps_runs(at, n):
+        memory.take(at, n, source, first)
+        return
     if memory is source and not may_overlap and not is_apart(at, first, n):
         raise Unsupported("a copy of bytes onto themselves")
     parts = list(taken(source, first, n))

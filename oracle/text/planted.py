@@ -13,7 +13,8 @@ from terms.nodes import WrongRule
 from terms.polynomials import variable
 from terms.sides import TOP, Request
 
-from . import any_updates, calls, every_length, exports, on_processor, one_shots, streams, values
+from . import (any_updates, calls, covered, every_length, exports, on_processor, one_shots, streams, values,
+               xxh3_updates)
 from .instructions import TABLE, V2
 from .objects import Program
 from .processor import Processor
@@ -87,6 +88,28 @@ def exported(cpu):
     exports.expect_all(cpu.program, exports.shown_by().values())
 
 
+def far_case(cpu):
+    """One-shots with whole blocks out of line, from 31,744 bytes on."""
+    every_length.EveryLength(cpu, "3-64:seed").show(every_length.cases("3-64:seed")[1])
+
+
+def any_update(cpu):
+    """An update of a stream of XXH3 that the buffer has room for."""
+    proof = xxh3_updates.Xxh3Updates(cpu)
+    proof.update(*list(proof.small_pieces())[-1])
+
+
+def adds_where(word, register):
+    """Lines that add 1 to a register where a word that lies in rax is one of 2 ^ 64."""
+    return (f"movabs ${word:#x},%r10", "xor %r10,%rax", "mov %rax,%r10", "neg %r10", "or %r10,%rax", "shr $0x3f,%rax",
+            "xor $0x1,%eax", f"add %rax,{register}")
+
+
+def adds_to(place):
+    """Lines that add rax to a word in memory."""
+    return f"mov {place},%r10", "add %rax,%r10", f"mov %r10,{place}"
+
+
 SEED_0 = begun("XXH3_64bits_withSeed", "test %rdx,%rdx", "jne 1f", "xor %eax,%eax", "ret", "1:")
 VERSION = "XXH_versionNumber"
 SAVED = "mov %rdi,-0x40(%rsp)", "mov %rsi,-0x48(%rsp)"
@@ -97,6 +120,18 @@ TEXTS = [
     Wrong("another value of the seed 0, up to 240 bytes", SEED_0, request("3-64", "seed", 17), "== 0"),
     Wrong("another value of the seed 0, above", SEED_0, request("3-64", "seed", 300), "another value"),
     Wrong("another value of the seed 0, at every length", SEED_0, of_every_length("3-64:seed", 0), "== 0"),
+    Wrong("another value of one seed in 2 ^ 64", begun("XXH64", "mov %rdx,%rax", *adds_where(0x9e3779b97f4a7c15, "%rdx")),
+          request("64", "seed", 40), "another value"),
+    Wrong("another value where a word of the message is one in 2 ^ 64",
+          begun("XXH3_64bits_withSeed", "mov (%rdi),%rax", *adds_where(0x123456789abcdef, "%rdx")),
+          request("3-64", "seed", 16), "another value"),
+    Wrong("another value from 2 ^ 20 blocks on",
+          begun("twox_core.xxhash3.stripes.blocks.take_many_blocks", "mov %rcx,%rax", "shr $0x1e,%rax",
+                *adds_to("(%rsi)")), far_case, "too many instructions"),
+    Wrong("a stream's accumulator that is another one from 2 ^ 40 bytes on",
+          begun("twox_c.xxh3_state.Xxh3State.update", "mov 0x298(%rdi),%rax", "shr $0x28,%rax",
+                *adds_to("(%rdi)")),
+          any_update, "the state at 0 is"),
     Wrong("bytes that objdump leaves out", begun(VERSION, "nop", ".zero 16"), calls.version, "the instruction add bm"),
     Wrong("a jump into an instruction", begun(VERSION, "jmp 1f+1", "1: mov $0x1234,%eax"), calls.version,
           "no instruction at"),
@@ -152,13 +187,22 @@ def is_refused(wrong, room):
 
 # ---- what of the check itself is wrong
 
-def lacks_a_case(_):
-    """A case of the induction that is left out, and an update's."""
+def lacks_a_case(room):
+    """A case of the induction that is left out, and an update's, and one of XXH3's streams."""
     cases = every_length.cases("3-64:seed")
     updates = list(any_updates.updates("64"))
     with unittest.mock.patch.object(any_updates, "updates", lambda name: updates[:99] + updates[100:]):
         is_seen = bool(any_updates.left_out("64"))
-    return is_seen and len(every_length.left_out(cases[:13] + cases[14:], 1101, 1024)) > 1
+    proof = xxh3_updates.Xxh3Updates(processor(room))
+    pieces = list(proof.all_updates())
+    is_missed = bool(covered.without_update(pieces[:67] + pieces[68:], proof.facts, 300))
+    return is_seen and is_missed and len(every_length.left_out(cases[:13] + cases[14:], 1101, 1024)) > 1
+
+
+def processor(room):
+    """That of the text as it is."""
+    subprocess.run(["gcc", "-c", SOURCE, "-o", f"{room}/right.o"], check=True)
+    return Processor(Program(f"{room}/right.o"), V2)
 
 
 def has_a_wrong_sum(_):

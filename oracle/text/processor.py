@@ -28,7 +28,12 @@ NO_LIMIT = 1 << 24                # instructions of a call
 class Processor:
     """A program, by a processor of a name. `not_zero` has terms that are supposed not to be 0; `loops` is asked
     wherever a loop may begin, and `live` has the objects that calls may write to then; `used` has the instructions that
-    ran, and `limit` how many may in a call."""
+    ran, and `limit` how many may in a call. `replaced` has functions in the place of some of the text's, by where these
+    begin."""
+
+    TAKES_STRIPES = ARGUMENTS     # where the arguments lie of a function that gives a record in memory
+
+    TOGETHER = 1                  # accumulators of 32 bits that one-shots have in a cell
 
     def __init__(self, program, name):
         self.program, self.name = program, name
@@ -37,7 +42,7 @@ class Processor:
                      for section, code in program.sections.items()}
         for outer in OUTER:
             self.code[outer] = {0: (functools.partial(call_of_outer, outer == "memmove"), None)}
-        self.not_zero, self.loops, self.live = [], None, []
+        self.not_zero, self.loops, self.live, self.replaced = [], None, [], {}
         self.used, self.made, self.limit, self.count = set(), 0, NO_LIMIT, 0
 
     def change(self, instruction):
@@ -54,7 +59,7 @@ class Processor:
 
     # ---- calls
 
-    def call(self, name, *arguments):
+    def call(self, name, *arguments, into=ARGUMENTS):
         """Calls a function as C does, and gives what rax and rdx hold. An argument is a number, a term or an address;
         or (value, 32), where the upper half of its register may be anything."""
         self.registers = {name: self.fresh(name) for name in WIDE}
@@ -63,7 +68,7 @@ class Processor:
         self.stack, self.count = Stack(), 0
         self.registers["rsp"] = address(self.stack, ENTRY)
         self.push(ReturnTo(OUT, 0))
-        for register, x in zip(ARGUMENTS, arguments):
+        for register, x in zip(into, arguments):
             if isinstance(x, tuple):
                 value, width = x
                 x = joined((value, width), (self.fresh(register, WORD - width), WORD - width))
@@ -76,6 +81,10 @@ class Processor:
         if self.registers["rsp"].place() != (self.stack, ENTRY):
             raise Unsupported("the stack isn't the caller's at the end")
         return self.registers["rax"], self.registers["rdx"]
+
+    @staticmethod
+    def unset_lane():
+        return None
 
     def forget_vectors(self):
         """No lane may be read before it is written."""
@@ -92,6 +101,8 @@ class Processor:
         """Runs from a place to where it goes elsewhere than to the next instruction, or where a loop may begin: the
         place, or None at the end."""
         section, at = place
+        if place in self.replaced:
+            return self.replaced[place]()
         code, heads = self.code.get(section), self.loops.heads(section) if self.loops else ()
         while True:
             if code is None or at not in code:
@@ -109,6 +120,23 @@ class Processor:
                 return section, at
 
     # ---- the stack
+
+    def frame(self):
+        """The stack, and where the caller's part of it begins, at a function's first instruction."""
+        memory, at = self.registers["rsp"].place()
+        return memory, at + 8
+
+    def return_from_another(self):
+        """Returns from a function that may leave the registers that aren't kept, and all below the stack pointer, as
+        anything."""
+        memory, at = self.registers["rsp"].place()
+        memory.forget_below(at)
+        for register in WIDE:
+            if register not in KEPT and register != "rsp":
+                self.registers[register] = self.fresh(register)
+        self.forget_vectors()
+        self.forget_flags()
+        return self.pop()
 
     def push(self, x):
         self.registers["rsp"] = arithmetic("sub", WORD, self.registers["rsp"], 8)
@@ -185,6 +213,11 @@ class Processor:
             return operand.value & ones(width)
         return self.load(*self.place(operand, instruction), width // 8)
 
+    def whole(self, operand):
+        """The register that an operand begins, or None."""
+        name, first, _ = PARTS[operand.name] if isinstance(operand, Register) else (None, 1, 0)
+        return None if first else self.registers[name]
+
     def put(self, operand, width, x, instruction):
         if isinstance(operand, Register):
             self.put_register(*PARTS[operand.name], x)
@@ -222,8 +255,7 @@ class Processor:
 
 
 def call_of_outer(may_overlap, cpu, _):
-    """memcpy or memmove, which are another's: they copy, and leave the registers that aren't kept, and all below the
-    stack pointer, as anything."""
+    """memcpy or memmove, which are another's."""
     to, source, n = (cpu.registers[name] for name in ARGUMENTS[:3])
     memory, at = cpu.registers["rsp"].place()
     if (at + 8) % 16:
@@ -237,10 +269,6 @@ def call_of_outer(may_overlap, cpu, _):
         if room is memory and not is_natural(minus(first, at + 8)):
             raise Unsupported("a copy to what lies below the stack")
     copy(to, source, n, may_overlap)
-    for register in WIDE:
-        if register not in KEPT and register != "rsp":
-            cpu.registers[register] = cpu.fresh(register)
+    place = cpu.return_from_another()
     cpu.registers["rax"] = to
-    cpu.forget_vectors()
-    cpu.forget_flags()
-    return cpu.pop()
+    return place

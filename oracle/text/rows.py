@@ -1,5 +1,6 @@
 """The rows of oracle/machine-text: what is asked of the texts, and the least number of cases that each has."""
 import functools
+import itertools
 import os
 import subprocess
 import tempfile
@@ -11,8 +12,8 @@ from terms.polynomials import variable
 from terms.processes import Row
 from terms.sides import TOP, Request
 
-from . import (any_updates, calls, changes, every_length, exports, lanes, on_processor, one_shots, planted, scalar,
-               streams)
+from . import (any_secret, any_updates, calls, changes, covered, every_length, exports, lanes, on_processor, one_shots, planted,
+               scalar, streams, xxh3_updates)
 from .instructions import TABLE, V2, V3
 from .objects import Program
 from .processor import Processor
@@ -21,13 +22,15 @@ NAMES = V2, V3
 FOLDER = os.path.join(TOP, "c", "asm")
 ONE_BY_ONE, MORE = range(301), range(301, 1101)     # lengths asked one by one: always, and with --all
 SECRETS, STREAM_SECRETS = (136,), (136, 193, 256)
-# Streams: their lengths, with how each is cut in a sample; and those of a few more.
+# Streams: their lengths, with how each is cut.
 FEW_STREAMS = [(0,), (5, 2), (33, 1), (70, 33, 64), (200, 31, 160), (240, 239), (257, 256), (300, 64, 192),
                (600, 512, 599), (1100, 64), (1500, 40, 1100)]
-MANY_STREAMED = [1500, 2200, 3000, 4200]
 SOME_UPDATES, UPDATE_PARTS = 97, 4                  # updates of streams, in a sample and in parts
+# Cases of XXH3's streams: how many are a sample, and in how many parts all are.
+XXH3_CASES = {xxh3_updates.UPDATES: (4, 6), xxh3_updates.DIGESTS: (4, 1), xxh3_updates.STRIPES: (2, 2)}
+COVERED = 300, 3000                                 # points that the cases of XXH3's updates have, and with --all
 SOME_SECRETS = [*range(136, 144), *range(190, 202), 256, 257, 576, 999, 1000]
-LONGER_SECRETS = range(every_length.LONGEST_KEPT + 1, 1001)
+ANY_SECRET = [f"{name}:{way}" for name in ("3-64", "3-128") for way in ("secret", "both")]
 MOST_NODES = 400_000                                # of the cases of a proof
 SMALL = [0, 1, 3, 4, 8, 9, 16, 17, 128, 129, 240, 241, 1000]
 assert scalar and lanes                             # which fill the table
@@ -44,8 +47,13 @@ def assembled(source, to):
     return Program(to)
 
 
+def makers(texts):
+    """Name -> what makes a processor of that text."""
+    return {name: functools.partial(Processor, program, name) for name, program in texts.items()}
+
+
 def processors(texts):
-    return {name: Processor(program, name) for name, program in texts.items()}
+    return {name: make() for name, make in makers(texts).items()}
 
 
 def counted(title, least, ask):
@@ -94,40 +102,67 @@ def one_shot_rows(texts, is_all):
     """Secrets of other lengths have rows of every length."""
     out = [one_by_one(texts, kind, ONE_BY_ONE) for kind in comparison.kinds(SECRETS)]
     for kind in comparison.kinds(SECRETS) if is_all else ():
-        out += [one_by_one(texts, kind, MORE), one_by_one(texts, kind, comparison.edges(kind[2]), ", at edges")]
+        out.append(one_by_one(texts, kind, comparison.edges(kind[2]), ", at edges"))
         if kind[2] is None and kind[0].startswith("3-"):
-            out.append(one_by_one(texts, kind, [every_length.PREFETCHED]))
+            out += [one_by_one(texts, kind, MORE), one_by_one(texts, kind, [every_length.PREFETCHED])]
     return out
 
 
 def secret_rows(texts, is_all):
-    """Secrets that are too short, and those that the rows of every length leave out."""
+    """Secrets that are too short, and others by their lengths."""
     out, lengths = [], SMALL if is_all else [0, 17, 241]
-    sizes, asked = (LONGER_SECRETS, [241, 700, 1100]) if is_all else (SOME_SECRETS, [240, 700])
     for hash_name in ("3-64", "3-128"):
         out.append(of_each(texts, f"XXH{hash_name}, secrets that are too short", 2 * calls.SHORTEST * len(lengths),
                            functools.partial(calls.short_secrets, hash_name=hash_name, lengths=lengths)))
-        requests = (Request(hash_name, kind, n, size) for size in sizes for kind in ("secret", "both") for n in asked)
-        out.append(compared(texts, f"XXH{hash_name}, secrets of {sizes[0]} to {sizes[-1]} bytes", requests))
+        requests = (Request(hash_name, kind, n, size) for size in SOME_SECRETS for kind in ("secret", "both")
+                    for n in (240, 700))
+        out.append(compared(texts, f"XXH{hash_name}, secrets of 136 to 1000 bytes", requests))
     return out
 
 
 def stream_rows(texts, is_all):
     out = []
-    lengths = [*comparison.STREAMED, *MANY_STREAMED]
     for kind in comparison.kinds(STREAM_SECRETS if is_all else SECRETS):
-        asked = comparison.requests(*kind, lengths, True) if is_all else few_streams(*kind)
-        out.append(compared(texts, f"streams of {title_of(*kind)}", asked, streams))
-    out.append(counted("each update of XXH32 and XXH64 has its row", 2, updates_left_out))
+        out.append(compared(texts, f"streams of {title_of(*kind)}", few_streams(*kind), streams))
+    return [*out, *plain_stream_rows(makers(texts), is_all), *xxh3_rows(makers(texts), is_all)]
+
+
+def plain_stream_rows(made, is_all):
+    """Streams of XXH32 and XXH64 of any updates: all cases, in parts, or some."""
+    out = [counted("each update of XXH32 and XXH64 has its row", 2, updates_left_out)]
     for hash_name in any_updates.LAYOUTS:
         count = len(list(any_updates.updates(hash_name)))
-        for name, program in texts.items():
+        for name, make in made.items():
             for part in range(UPDATE_PARTS) if is_all else [None]:
                 words = f"part {part + 1} of {UPDATE_PARTS}" if is_all else f"each {SOME_UPDATES}th case"
                 least = count // (UPDATE_PARTS if is_all else SOME_UPDATES)
                 out.append(counted(f"streams of XXH{hash_name}: any updates, to 2^64 - 1 bytes, {name}, {words}", least,
-                                   functools.partial(any_streams, name, program, hash_name, part)))
+                                   functools.partial(any_streams, make, hash_name, part)))
     return out
+
+
+def xxh3_rows(made, is_all):
+    """Streams of XXH3 of any updates: all that is to be shown, in parts, or some cases of each kind."""
+    out = [counted("each update of XXH3 has its row", COVERED[is_all], functools.partial(points_left_out, made, is_all))]
+    for name, make in made.items():
+        for what, (some, parts) in XXH3_CASES.items():
+            for part in range(parts) if is_all else [None]:
+                words = f"part {part + 1} of {parts}" if is_all else "some cases"
+                out.append(counted(f"streams of XXH3: {what}, to 2^64 - 1 bytes, {name}, {words}", some,
+                                   functools.partial(any_xxh3, make, what, part)))
+    return out
+
+
+def points_left_out(made, is_all):
+    """(points that are looked at, those that no case has)."""
+    proof, count = xxh3_updates.Xxh3Updates(next(iter(made.values()))()), COVERED[is_all] // 3
+    return 3 * count, [f"no case has {point}" for point in covered.left_out(proof, count)][:5]
+
+
+def any_xxh3(make, what, part):
+    proof = xxh3_updates.Xxh3Updates(make())
+    asked, (some, parts) = proof.questions()[what], XXH3_CASES[what]
+    return count_shown(proof, asked[::len(asked) // some] if part is None else asked[part::parts])
 
 
 def few_streams(hash_name, kind, secret):
@@ -141,9 +176,9 @@ def updates_left_out():
     return len(any_updates.LAYOUTS) - len(bad), bad
 
 
-def any_streams(name, program, hash_name, part):
+def any_streams(make, hash_name, part):
     """Reset, digests, and the updates of a part, or a sample of them."""
-    proof = any_updates.AnyUpdates(Processor(program, name), hash_name)
+    proof = any_updates.AnyUpdates(make(), hash_name)
     cases = list(any_updates.updates(hash_name))
     asked = [functools.partial(proof.update, one) for one in
              (cases[::SOME_UPDATES] if part is None else cases[part::UPDATE_PARTS])]
@@ -168,25 +203,38 @@ def count_shown(proof, asked):
 # ---- every length
 
 def every_length_rows(texts, is_all):
+    made = makers(texts)
     out = [counted("every length of XXH32 and XXH64 has its row", 2, plain_left_out)]
-    out += [counted("every length of XXH3 has its row", 1 + len(every_length.KEPT), xxh3_left_out)] if is_all else []
-    for kind in ["32", "64", *(f"{name}:{way}" for name in ("3-64", "3-128") for way in ("default", "seed"))]:
-        asked = every_length.cases(kind)
-        for seed in [None, 0] if kind.endswith("seed") else [None]:
-            title = f"XXH{kind.replace(':', ', ')}{' 0' if seed == 0 else ''}: every length to 2^64 - 1"
-            out += of_every_length(texts, kind, title, asked, seed) if is_all or ":" not in kind else []
-    for kind in [f"{name}:{way}" for name in ("3-64", "3-128") for way in ("secret", "both")] if is_all else ():
-        out += [counted(f"XXH{kind.replace(':', ', ')} of any length: 0 to 240 bytes, {name}", 241,
-                        functools.partial(up_to_240, name, program, kind)) for name, program in texts.items()]
-        for q in every_length.KEPT:
-            title = f"XXH{kind.replace(':', ', ')} of {64 + 8 * q} to {71 + 8 * q} bytes: every length from 241 on"
-            out += of_every_length(texts, kind, title, every_length.with_rests(q))
+    out += [counted("every length of XXH3 has its row", 2, xxh3_left_out)] if is_all else []
+    for kind in every_length.UNROLLED:
+        out += of_every_length(made, kind, f"XXH{kind}: every length to 2^64 - 1", every_length.cases(kind))
+    return out + long_rows(made, is_all)
+
+
+def long_rows(made, is_all):
+    """XXH3 of every length: all cases, or some with a secret."""
+    out = [counted("every length with any secret has its row", COVERED[is_all],
+                   functools.partial(secrets_left_out, made, is_all))]
+    for hash_name, way in itertools.product(("3-64", "3-128"), ("default", "seed")) if is_all else ():
+        kind = f"{hash_name}:{way}"
+        for seed in (None, 0) if way == "seed" else (None,):
+            title = f"XXH{hash_name}, {way}{' 0' if seed == 0 else ''}: every length to 2^64 - 1"
+            out += of_every_length(made, kind, title, every_length.cases(kind), seed)
+    for kind in ANY_SECRET if is_all else ANY_SECRET[:1]:
+        title, words = f"XXH{kind.replace(':', ', ')} of", "" if is_all else ", some cases"
+        out += [counted(f"{title} any other length: every length from 241 on, {name}{words}", 4,
+                        functools.partial(any_secrets, make, kind, is_all)) for name, make in made.items()]
+        if is_all:
+            out += [counted(f"{title} any length: 0 to 240 bytes, {name}", 241,
+                            functools.partial(up_to_240, make, kind)) for name, make in made.items()]
+            out += of_every_length(made, kind, f"{title} 192 to 199 bytes: every length from 241 on",
+                                   every_length.of_secret())
     return out
 
 
-def of_every_length(texts, kind, title, asked, seed=None):
-    return [counted(f"{title}, {name}", len(asked), functools.partial(shown, name, program, kind, asked, seed))
-            for name, program in texts.items()]
+def of_every_length(made, kind, title, asked, seed=None):
+    return [counted(f"{title}, {name}", len(asked), functools.partial(shown, make, kind, asked, seed))
+            for name, make in made.items()]
 
 
 def plain_left_out():
@@ -198,22 +246,35 @@ def plain_left_out():
 def xxh3_left_out():
     """Of the default secret and a derived one a row of its own has the one length that no case has."""
     derived = every_length.left_out(every_length.cases("3-64:seed"), MORE.stop, 64 * every_length.DERIVED)
-    found = {f"a secret of {q} words": every_length.left_out(list(every_length.of_secret(q)), 241, 64 * q)
-             for q in every_length.KEPT}
-    return told_left_out({**found, "a derived secret": sorted({*derived} - {every_length.PREFETCHED})})
+    own = every_length.left_out(every_length.of_secret(), 241, 64 * every_length.DERIVED)
+    return told_left_out({"a secret of 192 bytes": own,
+                          "a derived secret": sorted({*derived} - {every_length.PREFETCHED})})
 
 
 def told_left_out(found):
     return len(found), [f"{name}: no row has {left[:5]}" for name, left in found.items() if left]
 
 
-def shown(name, program, kind, asked, seed):
-    proof = every_length.EveryLength(Processor(program, name), kind)
+def shown(make, kind, asked, seed):
+    proof = every_length.EveryLength(make(), kind)
     return count_shown(proof, [functools.partial(proof.show, case, seed) for case in asked])
 
 
-def up_to_240(name, program, kind):
-    proof = every_length.EveryLength(Processor(program, name), kind)
+def secrets_left_out(made, is_all):
+    """The same of lengths and secrets."""
+    proof = any_secret.AnySecret(next(iter(made.values()))())
+    found = covered.without_one_shot(proof.cases(), proof.facts_of_any(), COVERED[is_all])
+    return COVERED[is_all], [f"no case has {point}" for point in found[:5]]
+
+
+def any_secrets(make, kind, is_all):
+    hash_name, _, way = kind.partition(":")
+    proof = any_secret.AnySecret(make())
+    return count_shown(proof, proof.questions(way, hash_name[2:])[::1 if is_all else 4])
+
+
+def up_to_240(make, kind):
+    proof = every_length.EveryLength(make(), kind)
     return count_shown(proof, [functools.partial(proof.show_short, n) for n in range(241)])
 
 

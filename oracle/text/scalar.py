@@ -2,7 +2,7 @@
 from terms import operations
 from terms.llvm_text import Unsupported
 from terms.machine import BINARY
-from terms.polynomials import is_same, lifted, plus
+from terms.polynomials import Poly, is_same, lifted, plus
 from terms.rules import ones
 
 from .flags import carry
@@ -151,7 +151,12 @@ def binary(word, kind):
             cpu.set_flags("logic", width, 0, 0, 0)
             return cpu.put(to, width, 0, x)
         a, b = cpu.get(to, width, x), cpu.get(source, width, x)
-        result = a if word == "or" and source == to else arithmetic(word, width, a, b)
+        if word == "or" and source == to:
+            result = a
+        elif word == "and" and isinstance(b, int) and isinstance(cpu.whole(to), Poly):
+            result = arithmetic(word, WORD, cpu.whole(to), b)     # no bit above the width is in the mask
+        else:
+            result = arithmetic(word, width, a, b)
         cpu.set_flags(kind, width, a, b, result)
         return cpu.put(to, width, result, x)
     return operation

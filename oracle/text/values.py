@@ -98,6 +98,9 @@ def low_bits(a, mask):
 
 # ---- words
 
+quotients = nodes.memo()     # the number of a term that is a polynomial moved down -> that, and by how much
+
+
 def arithmetic(word, width, a, b):
     """An operation of a width on two values."""
     kinds = {a.__class__, b.__class__}
@@ -109,7 +112,10 @@ def arithmetic(word, width, a, b):
         return with_address(word, width, a, b)
     if Poly in kinds and isinstance(b, int) and word in ("xor", "and"):
         return with_number(word, width, a, b)
-    return BINARY[word](width, a, b)
+    answer = BINARY[word](width, a, b)
+    if word == "lshr" and isinstance(a, Poly) and isinstance(answer, Node) and isinstance(b, int):
+        quotients[answer.number] = a, b
+    return answer
 
 
 def masked(word, a, b):
@@ -137,9 +143,11 @@ def with_number(word, width, a, b):
     below, _, known = split(a)
     if b < 1 << known:
         return below & b
-    if width == WORD and not (WHOLE - b) & (WHOLE - b - 1):      # the low bits are taken away
+    low_bit = b & -b
+    if b and not b + low_bit & b + low_bit - 1:      # a run of bits: with none above it, the low bits are taken away
         with contextlib.suppress(Undecided):
-            return minus(a, divided(a, WHOLE - b)[1])
+            if is_natural(minus(b + low_bit - 1, a)):
+                return minus(a, divided(a, low_bit)[1])
     return BINARY["and"](width, term_of(a, WORD) if b & b + 1 else a, b)
 
 

@@ -36,8 +36,8 @@ JUMPS = re.compile(r"b|bl|b\.\w\w|t?cbn?z|tbn?z")
 
 
 class Program:
-    """The sections of instructions, name -> address -> Instruction; the exports, name -> (section, address); and the
-    constants, name -> (bytes, alignment)."""
+    """The sections of instructions, name -> address -> Instruction; the functions and exports, name -> (section,
+    address); and the constants, name -> (bytes, alignment)."""
 
     def __init__(self, path, objdump="aarch64-linux-gnu-objdump"):
         self.object = Object(path)
@@ -50,9 +50,12 @@ class Program:
             self.sections[name] = dict(self.read(name, lines))
         if set(self.sections) != {name for name, head in self.heads.items() if head.flags == CODE}:
             raise Unsupported("a section that objdump doesn't list")
-        self.exports = {symbol.name: (self.object.heads[symbol.section].name, symbol.value)
-                        for symbol in self.object.symbols if symbol.section and is_global(symbol)
-                        and symbol.info & 15 == FUNCTION}
+        functions = [symbol for symbol in self.object.symbols if symbol.section and symbol.info & 15 == FUNCTION]
+        self.functions, self.exports = ({symbol.name: (self.object.heads[symbol.section].name, symbol.value)
+                                         for symbol in functions if is_global(symbol) or not of_exports}
+                                        for of_exports in (False, True))
+        if len(self.functions) < len(functions):
+            raise Unsupported("two functions of one name")
 
     def loaded_sections(self):
         names = set()

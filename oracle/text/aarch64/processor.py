@@ -54,33 +54,48 @@ def form(mnemonics, forms):
 
 
 class Processor:
-    """A program. `not_zero` has terms that are supposed not to be 0; `used` has the forms that ran."""
+    """A program. `not_zero` has terms that are supposed not to be 0; `used` has the forms that ran; `loops`, `live`,
+    `limit` and `replaced` are what they are of ../processor.py."""
+
+    TAKES_STRIPES = ARGUMENTS[:6]                 # where the arguments lie of a function that gives a record in memory
+    TOGETHER = 2                                  # accumulators of 32 bits that one-shots have in a cell
+    carry = None                                  # what `flags` has
 
     def __init__(self, program):
         self.program, self.not_zero, self.used, self.made = program, [], set(), 0
+        self.loops, self.live, self.replaced, self.limit, self.steps = None, [], {}, MOST_STEPS, 0
         self.constants = {name: Constants(name, *x) for name, x in program.constants.items()}
 
-    def fresh(self, prefix, width=WORD):
+    def new_name(self, prefix):
         self.made += 1
-        return symbol(f"{prefix}#{self.made}", width)
+        return f"{prefix}#{self.made}"
+
+    def fresh(self, prefix, width=WORD):
+        return symbol(self.new_name(prefix), width)
+
+    def unset_lane(self):
+        return self.fresh("a lane")
+
+    def forget_flags(self):
+        self.flags = None
 
     # ---- calls
 
-    def call(self, name, *arguments):
+    def call(self, name, *arguments, into=ARGUMENTS):
         """Calls a function as C does, and gives what x0 and x1 hold. An argument is a number, a term or an address; or
         (value, 32), where the upper half of its register may be anything."""
         self.prepare()
-        for register, x in zip(ARGUMENTS, arguments):
+        for register, x in zip(into, arguments):
             if isinstance(x, tuple):
                 x = joined(x, (self.fresh(register, WORD - x[1]), WORD - x[1]))
             self.registers[register] = x
         kept = {name: self.registers[name] for name in [*KEPT, LINK]}
         lanes = {k: self.vectors[k][0] for k in KEPT_LANES}
-        place, steps = self.program.exports[name], 0
+        place, self.steps = self.program.functions[name], 0
         while place is not None:
-            place, steps = self.step(place), steps + 1
-            if steps > MOST_STEPS:
-                raise Unsupported("too many instructions")
+            if self.loops:
+                place = self.loops.pass_by(self, place)
+            place = self.step(place)
         self.expect_kept(kept, lanes)
         return self.registers["x0"], self.registers["x1"]
 
@@ -102,6 +117,11 @@ class Processor:
 
     def step(self, place):
         section, at = place
+        self.steps += 1
+        if self.steps > self.limit:
+            raise Unsupported("too many instructions")
+        if place in self.replaced:
+            return self.replaced[place]()
         if section in OUTER:
             return self.call_outer(section)
         x = self.program.sections.get(section, {}).get(at)
@@ -125,7 +145,19 @@ class Processor:
             if not isinstance(room, Words) or room is memory and not (isinstance(first, int) and first >= at):
                 raise Unsupported(f"a copy to {room.name}")
         copy(to, source, n, name == "memmove")
-        self.registers.update({f"x{k}": self.fresh(f"x{k}") for k in range(1, 19)})
+        place = self.return_from_another()
+        self.registers["x0"] = to
+        return place
+
+    def frame(self):
+        """The stack, and where the caller's part of it begins, at a function's first instruction."""
+        return self.registers["sp"].place()
+
+    def return_from_another(self):
+        """Returns from a function that may leave what isn't kept, and all below the stack pointer, as anything."""
+        memory, at = self.registers["sp"].place()
+        memory.forget_below(at)
+        self.registers.update({f"x{k}": self.fresh(f"x{k}") for k in range(19)})
         for k, lanes in enumerate(self.vectors):
             self.vectors[k] = [lanes[0] if k in KEPT_LANES else self.fresh(f"v{k}"), self.fresh(f"v{k}")]
         self.flags = None
@@ -178,7 +210,8 @@ class Processor:
         return memory, at
 
     def store(self, memory, at, n, x):
-        if not isinstance(memory, Words):
+        is_known = not self.loops or memory is self.stack or any(memory is other for other in self.live)
+        if not isinstance(memory, Words) or not is_known:
             raise Unsupported(f"a store to {memory.name}")
         memory.store(at, n, x)
 

@@ -9,7 +9,8 @@ from terms.processes import Row
 from terms.rows import title_of
 from terms.sides import TOP
 
-from .. import calls, one_shots, streams
+from .. import calls, every_length, one_shots, streams
+from .. import rows as shared
 from . import on_qemu
 from .objects import Program
 from .table import Processor
@@ -39,8 +40,18 @@ def choose(given, found):
     for name in ("3-64", "3-128"):
         out.append(Row(f"XXH{name}, secrets of 0 to 135 bytes", functools.partial(short_secrets, found, name)))
     out += [Row(f"the other calls: {ask.__name__.replace('_', ' ')}", functools.partial(other, found, ask)) for ask in OTHERS]
+    made = {"aarch64": functools.partial(Processor, found)}
+    out += every_length_rows(made, given.all)
     out.append(Row("the table of instructions beside qemu", on_qemu.tell))
     return [row for row in out if given.only in row.title]
+
+
+def every_length_rows(made, is_all):
+    """All hashes of every length, and streams of any updates, by induction; some cases, or all."""
+    out = [row for kind in every_length.UNROLLED for row in
+           shared.of_every_length(made, kind, f"XXH{kind}: every length to 2^64 - 1", every_length.cases(kind))]
+    return [*out, *shared.long_rows(made, is_all), *shared.plain_stream_rows(made, is_all),
+            *shared.xxh3_rows(made, is_all)]
 
 
 def compared(title, found, kind, lengths, is_stream=False):

@@ -172,7 +172,7 @@ def width_of(x):
 
 
 @form("ldr ldur", "x m, w m, q m, d m, s m")
-@form("ldp", "x x m, w w m, q q m")
+@form("ldp", "x x m, w w m, q q m, d d m")
 @form("ldrb ldrh ldurb ldurh", "w m")
 def load(cpu, x):
     *registers, where = x.operands
@@ -197,7 +197,7 @@ def load_lanes(memory, at, n, k):
 
 
 @form("str stur", "x m, w m, q m, d m")
-@form("stp", "x x m, w w m, q q m")
+@form("stp", "x x m, w w m, q q m, d d m")
 @form("strb strh sturb sturh", "w m")
 def store(cpu, x):
     *registers, where = x.operands

@@ -1,0 +1,128 @@
+"""That the cases of the streams of XXH3 are all of them: for each of many points, which are a state and a piece as
+numbers, there is a case that has it. Of a case nothing is taken but the polynomials and the facts that its proof has."""
+import random
+
+from terms.polynomials import names_of, plus, value_at
+
+from . import xxh3_updates
+
+STRIPES = range(9, 25)            # of a block
+EDGES = 0, 1, 2, 3, 4, 7, 8, 16, 17, 32, 33, 63, 64, 65, 127, 128, 448, 449, 511, 512, 513, 1023, 1024, 1500, 2047, 2048
+FAR_OFF = 31_744, 32_000, 100_000, 1 << 40
+
+
+def points(count):
+    """(q, u, b, j, f, L): edges and others, at random and the same each time."""
+    draw = random.Random(5)
+    for k in range(count):
+        q = draw.choice(STRIPES)
+        j, b = draw.choice((0, q - 1, draw.randrange(q))), draw.choice((0, 1, draw.randrange(1 << 40)))
+        f = min(512, max(0, draw.choice((64 * draw.randrange(9) + draw.randrange(-2, 3), draw.randrange(513)))))
+        L = max(0, draw.choice((*EDGES, *FAR_OFF, 64 * draw.randrange(600), draw.randrange(3000))) + draw.randrange(-2, 3))
+        if not f:
+            b = j = 0
+        yield q, draw.randrange(8 if q < 24 else 1), b, j, f, L
+
+
+def states(count):
+    for q, u, b, j, f, _ in points(count):
+        if not (b or j) or q * b + j >= 4:
+            yield q, u, b, j, f
+
+
+def variables(q, u, b, j, f, L=0):
+    """What the cases' variables are at a point."""
+    r = -f % 64
+    g, left = (f + r) // 64, L - r
+    n = max(0, left - 64) // 64
+    at = (j + g) % q
+    D, e = divmod(n - (q - at), q)
+    return {"q": q, "u": u, "b": b, "j": j, "f": f, "g": g, "r": r, "i": q - j, "y": g - (q - j), "n": n, "D": D, "e": e,
+            "left": left - 64 * n, "more": L - 33, "rest": 0}
+
+
+def has(point, facts, said):
+    """Whether a case has a point: its facts hold there, and its polynomials are what is said."""
+    names = names_of(*facts, *(x for x, _ in said))
+    return all(point.get(name, -1) >= 0 for name in names) and all(value_at(x, point) == n for x, n in said) and \
+        all(value_at(fact, point) >= 0 for fact in facts)
+
+
+def without_update(cases, facts, count):
+    """Points that no update has."""
+    cases, out = list(cases), []
+    for q, u, b, j, f, L in points(count):
+        point = variables(q, u, b, j, f, L)
+        K, total = q * b + j, 64 * (q * b + j) + f + L
+        taken = 0 if f + L <= 512 else point["g"] + point["n"]
+        end = K + taken, total - 64 * (K + taken)
+        if not any(has(point, [*of_case, *facts], [(x, n) for x, n in zip(
+                (*start[0], start[1], length, *to[0], to[1]), (b, j, f, L, end[0] // q, end[0] % q, end[1]))])
+                for start, to, length, of_case, *_ in cases):
+            out.append((q, u, b, j, f, L))
+    return out
+
+
+def without_digest(cases, facts, count):
+    cases, out = list(cases), []
+    for q, u, b, j, f in states(count):
+        g = max(0, f - 1) // 64
+        point = {**variables(q, u, b, j, f), "g": g, "h": f - 1 - 64 * g, "y": g - (q - j)}
+        if not any(has(point, [*of_case, *facts], [(place[0], b), (place[1], j), (x, f)])
+                   for place, x, of_case, _ in cases):
+            out.append((q, u, b, j, f))
+    return out
+
+
+def of_stripes(b, j, n):
+    """The same of stripes that are taken: for any block, and for blocks of 16 by fours and by blocks."""
+    for front, unit in (-j % 4, 4), (-j % 16, 16):
+        at = (j + front) % 16
+        D, e = divmod((n - front) // unit * unit - (16 - at), 16)
+        yield {"a": at // 4, "D": D, "e": e // 4 if unit == 4 else (n - front) % 16}
+
+
+def without_taken(cases, facts, names, count):
+    """Stripes that no case has: of any number, and of many."""
+    cases, out = list(cases), []
+    for q, u, b, j, f, L in points(count):
+        for name, least in names:
+            n = least + L // 64
+            point = variables(q, u, b, j, 0)
+            D, e = divmod(n - (q - j), q)
+            ways = [{"D": D, "e": e}, *(of_stripes(b, j, n) if q == 16 else ())]
+            if not any(has({**point, "n": n, **way}, [*of_case, *(facts if own is None else ())],
+                           [(parts[0].start[0], b), (parts[0].start[1], j), (sum_of(parts), n)])
+                       for own, (summary, parts, of_case, *_) in cases if summary.name == name and own in (None, q)
+                       for way in ways):
+                out.append((name, q, u, b, j, n))
+    return out
+
+
+def without_one_shot(cases, facts, count):
+    """Lengths and secrets that no case has, of blocks of any number of stripes but 16."""
+    cases, out, draw = list(cases), [], random.Random(6)
+    while count:
+        q = draw.choice((*STRIPES, draw.randrange(9, 600), draw.randrange(9, 1 << 33)))
+        n = draw.choice((*EDGES, *FAR_OFF, draw.randrange(1 << 16), 1 << 38, draw.randrange(1 << 63),
+                         64 * q * draw.randrange(5))) + draw.randrange(-2, 3)
+        if q != 16 and n > 240:
+            count -= 1
+            K, t = divmod(n - 1, 64)
+            B, J = divmod(K, q)
+            point = {"q": q, "u": draw.randrange(8), "B": B, "J": J, "t": t}
+            if not any(has(point, [*case.facts, *facts], [(case.blocks, B), (case.more, J)]) for case in cases):
+                out.append((q, n))
+    return out
+
+
+def sum_of(parts):
+    return plus(*(part.turns for part in parts))
+
+
+def left_out(proof, count):
+    """Of so many points of each sort: updates, digests, and functions that take stripes."""
+    taken = [(xxh3_updates.TAKE.name, 0), (xxh3_updates.TAKE_MANY.name, xxh3_updates.MANY)]
+    return [*without_update(proof.all_updates(), proof.facts, count),
+            *without_digest(proof.digests(), proof.facts, count),
+            *without_taken(proof.all_taken(), proof.facts, taken, count)]

@@ -1,0 +1,251 @@
+"""The loops of XXH3 over stripes that begin and end anywhere in a block, shown by induction, and the functions that take
+stripes, each shown once and then taken at its word.
+
+A place is (b, j): b blocks and j stripes of the next one. A loop goes on from a place by one, four or more stripes a
+turn; its counter of a block's stripes begins again where a block ends. Whether a cell goes on or begins again is
+guessed from a turn that ends a block, and then shown with all else."""
+import collections
+import functools
+
+from terms.definition import suppositions
+from terms.loops import REFUSALS, NotShown
+from terms.memory import Input
+from terms.nodes import Node
+from terms.polynomials import divided, given, is_natural, minus, plus, times, variable
+from terms.polynomials import is_same as is_same_number
+
+from .induction import Family, Proof, cells_of, moved, same
+from .memory import ENTRY
+
+# Stripes that are taken one after another: from a place on, how many, and where that leads.
+Part = collections.namedtuple("Part", "start turns end")
+WORDS, PLACE, TAKEN = 64, 64, 72        # bytes of accumulators; where a record of them has the place in a block; its size
+# Where turns are guessed: stripes that are left, and till the block's end, and whether that is two turns.
+GUESSES = (4, 2, True), (64, 8, True), (64, 4, False)
+DEEP = 2048                              # bytes of stack that a function of the summaries uses by itself
+LEAST_ENTRY = ENTRY - 2 * DEEP
+
+
+class Stripes(Family):
+    """The definition's words, and the parts that a call takes, q stripes a block."""
+
+    def __init__(self, name, q, parts, after, suppose):
+        super().__init__(name, 64, 0, 8, after, suppose)
+        self.q, self.parts = q, parts
+
+    def stripes(self, place):
+        return plus(times(self.q, place[0]), place[1])
+
+    def supposed(self):
+        """What the words are supposed to be, to be restored."""
+        return dict(suppositions.values)
+
+    def restore(self, known):
+        suppositions.values.clear()
+        suppositions.values.update(known)
+        self.known.clear()
+
+    def before(self, place, n):
+        """n stripes before a place."""
+        b, j = place
+        return (minus(b, 1), minus(self.q, n)) if is_same_number(j, 0) else (b, minus(j, n))
+
+    def behind(self, place, n):
+        b, j = place
+        return (plus(b, 1), 0) if is_same_number(plus(j, n), self.q) else (b, plus(j, n))
+
+
+class StripesProof(Proof):
+    """A loop over stripes. Its head may come before the first stripe or behind it."""
+
+    def forget(self):
+        super().forget()
+        self.counts = {}         # of a counter of a block's stripes: what it is at the block's beginning, and its step
+
+    def show(self):
+        known = self.family.supposed()
+        for part in self.family.parts:
+            for done in (4, 1, 0):
+                try:
+                    if self.by_places(part, done):
+                        self.loops.told.append(self.told(part.start))
+                        return True
+                except REFUSALS as error:
+                    self.loops.refused.append(f"{self.head[0]} {self.head[1]:x} from {part.start}: {error}")
+                self.family.restore(known)
+                self.forget()
+                self.enter(0)
+                self.cpu.flags, self.cpu.carry = self.flags
+        return False
+
+    def by_places(self, part, done):
+        family = self.family
+        start = family.behind(part.start, done) if done else part.start
+        first = family.stripes(start)
+        family.total = plus(family.stripes(part.start), part.turns)
+        if isinstance(minus(family.total, first), int) and part.turns in (0, 1) or not self.holds(first):
+            return False
+        self.first_place = start
+        if not self.guess_of_some(first):
+            return False
+        left = divided(minus(family.total, first), self.step)[0]
+        self.find_counters(first, left)
+        left = minus(left, self.left_at_end(first, left, part.end))
+        if not is_natural(left):
+            return False
+        size = None
+        while size != len(self.unset):
+            size = len(self.unset)
+            self.show_turns(first, left)
+        end = part.end if self.ends_with == 0 else family.before(part.end, self.step)
+        self.enter_at(first, left, divided(end[1], self.step)[0])
+        return True
+
+    def holds(self, first):
+        """Whether the words after so many stripes are there."""
+        numbers = {x for x in self.start.values() if isinstance(x, int)}
+        terms = {x.number for x in self.start.values() if isinstance(x, Node)}
+        try:
+            return is_natural(first) and self.family.seem(
+                first, lambda x: x in numbers if isinstance(x, int) else x.number in terms)
+        except REFUSALS:
+            return False
+
+    def guess_of_some(self, first):
+        """Where so many stripes are left, and so many till the block's end."""
+        for left, more, is_twice in GUESSES:
+            try:
+                with given(minus(self.family.q, plus(self.first_place[1], more, 1)),
+                           minus(self.family.total, plus(first, left))):
+                    if self.guess(first, left, is_twice):
+                        return True
+            except REFUSALS as error:
+                self.loops.refused.append(f"a guess from {first}: {error}")
+        return False
+
+    # ---- places in turns: k from the loop's beginning, and i from the block's
+
+    def in_turns(self):
+        return divided(self.first_place[1], self.step)[0], divided(self.family.q, self.step)[0]
+
+    def find_counters(self, first, left):
+        """Which cells begin again at a block's end."""
+        at, whole = self.in_turns()
+        k = minus(minus(whole, at), 1)
+        more = [n for n in (2, 1) if not is_natural(minus(plus(k, n - 1), left))]
+        if not more:
+            return
+        with given(minus(minus(left, k), more[0])):
+            self.enter(k, self.supposed(first, k))
+            self.turn()
+            now = cells_of(self.cpu)
+            for cell, (x, step) in list(self.places.items()):
+                base = moved(x, step, minus(0, at))
+                if not is_same_number(step, 0) and not same(now.get(cell), moved(x, step, plus(k, 1))) \
+                        and same(now.get(cell), base):
+                    self.counts[cell] = base, step
+                    del self.places[cell]
+
+    def left_at_end(self, first, left, end):
+        """How many turns are left where the head is come to for the last time: 0, or 1 where the loop is left behind
+        its end."""
+        self.ends_with = 0
+        if is_natural(minus(0, left)):
+            return 0
+        place = self.family.before(end, self.step)
+        with given(minus(left, 1)):
+            self.enter_at(first, minus(left, 1), divided(place[1], self.step)[0])
+            try:
+                self.turn()
+            except NotShown:
+                self.ends_with = 1
+        return self.ends_with
+
+    def enter_at(self, first, k, i):
+        self.start.update({cell: moved(base, step, i) for cell, (base, step) in self.counts.items()})
+        self.enter(k, self.supposed(first, k))
+
+    def kinds_of_turns(self):
+        """(k, i, facts): within the first block, at its end, within another one, at its end."""
+        at, whole = self.in_turns()
+        t, i, c = (variable(self.cpu.new_name(name)) for name in "tic")
+        behind = minus(whole, at)
+        later = plus(behind, times(whole, c))
+        yield t, plus(at, t), [minus(minus(whole, 2), plus(at, t))]
+        yield minus(behind, 1), minus(whole, 1), []
+        yield plus(later, i), i, [minus(minus(whole, 2), i)]
+        yield plus(later, minus(whole, 1)), minus(whole, 1), []
+
+    def show_turns(self, first, left):
+        for k, i, facts in self.kinds_of_turns():
+            facts = [*facts, minus(minus(left, 1), k)]
+            if any(is_natural(minus(-1, fact)) for fact in facts):      # there is no such turn
+                continue
+            with given(*facts):
+                self.enter_at(first, k, i)
+                self.turn()
+                then = 0 if is_same_number(plus(i, 1), self.in_turns()[1]) else plus(i, 1)
+                self.start.update({cell: moved(base, step, then) for cell, (base, step) in self.counts.items()})
+                self.compare(first, plus(k, 1))
+
+
+# ---- functions that take stripes
+
+class Summary:
+    """What a function does that takes the stripes of a part: it reads a record of accumulators, with the place in the
+    block where `has_place`, and stripes and secret; and it writes such a record. That is what `expect_of` asks of the
+    function itself; `put_into` makes it what a call of the function does."""
+
+    def __init__(self, name, has_place=True, least=0):
+        self.name, self.size, self.has_place, self.least = name, TAKEN if has_place else WORDS, has_place, least
+
+    def put_into(self, cpu, family, source, secret):
+        """Calls of the function take parts of the family, of a message and under a secret, each an input."""
+        cpu.replaced[cpu.program.functions[self.name]] = functools.partial(self.call, cpu, family, source, secret)
+
+    def call(self, cpu, family, source, secret):
+        to, taken, stripes, length, own, own_length = (cpu.registers[name] for name in cpu.TAKES_STRIPES)
+        stack, floor = cpu.frame()
+        self.expect("the stack", floor % 16 == 0 and floor >= LEAST_ENTRY)
+        (room, first), (memory, place) = to.place(), taken.place()
+        is_apart = room is not memory or abs(first - place) >= self.size
+        self.expect("the records",
+                    is_apart and room is stack and first >= floor and (memory is not stack or place >= floor))
+        words = [memory.load(plus(place, 8 * i), 8) for i in range(8)]
+        begun = memory.load(plus(place, PLACE), 8) if self.has_place else 0
+        part = next((part for part in family.parts if is_same_number(length, times(64, part.turns)) and
+                     is_same_number(begun, part.start[1]) and
+                     all(map(same, words, family.words(family.stripes(part.start))))), None)
+        self.expect(f"the stripes, {length} bytes from {begun} on", part is not None)
+        at, end = family.stripes(part.start), family.stripes(part.end)
+        self.expect("the number of stripes",
+                    is_natural(minus(part.turns, self.least)) and is_same_number(end, plus(at, part.turns)))
+        self.expect("the piece", is_same_number(length, 0) or is_at(stripes, source, times(64, at), length))
+        self.expect("the secret", is_same_number(own_length, secret.length) and is_at(own, secret, 0, own_length))
+        return self.leave(cpu, family, part, stack, first)
+
+    def leave(self, cpu, family, part, stack, first):
+        values = family.words(family.stripes(part.start))
+        if not is_same_number(part.turns, 0):
+            values = [cpu.fresh("word") for _ in range(8)]
+            family.suppose(family.stripes(part.end), values)
+        for i, x in enumerate(values):
+            stack.store(first + 8 * i, 8, x)
+        if self.has_place:
+            stack.store(first + PLACE, 8, part.end[1])
+        return cpu.return_from_another()
+
+    def expect(self, what, holds):
+        if not holds:
+            raise NotShown(f"a call of {self.name}: {what}")
+
+
+def is_at(place, source, at, n):
+    """Whether the n bytes at an address are those of an input at a place."""
+    memory, offset = place.place()
+    if isinstance(memory, Input):
+        found, first = memory.origin(offset)
+        is_there = is_natural(offset) and is_natural(minus(memory.length, plus(offset, n)))
+    else:
+        (found, first), is_there = memory.origin(offset, n), True
+    return is_there and found is source and is_same_number(first, at)

@@ -1,0 +1,446 @@
+"""The streams of XXH3 of a text: reset, any number of updates of any lengths, digests of 64 and 128 bits, by induction
+over the updates, as terms/xxh3_streams.py does it for the reference.
+
+A state stands for the first N = 64 K + f bytes of a message, K = q b + j stripes, j < q: q is the number of stripes in
+a block, f <= 512 the bytes in the buffer, f = 0 only where N = 0, and K is 0 or at least 4. Its accumulators are the
+definition's after K stripes; it has j, K, f, N, the mark and the secret, of 64 + 8 q + u bytes; its buffer begins with
+the f bytes behind the stripes, and where K > 0 and f < 64 the last stripe lies in a place of its own. All else may be
+anything. The secret's bytes are symbols: the default one and those that a seed derives are cases of these.
+
+What is written with a place or length that isn't a number is a run (runs.py). The functions that take stripes out of
+line are shown by themselves, from any place in a block (stripes.py)."""
+import collections
+import functools
+
+from terms import definition, nodes
+from terms.definition import Bytes, suppositions
+from terms.every_length import LONGEST, LONGEST_SECRET
+from terms.loops import REFUSALS, NotShown
+from terms.memory import RUNS, Piece
+from terms.nodes import is_same
+from terms.polynomials import at_most, given, is_natural, minus, plus, times, variable
+from terms.polynomials import is_same as is_same_number
+
+from . import exports, streams
+from .every_length import FAR, LIMIT
+from .induction import Loops, same
+from .memory import ENTRY, Words
+from .one_shots import value_of
+from .processor import NO_LIMIT
+from .runs import Source, State
+from .stripes import DEEP, Part, Stripes, StripesProof, Summary
+from .values import address
+
+# Where the parts of a state lie, and its mark.
+ACCUMULATORS, PLACE, LAST, COUNT, BUFFER, WAITING, TOTAL = 0, 64, 72, 136, 144, 656, 664
+MARKED, HAS_SEED, SEED, SECRET_LENGTH, SECRET = 672, 680, 688, 696, 704
+ROOM, DERIVED, MARK = 512, 192, int.from_bytes(b"twoxXXH3", "little")
+LONG_PIECE = 2048                 # bytes from which on stripes are taken out of line
+FIRST = 7                         # stripes that are taken at least where a piece isn't kept
+BLOCK = 16                        # stripes of a block that have ways of their own
+MANY = 29                         # stripes that such a piece has at least, behind the first and before the last
+WIDTHS, LEAST, LONGEST_KEPT = ("64", "128"), 9, 256    # the least number of stripes of a block, and bytes of a secret
+UPDATES, DIGESTS, STRIPES = "any updates", "resets and digests", "functions that take stripes"
+# The functions that take stripes.
+TAKE = Summary("twox_core.xxhash3.stripes.take_stripes")
+TAKE_MANY = Summary("twox_core.xxhash3.stripes.take_many_stripes", least=MANY)
+TAKE_BLOCKS = Summary("twox_core.xxhash3.stripes.blocks.take_many_blocks", has_place=False, least=1)
+
+# Where an update begins that takes stripes: r bytes fill the buffer's last one, which has g of them then.
+Start = collections.namedtuple("Start", "place g r behind facts")
+# Lengths by which a text copies in other ways: from, to.
+SHORT_COPIES = (1, 1), (2, 3), (4, 7), (8, 16), (17, 32), (33, 63)
+
+
+def lengths(name, spans):
+    """A variable for each span, or a number: (length, facts)."""
+    for low, high in spans:
+        x = variable(name)
+        yield (low, []) if low == high else (x, [minus(x, low), at_most(x, high)])
+
+
+def starts(is_split, gs=None):
+    """The empty state, and all others: g stripes in the buffer that end within the block, with it, or behind it."""
+    b, j, i, y, q = (variable(name) for name in "bjiyq")
+    for r, of_r in [(0, []), *lengths("r", SHORT_COPIES)]:
+        for g in gs or [variable("g")]:
+            of_g = [] if isinstance(g, int) else [minus(g, 1), at_most(g, 8)]
+            for k in (1, None) if is_split else (None,):
+                at, of_k = (minus(q, plus(g, 1)), []) if k else (j, [minus(minus(q, 1 + is_split), plus(j, g))])
+                yield Start((b, at), g, r, (b, plus(at, g)), [*of_r, *of_g, *of_k])
+            yield from ends_of_blocks(g, r, [*of_r, *of_g])
+
+
+def ends_of_blocks(g, r, facts):
+    b, i, y, q = (variable(name) for name in "biyq")
+    if not isinstance(g, int):
+        yield Start((b, minus(q, 1)), 1, r, (plus(b, 1), 0), facts[:-2])
+        yield Start((b, minus(q, g)), g, r, (plus(b, 1), 0), [*facts, minus(g, 2)])
+        yield Start((b, minus(q, 1)), plus(1, y), r, (plus(b, 1), y), [*facts[:-2], minus(y, 1), at_most(y, 7)])
+        yield Start((b, minus(q, i)), plus(i, y), r, (plus(b, 1), y),
+                    [*facts[:-2], minus(i, 2), minus(y, 1), at_most(plus(i, y), 8)])
+        return
+    yield Start((b, minus(q, g)), g, r, (plus(b, 1), 0), facts)
+    yield Start((b, minus(q, 1)), g, r, (plus(b, 1), g - 1), facts)
+    yield Start((b, minus(q, minus(g, y))), g, r, (plus(b, 1), y), [*facts, minus(y, 1), at_most(y, g - 2)])
+
+
+EMPTY = Start((0, 0), 0, 0, (0, 0), [])
+
+
+class Xxh3Updates:
+    def __init__(self, cpu):
+        self.cpu, self.told, self.refused = cpu, [], []
+        self.use(variable("q"))
+
+    def use(self, q):
+        """From here on a block has q stripes, and the secret u bytes more than these ask for, below 8."""
+        u = variable("u")
+        self.q, self.secret_length = q, plus(64, times(8, q), u)
+        self.facts = [minus(7, u), minus(q, LEAST), at_most(self.secret_length, LONGEST_KEPT)]
+        self.read()
+
+    def facts_of_any(self):
+        """The same, of a secret that no state has to keep."""
+        return [*self.facts[:2], at_most(self.secret_length, LONGEST_SECRET)]
+
+    def forget(self):
+        nodes.forget()
+        self.read()
+
+    def read(self):
+        """The definition's texts, and a secret."""
+        suppositions.clear()
+        self.texts = definition.program().run(traced=suppositions)
+        self.secret_source = Source("s", self.secret_length)
+        self.secret = Bytes(self.secret_source, 0, self.secret_length)
+
+    def questions(self):
+        """All that is to be shown, by the words of a row."""
+        return {UPDATES: [functools.partial(self.update, *case) for case in self.all_updates()],
+                DIGESTS: [*(functools.partial(self.reset, *case) for case in self.resets()),
+                          *(functools.partial(self.digest, *case, has_seed, width) for case in self.digests()
+                            for has_seed in (0, 1) for width in WIDTHS)],
+                STRIPES: [self.one_update, *(functools.partial(self.taken_of, *case) for case in self.all_taken())]}
+
+    def one_update(self):
+        """An update has the same code for both widths."""
+        names = [f"XXH3_{width}bits_update" for width in WIDTHS]
+        if len({str(exports.code_of(self.cpu.program, name)) for name in names}) > 1:
+            raise NotShown("two updates")
+
+    # ---- the definition
+
+    def begin(self, n):
+        """A message of n bytes."""
+        suppositions.clear()
+        self.source = Source("m", n)
+        self.message = Bytes(self.source, 0, n)
+
+    def after(self, k):
+        return lambda i: self.texts["Long.accumulator_after"](self.secret, self.message, i, k)
+
+    def stripes(self, place):
+        return plus(times(self.q, place[0]), place[1])
+
+    def family(self, *parts):
+        return Stripes("XXH3", self.q, parts, self.after, lambda k, values: suppositions.suppose(self.after(k), values))
+
+    def accumulators(self, place):
+        """The words after the stripes before a place, as symbols."""
+        k = self.stripes(place)
+        if is_same_number(k, 0):
+            return [self.after(0)(i) for i in range(8)]
+        values = [self.cpu.fresh("accumulator") for _ in range(8)]
+        suppositions.suppose(self.after(k), values)
+        return values
+
+    # ---- states
+
+    def numbers(self, place, f):
+        """What a state holds besides accumulators, last stripe and buffer: (offset, value), of eight bytes each."""
+        k = self.stripes(place)
+        return [(PLACE, place[1]), (COUNT, k), (WAITING, f), (TOTAL, plus(times(64, k), f)), (MARKED, MARK),
+                (SECRET_LENGTH, self.secret_length)]
+
+    def buffered(self, place, f):
+        return [] if is_same_number(f, 0) else [(BUFFER, plus(BUFFER, f), self.source,
+                                                 minus(times(64, self.stripes(place)), BUFFER))]
+
+    def secret_run(self):
+        return SECRET, plus(SECRET, self.secret_length), self.secret_source, -SECRET
+
+    def last_stripe(self, place):
+        at = minus(times(64, self.stripes(place)), 64)
+        return [self.source.load(plus(at, 8 * k), 8) for k in range(8)]
+
+    def state(self, place, f, last=None, has_seed=None, seed=None):
+        cells = [(ACCUMULATORS + 8 * i, 8, x) for i, x in enumerate(self.accumulators(place))]
+        cells += [(at, 8, x) for at, x in self.numbers(place, f)]
+        self.last = last or [self.cpu.fresh("last") for _ in range(8)]
+        cells += [(LAST + 8 * k, 8, x) for k, x in enumerate(self.last)]
+        self.has_seed = self.cpu.fresh("has a seed") if has_seed is None else has_seed
+        self.seed = self.cpu.fresh("seed") if seed is None else seed
+        cells += [(HAS_SEED, 8, self.has_seed), (SEED, 8, self.seed)]
+        return State("state", streams.SIZES["3"], cells, [*self.buffered(place, f), self.secret_run()],
+                     (BUFFER, BUFFER + ROOM))
+
+    def expect_state(self, what, state, place, f, last):
+        cells = [(ACCUMULATORS + 8 * i, self.after(self.stripes(place))(i)) for i in range(8)]
+        cells += [*self.numbers(place, f), (HAS_SEED, self.has_seed), (SEED, self.seed)]
+        cells += [(LAST + 8 * k, x) for k, x in enumerate(last)]
+        for at, x in cells:
+            found = state.load(at, 8)
+            if not (is_same(found, x) or is_same_number(found, x)):
+                raise NotShown(f"{what}: the state at {at} is {found} and not {x}")
+        for run in [*self.buffered(place, f), self.secret_run()]:
+            if not state.has_run(run):
+                raise NotShown(f"{what}: the state isn't {run}, but has {state.runs()}")
+
+    # ---- updates
+
+    def update(self, start, end, length, facts, parts=(), last=None, summaries=()):
+        """From a state (place, f) by a piece to another. `last` says what the last stripe is then, or it stays."""
+        begun, ended = (plus(times(64, self.stripes(place)), f) for place, f in (start, end))
+        self.begin(plus(ended, variable("rest")))
+        with given(*self.facts, *facts, at_most(self.source.length, LONGEST)):
+            state = self.state(*start)
+            piece = Piece(self.source, begun, length)
+            if not is_same_number(plus(begun, length), ended):
+                raise NotShown("the case's piece has another length")
+            answer = self.run([state], "XXH3_64bits_update", parts, address(state), address(piece), length,
+                              summaries=summaries)
+            streams.expect_answer(answer, streams.OK)
+            self.expect_state("an update", state, *end, self.last if last is None else last())
+            if parts and not is_natural(minus(self.stripes(end[0]), 4)):
+                raise NotShown("fewer than four stripes are taken")
+
+    def run(self, live, name, parts, *arguments, summaries=(), not_zero=(), **more):
+        """Calls a function, with loops over stripes shown, and with summaries of other functions."""
+        cpu, family = self.cpu, self.family(*parts)
+        cpu.not_zero, cpu.live, cpu.loops, cpu.limit = not_zero, live, Loops(cpu.program, family, StripesProof), LIMIT
+        for summary in summaries:
+            summary.put_into(cpu, family, self.source, self.secret_source)
+        try:
+            return cpu.call(name, *arguments, **more)
+        except REFUSALS as error:
+            raise NotShown("; ".join([str(error), *cpu.loops.refused])) from error
+        finally:
+            self.told, self.refused = cpu.loops.told, cpu.loops.refused
+            cpu.loops, cpu.limit, cpu.replaced = None, NO_LIMIT, {}
+
+    def small_pieces(self):
+        """Pieces that the buffer has room for: as arguments of `update`."""
+        b, j, f, more = (variable(name) for name in ("b", "j", "f", "more"))
+        sizes = [*((n, []) for n in range(33)), (plus(33, more), [])]
+        for place, of_place, buffered in (((0, 0), [], 0), ((b, j), [minus(minus(self.q, 1), j), minus(f, 1)], f)):
+            for n, of_n in sizes:
+                yield (place, buffered), (place, plus(buffered, n)), n, [*of_place, *of_n,
+                                                                         at_most(plus(buffered, n), ROOM)]
+
+    def end_of(self, place, to, least):
+        """Ways to take n stripes from a place, at least so many: (turns, place behind them, facts)."""
+        n, D, e = (variable(name) for name in "nDe")
+        b, j = place
+        if to == "none":
+            yield 0, place, []
+        if to == "some" and not is_same_number(plus(j, 1), self.q):
+            yield n, (b, plus(j, n)), [minus(n, least), minus(minus(self.q, 1), plus(j, n))]
+        if to == "some":
+            left = minus(self.q, j)
+            yield plus(left, times(self.q, D)), (plus(b, 1, D), 0), []
+            yield plus(left, times(self.q, D), e), (plus(b, 1, D), e), [minus(e, 1), minus(minus(self.q, 1), e)]
+        if to == "many":
+            yield plus(minus(self.q, j), times(self.q, D), e), (plus(b, 1, D), e), [
+                minus(minus(self.q, 1), e), minus(plus(minus(self.q, j), times(self.q, D), e), MANY)]
+
+    def pieces(self, to, begin, lefts):
+        """Pieces that are taken through: as arguments of `update`."""
+        for start in begin:
+            for left, of_left in lefts:
+                for n, place, of_n in self.end_of(start.behind, to, FIRST - start.g if isinstance(start.g, int) else 1):
+                    f = minus(times(64, start.g), start.r)
+                    length = plus(start.r, times(64, n), left)
+                    facts = [*start.facts, *of_left, *of_n, minus(plus(f, length), ROOM + 1),
+                             minus(plus(start.g, n), FIRST)]
+                    facts.append(minus(length, LONG_PIECE) if to == "many" else at_most(length, LONG_PIECE - 1))
+                    parts = Part(start.place, start.g, start.behind), Part(start.behind, n, place)
+                    last = functools.partial(self.last_stripe, place)
+                    more = [TAKE_MANY] if to == "many" else []
+                    yield (start.place, f), (place, left), length, facts, parts, last, more
+
+    def all_updates(self):
+        """As arguments of `update`."""
+        yield from self.small_pieces()
+        whole = [(64, []), *lengths("left", [(65, 127)])]
+        yield from self.pieces("none", starts(False, [8]), [*lengths("left", SHORT_COPIES), *whole])
+        yield from self.pieces("none", starts(False, [7]), whole[1:])
+        yield from self.pieces("some", [EMPTY, *starts(True)], whole)
+        yield from self.pieces("many", [EMPTY, *starts(False)], whole)
+
+
+    # ---- reset
+
+    def resets(self):
+        """Each way to reset, of both widths: as arguments of `reset`."""
+        for width in WIDTHS:
+            name = f"proved_XXH3_{width}bits_reset"
+            yield from ((name, False, 0), (f"{name}_withSecret", True, None))
+            for seed in ("seed", 0):
+                yield from ((f"{name}_withSeed", False, seed), (f"{name}_withSecretandSeed", True, seed))
+
+    def reset(self, name, is_own, seed):
+        """From memory that holds anything: an empty state, with the secret that is given, or one of the default
+        secret's length that the seed derives. Where one is derived, the texts ask whether the seed is 0."""
+        seed = nodes.symbol("seed64", 64) if seed == "seed" else seed
+        arguments = [address(self.secret_source), self.secret_length] if is_own else []
+        arguments += [seed] if "Seed" in name else []
+        self.begin(0)
+        size = streams.SIZES["3"]
+        with given(*self.facts):
+            cells = [(at, 8, self.cpu.fresh("a state's word")) for at in range(0, size, 8)]
+            state = State("state", size, cells, [], (0, 0))
+            answer = self.run([state], name, [], address(state), *arguments,
+                              not_zero=[seed] if isinstance(seed, nodes.Node) and not is_own else [])
+            streams.expect_answer(answer, streams.OK)
+            length = self.secret_length if is_own else DERIVED
+            expected = [(8 * i, self.after(0)(i)) for i in range(8)]
+            expected += [(at, length if at == SECRET_LENGTH else x) for at, x in self.numbers((0, 0), 0)]
+            expected += [(HAS_SEED, int(seed is not None))] + [(SEED, seed)] * (seed is not None)
+            if not is_own:
+                secret = self.texts["derived_secret"](seed)
+                expected += [(SECRET + k, self.texts["word64"](secret, k)) for k in range(0, DERIVED, 8)]
+            elif not state.has_run(self.secret_run()):
+                raise NotShown(f"{name}: the secret isn't there")
+            for at, x in expected:
+                if not same(state.load(at, 8), x):
+                    raise NotShown(f"{name}: the state at {at} is {state.load(at, 8)} and not {x}")
+
+    # ---- digest
+
+    def digests(self):
+        """As arguments of `digest`, but for the way and the width."""
+        for f in range(241):
+            yield (0, 0), f, [], ()
+        g, h, b, j = (variable(name) for name in "ghbj")
+        few = [minus(g, 3), at_most(g, 7), at_most(h, 63), minus(plus(times(64, g), h), 240)]
+        yield (0, 0), plus(times(64, g), h, 1), few, [Part((0, 0), g, (0, g))]
+        some = [minus(plus(times(self.q, b), j), 4), minus(minus(self.q, 1), j)]
+        for f in range(1, 65):
+            yield (b, j), f, some, ()
+        for start in starts(True):
+            if is_same_number(start.r, 0):
+                more = [minus(self.stripes(start.place), 4), at_most(start.g, 7), at_most(h, 63)]
+                yield (start.place, plus(times(64, start.g), h, 1), [*start.facts, *more],
+                       [Part(start.place, start.g, start.behind)])
+
+    def digest(self, place, f, facts, parts, has_seed, width):
+        """Of a state, of a stream that was made with a seed or without one; the state stays."""
+        n = plus(times(64, self.stripes(place)), f)
+        self.begin(n)
+        seed = nodes.symbol("seed64", 64)
+        with given(*self.facts, *facts, at_most(n, LONGEST)):
+            needs_last = isinstance(f, int) and f < 64 and not is_same_number(self.stripes(place), 0)
+            state = self.state(place, f, self.last_stripe(place) if needs_last else None, has_seed, seed)
+            before = dict(state.cells)
+            answer = self.run([state], f"XXH3_{width}bits_digest", parts, address(state))
+            if state.cells.keys() != before.keys() or any(state.cells[at] is not x and not (
+                    at != RUNS and same(state.cells[at][1], x[1])) for at, x in before.items()):
+                raise NotShown("a digest changes the state")
+            secret = self.texts["effective_secret"](self.secret, self.message) if has_seed else self.secret
+            said = self.texts[f"xxh3_{width}"](seed if has_seed else 0, secret, self.message)
+            if not is_same(value_of(f"3-{width}", answer), said):
+                raise NotShown(f"a digest of {n} bytes: another value")
+
+    # ---- the functions that take stripes
+
+    def taken_of(self, q, case):
+        """A case of `taken`, where a block has q stripes, or any number."""
+        self.use(variable("q") if q is None else q)
+        try:
+            self.taken(*case)
+        finally:
+            self.use(variable("q"))
+
+    def taken(self, summary, parts, facts, summaries=()):
+        """That a function is what its summary says of what some parts are together."""
+        place, turns, end = parts[0].start, plus(*(part.turns for part in parts)), parts[-1].end
+        self.begin(plus(times(64, self.stripes(end)), variable("rest")))
+        with given(*self.facts_of_any(), *facts, at_most(self.source.length, LONGEST)):
+            words = self.accumulators(place)
+            cells = [(8 * i, 8, x) for i, x in enumerate(words)]
+            cells += [(PLACE, 8, place[1])] if summary.has_place else []
+            taken = Words("taken", summary.size, cells, alignment=8)
+            to = Words("to", summary.size, [(at, 8, self.cpu.fresh("a word")) for at in range(0, summary.size, 8)],
+                       alignment=8)
+            piece = Piece(self.source, times(64, self.stripes(place)), times(64, turns))
+            self.run([to, taken], summary.name, parts, address(to), address(taken), address(piece), piece.length,
+                     address(self.secret_source), self.secret_length, summaries=summaries, into=self.cpu.TAKES_STRIPES)
+            expected = [self.after(self.stripes(end))(i) for i in range(8)] + [end[1]] * summary.has_place
+            for memory, cells in (to, expected), (taken, [x for *_, x in cells]):
+                for k, x in enumerate(cells):
+                    if not same(memory.load(8 * k, 8), x):
+                        raise NotShown(f"{summary.name}: {memory.name} at {8 * k} is {memory.load(8 * k, 8)} and not {x}")
+            if min(self.cpu.stack.cells, default=ENTRY) < ENTRY - DEEP:
+                raise NotShown(f"{summary.name}: more than {DEEP} bytes of stack")
+
+    def all_taken(self):
+        """As arguments of `taken`, with the stripes of a block, or None where these are any number."""
+        for part, facts in self.of_any_blocks():
+            yield None, (TAKE, [part], facts)
+        b, j, D, e = (variable(name) for name in "bjDe")
+        turns = plus(minus(self.q, j), times(self.q, D), e)
+        part = Part((b, j), turns, (plus(b, 1, D), e))
+        of_part = [minus(minus(self.q, 1), j), minus(minus(self.q, 1), e), minus(turns, MANY)]
+        for of_q in (at_most(self.q, BLOCK - 1), minus(self.q, BLOCK + 1)):
+            yield None, (TAKE_MANY, [part], [*of_part, of_q], [TAKE])
+        yield BLOCK, (TAKE_BLOCKS, [Part((b, 0), plus(BLOCK, times(BLOCK, D)), (plus(b, 1, D), 0))], [])
+        for parts, facts in self.by_fours():
+            yield BLOCK, (TAKE_MANY, parts, [*facts, *of_many(parts)])
+        for parts, facts in self.by_blocks():
+            yield BLOCK, (TAKE_MANY, parts, [*facts, *of_many(parts, FAR)], [TAKE, TAKE_BLOCKS])
+
+    def of_any_blocks(self):
+        """How stripes are taken from any place."""
+        b, j, n, D, e, last = *(variable(name) for name in "bjnDe"), minus(self.q, 1)
+        yield Part((b, j), 0, (b, j)), [minus(last, j)]
+        yield Part((b, j), n, (b, plus(j, n))), [minus(n, 1), minus(last, plus(j, n))]
+        for at, of_at in ((j, [minus(minus(last, 1), j)]), (last, [])):
+            turns = plus(minus(self.q, at), times(self.q, D))
+            yield Part((b, at), turns, (plus(b, 1, D), 0)), of_at
+            yield Part((b, at), plus(turns, e), (plus(b, 1, D), e)), [*of_at, minus(e, 1), minus(last, e)]
+
+    @staticmethod
+    def by_fours():
+        """Of 16 stripes a block: those before a fourth one, fours, and fewer than four."""
+        b, a, D, e = (variable(name) for name in "baDe")
+        for c in range(4):
+            front = -c % 4
+            fourths = [((b, times(4, a)), [minus(a, int(c > 0)), at_most(a, 2)]), ((b, 12), [])]
+            fourths += [((plus(b, 1), 0), [])] * (c > 0)
+            for at, of_a in fourths:
+                start = (b, 16 - front) if is_same_number(at[1], 0) else (b, minus(at[1], front))
+                for last, of_e in ((0, []), (e, [minus(e, 1), at_most(e, 3)])):
+                    turns = plus(16, times(-1, at[1]), times(16, D), times(4, last))
+                    end = plus(at[0], 1, D), times(4, last)
+                    for rest in range(4):
+                        parts = [Part(start, front, at), Part(at, turns, end),
+                                 Part(end, rest, (end[0], plus(end[1], rest)))]
+                        least = front + rest + 16 - (at[1] if isinstance(at[1], int) else 8) + 4 * bool(of_e)
+                        yield parts, [*of_a, *of_e, at_most(D, (FAR - 1 - least) // 16)]
+
+    @staticmethod
+    def by_blocks():
+        """The same: those to a block's end, whole blocks, and the stripes of another one."""
+        b, j, D, e = (variable(name) for name in "bjDe")
+        for start, turns, at, facts in (((b, 0), 0, (b, 0), []),
+                                        ((b, j), minus(16, j), (plus(b, 1), 0), [minus(j, 1), at_most(j, 15)])):
+            end = plus(at[0], 1, D), 0
+            yield [Part(start, turns, at), Part(at, plus(16, times(16, D)), end),
+                   Part(end, e, (end[0], e))], [*facts, at_most(e, 15)]
+
+
+def of_many(parts, least=None):
+    """The facts of how many stripes there are, from FAR on or below."""
+    turns = plus(*(part.turns for part in parts))
+    return [minus(turns, least)] if least else [minus(turns, MANY), at_most(turns, FAR - 1)]
