@@ -1,14 +1,15 @@
 #!/usr/bin/env python3
 """Stands in the place of the toolchain's clang, where `annotated` puts it:
 
-    assembly/compile.py CLANG FOLDER WORD..
+    assembly/compile.py CLANG FOLDER WIDE WORD..
 
 Clang first does what the words say. Where it has compiled a module of what was proved, the module with prefetches
 (prefetch.py) is compiled in its place by the same words, for x86-64 so that no jump crosses or ends at a multiple of 32
-bytes, at which some processors decode a jump anew each time. Before that it compares, and stops where something differs:
+bytes, at which some processors decode a jump anew each time. Where WIDE isn't empty, the module is made one for x86-64-v4
+too (wide.py). Before that it compares, and stops where something differs:
 
 - the module as text, compiled by the same words, with what the toolchain made of the module, byte for byte;
-- the module with prefetches, as clang reads it, and without them again, with the text of the module.
+- the module with all that was added, as clang reads it, and without that again, with the text of the module.
 
 For 64-bit ARM the toolchain has clang optimize the module, changes its text and has clang compile that: the prefetches are
 in the first of the two. FOLDER, where it isn't empty, gets the module that the object was made of, as module.ll, and the
@@ -21,6 +22,7 @@ import sys
 import tempfile
 
 import prefetch
+import wide
 
 FOR_X86_64 = ['-mbranches-within-32B-boundaries']
 
@@ -74,7 +76,7 @@ def write(path, text):
         file.write(text)
 
 
-def compile_annotated(clang, room):
+def compile_annotated(clang, room, is_wide):
     """Writes what the module with prefetches gives over what the toolchain's gave, once both comparisons hold. The answer
     is its text."""
     ordered, proved, annotated, bitcode, as_read, again = (
@@ -86,20 +88,28 @@ def compile_annotated(clang, room):
         stop('the module as text gives another object than the toolchain has: this kit builds otherwise')
     clang.written('-S', os.getcwd(), proved)
     text = clang.text(proved)
-    write(os.path.join(annotated, clang.module()), with_prefetches(text))
+    write(os.path.join(annotated, clang.module()), with_changes(text, is_wide))
     clang.written('-c', annotated, bitcode)
     clang.written('-S', bitcode, as_read)
-    if prefetch.strip(clang.text(as_read)) != text:
-        stop('without its prefetches the module is not the one that was proved')
+    if without_changes(clang, as_read, os.path.join(room, 'narrow'), is_wide) != text:
+        stop('without what was added the module is not the one that was proved')
     clang.compile(bitcode, clang.made(), FOR_X86_64 if is_for_x86_64(text) else [])
     return clang.text(annotated)
 
 
-def with_prefetches(text):
+def with_changes(text, is_wide):
     try:
-        return prefetch.add(text)
+        return prefetch.add(wide.widen(text) if is_wide else text)
     except ValueError as why:
         stop(why)
+
+
+def without_changes(clang, folder, narrow, is_wide):
+    """The text of a folder's module again, after clang has numbered anew what a wide module's functions have apart."""
+    if is_wide:
+        write(os.path.join(narrow, clang.module()), wide.narrow(clang.text(folder)))
+        clang.written('-S', narrow, folder)
+    return prefetch.strip(clang.text(folder))
 
 
 def keep(folder, clang, module):
@@ -111,7 +121,7 @@ def is_for_x86_64(text):
     return re.search('^target triple = "x86_64', text, re.M)
 
 
-def main(path, kept, *words):
+def main(path, kept, is_wide, *words):
     clang = Clang(path, list(words))
     status = clang.run(words)
     if status:
@@ -119,13 +129,13 @@ def main(path, kept, *words):
     module = next((read(word) for word in words if word.endswith('.ll') and os.path.exists(word)), None)
     if clang.module():
         with tempfile.TemporaryDirectory() as room:
-            module = compile_annotated(clang, room)
+            module = compile_annotated(clang, room, is_wide)
     if kept and module and '-c' in words:
         keep(kept, clang, module)
     return 0
 
 
 if __name__ == '__main__':
-    if len(sys.argv) < 4:
+    if len(sys.argv) < 5:
         sys.exit(__doc__)
     sys.exit(main(*sys.argv[1:]))

@@ -11,21 +11,23 @@ from terms.polynomials import variable
 from terms.processes import Row
 from terms.sides import TOP, Request
 
-from . import (any_updates, calls, changes, every_length, exports, lanes, on_processor, one_shots, planted, scalar,
+from . import (any_updates, calls, changes, every_length, exports, lanes, on_processor, one_shots, pieces, planted, scalar,
                streams)
-from .instructions import TABLE, V2, V3
+from .instructions import SETS, TABLE, V2, V3, V4
 from .objects import Program
 from .processor import Processor
 
-NAMES = V2, V3
+NAMES = V2, V3, V4
 FOLDER = os.path.join(TOP, "c", "asm")
 ONE_BY_ONE, MORE = range(301), range(301, 1101)     # lengths asked one by one: always, and with --all
+EDGES_OF_BLOCKS = [1023, 1024, 1025, 1088, 1089, 2048, 2049, 2112]
 SECRETS, STREAM_SECRETS = (136,), (136, 193, 256)
 # Streams: their lengths, with how each is cut in a sample; and those of a few more.
 FEW_STREAMS = [(0,), (5, 2), (33, 1), (70, 33, 64), (200, 31, 160), (240, 239), (257, 256), (300, 64, 192),
                (600, 512, 599), (1100, 64), (1500, 40, 1100)]
 MANY_STREAMED = [1500, 2200, 3000, 4200]
 SOME_UPDATES, UPDATE_PARTS = 97, 4                  # updates of streams, in a sample and in parts
+SOME_CUTS = 131                                     # long pieces in a sample
 SOME_SECRETS = [*range(136, 144), *range(190, 202), 256, 257, 576, 999, 1000]
 LONGER_SECRETS = range(every_length.LONGEST_KEPT + 1, 1001)
 MOST_NODES = 400_000                                # of the cases of a proof
@@ -59,7 +61,8 @@ def counted(title, least, ask):
 
 def choose(options, texts):
     rows = one_shot_rows(texts, options.all) + secret_rows(texts, options.all) + every_length_rows(texts, options.all)
-    rows += stream_rows(texts, options.all) + call_rows(texts, options.all) + machine_rows(texts, options.all)
+    rows += stream_rows(texts, options.all) + piece_rows(texts, options.all) + call_rows(texts, options.all)
+    rows += machine_rows(texts, options.all)
     rows.insert(0, export_row(texts, [row.title for row in rows]))
     return [row for row in rows if options.only in row.title]
 
@@ -67,6 +70,12 @@ def choose(options, texts):
 def export_row(texts, titles):
     return counted("each export has its row", 54 * len(texts),
                    lambda: (sum(exports.expect_all(program, titles) for program in texts.values()), []))
+
+
+def other_than_v3(texts, hash_name="32"):
+    """The texts whose code isn't another's: of XXH32 and XXH64, and of all that takes no message, x86-64-v4's is x86-64-v3's,
+    as a row of its own shows."""
+    return {name: program for name, program in texts.items() if name != V4 or not one_shots.is_plain(hash_name)}
 
 
 # ---- one-shots and streams, by comparison with the definition's terms
@@ -78,6 +87,7 @@ def title_of(hash_name, kind, secret):
 def compared(texts, title, requests, side=one_shots):
     """A row of requests, each of all texts: the definition's term is made once."""
     requests = list(requests)
+    texts = other_than_v3(texts, requests[0].hash_name)
     lengths = [request.length for request in requests]
 
     def ask():
@@ -93,6 +103,8 @@ def one_by_one(texts, kind, lengths, more=""):
 def one_shot_rows(texts, is_all):
     """Secrets of other lengths have rows of every length."""
     out = [one_by_one(texts, kind, ONE_BY_ONE) for kind in comparison.kinds(SECRETS)]
+    for kind in [("3-64", "default", None), ("3-128", "seed", None), ("3-64", "secret", 192)]:
+        out.append(one_by_one({V4: texts[V4]}, kind, EDGES_OF_BLOCKS, f", at the edges of blocks, {V4}"))
     for kind in comparison.kinds(SECRETS) if is_all else ():
         out += [one_by_one(texts, kind, MORE), one_by_one(texts, kind, comparison.edges(kind[2]), ", at edges")]
         if kind[2] is None and kind[0].startswith("3-"):
@@ -121,7 +133,7 @@ def stream_rows(texts, is_all):
     out.append(counted("each update of XXH32 and XXH64 has its row", 2, updates_left_out))
     for hash_name in any_updates.LAYOUTS:
         count = len(list(any_updates.updates(hash_name)))
-        for name, program in texts.items():
+        for name, program in other_than_v3(texts).items():
             for part in range(UPDATE_PARTS) if is_all else [None]:
                 words = f"part {part + 1} of {UPDATE_PARTS}" if is_all else f"each {SOME_UPDATES}th case"
                 least = count // (UPDATE_PARTS if is_all else SOME_UPDATES)
@@ -172,6 +184,8 @@ def every_length_rows(texts, is_all):
     out += [counted("every length of XXH3 has its row", 1 + len(every_length.KEPT), xxh3_left_out)] if is_all else []
     for kind in ["32", "64", *(f"{name}:{way}" for name in ("3-64", "3-128") for way in ("default", "seed"))]:
         asked = every_length.cases(kind)
+        if kind == "3-64:seed" and not is_all:
+            out += of_every_length({V4: texts[V4]}, kind, f"XXH{kind.replace(':', ', ')}: one case of every length", asked[:1])
         for seed in [None, 0] if kind.endswith("seed") else [None]:
             title = f"XXH{kind.replace(':', ', ')}{' 0' if seed == 0 else ''}: every length to 2^64 - 1"
             out += of_every_length(texts, kind, title, asked, seed) if is_all or ":" not in kind else []
@@ -186,7 +200,7 @@ def every_length_rows(texts, is_all):
 
 def of_every_length(texts, kind, title, asked, seed=None):
     return [counted(f"{title}, {name}", len(asked), functools.partial(shown, name, program, kind, asked, seed))
-            for name, program in texts.items()]
+            for name, program in other_than_v3(texts, kind.split(":")[0]).items()]
 
 
 def plain_left_out():
@@ -217,6 +231,26 @@ def up_to_240(name, program, kind):
     return count_shown(proof, [functools.partial(proof.show_short, n) for n in range(241)])
 
 
+# ---- long pieces of XXH3's streams
+
+def piece_rows(texts, is_all):
+    out = [counted(f"whole blocks of a stream of XXH3: any number, {name}", 1, functools.partial(whole_blocks, name, program))
+           for name, program in texts.items()]
+    cuts = pieces.CUTS if is_all else pieces.CUTS[::SOME_CUTS]
+    return [*out, counted(f"long pieces of a stream of XXH3: any length, {V4}", len(cuts),
+                          functools.partial(long_pieces, V4, texts[V4], cuts))]
+
+
+def whole_blocks(name, program):
+    proof = pieces.Pieces(Processor(program, name))
+    return count_shown(proof, [proof.whole_blocks])
+
+
+def long_pieces(name, program, cuts):
+    proof = pieces.Pieces(Processor(program, name))
+    return count_shown(proof, [functools.partial(proof.piece, cut) for cut in cuts])
+
+
 # ---- the other calls
 
 def of_each(texts, title, least, call):
@@ -228,17 +262,20 @@ def call_rows(texts, is_all):
     sizes = [0, 1, 135, 136, 137, 143, 144, 191, 192, 256, 1000] if not is_all else [*range(0, 301), 1000]
     seeds = [0, 1, 17, 136, 241, 300] if is_all else [0, 3, 241]
     made = [(size, length) for size in sizes for length in seeds]
-    of = functools.partial(of_each, texts)
+    of = functools.partial(of_each, other_than_v3(texts))
+    of_streams = functools.partial(of_each, texts)
     return [of("canonical forms and back", 6, calls.canonical_forms), of("equal hashes", 4, calls.is_equal),
             of("the order of hashes", 9, calls.compare), of("the version", 1, calls.version),
             of("copies of states", 3, calls.copies), of("freed states are refused", 4, calls.forgotten),
-            of("streams: memory without the mark of a reset", 8, calls.without_mark),
-            of("streams: states of XXH3 that no call leaves", 10, calls.out_of_range),
-            of("streams: secrets that a state doesn't keep", 80, calls.refused_resets),
-            of("streams: null pieces of no bytes", 20, calls.updates_of_nothing),
-            of("null inputs and secrets of no bytes", 14, calls.null_pointers),
+            of_streams("streams: memory without the mark of a reset", 8, calls.without_mark),
+            of_streams("streams: states of XXH3 that no call leaves", 10, calls.out_of_range),
+            of_streams("streams: secrets that a state doesn't keep", 80, calls.refused_resets),
+            of_streams("streams: null pieces of no bytes", 20, calls.updates_of_nothing),
+            of_streams("null inputs and secrets of no bytes", 14, calls.null_pointers),
             of("the derived secret", 2, calls.derived_secret),
             of("made secrets", len(made), functools.partial(calls.made_secrets, asked=made)),
+            counted(f"exports of {V4} that have the code of {V3}", 24,
+                    lambda: (exports.expect_code_of_v3(texts[V4], texts[V3]), [])),
             counted("names of another's code", 9 * len(texts),
                     lambda: (sum(exports.expect_twins(program) for program in texts.values()), []))]
 
@@ -246,7 +283,9 @@ def call_rows(texts, is_all):
 # ---- the machine, and what has to be noticed
 
 def machine_rows(texts, is_all):
-    return [counted("the table of instructions beside the processor", len(TABLE) - 40,
+    forms = sum(kind in SETS[on_processor.processor_here()] for kind, _ in TABLE.values())
+    without = "" if on_processor.is_v4() else ", without what it lacks of x86-64-v4"
+    return [counted(f"the table of instructions beside the processor{without}", forms - 40,
                     functools.partial(beside_processor, texts, is_all)),
             counted("wrong texts of each kind are refused", len(planted.WRONG), planted.refused),
             *(counted(f"changes of one instruction, {name}", changes.MANY if is_all else changes.FEW,

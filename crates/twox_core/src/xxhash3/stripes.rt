@@ -22,8 +22,9 @@ ghost use Rattle.twox_core.specs.Stripes.{AfterStripes, current_stripe_of};
 mod blocks;
 mod fours;
 
-pub(super) use self::blocks::STRIPES_IN_BLOCK;
-use self::blocks::{BYTES_IN_BLOCK, process_blocks, take_many_blocks};
+pub(super) use self::blocks::{BYTES_IN_BLOCK, STRIPES_IN_BLOCK};
+use self::blocks::{process_blocks, take_many_blocks};
+use super::large::lanes8;
 use super::{INITIAL_ACCUMULATORS, Secret, Vector};
 use twox_words::words::bp_as_chunks;
 
@@ -193,21 +194,24 @@ fn take_many_stripes<V: Vector>(
 {
     if secret.n_stripes() != STRIPES_IN_BLOCK || bytes.len() < BYTES_IN_BLOCK {
         take_stripes(from, v, bytes, secret)
+    } else if v.is_widened() {
+        process_by_blocks(from, v, lanes8::Impl {}, bytes, secret)
     } else if bytes.len() < MANY_BYTES {
         let mut taken = from;
         taken.process_by_fours(v, bytes, secret);
         taken
     } else {
-        process_by_blocks(from, v, bytes, secret)
+        process_by_blocks(from, v, v, bytes, secret)
     }
 }
 
 // The accumulators with the stripes taken by whole blocks, under a secret of 192 bytes: first the stripes to the end of
-// a block, and last those of a block that isn't whole.
+// a block, and last those of a block that isn't whole. Whole blocks may have a kernel of their own.
 #[inline(always)]
-fn process_by_blocks<V: Vector>(
+fn process_by_blocks<V: Vector, W: Vector>(
     from: StripeAccumulator,
     v: V,
+    of_blocks: W,
     bytes: &[u8],
     secret: Secret<'_>,
 ) -> StripeAccumulator
@@ -220,6 +224,6 @@ fn process_by_blocks<V: Vector>(
     let (front, rest) = bytes.split_at(64 * to_block);
     let at_block = take_stripes(from, v, front, secret);
     let (whole, rest) = rest.split_at(rest.len() / BYTES_IN_BLOCK * BYTES_IN_BLOCK);
-    let taken = take_many_blocks(at_block.accumulators(), v, whole, secret);
+    let taken = take_many_blocks(at_block.accumulators(), of_blocks, whole, secret);
     take_stripes(StripeAccumulator::starting_with(taken), v, rest, secret)
 }
