@@ -213,20 +213,20 @@ def other_modules_are_refused(library, name):
 
 
 def is_refused(module, words, annotated, is_wide):
-    """Whether a module is refused, where this text is taken for it with prefetches."""
+    """Whether a module is refused, where this text is taken for it with what is added."""
     kit = os.path.dirname(os.path.dirname(os.path.realpath(shutil.which('rt'))))
-    here, add_of_prefetch = os.getcwd(), prefetch.add
+    here, with_changes = os.getcwd(), compiling.with_changes
     with tempfile.TemporaryDirectory() as room:
         os.chdir(room)
         with open('module.bc', 'w', encoding='latin-1') as file:
             file.write(module)
-        prefetch.add = lambda _: annotated
+        compiling.with_changes = lambda text, wide: annotated if wide == is_wide else with_changes(text, wide)
         try:
-            compiling.main(os.path.join(kit, 'toolchain', 'bin', 'clang'), '', is_wide, *words)
+            compiling.main(os.path.join(kit, 'toolchain', 'bin', 'clang'), '', is_wide and os.path.join(room, 'wide'), *words)
         except SystemExit as why:
             return 'is not the one that was proved' in str(why)
         finally:
-            prefetch.add = add_of_prefetch
+            compiling.with_changes = with_changes
             os.chdir(here)
     return False
 

@@ -65,7 +65,8 @@ def of_halves(words):
 @form(V2, "movdqu movups movdqa movaps", "mx xm xx")
 @form(V3, "vmovdqu vmovups vmovdqa vmovaps", "mx xm my ym")
 @form(V3, "vmovdqa", "yy")
-@form(V4, "vmovdqu64 vmovdqa64", "mz zm zz")
+@form(V4, "vmovdqu64", "mz zm zz")
+@form(V4, "vmovdqa64", "mz zm zz yy")
 def move(cpu, x):
     source, to = x.operands
     count = lanes_count(x)
@@ -201,13 +202,13 @@ def products_by_one(cpu, x):
     write(cpu, to, x, [arithmetic("mul", WORD, lane, factor) for lane in cpu.lanes(other, lanes_count(x))])
 
 
-@form(V4, "vpternlogq", "izzz")
+@form(V4, "vpternlogq", "izzz imzz")
 def logic_of_three(cpu, x):
     """Of the tables of three bits the one that is their sum mod 2."""
     table, c, b, a = x.operands
     if table.value != 0x96:
         raise Unsupported(f"the table {table.value:#x} of three bits")
-    lanes = zip(*(cpu.lanes(y, lanes_count(x)) for y in (a, b, c)))
+    lanes = zip(*(read(cpu, y, x, lanes_count(x)) for y in (a, b, c)))
     write(cpu, a, x, [arithmetic("xor", WORD, arithmetic("xor", WORD, p, q), r) for p, q, r in lanes])
 
 

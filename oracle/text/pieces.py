@@ -2,7 +2,7 @@
 accumulators.
 
 A stream stands for 16 a + c stripes of a message under a secret of 192 bytes, whose accumulators are symbols. Whole
-blocks: c is 0, and d blocks follow. Of x86-64-v4 any piece that has a whole block: first the stripes to the end of a block,
+blocks: c is 0, and d blocks follow. Of x86-64-v4 any piece from 1,024 bytes on: first the stripes to the end of a block,
 then d blocks, then r stripes and some bytes of one. a and d are any numbers, c and r all that there are."""
 import collections
 
@@ -21,13 +21,15 @@ from .memory import Words
 from .processor import NO_LIMIT
 from .values import address
 
-Q, STRIPE, BLOCK = 16, 64, 1024
+Q, STRIPE = 16, 64                # stripes of a block, and bytes of one
 COUNT, PLACE = 8, 64              # accumulators; where a stream's place in the secret stands behind them
-BLOCKS, STRIPES = "twox_core.xxhash3.stripes.blocks.take_many_blocks", "twox_core.xxhash3.stripes.take_many_stripes"
+WIDENED = "twox_core.xxhash3.stripes.take_widened"
 
-# A piece: the stripes that the block before it has already, those behind its last whole block, and the bytes behind these.
-Cut = collections.namedtuple("Cut", "before behind bytes")
-CUTS = [Cut(c, r, (7 * c + 5 * r) % STRIPE) for c in range(Q) for r in range(Q)]
+# A piece: the stripes that the block before it has already, those behind its last whole block, the bytes behind these, and
+# whether it has a whole block.
+Cut = collections.namedtuple("Cut", "before behind bytes has_blocks")
+CUTS = [Cut(c, r, (7 * c + 5 * r) % STRIPE, has_blocks) for c in range(Q) for r in range(Q) for has_blocks in (True, False)
+        if has_blocks or 0 < c <= r]
 
 
 class Pieces:
@@ -48,26 +50,25 @@ class Pieces:
         self.source, self.secret = Input("m", n), Input("s", STRIPE + 8 * Q)
         self.message, self.secret_bytes = (Bytes(x, 0, x.length) for x in (self.source, self.secret))
 
-    def state(self, k, size, place=()):
+    def state(self, k, place):
         """What a stream holds after k stripes."""
         values = [self.cpu.fresh("accumulator") for _ in range(COUNT)]
         suppositions.clear()
         suppositions.suppose(self.after(k), values)
-        return Words("before", size, [*((8 * i, 8, x) for i, x in enumerate(values)), *place], alignment=8)
+        return Words("before", PLACE + 8, [*((8 * i, 8, x) for i, x in enumerate(values)), (PLACE, 8, place)], alignment=8)
 
-    def call(self, name, state, k, first, length, total):
+    def call(self, state, first, length, total):
         """What the function hands over for the bytes from `first` on, which are `total` stripes with those before."""
         made = Words("after", state.length, [], alignment=8)
-        family = Family(name, STRIPE, total, COUNT, self.after,
+        family = Family(WIDENED, STRIPE, total, COUNT, self.after,
                         lambda k, values: suppositions.suppose(self.after(k), values))
         self.cpu.not_zero, self.cpu.live = [], [made]
-        self.cpu.loops, self.cpu.limit = Loops(self.cpu.program, family), LIMIT
+        self.cpu.loops, self.cpu.limit = None if isinstance(length, int) else Loops(self.cpu.program, family), LIMIT
         piece = Piece(self.source, first, length)
         try:
-            self.cpu.call(name, address(made), address(state), address(piece), length, address(self.secret),
-                          self.secret.length)
+            self.cpu.call(WIDENED, address(made), address(state), address(piece), length, address(self.secret))
         except REFUSALS as error:
-            raise NotShown("; ".join([str(error), *self.cpu.loops.refused])) from error
+            raise NotShown("; ".join([str(error), *(self.cpu.loops.refused if self.cpu.loops else [])])) from error
         finally:
             self.cpu.loops, self.cpu.limit = None, NO_LIMIT
         self.expect(made, total)
@@ -78,24 +79,15 @@ class Pieces:
             if not is_same(made.load(8 * i, 8), self.after(k)(i)):
                 raise NotShown(f"accumulator {i} after {k} stripes: another value")
 
-    def whole_blocks(self):
-        a, d = variable("a"), variable("d")
-        total = times(Q, plus(a, d))
-        self.begin(times(STRIPE, total))
-        with given(at_most(self.source.length, LONGEST), minus(d, 1)):
-            before = self.state(times(Q, a), 8 * COUNT)
-            self.call(BLOCKS, before, times(Q, a), times(BLOCK, a), times(BLOCK, d), total)
-
     def piece(self, cut):
-        """From anywhere in a block, by whole blocks in between."""
-        a, d = variable("a"), variable("d")
+        """From anywhere in a block, by whole blocks in between or by none."""
+        a, d = variable("a"), variable("d") if cut.has_blocks else 0
         k = plus(times(Q, a), cut.before)
         total = plus(times(Q, plus(a, d)), cut.behind, Q if cut.before else 0)
         begun = times(STRIPE, k)
         length = plus(times(STRIPE, minus(total, k)), cut.bytes)
         self.begin(plus(begun, length))
-        with given(at_most(self.source.length, LONGEST), minus(d, 1)):
-            before = self.state(k, 8 * COUNT + 8, [(PLACE, 8, cut.before)])
-            made = self.call(STRIPES, before, k, begun, length, total)
+        with given(at_most(self.source.length, LONGEST), *([minus(d, 1)] if cut.has_blocks else [])):
+            made = self.call(self.state(k, cut.before), begun, length, total)
         if not is_same_number(made.load(PLACE, 8), cut.behind):
             raise NotShown(f"the place is {made.load(PLACE, 8)} and not {cut.behind}")

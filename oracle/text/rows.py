@@ -27,7 +27,7 @@ FEW_STREAMS = [(0,), (5, 2), (33, 1), (70, 33, 64), (200, 31, 160), (240, 239), 
                (600, 512, 599), (1100, 64), (1500, 40, 1100)]
 MANY_STREAMED = [1500, 2200, 3000, 4200]
 SOME_UPDATES, UPDATE_PARTS = 97, 4                  # updates of streams, in a sample and in parts
-SOME_CUTS = 131                                     # long pieces in a sample
+SOME_CUTS, PIECE_PARTS = 190, 4                     # long pieces in a sample, and in parts
 SOME_SECRETS = [*range(136, 144), *range(190, 202), 256, 257, 576, 999, 1000]
 LONGER_SECRETS = range(every_length.LONGEST_KEPT + 1, 1001)
 MOST_NODES = 400_000                                # of the cases of a proof
@@ -72,10 +72,13 @@ def export_row(texts, titles):
                    lambda: (sum(exports.expect_all(program, titles) for program in texts.values()), []))
 
 
-def other_than_v3(texts, hash_name="32"):
-    """The texts whose code isn't another's: of XXH32 and XXH64, and of all that takes no message, x86-64-v4's is x86-64-v3's,
-    as a row of its own shows."""
-    return {name: program for name, program in texts.items() if name != V4 or not one_shots.is_plain(hash_name)}
+def before_v4(texts):
+    return {name: program for name, program in texts.items() if name != V4}
+
+
+def texts_of(texts, hash_name):
+    """Of XXH32 and XXH64, as of all that takes no message, x86-64-v4's code is x86-64-v3's: a row of its own shows it."""
+    return before_v4(texts) if one_shots.is_plain(hash_name) else texts
 
 
 # ---- one-shots and streams, by comparison with the definition's terms
@@ -87,7 +90,7 @@ def title_of(hash_name, kind, secret):
 def compared(texts, title, requests, side=one_shots):
     """A row of requests, each of all texts: the definition's term is made once."""
     requests = list(requests)
-    texts = other_than_v3(texts, requests[0].hash_name)
+    texts = texts_of(texts, requests[0].hash_name)
     lengths = [request.length for request in requests]
 
     def ask():
@@ -101,8 +104,9 @@ def one_by_one(texts, kind, lengths, more=""):
 
 
 def one_shot_rows(texts, is_all):
-    """Secrets of other lengths have rows of every length."""
-    out = [one_by_one(texts, kind, ONE_BY_ONE) for kind in comparison.kinds(SECRETS)]
+    """Secrets of other lengths have rows of every length. With one of 136 bytes x86-64-v4 runs what x86-64-v3 does."""
+    out = [one_by_one(texts if is_all or kind[2] is None else before_v4(texts), kind, ONE_BY_ONE)
+           for kind in comparison.kinds(SECRETS)]
     for kind in [("3-64", "default", None), ("3-128", "seed", None), ("3-64", "secret", 192)]:
         out.append(one_by_one({V4: texts[V4]}, kind, EDGES_OF_BLOCKS, f", at the edges of blocks, {V4}"))
     for kind in comparison.kinds(SECRETS) if is_all else ():
@@ -133,7 +137,7 @@ def stream_rows(texts, is_all):
     out.append(counted("each update of XXH32 and XXH64 has its row", 2, updates_left_out))
     for hash_name in any_updates.LAYOUTS:
         count = len(list(any_updates.updates(hash_name)))
-        for name, program in other_than_v3(texts).items():
+        for name, program in before_v4(texts).items():
             for part in range(UPDATE_PARTS) if is_all else [None]:
                 words = f"part {part + 1} of {UPDATE_PARTS}" if is_all else f"each {SOME_UPDATES}th case"
                 least = count // (UPDATE_PARTS if is_all else SOME_UPDATES)
@@ -200,7 +204,7 @@ def every_length_rows(texts, is_all):
 
 def of_every_length(texts, kind, title, asked, seed=None):
     return [counted(f"{title}, {name}", len(asked), functools.partial(shown, name, program, kind, asked, seed))
-            for name, program in other_than_v3(texts, kind.split(":")[0]).items()]
+            for name, program in texts_of(texts, kind.split(":")[0]).items()]
 
 
 def plain_left_out():
@@ -234,16 +238,10 @@ def up_to_240(name, program, kind):
 # ---- long pieces of XXH3's streams
 
 def piece_rows(texts, is_all):
-    out = [counted(f"whole blocks of a stream of XXH3: any number, {name}", 1, functools.partial(whole_blocks, name, program))
-           for name, program in texts.items()]
-    cuts = pieces.CUTS if is_all else pieces.CUTS[::SOME_CUTS]
-    return [*out, counted(f"long pieces of a stream of XXH3: any length, {V4}", len(cuts),
-                          functools.partial(long_pieces, V4, texts[V4], cuts))]
-
-
-def whole_blocks(name, program):
-    proof = pieces.Pieces(Processor(program, name))
-    return count_shown(proof, [proof.whole_blocks])
+    """Of x86-64-v4, whose function for them is one of those that no compiler is believed for."""
+    parts = [pieces.CUTS[part::PIECE_PARTS] for part in range(PIECE_PARTS)] if is_all else [pieces.CUTS[::SOME_CUTS]]
+    return [counted(f"long pieces of a stream of XXH3: any length, {V4}, part {part + 1} of {len(parts)}", len(cuts),
+                    functools.partial(long_pieces, V4, texts[V4], cuts)) for part, cuts in enumerate(parts)]
 
 
 def long_pieces(name, program, cuts):
@@ -262,7 +260,7 @@ def call_rows(texts, is_all):
     sizes = [0, 1, 135, 136, 137, 143, 144, 191, 192, 256, 1000] if not is_all else [*range(0, 301), 1000]
     seeds = [0, 1, 17, 136, 241, 300] if is_all else [0, 3, 241]
     made = [(size, length) for size in sizes for length in seeds]
-    of = functools.partial(of_each, other_than_v3(texts))
+    of = functools.partial(of_each, before_v4(texts))
     of_streams = functools.partial(of_each, texts)
     return [of("canonical forms and back", 6, calls.canonical_forms), of("equal hashes", 4, calls.is_equal),
             of("the order of hashes", 9, calls.compare), of("the version", 1, calls.version),
@@ -289,7 +287,10 @@ def machine_rows(texts, is_all):
                     functools.partial(beside_processor, texts, is_all)),
             counted("wrong texts of each kind are refused", len(planted.WRONG), planted.refused),
             *(counted(f"changes of one instruction, {name}", changes.MANY if is_all else changes.FEW,
-                      functools.partial(changes.noticed, name, program, is_all)) for name, program in texts.items())]
+                      functools.partial(changes.noticed, name, program, is_all))
+              for name, program in before_v4(texts).items()),
+            counted(f"changes of one instruction in the widened functions of {V4}", changes.MANY if is_all else changes.SOME,
+                    functools.partial(changes.noticed, V4, texts[V4], is_all, "widened"))]
 
 
 def beside_processor(texts, is_all):

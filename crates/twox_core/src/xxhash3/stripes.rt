@@ -25,7 +25,7 @@ mod fours;
 pub(super) use self::blocks::{BYTES_IN_BLOCK, STRIPES_IN_BLOCK};
 use self::blocks::{process_blocks, take_many_blocks};
 use super::large::lanes8;
-use super::{INITIAL_ACCUMULATORS, Secret, Vector};
+use super::{DEFAULT_SECRET_LENGTH, DefaultSecret, INITIAL_ACCUMULATORS, Secret, Vector};
 use twox_words::words::bp_as_chunks;
 
 // From how many bytes on a one-shot takes its stripes out of line, in the way that is fastest for their number: 32 KiB
@@ -194,24 +194,23 @@ fn take_many_stripes<V: Vector>(
 {
     if secret.n_stripes() != STRIPES_IN_BLOCK || bytes.len() < BYTES_IN_BLOCK {
         take_stripes(from, v, bytes, secret)
-    } else if v.is_widened() {
-        process_by_blocks(from, v, lanes8::Impl {}, bytes, secret)
+    } else if v.is_widened() && secret.len() == DEFAULT_SECRET_LENGTH {
+        take_widened(from, bytes, secret.of_default_length())
     } else if bytes.len() < MANY_BYTES {
         let mut taken = from;
         taken.process_by_fours(v, bytes, secret);
         taken
     } else {
-        process_by_blocks(from, v, v, bytes, secret)
+        process_by_blocks(from, v, bytes, secret)
     }
 }
 
 // The accumulators with the stripes taken by whole blocks, under a secret of 192 bytes: first the stripes to the end of
-// a block, and last those of a block that isn't whole. Whole blocks may have a kernel of their own.
+// a block, and last those of a block that isn't whole.
 #[inline(always)]
-fn process_by_blocks<V: Vector, W: Vector>(
+fn process_by_blocks<V: Vector>(
     from: StripeAccumulator,
     v: V,
-    of_blocks: W,
     bytes: &[u8],
     secret: Secret<'_>,
 ) -> StripeAccumulator
@@ -224,6 +223,54 @@ fn process_by_blocks<V: Vector, W: Vector>(
     let (front, rest) = bytes.split_at(64 * to_block);
     let at_block = take_stripes(from, v, front, secret);
     let (whole, rest) = rest.split_at(rest.len() / BYTES_IN_BLOCK * BYTES_IN_BLOCK);
-    let taken = take_many_blocks(at_block.accumulators(), of_blocks, whole, secret);
+    let taken = take_many_blocks(at_block.accumulators(), v, whole, secret);
     take_stripes(StripeAccumulator::starting_with(taken), v, rest, secret)
+}
+
+// Likewise by eight lanes, out of line, in one function that knows the secret's length: so it has no branch that is never
+// taken.
+#[inline(never)]
+fn take_widened(from: StripeAccumulator, bytes: &[u8], secret: &DefaultSecret) -> StripeAccumulator
+    requires place { current_stripe_of from < 16 }
+    requires some { 1024 ≤ length bytes.now }
+    ensures { AfterStripes secret.now from bytes.now result }
+{
+    process_in_place(from, lanes8::Impl {}, bytes, Secret::new(secret).unwrap())
+}
+
+// `process_by_blocks` with no call.
+#[inline(always)]
+fn process_in_place<V: Vector>(
+    from: StripeAccumulator,
+    v: V,
+    bytes: &[u8],
+    secret: Secret<'_>,
+) -> StripeAccumulator
+    requires all { stripes_of (secret_bytes secret) ≡ 16 }
+    requires place { current_stripe_of from < 16 }
+    requires some { 1024 ≤ length bytes.now }
+    ensures { AfterStripes (secret_bytes secret.entry) from bytes.now result }
+{
+    let to_block = (STRIPES_IN_BLOCK - from.current_stripe()) % STRIPES_IN_BLOCK;
+    let (front, rest) = bytes.split_at(64 * to_block);
+    let at_block = with_stripes(from, v, front, secret);
+    let (whole, rest) = rest.split_at(rest.len() / BYTES_IN_BLOCK * BYTES_IN_BLOCK);
+    let taken = process_blocks::<V, true>(at_block.accumulators(), v, whole, secret);
+    with_stripes(StripeAccumulator::starting_with(taken), v, rest, secret)
+}
+
+// The accumulators with the stripes taken, in place.
+#[inline(always)]
+fn with_stripes<V: Vector>(
+    from: StripeAccumulator,
+    v: V,
+    bytes: &[u8],
+    secret: Secret<'_>,
+) -> StripeAccumulator
+    requires { current_stripe_of from < stripes_of (secret_bytes secret) }
+    ensures { AfterStripes (secret_bytes secret.entry) from bytes.now result }
+{
+    let mut taken = from;
+    taken.process_stripes(v, bytes, secret);
+    taken
 }
