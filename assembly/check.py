@@ -10,7 +10,8 @@ each text it wants that
   it: the text for macOS on x86-64, the code of a hash of a word, the bitcode;
 - each assembler on the machine (GNU as, clang, rustc) makes that object of the text, as same_bytes.py compares two;
 - the prefetches of its module are those of prefetch.py, and a module that lacks one of their places is refused;
-- a module that is another in one number or one line beside its prefetches is not compiled (tried with one of them);
+- a module that is another in one number or one line beside what is added is not compiled (tried with two of them);
+- what is compiled for x86-64-v4 has instructions of mnemonics.txt alone, and another is noticed;
 - 15 wrong texts are noticed, by the object and by the sums: a constant, a register, an offset, a jump, a word of data;
 - it says the frame at each instruction, and wrong directives are noticed; of the library for C on x86-64 the unwinder of
   libgcc comes to the caller from each instruction that runs.
@@ -38,12 +39,14 @@ import frames_of_text
 import macho
 import prefetch
 import unwinding
+import wide
 from report import Fault, Report, want
 from same_bytes import compare, compare_sums, Object
 
 BUILDS = {'c': 'c/build', 'rust': 'rust/build-library'}
-SETS = {('c', 'x86-64'): ('x86-64-v2', 'x86-64-v3'), ('rust', 'x86-64'): ('x86-64', 'x86-64-v3'),
+SETS = {('c', 'x86-64'): ('x86-64-v2', 'x86-64-v3', 'x86-64-v4'), ('rust', 'x86-64'): ('x86-64', 'x86-64-v3'),
         ('c', 'aarch64'): ('aarch64',), ('rust', 'aarch64'): ('aarch64',)}
+WIDE = 'x86-64-v4'
 WRONG_TEXTS = 15
 
 
@@ -199,29 +202,31 @@ def other_modules_are_refused(library, name):
     module, annotated = module_of(library, name)
     with open(os.path.join(TOP, library, 'out', 'module', name, 'words')) as file:
         words = file.read().splitlines()
+    is_wide = name == WIDE
+    module = wide.narrow(module) if is_wide else module
     for what, pattern, new in (('a number', r'(\n  %\w+ = add i64 %\w+, )\d+', r'\g<1>77'),
                                ('a line less', r'\n  store .*', '')):
         wrong = re.sub(pattern, new, annotated, count=1)
-        want(wrong != annotated and is_refused(module, words, wrong), f'{what}: it was compiled')
-    want(not is_refused(module, words, annotated), 'the module itself is refused')
+        want(wrong != annotated and is_refused(module, words, wrong, is_wide), f'{what}: it was compiled')
+    want(not is_refused(module, words, annotated, is_wide), 'the module itself is refused')
     return '2 of 2'
 
 
-def is_refused(module, words, annotated):
-    """Whether a module is refused, where this text is taken for it with prefetches."""
+def is_refused(module, words, annotated, is_wide):
+    """Whether a module is refused, where this text is taken for it with what is added."""
     kit = os.path.dirname(os.path.dirname(os.path.realpath(shutil.which('rt'))))
-    here, add_of_prefetch = os.getcwd(), prefetch.add
+    here, with_changes = os.getcwd(), compiling.with_changes
     with tempfile.TemporaryDirectory() as room:
         os.chdir(room)
         with open('module.bc', 'w', encoding='latin-1') as file:
             file.write(module)
-        prefetch.add = lambda _: annotated
+        compiling.with_changes = lambda text, wide: annotated if wide == is_wide else with_changes(text, wide)
         try:
-            compiling.main(os.path.join(kit, 'toolchain', 'bin', 'clang'), '', *words)
+            compiling.main(os.path.join(kit, 'toolchain', 'bin', 'clang'), '', is_wide and os.path.join(room, 'wide'), *words)
         except SystemExit as why:
             return 'is not the one that was proved' in str(why)
         finally:
-            prefetch.add = add_of_prefetch
+            compiling.with_changes = with_changes
             os.chdir(here)
     return False
 
@@ -279,16 +284,38 @@ def check_texts(report, library, target, sysroot=None):
         report.attempt(f'{shown} and its sums, made anew', is_made_anew, text, os.path.join(out, 'asm', target))
         if target == 'x86-64':
             report.attempt(f'{shown}: the prefetches of its module', has_prefetches, library, name)
-        if (library, name) == ('c', 'x86-64-v3'):
+        if library == 'c' and name in ('x86-64-v3', WIDE):
             report.attempt(f'{shown}: another module is refused', other_modules_are_refused, library, name)
         with tempfile.TemporaryDirectory() as room:
             for assembler in assemblers:
                 report.attempt(f'{shown} by {assembler.name}', is_same, assembler, text, proved, room)
             report.attempt(f'{shown} made wrong is noticed', wrong_texts_are_noticed, text, proved, target, room)
+            if name == WIDE:
+                report.attempt(f'{shown}: instructions of mnemonics.txt alone', other_instructions_are_noticed, text, room)
             check_frames(report, library, target, text, room)
             if (library, target) == ('rust', 'x86-64') and shutil.which('clang'):
                 report.attempt(f'{shown} with the directives of macOS', is_same_for_macos, text, proved,
                                os.path.join(out, 'asm', target), room)
+
+
+def other_instructions_are_noticed(text, room):
+    """The text as it is has none; one that the list lacks is noticed in each wide function, and a wide vector in another."""
+    with open(text) as file:
+        right = file.read()
+    want(not faults_of(right, room), 'it has others')
+    for name in map(wide.plain, wide.WIDE):
+        label = f'\n{name}:\n'
+        want(faults_of(right.replace(label, f'{label}\tvpcmpeqb %zmm0,%zmm1,%k1\n'), room), f'{name}: it was not noticed')
+    want(faults_of(right.replace('\nXXH64:\n', '\nXXH64:\n\tvpaddq %zmm0,%zmm1,%zmm2\n'), room), 'it was not noticed in XXH64')
+    return f'{len(wide.WIDE)} functions, {len(wide.mnemonics())} mnemonics'
+
+
+def faults_of(text, room):
+    path, out = os.path.join(room, 'wide.s'), os.path.join(room, 'wide.o')
+    with open(path, 'w') as file:
+        file.write(text)
+    As('x86-64', None).assemble(path, out)
+    return list(wide.faults(out, wide.mnemonics()))
 
 
 def check_frames(report, library, target, text, room):

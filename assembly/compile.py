@@ -1,18 +1,19 @@
 #!/usr/bin/env python3
 """Stands in the place of the toolchain's clang, where `annotated` puts it:
 
-    assembly/compile.py CLANG FOLDER WORD..
+    assembly/compile.py CLANG FOLDER WIDE WORD..
 
 Clang first does what the words say. Where it has compiled a module of what was proved, the module with prefetches
 (prefetch.py) is compiled in its place by the same words, for x86-64 so that no jump crosses or ends at a multiple of 32
-bytes, at which some processors decode a jump anew each time. Before that it compares, and stops where something differs:
+bytes, at which some processors decode a jump anew each time. Where WIDE isn't empty, that folder gets an object for
+x86-64-v4 too, of the same module (wide.py). Before that it compares, and stops where something differs:
 
 - the module as text, compiled by the same words, with what the toolchain made of the module, byte for byte;
-- the module with prefetches, as clang reads it, and without them again, with the text of the module.
+- the module with all that was added, as clang reads it, and without that again, with the text of the module.
 
 For 64-bit ARM the toolchain has clang optimize the module, changes its text and has clang compile that: the prefetches are
-in the first of the two. FOLDER, where it isn't empty, gets the module that the object was made of, as module.ll, and the
-`words` of clang's last call."""
+in the first of the two. FOLDER and WIDE get the module that the object was made of, as module.ll, and the `words` of clang's
+last call; WIDE also the object, as module.o."""
 import filecmp
 import os
 import re
@@ -21,6 +22,7 @@ import sys
 import tempfile
 
 import prefetch
+import wide
 
 FOR_X86_64 = ['-mbranches-within-32B-boundaries']
 
@@ -74,32 +76,44 @@ def write(path, text):
         file.write(text)
 
 
-def compile_annotated(clang, room):
-    """Writes what the module with prefetches gives over what the toolchain's gave, once both comparisons hold. The answer
-    is its text."""
-    ordered, proved, annotated, bitcode, as_read, again = (
-        os.path.join(room, it) for it in ('ordered', 'proved', 'annotated', 'bitcode', 'as_read', 'again'))
+def expect_as_text(clang, room):
+    """That the module as text gives the toolchain's object; the text, as clang reads it."""
+    ordered, proved, again = (os.path.join(room, it) for it in ('ordered', 'proved', 'again'))
     # Where it says in which order a value's uses stand, which decides nothing but the order of some instructions.
     clang.written('-S', os.getcwd(), ordered, '-Xclang', '-emit-llvm-uselists')
     clang.compile(ordered, again)
     if not filecmp.cmp(again, clang.made(), shallow=False):
         stop('the module as text gives another object than the toolchain has: this kit builds otherwise')
     clang.written('-S', os.getcwd(), proved)
-    text = clang.text(proved)
-    write(os.path.join(annotated, clang.module()), with_prefetches(text))
+    return clang.text(proved)
+
+
+def compile_changed(clang, room, text, made, is_wide=False):
+    """Writes the object of the module with what is added, once that is seen to be the proved one without it. The answer is
+    its text."""
+    annotated, bitcode, as_read, narrow = (os.path.join(room, it) for it in ('annotated', 'bitcode', 'as_read', 'narrow'))
+    write(os.path.join(annotated, clang.module()), with_changes(text, is_wide))
     clang.written('-c', annotated, bitcode)
     clang.written('-S', bitcode, as_read)
-    if prefetch.strip(clang.text(as_read)) != text:
-        stop('without its prefetches the module is not the one that was proved')
-    clang.compile(bitcode, clang.made(), FOR_X86_64 if is_for_x86_64(text) else [])
+    if without_changes(clang, as_read, narrow, is_wide) != text:
+        stop('without what was added the module is not the one that was proved')
+    clang.compile(bitcode, made, FOR_X86_64 if is_for_x86_64(text) else [])
     return clang.text(annotated)
 
 
-def with_prefetches(text):
+def with_changes(text, is_wide):
     try:
-        return prefetch.add(text)
+        return prefetch.add(wide.widen(text) if is_wide else text)
     except ValueError as why:
         stop(why)
+
+
+def without_changes(clang, folder, narrow, is_wide):
+    """The text of a folder's module again, after clang has numbered anew what a wide module's functions have apart."""
+    if is_wide:
+        write(os.path.join(narrow, clang.module()), wide.narrow(clang.text(folder)))
+        clang.written('-S', narrow, folder)
+    return prefetch.strip(clang.text(folder))
 
 
 def keep(folder, clang, module):
@@ -111,21 +125,32 @@ def is_for_x86_64(text):
     return re.search('^target triple = "x86_64', text, re.M)
 
 
-def main(path, kept, *words):
+def compile_all(clang, widened):
+    """The object of the module with prefetches in the place of the toolchain's, and the one for x86-64-v4. The answer is
+    the first one's text."""
+    with tempfile.TemporaryDirectory() as room:
+        text = expect_as_text(clang, room)
+        if widened:
+            os.makedirs(widened, exist_ok=True)
+            made = os.path.join(widened, 'module.o')
+            keep(widened, clang, compile_changed(clang, room, text, made, is_wide=True))
+        return compile_changed(clang, room, text, clang.made())
+
+
+def main(path, kept, widened, *words):
     clang = Clang(path, list(words))
     status = clang.run(words)
     if status:
         return status
     module = next((read(word) for word in words if word.endswith('.ll') and os.path.exists(word)), None)
     if clang.module():
-        with tempfile.TemporaryDirectory() as room:
-            module = compile_annotated(clang, room)
+        module = compile_all(clang, widened)
     if kept and module and '-c' in words:
         keep(kept, clang, module)
     return 0
 
 
 if __name__ == '__main__':
-    if len(sys.argv) < 4:
+    if len(sys.argv) < 5:
         sys.exit(__doc__)
     sys.exit(main(*sys.argv[1:]))

@@ -19,7 +19,7 @@ Place = namedtuple('Place', 'function callees bytes lines ahead apart within', d
 
 STRIPES = 'xxhash3::stripes::StripeAccumulator::'
 BLOCKS = 'xxhash3::stripes::blocks::'
-FOUR_STRIPES = ['xxhash3::large::lanes4::ImplVector::accumulate_four_stripes']
+FOUR_STRIPES = [f'xxhash3::large::lanes{count}::ImplVector::accumulate_four_stripes' for count in (4, 8)]
 BYTES_OF_SINGLE_STRIPES, BYTES_OF_MANY = 320, 1024
 EVERYWHERE = [
     Place(STRIPES + 'process_stripes', [STRIPES + 'process_stripe'], 1, 1, BYTES_OF_SINGLE_STRIPES),

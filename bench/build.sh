@@ -27,18 +27,21 @@ need_file() {
 
 # our_library TREE SET FILE: builds the libraries of the benchmark's crates in a tree, proved, for an instruction
 # set, as one object, as the tree builds what it ships: with prefetches, if it has them. Kernels that calls have to name
-# have none, and their crate lacks the other hashes. A tree may lack all crates but the first.
+# have none, and their crate lacks the other hashes. A tree may lack all crates but the first, which alone has what is wide
+# for x86-64-v4.
 our_library() {
-    local tree=$1 set=$2 file=$3 crate archives=() cpu=() annotated=()
+    local tree=$1 set=$2 file=$3 crate archives=() cpu=() annotated=() wide=()
     [ ! -x "$tree/assembly/annotated" ] || annotated=("$tree/assembly/annotated")
     [ -d "$tree/crates/bench_exports" ] || fail "$tree has no crate bench_exports"
-    [ "$set" = x86-64-v2 ] || cpu=(--cpu="$set")
+    [ "$set" = x86-64-v2 ] || cpu=(--cpu="${set/v4/v3}")
+    [ "$set" != x86-64-v4 ] || wide=(--wide "$room/wide")
     for crate in bench_exports bench_calls bench_kernels; do
         [ -d "$tree/crates/$crate/src" ] || continue
         archives+=("$tree/crates/$crate/out/lib$crate.a")
         [ "$crate" != bench_kernels ] || annotated=()
         prove_into "${archives[-1]}" "$crate of $tree for $set" "${TMPDIR:-/tmp}/bench-lib.log" \
-            "${annotated[@]}" rt lib "${cpu[@]}"
+            "${annotated[@]}" "${wide[@]}" rt lib "${cpu[@]}"
+        [ ${#wide[@]} = 0 ] || archives=("$room/wide/module.o") wide=()
     done
     ld -r --whole-archive "${archives[@]}" -o "$file"
 }

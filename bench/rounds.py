@@ -68,7 +68,8 @@ def origin(before, after, peers):
 
 
 def main(room, data, file_size, before, after):
-    rows = [it for name in ("x86-64-v2", "x86-64-v3") for it in rows_of(room, name, name)]
+    sets = sorted(os.path.basename(path) for path in glob.glob(os.path.join(room, "x86-64-v?")))
+    rows = [it for name in sets for it in rows_of(room, name, name)]
     said = origin(before, after, rows[0].peers)
     rows += rows_of(room, "shared", "c")
     measured.write(said, [*rows, *programs(room, int(file_size))], os.path.join(data, "measured.tsv"))

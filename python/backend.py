@@ -21,7 +21,7 @@ import zipfile
 HERE = os.path.dirname(os.path.abspath(__file__))
 C = os.path.join(os.path.dirname(HERE), 'c')
 # The instruction sets of each machine, and what is put before a set's names.
-SETS = {'x86_64': {'x86-64-v2': 'v2_', 'x86-64-v3': 'v3_'}, 'aarch64': {'aarch64': 'arm_'}}
+SETS = {'x86_64': {f'x86-64-v{k}': f'v{k}_' for k in (2, 3, 4)}, 'aarch64': {'aarch64': 'arm_'}}
 PROVED = [*(f'asm/{name}.s' for sets in SETS.values() for name in sets), 'asm/state_sizes.h', 'include/xxhash.h']
 FLAGS = ['-std=c11', '-O2', '-g0', '-fPIC', '-fvisibility=hidden', '-Wall', '-Wextra', '-Wno-cast-function-type',
          '-Wno-missing-field-initializers']

@@ -11,12 +11,11 @@ from file_program import file_program_agrees
 from launcher import OLD, SETS
 from report import tail, want
 from sides import THEIRS, Side, others, run
-from tools import C, TOP, must
+from tools import C, TOP, must, sets_here, sets_of_library
 
 NAME = 'twox-hash'
 PREFIX = '/usr/lib/twox-hash'
 FOLDER = os.path.join(PREFIX, 'lib')
-PLAIN, V3 = (os.path.join(FOLDER, part, 'libxxhash.so.0') for part in ('', 'glibc-hwcaps/x86-64-v3'))
 # What of lintian is left: the second `lib` of the folder is meant, as in those of LLVM; xxh is no C, whose calls gcc
 # could fortify; a word that it takes for a misspelled one is code; what it takes for a library that needs no other is a
 # program, linked statically so that it starts without any; and the section .comment names the logic of the proofs.
@@ -28,14 +27,19 @@ EXAMPLE = os.path.join(TOP, 'examples', 'c', 'hash-file.c')
 class Package:
     """The package file, and what the machine's own library was before."""
 
-    def __init__(self, room, v3):
-        self.room, self.ours = room, V3 if v3 else PLAIN
+    def __init__(self, room):
+        self.room, self.ours = room, library(sets_here()[-1])
         self.said = must([os.path.join(C, 'package'), room]).splitlines()[-1]
         self.file, = glob.glob(os.path.join(room, '*.deb'))
         self.theirs_before = their_state()
 
     def side(self):
         return Side('the installed package', FOLDER, self.ours)
+
+
+def library(instructions):
+    above = [] if instructions == sets_of_library()[0] else ['glibc-hwcaps', instructions]
+    return os.path.join(FOLDER, *above, 'libxxhash.so.0')
 
 
 def their_state():
@@ -70,7 +74,7 @@ def installs(package):
               must(['dpkg-deb', '-c', package.file]).splitlines() if not line.endswith(' ./')}
     want(listed == {'/' + path.rstrip('/') for path in packed}, 'dpkg -L lists other files')
     files = [path for path in listed if os.path.isfile(path)]
-    for path in (PLAIN, V3, '/usr/bin/xxh', '/usr/share/man/man1/xxh.1.gz', f'/usr/share/doc/{NAME}/copyright'):
+    for path in (*map(library, sets_of_library()), '/usr/bin/xxh', '/usr/share/man/man1/xxh.1.gz', f'/usr/share/doc/{NAME}/copyright'):
         want(path in files, f'without {path}')
     want(their_state() == package.theirs_before, "Debian's library is another")
     return package.said.split(': ', 1)[1] + f'; {len(files)} files and links'
@@ -200,7 +204,7 @@ def check_all(report, room, sides, v3):
         return
     folder = os.path.join(room, 'package')
     os.mkdir(folder)
-    package = Package(folder, v3)
+    package = Package(folder)
     report.attempt('the Debian package: lintian', lintian_is_silent, package)
     try:
         report.attempt('the Debian package: installed', installs, package)

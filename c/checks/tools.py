@@ -109,6 +109,18 @@ def clean_copy(folder):
         shutil.copy(os.path.join(TOP, name), path, follow_symlinks=False)
 
 
+def sets_of_library():
+    """The sets of instructions that the library is made for on x86-64, the one for every processor first."""
+    return must(['make', '-s', '-C', C, 'sets']).split()
+
+
+def sets_here():
+    """Those of them that the loader takes on this machine."""
+    told = subprocess.run(['/lib64/ld-linux-x86-64.so.2', '--help'], stdout=subprocess.PIPE, text=True).stdout
+    first, *above = sets_of_library()
+    return [first, *(name for name in above if f'{name} (supported' in told)]
+
+
 class Built:
     """What is checked: the installed library of a processor, and copies of it that are wrong."""
 
@@ -122,7 +134,15 @@ class Built:
         self.include = os.path.join(self.prefix, 'include')
         self.archive = os.path.join(self.folder, 'libtwox_hash.a')
         self.plain = os.path.join(self.folder, 'libxxhash.so.0')
-        self.v3 = os.path.join(self.folder, 'glibc-hwcaps/x86-64-v3/libxxhash.so.0')
+
+    def shared(self, instructions):
+        """The shared library for a set of instructions."""
+        above = [] if instructions == sets_of_library()[0] else ['glibc-hwcaps', instructions]
+        return os.path.join(self.folder, *above, 'libxxhash.so.0')
+
+    def libraries(self):
+        """The shared library of each set, and of those that the loader takes here."""
+        return [self.shared(name) for name in sets_of_library()], [self.shared(name) for name in sets_here()]
 
     def tool(self, name, *words):
         return must([self.tools + name, *words])

@@ -237,8 +237,8 @@ def check_makefile(report, copy, room):
 def check_x86(report, copy, room, has_v3, examples):
     check_makefile(report, copy, room)
     built = Made(room, copy)
-    paths = (built.plain, built.v3) if has_v3 else (built.plain,)
-    for path in (built.plain, built.v3):
+    every, paths = built.libraries()
+    for path in every:
         report.attempt(f'names of {os.path.relpath(path, built.folder)}', values.names_are_theirs, path, THEIRS)
     made.check_all(report, built, paths)
     for compiler in ('gcc', 'clang'):

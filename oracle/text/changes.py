@@ -23,7 +23,7 @@ from .processor import Processor
 EQUAL = os.path.join(os.path.dirname(os.path.abspath(__file__)), "equal_changes.txt")
 LIMIT = 300_000                   # instructions of a changed text's call
 MOST, NEAR, FEWEST = 200, 20, 10  # questions that a change is asked, requests near to them, and if it has a reason
-MANY, FEW = 100, 50               # changes of a text, with --all and without
+MANY, FEW, SOME = 100, 50, 25     # changes of a text, with --all and without, and of some functions
 UPDATES = 8                       # cases of updates of XXH3 that a change is asked, with --all
 IDLE = "nop", "prefetcht0", "vzeroupper", "ud2"
 UNNOTICED, CRASH = "unnoticed", "A CRASH"
@@ -268,8 +268,8 @@ def is_equal(text, known):
     return any(all(word in text for word in words.split(" & ")) for words in known)
 
 
-def noticed(name, program, is_all):
-    """(changes that were tried, those that aren't noticed and have no reason)."""
+def noticed(name, program, is_all, word=""):
+    """(changes that were tried in functions with a word in their names, those that aren't noticed and have no reason)."""
     nodes.forget()
     # Which changes are drawn doesn't depend on how many questions the ones before were asked.
     cpu, draw, order = Processor(program, name), random.Random(1), random.Random(2)
@@ -278,8 +278,8 @@ def noticed(name, program, is_all):
     asked = questions(entries, is_all)
     found = reaching(cpu, asked)
     known, bad, told = reasons(), [], collections.Counter()
-    changes = drawn(cpu, sorted(found), draw)
-    for place, text, instructions in (next(changes) for _ in range(MANY if is_all else FEW)):
+    changes = drawn(cpu, sorted(place for place in found if word in place[0]), draw)
+    for place, text, instructions in (next(changes) for _ in range(MANY if is_all else SOME if word else FEW)):
         has_reason = is_equal(text, known)
         reached = [question for k, question in enumerate(asked) if found[place] >> k & 1]
         order.shuffle(reached)

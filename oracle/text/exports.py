@@ -57,6 +57,41 @@ def expect_twins(program):
     return len(twins())
 
 
+# ---- the exports of x86-64-v4 that have the code of x86-64-v3
+
+def is_of_v3(name):
+    """All of XXH32 and XXH64, and the calls that take no message."""
+    row = {**shown_by(), **dict.fromkeys(twins(), STREAMS)}[name]
+    return name.startswith(("XXH32_", "XXH64_")) or row.startswith(("XXH32,", "XXH64,", *OTHERS))
+
+
+OTHERS = ("the version", "equal hashes", "the order of hashes", "canonical forms", "copies of states", FORGET,
+          "the derived secret")
+
+
+def expect_code_of_v3(program, other):
+    """That these exports, with all that they lead to, have the other text's instructions and constants."""
+    found = [name for name in program.exports if is_of_v3(name)]
+    for name in found:
+        left, known = [program.exports[name]], set()
+        while left:
+            section, first = left.pop()
+            if first or section in known:
+                continue
+            known.add(section)
+            if led(program, section) != led(other, section):
+                raise NotShown(f"{name}: {section} has other code")
+            left += [x.target for x in program.sections[section].values() if x.target and x.target[0] in program.sections]
+    return len(found)
+
+
+def led(program, section):
+    """The instructions of a section, where a constant stands for its place."""
+    code = program.sections.get(section, {})
+    return [x._replace(target=(program.constants[x.target[0]], x.target[1])) if x.target and x.target[0] in program.constants
+            else x for _, x in sorted(code.items())]
+
+
 def code_of(program, name):
     """The instructions of a function's section, by their distance from its beginning."""
     section, first = program.exports[name]

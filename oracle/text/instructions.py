@@ -1,15 +1,15 @@
 """The table of instructions of x86-64: what each form does, and the set of instructions that has it.
 
 A form is a mnemonic with a letter for each operand, as `add ml`: b, w, l, q a register of 8, 16, 32, 64 bits, h the
-second byte of one, x and y one of 128 and 256, m memory, i a number. What isn't in the table is refused. scalar.py and
+second byte of one, x, y and z one of 128, 256 and 512, m memory, i a number. What isn't in the table is refused. scalar.py and
 lanes.py fill it: each entry is a function of the processor and the instruction, which gives the place of the next
 instruction where that isn't the one behind it."""
 from terms.llvm_text import Unsupported
 
-from .objects import Immediate, Place
+from .objects import Immediate, Place, Register
 
-V2, V3 = "x86-64-v2", "x86-64-v3"
-SETS = {V2: (V2,), V3: (V2, V3)}           # which sets a processor of that name has
+V2, V3, V4 = "x86-64-v2", "x86-64-v3", "x86-64-v4"
+SETS = {V2: (V2,), V3: (V2, V3), V4: (V2, V3, V4)}      # which sets a processor of that name has
 TABLE = {}                                 # (mnemonic, letters) -> (set, function)
 WIDE = "rax", "rcx", "rdx", "rbx", "rsp", "rbp", "rsi", "rdi", *(f"r{k}" for k in range(8, 16))
 LETTERS = {8: "b", 16: "w", 32: "l", 64: "q"}
@@ -30,7 +30,8 @@ def parts_of_registers():
 
 
 PARTS = parts_of_registers()
-VECTORS = {f"{letter}mm{k}": k for letter in "xy" for k in range(16)}
+VECTORS = {f"{letter}mm{k}": k for letter in "xyz" for k in range(32)}
+OLDER = 16                                 # vectors that a processor has before x86-64-v4
 
 
 def form(kind, mnemonics, letters):
@@ -61,11 +62,16 @@ def letters(instruction):
     return "".join(map(letter, instruction.operands))
 
 
+def needs_v4(instruction):
+    """Whether it has a vector that came with x86-64-v4, of whichever width."""
+    return any(VECTORS.get(x.name, 0) >= OLDER for x in instruction.operands if isinstance(x, Register))
+
+
 def known(instruction, processor):
     """What an instruction does, by a processor of a name."""
     key = instruction.mnemonic, letters(instruction)
     kind, function = TABLE.get(key, (None, None))
-    if kind not in SETS[processor]:
+    if kind not in SETS[processor] or needs_v4(instruction) and V4 not in SETS[processor]:
         raise Unsupported(f"{instruction.section} {instruction.at:#x}: the instruction {' '.join(key)}, "
                           f"which {processor} hasn't here")
     return function

@@ -1,13 +1,14 @@
-"""What the instructions on vectors do. A register of 256 bits is four lanes of 64, each a value. The older forms leave
-the upper half of a register as it is, and want their places in memory aligned; those with a `v` make it 0."""
+"""What the instructions on vectors do. A register of 512 bits is eight lanes of 64, each a value. The older forms leave
+the upper lanes of a register as they are, and want their places in memory aligned; those with a `v` make them 0."""
 from terms.llvm_text import Unsupported
 from terms.polynomials import plus
 
-from .instructions import V2, V3, VECTORS, form
+from .instructions import OLDER, V2, V3, V4, VECTORS, form
 from .objects import Register
 from .values import WORD, arithmetic, bits, joined
 
 LANE = 8     # bytes
+WIDTHS = {"x": 2, "y": 4, "z": 8}     # lanes
 
 
 def is_vector(operand):
@@ -15,8 +16,8 @@ def is_vector(operand):
 
 
 def lanes_count(x):
-    """2 or 4, by the widest register."""
-    return 4 if any(is_vector(y) and y.name[0] == "y" for y in x.operands) else 2
+    """2, 4 or 8, by the widest register."""
+    return max((WIDTHS[y.name[0]] for y in x.operands if is_vector(y)), default=2)
 
 
 def is_new(x):
@@ -39,7 +40,7 @@ def write(cpu, operand, x, lanes, alignment=1):
     register = cpu.vectors[VECTORS[operand.name]]
     register[:len(lanes)] = lanes
     if is_new(x):
-        register[len(lanes):] = [0] * (4 - len(lanes))
+        register[len(lanes):] = [0] * (len(register) - len(lanes))
 
 
 def two(cpu, x):
@@ -63,10 +64,13 @@ def of_halves(words):
 
 @form(V2, "movdqu movups movdqa movaps", "mx xm xx")
 @form(V3, "vmovdqu vmovups vmovdqa vmovaps", "mx xm my ym")
+@form(V3, "vmovdqa", "yy")
+@form(V4, "vmovdqu64", "mz zm zz")
+@form(V4, "vmovdqa64", "mz zm zz yy")
 def move(cpu, x):
     source, to = x.operands
     count = lanes_count(x)
-    alignment = LANE * count if x.mnemonic.lstrip("v") in ("movdqa", "movaps") else 1
+    alignment = LANE * count if x.mnemonic.strip("v64") in ("movdqa", "movaps") else 1
     write(cpu, to, x, read(cpu, source, x, count, alignment), alignment)
 
 
@@ -98,16 +102,21 @@ def extract(cpu, x):
 
 
 @form(V3, "vextracti128", "iyx")
-def extract_half(cpu, x):
+@form(V4, "vextracti32x4", "iyx izx")
+@form(V4, "vextracti64x4", "izy")
+def extract_part(cpu, x):
     k, source, to = x.operands
-    write(cpu, to, x, cpu.lanes(source, 2, 2 * (k.value & 1)))
+    count, parts = WIDTHS[to.name[0]], WIDTHS[source.name[0]] // WIDTHS[to.name[0]]
+    write(cpu, to, x, cpu.lanes(source, count, count * (k.value % parts)))
 
 
 @form(V3, "vinserti128", "ixyy")
+@form(V4, "vinserti64x4", "iyzz")
 def insert_half(cpu, x):
     k, source, other, to = x.operands
-    at = 2 * (k.value & 1)
-    half, kept = read(cpu, source, x, 2), cpu.lanes(other, 2, 2 - at)
+    count = lanes_count(x) // 2
+    at = count * (k.value & 1)
+    half, kept = read(cpu, source, x, count), cpu.lanes(other, count, count - at)
     write(cpu, to, x, half + kept if not at else kept + half)
 
 
@@ -127,8 +136,8 @@ def broadcast_half(cpu, x):
 
 @form(V3, "vzeroupper", "")
 def zero_upper(cpu, x):
-    for lanes in cpu.vectors:
-        lanes[2:] = [0, 0]
+    for lanes in cpu.vectors[:OLDER]:
+        lanes[2:] = [0] * (len(lanes) - 2)
 
 
 # ---- sums, products, bits
@@ -150,11 +159,14 @@ def by_half(word):
     return operation
 
 
-NEW = "mxx xxx myy yyy"
+NEW, WIDE = "mxx xxx myy yyy", "mzz zzz"
 for mnemonic, word in (("paddq", "add"), ("psubq", "sub"), ("pxor", "xor"), ("xorps", "xor"), ("por", "or"),
                        ("pand", "and")):
     form(V2, mnemonic, "mx xx")(by_lane(word))
     form(V3, "v" + mnemonic, NEW)(by_lane(word))
+for mnemonic, word in (("vpaddq", "add"), ("vpsubq", "sub"), ("vpxorq", "xor"), ("vporq", "or"), ("vpandq", "and"),
+                       ("vpmullq", "mul")):
+    form(V4, mnemonic, WIDE)(by_lane(word))
 for mnemonic, word in (("paddd", "add"), ("psubd", "sub"), ("pmulld", "mul")):
     form(V2, mnemonic, "mx xx")(by_half(word))
     form(V3, "v" + mnemonic, NEW)(by_half(word))
@@ -162,6 +174,7 @@ for mnemonic, word in (("paddd", "add"), ("psubd", "sub"), ("pmulld", "mul")):
 
 @form(V2, "pmuludq", "mx xx")
 @form(V3, "vpmuludq", NEW)
+@form(V4, "vpmuludq", WIDE)
 def products(cpu, x):
     pairs = zip(*two(cpu, x))
     write(cpu, x.operands[-1], x, [arithmetic("mul", WORD, halves(p)[0], halves(q)[0]) for p, q in pairs])
@@ -178,12 +191,32 @@ def shifted(word):
 for mnemonic, word in (("psrlq", "lshr"), ("psllq", "shl")):
     form(V2, mnemonic, "ix")(shifted(word))
     form(V3, "v" + mnemonic, "ixx iyy")(shifted(word))
+    form(V4, "v" + mnemonic, "izz")(shifted(word))
+
+
+@form(V4, "vpmullq{1to8}", "mzz")
+def products_by_one(cpu, x):
+    """By one word of memory, for all lanes."""
+    source, other, to = x.operands
+    factor = cpu.get(source, WORD, x)
+    write(cpu, to, x, [arithmetic("mul", WORD, lane, factor) for lane in cpu.lanes(other, lanes_count(x))])
+
+
+@form(V4, "vpternlogq", "izzz imzz")
+def logic_of_three(cpu, x):
+    """Of the tables of three bits the one that is their sum mod 2."""
+    table, c, b, a = x.operands
+    if table.value != 0x96:
+        raise Unsupported(f"the table {table.value:#x} of three bits")
+    lanes = zip(*(read(cpu, y, x, lanes_count(x)) for y in (a, b, c)))
+    write(cpu, a, x, [arithmetic("xor", WORD, arithmetic("xor", WORD, p, q), r) for p, q, r in lanes])
 
 
 # ---- other orders
 
 @form(V2, "pshufd", "ixx")
 @form(V3, "vpshufd", "ixx iyy")
+@form(V4, "vpshufd", "izz")
 def shuffle(cpu, x):
     order, source, to = x.operands
     lanes, out = read(cpu, source, x, lanes_count(x)), []
@@ -228,6 +261,24 @@ def permute(cpu, x):
     order, source, to = x.operands
     lanes = read(cpu, source, x, 4)
     write(cpu, to, x, [lanes[order.value >> 2 * k & 3] for k in range(4)])
+
+
+def picked(order, words):
+    """Of some words those whose numbers stand in the low bits of others."""
+    if not all(isinstance(k, int) for k in order):
+        raise Unsupported("an order that is no number")
+    return [words[k % len(words)] for k in order]
+
+
+@form(V4, "vpermi2q vpermi2d vpermt2q vpermt2d", "yyy zzz")
+def permute_two(cpu, x):
+    """Lanes, or halves of them, of two vectors: the vector that is written was the order (i), or the first of both (t)."""
+    second, other, to = (cpu.lanes(y, lanes_count(x)) for y in x.operands)
+    first, order = (other, to) if "i2" in x.mnemonic else (to, other)
+    if x.mnemonic[-1] == "q":
+        return write(cpu, x.operands[-1], x, picked(order, first + second))
+    first, second, order = ([word for lane in side for word in halves(lane)] for side in (first, second, order))
+    write(cpu, x.operands[-1], x, of_halves(picked(order, first + second)))
 
 
 @form(V3, "vpslldq vpsrldq", "ixx iyy")

@@ -160,6 +160,7 @@ class Program:
             raise Unsupported(f"{section} {at:#x}: {text}, which leads to no one place")
         if not is_jump and bool(places) != ("(%rip)" in rest) or places not in ([], [end - 4]):
             raise Unsupported(f"{section} {at:#x}: {text} with relocations at {places}")
+        mnemonic, rest = with_broadcast(mnemonic, rest)
         found = () if is_jump else operands(rest)
         if places and any(x != RELOCATED for x in found if not isinstance(x, Register)):
             raise Unsupported(f"{section} {at:#x}: {text}, of which another part is relocated")
@@ -188,6 +189,12 @@ def split(text):
     while words[0] in PREFIXES and len(words) > 1 and re.match(r"(\w+ )*nop", words[1]):
         words = words[1].split(None, 1)
     return words[0], words[1].strip() if len(words) > 1 else ""
+
+
+def with_broadcast(mnemonic, rest):
+    """Where memory has one word for all lanes, the mnemonic says so."""
+    found = re.search(r"\{1to\d+\}", rest)
+    return (mnemonic + found[0], rest.replace(found[0], "")) if found else (mnemonic, rest)
 
 
 def operand(text):

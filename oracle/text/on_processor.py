@@ -1,9 +1,11 @@
 """The table of instructions beside the processor: what the table says of an instruction, and what this processor does,
-on inputs with edges. All registers, what lies in memory, and the flags that the table has are compared.
+on inputs with edges. All registers, what lies in memory, and the flags that the table has are compared. Where this one
+isn't x86-64-v4, what came with that is left out.
 
 Each instruction stands in a function of its own, which loads all registers, runs it, and stores them. The processor
 runs that function; of the same object, read as the texts are, the instruction is run over numbers."""
 import ctypes
+import functools
 import os
 import random
 import subprocess
@@ -11,24 +13,28 @@ import subprocess
 from terms.loops import NotShown
 from terms.rules import ones
 
-from .instructions import PARTS, TABLE, V3, WIDE, letters
+from .instructions import OLDER, PARTS, SETS, TABLE, V3, V4, WIDE, letters, needs_v4
 from .memory import ENTRY, Stack, Words
 from .objects import Immediate, Place, Program, Register
-from .processor import KEPT, Processor
+from .processor import KEPT, LANES, VECTORS_COUNT, Processor
 from .values import address
 
 ROUNDS = 40                       # inputs of an instruction
 EDGES = 0, 1, 127, 128, 255
+FEATURES = {V3: {"avx2", "bmi2", "movbe"}, V4: {"avx512f", "avx512bw", "avx512cd", "avx512dq", "avx512vl"}}
 BEHIND = "jmp", "call", "ret", "push", "pop", "nop", "ud2", "vzeroupper", "j"      # those without operands, and stacks
 LOADED = [name for name in WIDE if name != "rsp"]
 # Where in the memory that a function is handed: registers, vectors, the word that sets the flags, what an instruction
 # reads and writes, and then the registers and the flags afterwards.
-REGISTERS, LANES, COMPARED, ROOM, AFTER, LANES_AFTER, FLAGS_AFTER, SIZE = 0, 128, 640, 704, 768, 896, 1408, 1472
+REGISTERS, VECTORS, COMPARED, ROOM, AFTER, VECTORS_AFTER, FLAGS_AFTER, SIZE = 0, 128, 2176, 2240, 2368, 2496, 4544, 4608
+WHOLE = 8 * LANES                 # bytes of a vector
 FLAGS = "b", "e", "a"
 SOME_FLAGS = {"imul": (), "mul": (), "div": (), "shld": (), "shl": "e", "shr": "e"}    # which are set, if not all
 BASES = "rdi", "rsi", "r9", "r10"
 SAMPLE = {"b": ["al", "cl", "dl"], "h": ["ah"], "w": ["ax", "cx", "dx"], "l": ["eax", "ecx", "ebx"],
-          "q": ["rax", "rcx", "rbx"], "x": ["xmm1", "xmm2", "xmm3"], "y": ["ymm1", "ymm2", "ymm3"]}
+          "q": ["rax", "rcx", "rbx"], "x": ["xmm1", "xmm2", "xmm3"], "y": ["ymm1", "ymm2", "ymm3"],
+          "z": ["zmm1", "zmm2", "zmm31"]}
+NUMBERS = {"vpternlogq": 0x96}    # the one that the table has
 CONDITIONS = "e", "ne", "b", "ae", "a", "be"
 # Branches, calls and the stack.
 SNIPPETS = [*([f"cmp %{other},%rax", f"j{name} 1f", "not %rax", "1: not %rcx"] for name in CONDITIONS
@@ -41,18 +47,20 @@ SNIPPETS = [*([f"cmp %{other},%rax", f"j{name} 1f", "not %rax", "1: not %rcx"] f
 
 def asked(programs, each):
     """Text -> form: each instruction of the programs, or one of each form; and one of each form of the table that
-    no program has."""
-    out, forms = {}, set()
+    no program has. Those that this processor hasn't are left out."""
+    out, forms, sets = {}, set(), SETS[processor_here()]
     for program in programs:
         for code in program.sections.values():
             for x in code.values():
                 key = form_of(x)
-                if not x.mnemonic.startswith(BEHIND) and (each or key not in forms):
+                is_here = TABLE[key][0] in sets and not (needs_v4(x) and V4 not in sets)
+                if is_here and not x.mnemonic.startswith(BEHIND) and (each or key not in forms):
                     out[written(x.mnemonic, x.operands)] = key
                 forms.add(key)
     for mnemonic, form in TABLE:
-        if (mnemonic, form) not in forms and not mnemonic.startswith(BEHIND):
-            out[written(mnemonic, sample(form))] = mnemonic, form
+        is_here = TABLE[mnemonic, form][0] in sets
+        if is_here and (mnemonic, form) not in forms and not mnemonic.startswith(BEHIND):
+            out[written(mnemonic, sample(mnemonic, form))] = mnemonic, form
     return out
 
 
@@ -60,14 +68,14 @@ def form_of(x):
     return x.mnemonic, letters(x)
 
 
-def sample(form):
+def sample(mnemonic, form):
     used, out = {}, []
     for letter in form:
         if letter in SAMPLE:
             used[letter] = used.get(letter, -1) + 1
             out.append(Register(SAMPLE[letter][used[letter]]))
         else:
-            out.append(Immediate(5) if letter == "i" else Place(0, "rax", None, 1))
+            out.append(Immediate(NUMBERS.get(mnemonic, 5)) if letter == "i" else Place(0, "rax", None, 1))
     return out
 
 
@@ -77,7 +85,9 @@ def written(mnemonic, operands):
     names = {PARTS[x.name][0] for x in operands if isinstance(x, Register) and x.name in PARTS}
     base = next(name for name in BASES if name not in names)
     is_lea = mnemonic == "lea"
-    return f"{mnemonic} " + ",".join(operand_written(x, base, is_lea) for x in operands)
+    word, _, broadcast = mnemonic.partition("{")
+    told = ",".join(operand_written(x, base, is_lea) for x in operands)
+    return f"{word} {told.replace(')', '){' + broadcast, 1) if broadcast else told}"
 
 
 def bases_of(lines):
@@ -108,19 +118,26 @@ def function(number, lines):
     yield from (f".globl t{number}", f".type t{number},@function", f"t{number}:")
     yield from (f"push %{name}" for name in (*KEPT, "rdi"))
     yield f"cmpl $1,{COMPARED}(%rdi)"
-    yield from (f"vmovdqu {LANES + 32 * k}(%rdi),%ymm{k}" for k in range(16))
+    yield from moves("{place},{vector}", VECTORS)
     yield from (f"mov {REGISTERS + 8 * LOADED.index(name)}(%rdi),%{name}" for name in rest)
     yield from (f"mov %rdi,%{name}" for name in bases if name != "rdi")
     yield from [] if "rdi" in bases else [f"mov {REGISTERS + 8 * LOADED.index('rdi')}(%rdi),%rdi"]
     yield from (f"b{number}:", *lines, f"e{number}:", "push %rdi", "mov 8(%rsp),%rdi")
     yield from (f"mov %{name},{AFTER + 8 * LOADED.index(name)}(%rdi)" for name in LOADED if name not in (*bases, "rdi"))
-    yield from (f"vmovdqu %ymm{k},{LANES_AFTER + 32 * k}(%rdi)" for k in range(16))
+    yield from moves("{vector},{place}", VECTORS_AFTER)
     yield "pop %rax"
     yield from [] if "rdi" in bases else [f"mov %rax,{AFTER + 8 * LOADED.index('rdi')}(%rdi)"]
     for k, name in enumerate(SOME_FLAGS.get(lines[0].split()[0], FLAGS)):
         yield from (f"set{name} %al", f"mov %al,{FLAGS_AFTER + k}(%rdi)")
     yield from (f"pop %{name}" for name in ("rdi", *reversed(KEPT)))
     yield from ("vzeroupper", "ret")
+
+
+def moves(operands, first):
+    """All vectors from or to memory: of a processor without x86-64-v4 the half that it has of the older ones."""
+    word, letter, count = ("vmovdqu64", "z", VECTORS_COUNT) if is_v4() else ("vmovdqu", "y", OLDER)
+    for k in range(count):
+        yield f"{word} " + operands.format(place=f"{first + WHOLE * k}(%rdi)", vector=f"%{letter}mm{k}")
 
 
 def assembled(snippets, room):
@@ -163,7 +180,7 @@ def by_table(cpu, number, lines, data):
     cpu.registers.update({name: address(room) for name in bases})
     cpu.stack = Stack()
     cpu.registers["rsp"] = address(cpu.stack, ENTRY)
-    cpu.vectors = [[word(data, LANES + 32 * k + 8 * lane) for lane in range(4)] for k in range(16)]
+    cpu.vectors = [[word(data, VECTORS + WHOLE * k + 8 * lane) for lane in range(LANES)] for k in range(VECTORS_COUNT)]
     cpu.set_flags("sub", 32, word(data, COMPARED) & ones(32), 1, None)
     run_to(cpu, cpu.program.labels[f"b{number}"], cpu.program.labels[f"e{number}"])
     out = bytearray(data)
@@ -172,10 +189,18 @@ def by_table(cpu, number, lines, data):
     for k, name in enumerate(LOADED):
         if name not in bases:
             out[AFTER + 8 * k:AFTER + 8 * k + 8] = cpu.registers[name].to_bytes(8, "little")
-    out[LANES_AFTER:FLAGS_AFTER] = b"".join(x.to_bytes(8, "little") for lanes in cpu.vectors for x in lanes)
+    put_vectors(out, cpu.vectors)
     for k, name in enumerate(SOME_FLAGS.get(lines[0].split()[0], FLAGS)):
         out[FLAGS_AFTER + k] = cpu.condition(name)
     return bytes(out)
+
+
+def put_vectors(out, vectors):
+    """Of each vector as much as is stored."""
+    count, lanes_count = (VECTORS_COUNT, LANES) if is_v4() else (OLDER, LANES // 2)
+    for k, lanes in enumerate(vectors[:count]):
+        at = VECTORS_AFTER + WHOLE * k
+        out[at:at + 8 * lanes_count] = b"".join(x.to_bytes(8, "little") for x in lanes[:lanes_count])
 
 
 def run_to(cpu, place, end):
@@ -189,7 +214,7 @@ def compare(programs, room, each):
     texts = asked(programs, each)
     snippets = [*([text] for text in texts), *SNIPPETS]
     library, program = assembled(snippets, room)
-    cpu, draw, wrong = Processor(program, V3), random.Random(1), []
+    cpu, draw, wrong = Processor(program, processor_here()), random.Random(1), []
     whole = ctypes.create_string_buffer(SIZE + 64)
     first = -ctypes.addressof(whole) % 64
     state = (ctypes.c_ubyte * SIZE).from_buffer(whole, first)
@@ -208,11 +233,20 @@ def compare(programs, room, each):
     return len(snippets), wrong
 
 
-def has_avx2():
+@functools.cache
+def has(name):
     with open("/proc/cpuinfo", encoding="utf-8") as file:
-        return {"avx2", "bmi2", "movbe"} <= set(file.read().split())
+        return FEATURES[name] <= set(file.read().split())
+
+
+def is_v4():
+    return has(V3) and has(V4)
+
+
+def processor_here():
+    return V4 if is_v4() else V3
 
 
 def expect_processor():
-    if os.uname().machine != "x86_64" or not has_avx2():
+    if os.uname().machine != "x86_64" or not has(V3):
         raise NotShown("this processor isn't x86-64-v3: the table isn't compared")

@@ -21,7 +21,8 @@ from .values import WORD, Address, address, arithmetic, bits, joined, low
 KEPT = "rbx", "rbp", "r12", "r13", "r14", "r15"          # of the caller, which gets them back
 ARGUMENTS = "rdi", "rsi", "rdx", "rcx", "r8", "r9"
 OUT = "return"
-LANES = 4                         # of 64 bits, which a vector has
+LANES = 8                         # of 64 bits, which a vector has
+VECTORS_COUNT = 32
 NO_LIMIT = 1 << 24                # instructions of a call
 
 
@@ -88,7 +89,7 @@ class Processor:
 
     def forget_vectors(self):
         """No lane may be read before it is written."""
-        self.vectors = [[None] * LANES for _ in range(16)]
+        self.vectors = [[None] * LANES for _ in range(VECTORS_COUNT)]
 
     def run(self, place):
         """From a place to the return out of the first call."""

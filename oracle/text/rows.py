@@ -14,13 +14,14 @@ from terms.sides import TOP, Request
 
 from . import (any_secret, any_updates, calls, changes, covered, every_length, exports, lanes, on_processor, one_shots, planted,
                scalar, streams, xxh3_updates)
-from .instructions import TABLE, V2, V3
+from .instructions import SETS, TABLE, V2, V3, V4
 from .objects import Program
 from .processor import Processor
 
-NAMES = V2, V3
+NAMES = V2, V3, V4
 FOLDER = os.path.join(TOP, "c", "asm")
 ONE_BY_ONE, MORE = range(301), range(301, 1101)     # lengths asked one by one: always, and with --all
+EDGES_OF_BLOCKS = [1023, 1024, 1025, 1088, 1089, 2048, 2049, 2112]
 SECRETS, STREAM_SECRETS = (136,), (136, 193, 256)
 # Streams: their lengths, with how each is cut.
 FEW_STREAMS = [(0,), (5, 2), (33, 1), (70, 33, 64), (200, 31, 160), (240, 239), (257, 256), (300, 64, 192),
@@ -77,6 +78,15 @@ def export_row(texts, titles):
                    lambda: (sum(exports.expect_all(program, titles) for program in texts.values()), []))
 
 
+def before_v4(texts):
+    return {name: program for name, program in texts.items() if name != V4}
+
+
+def texts_of(texts, hash_name):
+    """Of XXH32 and XXH64, as of all that takes no message, x86-64-v4's code is x86-64-v3's: a row of its own shows it."""
+    return before_v4(texts) if one_shots.is_plain(hash_name) else texts
+
+
 # ---- one-shots and streams, by comparison with the definition's terms
 
 def title_of(hash_name, kind, secret):
@@ -86,6 +96,7 @@ def title_of(hash_name, kind, secret):
 def compared(texts, title, requests, side=one_shots):
     """A row of requests, each of all texts: the definition's term is made once."""
     requests = list(requests)
+    texts = texts_of(texts, requests[0].hash_name)
     lengths = [request.length for request in requests]
 
     def ask():
@@ -99,8 +110,11 @@ def one_by_one(texts, kind, lengths, more=""):
 
 
 def one_shot_rows(texts, is_all):
-    """Secrets of other lengths have rows of every length."""
-    out = [one_by_one(texts, kind, ONE_BY_ONE) for kind in comparison.kinds(SECRETS)]
+    """Secrets of other lengths have rows of every length. With one of 136 bytes x86-64-v4 runs what x86-64-v3 does."""
+    out = [one_by_one(texts if is_all or kind[2] is None else before_v4(texts), kind, ONE_BY_ONE)
+           for kind in comparison.kinds(SECRETS)]
+    for kind in [("3-64", "default", None), ("3-128", "seed", None), ("3-64", "secret", 192)]:
+        out.append(one_by_one({V4: texts[V4]}, kind, EDGES_OF_BLOCKS, f", at the edges of blocks, {V4}"))
     for kind in comparison.kinds(SECRETS) if is_all else ():
         out.append(one_by_one(texts, kind, comparison.edges(kind[2]), ", at edges"))
         if kind[2] is None and kind[0].startswith("3-"):
@@ -124,7 +138,7 @@ def stream_rows(texts, is_all):
     out = []
     for kind in comparison.kinds(STREAM_SECRETS if is_all else SECRETS):
         out.append(compared(texts, f"streams of {title_of(*kind)}", few_streams(*kind), streams))
-    return [*out, *plain_stream_rows(makers(texts), is_all), *xxh3_rows(makers(texts), is_all)]
+    return [*out, *plain_stream_rows(makers(before_v4(texts)), is_all), *xxh3_rows(makers(texts), is_all)]
 
 
 def plain_stream_rows(made, is_all):
@@ -207,7 +221,10 @@ def every_length_rows(texts, is_all):
     out = [counted("every length of XXH32 and XXH64 has its row", 2, plain_left_out)]
     out += [counted("every length of XXH3 has its row", 2, xxh3_left_out)] if is_all else []
     for kind in every_length.UNROLLED:
-        out += of_every_length(made, kind, f"XXH{kind}: every length to 2^64 - 1", every_length.cases(kind))
+        out += of_every_length(makers(before_v4(texts)), kind, f"XXH{kind}: every length to 2^64 - 1", every_length.cases(kind))
+    if not is_all:
+        out += of_every_length({V4: made[V4]}, "3-64:seed", "XXH3-64, seed: one case of every length",
+                               every_length.cases("3-64:seed")[:1])
     return out + long_rows(made, is_all)
 
 
@@ -289,17 +306,20 @@ def call_rows(texts, is_all):
     sizes = [0, 1, 135, 136, 137, 143, 144, 191, 192, 256, 1000] if not is_all else [*range(0, 301), 1000]
     seeds = [0, 1, 17, 136, 241, 300] if is_all else [0, 3, 241]
     made = [(size, length) for size in sizes for length in seeds]
-    of = functools.partial(of_each, texts)
+    of = functools.partial(of_each, before_v4(texts))
+    of_streams = functools.partial(of_each, texts)
     return [of("canonical forms and back", 6, calls.canonical_forms), of("equal hashes", 4, calls.is_equal),
             of("the order of hashes", 9, calls.compare), of("the version", 1, calls.version),
             of("copies of states", 3, calls.copies), of("freed states are refused", 4, calls.forgotten),
-            of("streams: memory without the mark of a reset", 8, calls.without_mark),
-            of("streams: states of XXH3 that no call leaves", 10, calls.out_of_range),
-            of("streams: secrets that a state doesn't keep", 80, calls.refused_resets),
-            of("streams: null pieces of no bytes", 20, calls.updates_of_nothing),
-            of("null inputs and secrets of no bytes", 14, calls.null_pointers),
+            of_streams("streams: memory without the mark of a reset", 8, calls.without_mark),
+            of_streams("streams: states of XXH3 that no call leaves", 10, calls.out_of_range),
+            of_streams("streams: secrets that a state doesn't keep", 80, calls.refused_resets),
+            of_streams("streams: null pieces of no bytes", 20, calls.updates_of_nothing),
+            of_streams("null inputs and secrets of no bytes", 14, calls.null_pointers),
             of("the derived secret", 2, calls.derived_secret),
             of("made secrets", len(made), functools.partial(calls.made_secrets, asked=made)),
+            counted(f"exports of {V4} that have the code of {V3}", 24,
+                    lambda: (exports.expect_code_of_v3(texts[V4], texts[V3]), [])),
             counted("names of another's code", 9 * len(texts),
                     lambda: (sum(exports.expect_twins(program) for program in texts.values()), []))]
 
@@ -307,11 +327,16 @@ def call_rows(texts, is_all):
 # ---- the machine, and what has to be noticed
 
 def machine_rows(texts, is_all):
-    return [counted("the table of instructions beside the processor", len(TABLE) - 40,
+    forms = sum(kind in SETS[on_processor.processor_here()] for kind, _ in TABLE.values())
+    without = "" if on_processor.is_v4() else ", without what it lacks of x86-64-v4"
+    return [counted(f"the table of instructions beside the processor{without}", forms - 40,
                     functools.partial(beside_processor, texts, is_all)),
             counted("wrong texts of each kind are refused", len(planted.WRONG), planted.refused),
             *(counted(f"changes of one instruction, {name}", changes.MANY if is_all else changes.FEW,
-                      functools.partial(changes.noticed, name, program, is_all)) for name, program in texts.items())]
+                      functools.partial(changes.noticed, name, program, is_all))
+              for name, program in before_v4(texts).items()),
+            counted(f"changes of one instruction in the widened functions of {V4}", changes.MANY if is_all else changes.SOME,
+                    functools.partial(changes.noticed, V4, texts[V4], is_all, "widened"))]
 
 
 def beside_processor(texts, is_all):

@@ -164,6 +164,7 @@ def binary(word, kind):
 
 for mnemonic, kind in (("add", "add"), ("sub", "sub"), ("xor", "logic"), ("or", "logic"), ("and", "logic")):
     form(V2, mnemonic, TWO)(binary(mnemonic, kind))
+form(V2, "or", "bb")(binary("or", "logic"))
 
 
 @form(V2, "cmp", TWO + " ib lm qm")

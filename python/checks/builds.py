@@ -150,6 +150,7 @@ def sets_are_chosen(built):
     """The processor's best set runs, or the one that is named; one that isn't there is refused by name."""
     ask = [PYTHON, '-c', 'import twox_hash; print(twox_hash.instruction_set, twox_hash.xxh3_64_hexdigest(b"a" * 500))']
     answers = set()
+    # qemu has none of what x86-64-v4 adds.
     for processor, instructions in (('max', 'x86-64-v3'), ('Haswell', 'x86-64-v3'), ('Nehalem', 'x86-64-v2'),
                                     ('max,avx2=off', 'x86-64-v2'), ('max,bmi2=off', 'x86-64-v2'),
                                     ('max,movbe=off', 'x86-64-v2'), ('max,xsave=off', 'x86-64-v2')):
@@ -162,6 +163,9 @@ def sets_are_chosen(built):
     lacking = run(['/usr/bin/qemu-x86_64', '-cpu', 'Nehalem', *ask], PYTHONPATH=built.site,
                   TWOX_HASH_INSTRUCTIONS='x86-64-v3').stdout
     want('ImportError: twox_hash: x86-64-v3: this processor lacks it' in lacking, lacking[-200:])
+    lacking = run(['/usr/bin/qemu-x86_64', '-cpu', 'max', *ask], PYTHONPATH=built.site,
+                  TWOX_HASH_INSTRUCTIONS='x86-64-v4').stdout
+    want('ImportError: twox_hash: x86-64-v4: this processor lacks it' in lacking, lacking[-200:])
     unknown = run(ask, PYTHONPATH=built.site, TWOX_HASH_INSTRUCTIONS='sparc').stdout
     want('ImportError: twox_hash: sparc: there is no such set' in unknown, unknown[-200:])
     return '7 processors, and one that is too old'

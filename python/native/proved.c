@@ -1,4 +1,4 @@
-/* Which set of proved calls runs. backend.py puts a prefix before each name of a set's text: v2_, v3_ or arm_. */
+/* Which set of proved calls runs. backend.py puts a prefix before each name of a set's text: v2_, v3_, v4_ or arm_. */
 #include "proved.h"
 
 #include <pthread.h>
@@ -20,9 +20,11 @@ struct set {
 
 #define DECLARED(answer, name, parameters) \
     answer v2_##name parameters; \
-    answer v3_##name parameters;
+    answer v3_##name parameters; \
+    answer v4_##name parameters;
 #define IN_V2(answer, name, parameters) .name = v2_##name,
 #define IN_V3(answer, name, parameters) .name = v3_##name,
+#define IN_V4(answer, name, parameters) .name = v4_##name,
 EACH_PROVED_CALL(DECLARED)
 
 static int has_v2(void)
@@ -32,12 +34,14 @@ static int has_v2(void)
     return __get_cpuid(1, &a, &b, &c, &d) && (c & wanted) == wanted;
 }
 
-/* Whether the system keeps the wide registers of a thread. */
-static int keeps_wide_registers(void)
+/* Whether the system keeps a thread's registers of 256 bits, and those of 512 and the masks. */
+enum { OF_256_BITS = 3 << 1, OF_512_BITS = 7 << 5 | OF_256_BITS };
+
+static int keeps(unsigned registers)
 {
     unsigned low, high;
     __asm__("xgetbv" : "=a"(low), "=d"(high) : "c"(0));
-    return (low & 6) == 6;
+    return (low & registers) == registers;
 }
 
 static int has_v3(void)
@@ -45,13 +49,21 @@ static int has_v3(void)
     unsigned a, b, c, d;
     const unsigned wanted = bit_FMA | bit_MOVBE | bit_OSXSAVE | bit_AVX | bit_F16C;
     const unsigned wanted_too = bit_BMI | bit_AVX2 | bit_BMI2;
-    if (!has_v2() || !__get_cpuid(1, &a, &b, &c, &d) || (c & wanted) != wanted || !keeps_wide_registers()) return 0;
+    if (!has_v2() || !__get_cpuid(1, &a, &b, &c, &d) || (c & wanted) != wanted || !keeps(OF_256_BITS)) return 0;
     if (!__get_cpuid_count(7, 0, &a, &b, &c, &d) || (b & wanted_too) != wanted_too) return 0;
     return __get_cpuid(0x80000001, &a, &b, &c, &d) && (c & bit_LZCNT);
 }
 
+static int has_v4(void)
+{
+    unsigned a, b, c, d;
+    const unsigned wanted = bit_AVX512F | bit_AVX512BW | bit_AVX512CD | bit_AVX512DQ | bit_AVX512VL;
+    return has_v3() && keeps(OF_512_BITS) && __get_cpuid_count(7, 0, &a, &b, &c, &d) && (b & wanted) == wanted;
+}
+
 /* The best one first. */
 static const struct set sets[] = {
+    {has_v4, {EACH_PROVED_CALL(IN_V4).instructions = "x86-64-v4"}},
     {has_v3, {EACH_PROVED_CALL(IN_V3).instructions = "x86-64-v3"}},
     {has_v2, {EACH_PROVED_CALL(IN_V2).instructions = "x86-64-v2"}},
 };

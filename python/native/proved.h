@@ -34,7 +34,7 @@ struct proved {
 #define MEMBER(answer, name, parameters) answer(*name) parameters;
     EACH_PROVED_CALL(MEMBER)
 #undef MEMBER
-    /* The set of instructions: "x86-64-v2", "x86-64-v3" or "aarch64". */
+    /* The set of instructions: "x86-64-v2", "x86-64-v3", "x86-64-v4" or "aarch64". */
     const char *instructions;
 };
 

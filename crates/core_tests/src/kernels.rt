@@ -2,7 +2,7 @@
 
 ghost use Rattle.std.specs.Prelude.{◌≤◌};
 
-use twox_core::xxhash3::large::{halves4, lanes2, lanes4, scalar, split2};
+use twox_core::xxhash3::large::{halves4, lanes2, lanes4, lanes8, scalar, split2};
 use twox_core::xxhash3::{Kernel, Vector};
 
 // Zeros but for the eight-byte word `at`.
@@ -58,6 +58,7 @@ fn each_kernel_accumulates(rt: HostRuntime) {
     assert!(rt; accumulates(scalar::Impl {}));
     assert!(rt; accumulates(lanes2::Impl {}));
     assert!(rt; accumulates(lanes4::Impl {}));
+    assert!(rt; accumulates(lanes8::Impl {}));
     assert!(rt; accumulates(split2::Impl {}));
     assert!(rt; accumulates(halves4::Impl {}));
     assert!(rt; accumulates(Kernel {}));
@@ -68,6 +69,7 @@ fn each_kernel_scrambles(rt: HostRuntime) {
     assert!(rt; scrambles(scalar::Impl {}));
     assert!(rt; scrambles(lanes2::Impl {}));
     assert!(rt; scrambles(lanes4::Impl {}));
+    assert!(rt; scrambles(lanes8::Impl {}));
     assert!(rt; scrambles(split2::Impl {}));
     assert!(rt; scrambles(halves4::Impl {}));
     assert!(rt; scrambles(Kernel {}));

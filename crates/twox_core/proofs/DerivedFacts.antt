@@ -106,7 +106,7 @@ two_pairs_changed seed loss s cur k n en bytes fits small small-loss none ecur =
     let word : ℕ → ℕ = λ j. get_or (digits_l (2 ^ 64) 4 (number_l 256 (take 32 part))) j 0 in
     let all : take 32 part ≡ take 32 (drop (32 * k) cur) = ap (λ (i : ℕ). take 32 (take i (drop (32 * k) cur))) en ∙ take-take 32 32 (drop (32 * k) cur) (omega arith) in
     let is_word : (j i : ℕ) → j < 4 → 32 * k + 8 * j ≡ i → word j ≡ word64 cur i =
-    λ j i low place. ap (λ (l : List ℕ). get_or (digits_l (2 ^ 64) 4 (number_l 256 l)) j 0) all ∙ word_of_vector cur (32 * k) j bytes fits low ∙ ap (word64 cur) place in
+    λ j i low place. ap (λ (l : List ℕ). get_or (digits_l (2 ^ 64) 4 (number_l 256 l)) j 0) all ∙ word_of_vector 4 cur (32 * k) j bytes fits low ∙ ap (word64 cur) place in
     let first = changed_pair_of seed loss cur (32 * k) (word 0) (word 1) small small-loss none (is_word 0 (32 * k) (omega arith) (omega arith)) (is_word 1 (32 * k + 8) (omega arith) (omega arith)) in
     let second = changed_pair_of seed loss cur (32 * k + 16) (word 2) (word 3) small small-loss none (is_word 2 (32 * k + 16) (omega arith) (omega arith)) (is_word 3 (32 * k + 16 + 8) (omega arith) (omega arith)) in
     let long : length part ≡ 32 = length-take-le n (drop (32 * k) cur) (omega (arith, length-drop (32 * k) cur)) ∙ en in

@@ -1,4 +1,4 @@
--- The four words of 32 bytes, as a vector that is loaded at once gives them.
+-- The words of bytes, as a vector of any width that is loaded at once gives them.
 use Rattle.std.proofs.Common.{◌≡◌, ℕ, ◌+◌, ◌*◌, ◌^◌, ◌<◌, ◌≤◌, List, [], ◌∷◌, take, drop, get_or, Fits, w8, refl, ◌∙◌, arith, add-zero, length, length-drop, length-take-le}
 use lib.Lanes.{number_l, digits_l}
 use Rattle.std.proofs.lemmas.Simd.{get_or_wider, chunk-fits, below_from_Fits}
@@ -16,10 +16,10 @@ number_of_word m i fits =
     let bytes : take 8 (drop (i + 0) m) ≡ listed m i 0 8 = take_listed m i 0 8 (omega arith) in
     rw (rw (add-zero i) at bytes) (number_of_eight _ _ _ _ _ _ _ _)
 
--- word j of the 32 bytes of m from `base` on
-pub word_of_vector : (m : List ℕ) (base j : ℕ) → ((k : ℕ) → Fits w8 (get_or m k 0)) → base + 32 ≤ length m → j < 4
-    → get_or (digits_l (2 ^ 64) 4 (number_l 256 (take 32 (drop base m)))) j 0 ≡ word64 m (base + 8 * j)
-word_of_vector m base j bytes fits low =
-    get_or_wider 256 8 (2 ^ 64) 4 (take 32 (drop base m)) j refl (below_from_Fits w8 (take 32 (drop base m)) (chunk-fits w8 base 32 m bytes)) low
-    ∙ number_of_word (take 32 (drop base m)) (8 * j) (omega (arith, length-take-le 32 (drop base m) (omega (arith, length-drop base m))))
-    ∙ word_at-part w64 32 m (take 32 (drop base m)) base (8 * j) refl (omega arith)
+-- word j of the n words of m from byte `base` on
+pub word_of_vector : (n : ℕ) (m : List ℕ) (base j : ℕ) → ((k : ℕ) → Fits w8 (get_or m k 0)) → base + 8 * n ≤ length m → j < n
+    → get_or (digits_l (2 ^ 64) n (number_l 256 (take (8 * n) (drop base m)))) j 0 ≡ word64 m (base + 8 * j)
+word_of_vector n m base j bytes fits low =
+    get_or_wider 256 8 (2 ^ 64) n (take (8 * n) (drop base m)) j refl (below_from_Fits w8 (take (8 * n) (drop base m)) (chunk-fits w8 base (8 * n) m bytes)) low
+    ∙ number_of_word (take (8 * n) (drop base m)) (8 * j) (omega (arith, length-take-le (8 * n) (drop base m) (omega (arith, length-drop base m))))
+    ∙ word_at-part w64 (8 * n) m (take (8 * n) (drop base m)) base (8 * j) refl (omega arith)

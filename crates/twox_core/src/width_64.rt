@@ -10,11 +10,13 @@ ghost use Rattle.twox_core.specs.Short.{combined_bytes, value64_0, value64_4_to_
 ghost use Rattle.twox_core.specs.Steps.{mix, sum_below};
 ghost use Rattle.twox_core.specs.Value.{effective_secret, xxh3_64};
 
+use crate::xxhash3::large::lanes8;
 use crate::xxhash3::primes::{PRIME_MX2, PRIME64_1};
 use crate::xxhash3::{
-    Algorithm, AnyLength, CUTOFF, DEFAULT_SECRET_LENGTH, DEFAULT_SEED, DefaultLength, Derived,
-    Finalize, Kernel, MANY_BYTES, Secret, Vector, avalanche, avalanche_xxh64, chunks_17_to_128,
-    default_secret, derived_secret, fold, impl_1_to_3_bytes_combined, mix_step, mix_words,
+    Algorithm, AnyLength, CUTOFF, DEFAULT_SECRET_LENGTH, DEFAULT_SEED, DefaultLength,
+    DefaultSecret, Derived, Finalize, Kernel, MANY_BYTES, Secret, Vector, avalanche,
+    avalanche_xxh64, chunks_17_to_128, default_secret, derived_secret, fold,
+    impl_1_to_3_bytes_combined, is_widened, mix_step, mix_words,
 };
 use twox_words::words::{Halves, IntoU64, u32_at, u64_at};
 
@@ -127,7 +129,9 @@ fn oneshot_above_240<Caller>(secret: Secret<'_>, input: &[u8]) -> u64
     requires { 240 < length input.now }
     ensures { (any : ℕ) → result ≡ xxh3_64 any (secret_bytes secret.entry) input.now }
 {
-    if input.len() < MANY_BYTES {
+    if is_widened(secret, input) {
+        oneshot_widened(secret.of_default_length(), input)
+    } else if input.len() < MANY_BYTES {
         Algorithm(Kernel {}).oneshot_of::<Finalize64, Caller, false>(secret, input, Finalize64)
     } else {
         oneshot_many(secret, input)
@@ -142,6 +146,18 @@ fn oneshot_many(secret: Secret<'_>, input: &[u8]) -> u64
     ensures { (any : ℕ) → result ≡ xxh3_64 any (secret_bytes secret.entry) input.now }
 {
     Algorithm(Kernel {}).oneshot_of::<Finalize64, AnyLength, true>(secret, input, Finalize64)
+}
+
+// By eight lanes, as another tail call. It knows the secret's length, and so has no branch that is never taken.
+#[inline(never)]
+#[tactic(auto, using(crate::proofs::ValueLaws::long_64, crate::proofs::EndingFacts::block_low))]
+fn oneshot_widened(secret: &DefaultSecret, input: &[u8]) -> u64
+    requires { 240 < length input.now }
+    ensures { (any : ℕ) → result ≡ xxh3_64 any secret.now input.now }
+{
+    let secret = Secret::new(secret).unwrap();
+    let widened = Algorithm(lanes8::Impl {});
+    widened.oneshot_of::<Finalize64, DefaultLength, false>(secret, input, Finalize64)
 }
 
 // Long inputs with the secret that a seed derives. The seed 0 derives the default one.

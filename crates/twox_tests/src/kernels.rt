@@ -3,7 +3,7 @@
 use crate::rows::{SEED, first, gen_10240};
 use std::alloc::{AllocError, Global};
 use std::test::Fail;
-use twox_hash::xxhash3::large::{halves4, lanes2, lanes4, scalar, split2};
+use twox_hash::xxhash3::large::{halves4, lanes2, lanes4, lanes8, scalar, split2};
 use twox_hash::xxhash3::{AllocRawHasher, Vector};
 use twox_hash::xxhash3_64::Finalize64;
 
@@ -22,13 +22,15 @@ fn write_eight(core: &mut Core, eight: &[u8; 8]) {
     write_with(core, lanes2::Impl {}, &eight[1..2]);
     write_with(core, lanes4::Impl {}, &eight[2..3]);
     write_with(core, split2::Impl {}, &eight[3..4]);
-    write_with(core, halves4::Impl {}, &eight[4..]);
+    write_with(core, halves4::Impl {}, &eight[4..5]);
+    write_with(core, lanes8::Impl {}, &eight[5..]);
 }
 
 fn finishes(core: &Core, value: u64) -> bool {
     finish_with(core, scalar::Impl {}) == value
         && finish_with(core, lanes2::Impl {}) == value
         && finish_with(core, lanes4::Impl {}) == value
+        && finish_with(core, lanes8::Impl {}) == value
         && finish_with(core, split2::Impl {}) == value
         && finish_with(core, halves4::Impl {}) == value
 }

@@ -3,7 +3,7 @@
 use crate::rows::{Kind, Row};
 use crate::ways::boxed;
 use std::alloc::{AllocError, Global};
-use twox_hash::xxhash3::large::{halves4, lanes2, lanes4, scalar, split2};
+use twox_hash::xxhash3::large::{halves4, lanes2, lanes4, lanes8, scalar, split2};
 use twox_hash::xxhash3::{
     Algorithm, AllocRawHasher, CUTOFF, DEFAULT_SECRET_RAW, Secret, Vector, derive_secret,
 };
@@ -19,6 +19,7 @@ pub fn agree_at_once(row: &Row, input: &[u8], secret: &[u8]) -> bool {
     at_once(scalar::Impl {}, row, input, secret) == answer
         && at_once(lanes2::Impl {}, row, input, secret) == answer
         && at_once(lanes4::Impl {}, row, input, secret) == answer
+        && at_once(lanes8::Impl {}, row, input, secret) == answer
         && at_once(split2::Impl {}, row, input, secret) == answer
         && at_once(halves4::Impl {}, row, input, secret) == answer
 }
@@ -38,6 +39,7 @@ pub fn agree_in_pieces(
         in_pieces(alloc, scalar::Impl {}, row, secret, pieces)? == answer
             && in_pieces(alloc, lanes2::Impl {}, row, secret, pieces)? == answer
             && in_pieces(alloc, lanes4::Impl {}, row, secret, pieces)? == answer
+            && in_pieces(alloc, lanes8::Impl {}, row, secret, pieces)? == answer
             && in_pieces(alloc, split2::Impl {}, row, secret, pieces)? == answer
             && in_pieces(alloc, halves4::Impl {}, row, secret, pieces)? == answer,
     )

@@ -1,7 +1,7 @@
 //! XXH3 above 240 bytes, over any kernel: the xxHash specification, "XXH3 algorithm description (for large
 //! inputs)".
 
-ghost use Rattle.std.specs.Prelude.{◌≡◌, ◌+◌, ◌-◌, ◌*◌, ◌/◌, ◌%◌, ◌^◌, ◌<◌, ◌≤◌, ℕ, List, length, take, drop, slice_index, bit_xor};
+ghost use Rattle.std.specs.Prelude.{◌≡◌, ◌+◌, ◌-◌, ◌*◌, ◌/◌, ◌%◌, ◌^◌, ◌<◌, ◌≤◌, ℕ, List, length, take, drop, slice_index, bit_xor, IsTrue};
 ghost use Rattle.twox_core.specs.Long.{merge_accumulators, stripes_of};
 ghost use Rattle.twox_core.specs.Ending.{accumulate_block, block_accumulators, last_block, last_stripe, final_accumulators, finalize_64, finalize_128};
 ghost use Rattle.twox_core.specs.SecretBytes.{secret_bytes};
@@ -11,6 +11,7 @@ mod four;
 pub mod halves4;
 pub mod lanes2;
 pub mod lanes4;
+pub mod lanes8;
 pub mod scalar;
 pub mod split2;
 mod word;
@@ -18,8 +19,8 @@ mod word;
 use self::word::words;
 use super::parts::array_at;
 use super::primes::{PRIME64_1, PRIME64_2};
-use super::stripes::{MANY_BYTES, STRIPES_IN_BLOCK, StripeAccumulator};
-use super::{Secret, Vector, avalanche, fold};
+use super::stripes::{BYTES_IN_BLOCK, MANY_BYTES, STRIPES_IN_BLOCK, StripeAccumulator};
+use super::{DEFAULT_SECRET_LENGTH, Secret, Vector, avalanche, fold};
 use std::simd::u64x4;
 use twox_words::words::{IntoU64, IntoU128, bp_as_chunks};
 
@@ -61,6 +62,16 @@ pub trait Finalize {
         requires places { (length last_block.now - 1) / 64 ≤ stripes_of (secret_bytes secret) }
         ensures { result
             ≡ large_of self.now acc last_block.now last_stripe.now (secret_bytes secret.entry) len };
+}
+
+// Whether eight lanes take a whole one-shot, with a secret that is as long as the default one.
+#[inline(always)]
+pub(crate) fn is_widened(secret: Secret<'_>, input: &[u8]) -> bool
+    ensures { IsTrue result → length (secret_bytes secret.entry) ≡ 192 }
+{
+    (Kernel {}).is_widened()
+        && input.len() >= BYTES_IN_BLOCK
+        && secret.len() == DEFAULT_SECRET_LENGTH
 }
 
 // A caller of `Algorithm::oneshot_of` with a secret of any length.

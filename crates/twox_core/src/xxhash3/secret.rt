@@ -2,6 +2,7 @@
 
 ghost use Rattle.std.specs.Prelude.{◌≤◌, length};
 
+use super::DefaultSecret;
 use super::parts::{array_at, chunks_at, pair_at, pairs_at};
 use std::{error, fmt};
 use twox_words::words::{u32_at, u64_at};
@@ -97,6 +98,15 @@ impl<'a> Secret<'a> {
     #[inline(always)]
     pub fn minimum(self) -> &'a [u8; SECRET_MINIMUM_LENGTH]
         ensures { result.now ≡ take 136 (secret_bytes self.entry) }
+    {
+        array_at(self.bytes, 0)
+    }
+
+    // The bytes of a secret that is as long as the default one.
+    #[inline(always)]
+    pub(crate) fn of_default_length(self) -> &'a DefaultSecret
+        requires { length (secret_bytes self) ≡ 192 }
+        ensures { result.now ≡ secret_bytes self.entry }
     {
         array_at(self.bytes, 0)
     }

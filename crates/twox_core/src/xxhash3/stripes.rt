@@ -22,9 +22,10 @@ ghost use Rattle.twox_core.specs.Stripes.{AfterStripes, current_stripe_of};
 mod blocks;
 mod fours;
 
-pub(super) use self::blocks::STRIPES_IN_BLOCK;
-use self::blocks::{BYTES_IN_BLOCK, process_blocks, take_many_blocks};
-use super::{INITIAL_ACCUMULATORS, Secret, Vector};
+pub(super) use self::blocks::{BYTES_IN_BLOCK, STRIPES_IN_BLOCK};
+use self::blocks::{process_blocks, take_many_blocks};
+use super::large::lanes8;
+use super::{DEFAULT_SECRET_LENGTH, DefaultSecret, INITIAL_ACCUMULATORS, Secret, Vector};
 use twox_words::words::bp_as_chunks;
 
 // From how many bytes on a one-shot takes its stripes out of line, in the way that is fastest for their number: 32 KiB
@@ -193,6 +194,8 @@ fn take_many_stripes<V: Vector>(
 {
     if secret.n_stripes() != STRIPES_IN_BLOCK || bytes.len() < BYTES_IN_BLOCK {
         take_stripes(from, v, bytes, secret)
+    } else if v.is_widened() && secret.len() == DEFAULT_SECRET_LENGTH {
+        take_widened(from, bytes, secret.of_default_length())
     } else if bytes.len() < MANY_BYTES {
         let mut taken = from;
         taken.process_by_fours(v, bytes, secret);
@@ -222,4 +225,52 @@ fn process_by_blocks<V: Vector>(
     let (whole, rest) = rest.split_at(rest.len() / BYTES_IN_BLOCK * BYTES_IN_BLOCK);
     let taken = take_many_blocks(at_block.accumulators(), v, whole, secret);
     take_stripes(StripeAccumulator::starting_with(taken), v, rest, secret)
+}
+
+// Likewise by eight lanes, out of line, in one function that knows the secret's length: so it has no branch that is never
+// taken.
+#[inline(never)]
+fn take_widened(from: StripeAccumulator, bytes: &[u8], secret: &DefaultSecret) -> StripeAccumulator
+    requires place { current_stripe_of from < 16 }
+    requires some { 1024 ≤ length bytes.now }
+    ensures { AfterStripes secret.now from bytes.now result }
+{
+    process_in_place(from, lanes8::Impl {}, bytes, Secret::new(secret).unwrap())
+}
+
+// `process_by_blocks` with no call.
+#[inline(always)]
+fn process_in_place<V: Vector>(
+    from: StripeAccumulator,
+    v: V,
+    bytes: &[u8],
+    secret: Secret<'_>,
+) -> StripeAccumulator
+    requires all { stripes_of (secret_bytes secret) ≡ 16 }
+    requires place { current_stripe_of from < 16 }
+    requires some { 1024 ≤ length bytes.now }
+    ensures { AfterStripes (secret_bytes secret.entry) from bytes.now result }
+{
+    let to_block = (STRIPES_IN_BLOCK - from.current_stripe()) % STRIPES_IN_BLOCK;
+    let (front, rest) = bytes.split_at(64 * to_block);
+    let at_block = with_stripes(from, v, front, secret);
+    let (whole, rest) = rest.split_at(rest.len() / BYTES_IN_BLOCK * BYTES_IN_BLOCK);
+    let taken = process_blocks::<V, true>(at_block.accumulators(), v, whole, secret);
+    with_stripes(StripeAccumulator::starting_with(taken), v, rest, secret)
+}
+
+// The accumulators with the stripes taken, in place.
+#[inline(always)]
+fn with_stripes<V: Vector>(
+    from: StripeAccumulator,
+    v: V,
+    bytes: &[u8],
+    secret: Secret<'_>,
+) -> StripeAccumulator
+    requires { current_stripe_of from < stripes_of (secret_bytes secret) }
+    ensures { AfterStripes (secret_bytes secret.entry) from bytes.now result }
+{
+    let mut taken = from;
+    taken.process_stripes(v, bytes, secret);
+    taken
 }

@@ -31,6 +31,12 @@ pub trait Vector: Copy {
         self.accumulate(acc, array_at(stripes, 128), array_at(secret, 16));
         self.accumulate(acc, array_at(stripes, 192), array_at(secret, 24));
     }
+
+    /// Whether many stripes are taken by `lanes8` in this kernel's place, which changes the time alone.
+    #[inline(always)]
+    fn is_widened(&self) -> bool {
+        false
+    }
 }
 
 /// The accumulators before the first stripe.

@@ -51,6 +51,13 @@ impl Vector for Impl {
         let [e, f, g, h] = accumulate_four_by_four(Products {}, [e, f, g, h], stripes, secret, 4);
         *acc = [a, b, c, d, e, f, g, h];
     }
+
+    // A build for vectors of 512 bits answers `true` in its place (`assembly/wide.py`). No clause says which it is, so each
+    // caller is proved for both.
+    #[inline(always)]
+    fn is_widened(&self) -> bool {
+        false
+    }
 }
 
 // Products of words of 64 bits, whose upper halves are 0.

@@ -1,9 +1,10 @@
 //! What kernels share: the words of a stripe and of the secret.
 
 ghost use Rattle.std.specs.Prelude.{◌≡◌, List, [], ◌∷◌, ◌+◌, ◌*◌, ◌<◌, ◌≤◌};
+ghost use Rattle.twox_core.specs.Kernel.{eight};
 ghost use Rattle.twox_core.specs.Steps.{word64};
 
-use std::simd::{u8x32, u64x4};
+use std::simd::{u8x32, u8x64, u64x4, u64x8};
 
 // Word `i`, read whole, so that the compiler can load several words at once.
 #[tactic(auto, using(twox_words::proofs::WordFacts::first_chunks_at), unfolding(twox_words::specs::Word::word_at))]
@@ -25,4 +26,12 @@ pub(super) fn words(bytes: &[u8; 64], i: usize) -> [u64; 4]
         ∷ word64 bytes.now (8 * (i + 2)) ∷ word64 bytes.now (8 * (i + 3)) ∷ [] }
 {
     u64x4::from_le_bytes(u8x32::from_slice(&bytes[8 * i..8 * i + 32])).to_array()
+}
+
+// All eight words, read as one vector.
+#[inline(always)]
+pub(super) fn all_words(bytes: &[u8; 64]) -> [u64; 8]
+    ensures { result ≡ eight (λ i. word64 bytes.now (8 * i)) }
+{
+    u64x8::from_le_bytes(u8x64::from_slice(&bytes[0..64])).to_array()
 }

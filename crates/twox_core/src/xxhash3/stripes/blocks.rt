@@ -15,7 +15,7 @@ use twox_words::words::bp_as_chunks;
 pub(in crate::xxhash3) const STRIPES_IN_BLOCK: usize = 16;
 
 /// The bytes of a block.
-pub(super) const BYTES_IN_BLOCK: usize = 64 * STRIPES_IN_BLOCK;
+pub(in crate::xxhash3) const BYTES_IN_BLOCK: usize = 64 * STRIPES_IN_BLOCK;
 
 // The accumulators after many whole blocks, out of line.
 #[inline(never)]

@@ -1,0 +1,113 @@
+#!/usr/bin/env python3
+"""Makes a module for x86-64-v3 one for x86-64-v4, in text of LLVM, or makes it the first one again:
+
+    assembly/wide.py widen | narrow < MODULE.ll
+    assembly/wide.py check OBJECT
+
+`widen` changes what decides no value, and nothing else: `Kernel` says that many stripes are taken by eight lanes
+(`is_widened`, of which no clause says an answer, so that each caller is proved for both), and the functions of WIDE are
+compiled for x86-64-v4 with vectors of 512 bits. All others stay as they are. `narrow` takes that back.
+
+`check` looks at an object's instructions: those of the functions of WIDE have to be among mnemonics.txt, and no other
+function may have vectors of 512 bits, masks or registers that x86-64-v3 lacks. The compiler isn't believed to be right for
+such processors: what it makes for them is admitted because oracle/machine-text shows it, and that knows these alone."""
+import os
+import re
+import subprocess
+import sys
+
+from names import plain
+
+MNEMONICS = os.path.join(os.path.dirname(os.path.abspath(__file__)), 'mnemonics.txt')
+ANSWER = 'twox_core::xxhash3::large::lanes4::ImplVector::is_widened'
+WIDE = ('twox_core::xxhash3::stripes::take_widened', 'twox_core::width_64::oneshot_widened',
+        'twox_core::width_128::oneshot_widened')
+FOR_V3, FOR_V4, WIDTH = '"target-cpu"="x86-64-v3"', '"target-cpu"="x86-64-v4"', '"prefer-vector-width"="512" '
+HEAD = re.compile(r'^(define [^@\n]*@(?:"([^"]*)"|([\w.]+))\(.*) #(\d+) \{$', re.M)
+# The body that answers a constant, the one number in it that may change.
+BODY = re.compile(rf'^(define [^\n]*@"{ANSWER}"\([^\n]*\{{\n(?:(?!\}}).*\n)*?  %\w+ = zext i1 )(true|false)'
+                  r'( to i8\n(?:(?!\}|.* i1 (?:true|false)).*\n)*\})$', re.M)
+NEW = 90_000       # numbers from here on are of no group of attributes
+# What x86-64-v3 lacks, in an instruction as objdump says it.
+LACKED = re.compile(r'%zmm|%[xy]mm(1[6-9]|2\d|3[01])|%k[0-7]\b|\{')
+
+
+def refuse(why):
+    raise ValueError(why)
+
+
+def is_wide(name):
+    return re.sub(r'::<[#=][^>]*>', '', name) in WIDE
+
+
+def with_answer(text, old, new):
+    found = BODY.findall(text)
+    if len(found) != 1 or found[0][1] != old:
+        refuse(f'{ANSWER} does not answer {old}')
+    return BODY.sub(rf'\g<1>{new}\g<3>', text)
+
+
+def widen(text):
+    """The module with the other answer, whose wide functions have groups of attributes of their own."""
+    if FOR_V4 in text or WIDTH in text:
+        refuse('the module is a wide one already')
+    found, groups = set(), {}
+
+    def with_group(head):
+        name = head[2] or head[3]
+        if not is_wide(name):
+            return head[0]
+        found.add(re.sub(r'::<[#=][^>]*>', '', name))
+        groups[head[4]] = NEW + int(head[4])
+        return f'{head[1]} #{groups[head[4]]} {{'
+
+    text = HEAD.sub(with_group, with_answer(text, 'false', 'true'))
+    if found != set(WIDE):
+        refuse(f'the module has no {", ".join(sorted(set(WIDE) - found))}')
+    for old, new in groups.items():
+        group = re.search(rf'^attributes #{old} = (.*)$', text, re.M)[1]
+        if FOR_V3 not in group:
+            refuse('a wide function is for another processor than x86-64-v3')
+        text += f'\nattributes #{new} = {group.replace(FOR_V3, WIDTH + FOR_V4)}\n'
+    return text
+
+
+def narrow(text):
+    """The module without what `widen` changes: clang then gives equal groups of attributes one number again."""
+    return with_answer(text.replace(WIDTH, '').replace(FOR_V4, FOR_V3), 'true', 'false')
+
+
+def faults(path, allowed):
+    """What an object has that it may not."""
+    out = subprocess.run(['objdump', '-d', '-w', '--no-show-raw-insn', path], check=True, capture_output=True, text=True).stdout
+    wide, found = {plain(name) for name in WIDE}, set()
+    for name, lines in re.findall(r'^[0-9a-f]+ <(.*)>:\n((?: .*\n)*)', out, re.M):
+        is_one = plain(name) in wide
+        found |= {plain(name)} & wide
+        for text in re.findall(r'^ *[0-9a-f]+:\t(.*)', lines, re.M):
+            if is_one and text.split()[0] not in allowed:
+                yield f'{name} has {text}, which is not in mnemonics.txt'
+            if not is_one and LACKED.search(text.split('#')[0]):
+                yield f'{name} has {text}, which x86-64-v3 lacks'
+    if found != wide:
+        yield f'there is no {", ".join(sorted(wide - found))}'
+
+
+def mnemonics():
+    with open(MNEMONICS, encoding='ascii') as file:
+        return set(re.sub('#.*', '', file.read()).split())
+
+
+def main(verb, path=None):
+    if verb == 'check':
+        found = list(faults(path, mnemonics()))
+        print('\n'.join(found), end='\n' if found else '')
+        return 1 if found else 0
+    sys.stdout.write({'widen': widen, 'narrow': narrow}[verb](sys.stdin.read()))
+    return 0
+
+
+if __name__ == '__main__':
+    if sys.argv[1:] not in (['widen'], ['narrow']) and (len(sys.argv) != 3 or sys.argv[1] != 'check'):
+        sys.exit(__doc__)
+    sys.exit(main(*sys.argv[1:]))
