@@ -21,7 +21,7 @@ def points(count):
         L = max(0, draw.choice((*EDGES, *FAR_OFF, 64 * draw.randrange(600), draw.randrange(3000))) + draw.randrange(-2, 3))
         if not f:
             b = j = 0
-        yield q, draw.randrange(8 if q < 24 else 1), b, j, f, L
+        yield q, draw.choice((0, draw.randrange(8 if q < 24 else 1))), b, j, f, L
 
 
 def states(count):
@@ -87,14 +87,16 @@ def without_taken(cases, facts, names, count):
     cases, out = list(cases), []
     for q, u, b, j, f, L in points(count):
         for name, least in names:
+            if name == xxh3_updates.TAKE_WIDENED.name:
+                q, u, j = xxh3_updates.BLOCK, 0, j % xxh3_updates.BLOCK
             n = least + L // 64
             point = variables(q, u, b, j, 0)
             D, e = divmod(n - (q - j), q)
             ways = [{"D": D, "e": e}, *(of_stripes(b, j, n) if q == 16 else ())]
             if not any(has({**point, "n": n, **way}, [*of_case, *(facts if own is None else ())],
                            [(parts[0].start[0], b), (parts[0].start[1], j), (sum_of(parts), n)])
-                       for own, (summary, parts, of_case, *_) in cases if summary.name == name and own in (None, q)
-                       for way in ways):
+                       for (own, more), (summary, parts, of_case, *_) in cases
+                       if summary.name == name and own in (None, q) and more in (None, u) for way in ways):
                 out.append((name, q, u, b, j, n))
     return out
 
@@ -123,6 +125,7 @@ def sum_of(parts):
 def left_out(proof, count):
     """Of so many points of each sort: updates, digests, and functions that take stripes."""
     taken = [(xxh3_updates.TAKE.name, 0), (xxh3_updates.TAKE_MANY.name, xxh3_updates.MANY)]
+    taken += [(xxh3_updates.TAKE_WIDENED.name, xxh3_updates.BLOCK)] * proof.is_widened()
     return [*without_update(proof.all_updates(), proof.facts, count),
             *without_digest(proof.digests(), proof.facts, count),
             *without_taken(proof.all_taken(), proof.facts, taken, count)]

@@ -157,7 +157,8 @@ def plain_stream_rows(made, is_all):
 
 def xxh3_rows(made, is_all):
     """Streams of XXH3 of any updates: all that is to be shown, in parts, or some cases of each kind."""
-    out = [counted("each update of XXH3 has its row", COVERED[is_all], functools.partial(points_left_out, made, is_all))]
+    out = [counted("each update of XXH3 has its row", COVERED[is_all] * len(made),
+                   functools.partial(points_left_out, made, is_all))]
     for name, make in made.items():
         for what, (some, parts) in XXH3_CASES.items():
             for part in range(parts) if is_all else [None]:
@@ -169,8 +170,10 @@ def xxh3_rows(made, is_all):
 
 def points_left_out(made, is_all):
     """(points that are looked at, those that no case has)."""
-    proof, count = xxh3_updates.Xxh3Updates(next(iter(made.values()))()), COVERED[is_all] // 3
-    return 3 * count, [f"no case has {point}" for point in covered.left_out(proof, count)][:5]
+    count = COVERED[is_all] // 3
+    bad = [f"{name}: no case has {point}" for name, make in made.items()
+           for point in covered.left_out(xxh3_updates.Xxh3Updates(make()), count)]
+    return 3 * count * len(made), bad[:5]
 
 
 def any_xxh3(make, what, part):

@@ -196,8 +196,9 @@ class Summary:
     block where `has_place`, and stripes and secret; and it writes such a record. That is what `expect_of` asks of the
     function itself; `put_into` makes it what a call of the function does."""
 
-    def __init__(self, name, has_place=True, least=0):
+    def __init__(self, name, has_place=True, least=0, has_length=True):
         self.name, self.size, self.has_place, self.least = name, TAKEN if has_place else WORDS, has_place, least
+        self.has_length = has_length     # whether it is given how long the secret is
 
     def put_into(self, cpu, family, source, secret):
         """Calls of the function take parts of the family, of a message and under a secret, each an input."""
@@ -221,7 +222,8 @@ class Summary:
         self.expect("the number of stripes",
                     is_natural(minus(part.turns, self.least)) and is_same_number(end, plus(at, part.turns)))
         self.expect("the piece", is_same_number(length, 0) or is_at(stripes, source, times(64, at), length))
-        self.expect("the secret", is_same_number(own_length, secret.length) and is_at(own, secret, 0, own_length))
+        has_whole = not self.has_length or is_same_number(own_length, secret.length)
+        self.expect("the secret", has_whole and is_at(own, secret, 0, secret.length))
         return self.leave(cpu, family, part, stack, first)
 
     def leave(self, cpu, family, part, stack, first):

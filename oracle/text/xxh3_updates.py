@@ -11,6 +11,7 @@ What is written with a place or length that isn't a number is a run (runs.py). T
 line are shown by themselves, from any place in a block (stripes.py)."""
 import collections
 import functools
+import itertools
 
 from terms import definition, nodes
 from terms.definition import Bytes, suppositions
@@ -45,6 +46,11 @@ UPDATES, DIGESTS, STRIPES = "any updates", "resets and digests", "functions that
 TAKE = Summary("twox_core.xxhash3.stripes.take_stripes")
 TAKE_MANY = Summary("twox_core.xxhash3.stripes.take_many_stripes", least=MANY)
 TAKE_BLOCKS = Summary("twox_core.xxhash3.stripes.blocks.take_many_blocks", has_place=False, least=1)
+# That of x86-64-v4, which no compiler is believed for, under a secret as long as the default one.
+TAKE_WIDENED = Summary("twox_core.xxhash3.stripes.take_widened", least=BLOCK, has_length=False)
+
+# The stripes of a block, and how many bytes the secret has more than these ask for.
+ANY, OF_16, OF_DEFAULT = (None, None), (BLOCK, None), (BLOCK, 0)
 
 # Where an update begins that takes stripes: r bytes fill the buffer's last one, which has g of them then.
 Start = collections.namedtuple("Start", "place g r behind facts")
@@ -93,9 +99,9 @@ class Xxh3Updates:
         self.cpu, self.told, self.refused = cpu, [], []
         self.use(variable("q"))
 
-    def use(self, q):
+    def use(self, q, u=None):
         """From here on a block has q stripes, and the secret u bytes more than these ask for, below 8."""
-        u = variable("u")
+        u = variable("u") if u is None else u
         self.q, self.secret_length = q, plus(64, times(8, q), u)
         self.facts = [minus(7, u), minus(q, LEAST), at_most(self.secret_length, LONGEST_KEPT)]
         self.read()
@@ -354,9 +360,10 @@ class Xxh3Updates:
 
     # ---- the functions that take stripes
 
-    def taken_of(self, q, case):
-        """A case of `taken`, where a block has q stripes, or any number."""
-        self.use(variable("q") if q is None else q)
+    def taken_of(self, secret, case):
+        """A case of `taken`, where a block has so many stripes, and the secret so many bytes more, or any number."""
+        q, u = secret
+        self.use(variable("q") if q is None else q, u)
         try:
             self.taken(*case)
         finally:
@@ -375,7 +382,8 @@ class Xxh3Updates:
                        alignment=8)
             piece = Piece(self.source, times(64, self.stripes(place)), times(64, turns))
             self.run([to, taken], summary.name, parts, address(to), address(taken), address(piece), piece.length,
-                     address(self.secret_source), self.secret_length, summaries=summaries, into=self.cpu.TAKES_STRIPES)
+                     address(self.secret_source), *([self.secret_length] * summary.has_length), summaries=summaries,
+                     into=self.cpu.TAKES_STRIPES)
             expected = [self.after(self.stripes(end))(i) for i in range(8)] + [end[1]] * summary.has_place
             for memory, cells in (to, expected), (taken, [x for *_, x in cells]):
                 for k, x in enumerate(cells):
@@ -385,20 +393,34 @@ class Xxh3Updates:
                 raise NotShown(f"{summary.name}: more than {DEEP} bytes of stack")
 
     def all_taken(self):
-        """As arguments of `taken`, with the stripes of a block, or None where these are any number."""
+        """As arguments of `taken`, with the stripes of a block and the secret's further bytes, or None where these are any
+        number."""
         for part, facts in self.of_any_blocks():
-            yield None, (TAKE, [part], facts)
-        b, j, D, e = (variable(name) for name in "bjDe")
-        turns = plus(minus(self.q, j), times(self.q, D), e)
-        part = Part((b, j), turns, (plus(b, 1, D), e))
-        of_part = [minus(minus(self.q, 1), j), minus(minus(self.q, 1), e), minus(turns, MANY)]
+            yield ANY, (TAKE, [part], facts)
         for of_q in (at_most(self.q, BLOCK - 1), minus(self.q, BLOCK + 1)):
-            yield None, (TAKE_MANY, [part], [*of_part, of_q], [TAKE])
-        yield BLOCK, (TAKE_BLOCKS, [Part((b, 0), plus(BLOCK, times(BLOCK, D)), (plus(b, 1, D), 0))], [])
+            part, facts = self.to_another_block(self.q)
+            yield ANY, (TAKE_MANY, [part], [*facts, of_q], [TAKE])
+        b, D = variable("b"), variable("D")
+        yield OF_16, (TAKE_BLOCKS, [Part((b, 0), plus(BLOCK, times(BLOCK, D)), (plus(b, 1, D), 0))], [])
+        longer = [minus(variable("u"), 1)] if self.is_widened() else []
         for parts, facts in self.by_fours():
-            yield BLOCK, (TAKE_MANY, parts, [*facts, *of_many(parts)])
+            yield OF_16, (TAKE_MANY, parts, [*facts, *longer, *of_many(parts)])
         for parts, facts in self.by_blocks():
-            yield BLOCK, (TAKE_MANY, parts, [*facts, *of_many(parts, FAR)], [TAKE, TAKE_BLOCKS])
+            yield OF_16, (TAKE_MANY, parts, [*facts, *longer, *of_many(parts, FAR)], [TAKE, TAKE_BLOCKS])
+        if self.is_widened():
+            part, facts = self.to_another_block(BLOCK)
+            yield OF_DEFAULT, (TAKE_MANY, [part], facts, [TAKE_WIDENED])
+            yield from ((OF_DEFAULT, (TAKE_WIDENED, *case)) for case in self.widened())
+
+    def is_widened(self):
+        return TAKE_WIDENED.name in self.cpu.program.functions
+
+    @staticmethod
+    def to_another_block(q):
+        """Many stripes, from any place to any one of a later block."""
+        b, j, D, e = (variable(name) for name in "bjDe")
+        turns = plus(minus(q, j), times(q, D), e)
+        return Part((b, j), turns, (plus(b, 1, D), e)), [minus(minus(q, 1), j), minus(minus(q, 1), e), minus(turns, MANY)]
 
     def of_any_blocks(self):
         """How stripes are taken from any place."""
@@ -438,6 +460,18 @@ class Xxh3Updates:
             end = plus(at[0], 1, D), 0
             yield [Part(start, turns, at), Part(at, plus(16, times(16, D)), end),
                    Part(end, e, (end[0], e))], [*facts, at_most(e, 15)]
+
+
+    @staticmethod
+    def widened():
+        """From each place to each: the stripes to a block's end, whole blocks or none, and those of another one."""
+        b, D = variable("b"), variable("D")
+        for start, rest in itertools.product(range(BLOCK), range(BLOCK)):
+            front, at = -start % BLOCK, (plus(b, int(start > 0)), 0)
+            whole = Part(at, plus(BLOCK, times(BLOCK, D)), (plus(at[0], 1, D), 0))
+            for middle in [whole, Part(at, 0, at)] if front + rest >= BLOCK else [whole]:
+                end = middle.end
+                yield [Part((b, start), front, at), middle, Part(end, rest, (end[0], rest))], []
 
 
 def of_many(parts, least=None):
