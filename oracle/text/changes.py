@@ -30,7 +30,7 @@ UNNOTICED, CRASH = "unnoticed", "A CRASH"
 ALIKE = [("je", "jne"), ("jb", "jbe"), ("ja", "jae"), ("jb", "jae"), ("sete", "setne"), ("cmovb", "cmovae"),
          ("add", "sub"), ("xor", "or"), ("and", "or"), ("inc", "dec"), ("neg", "not"), ("shl", "shr"), ("mul", "div"),
          ("movzbl", "movsbl"), ("imul", "add"), ("movq", "movl"), ("paddq", "psubq"), ("paddq", "pxor"),
-         ("psrlq", "psllq"), ("punpcklqdq", "punpckhqdq"), ("pmuludq", "paddq"), ("pmulld", "paddd"),
+         ("pxorq", "porq"), ("psrlq", "psllq"), ("punpcklqdq", "punpckhqdq"), ("pmuludq", "paddq"), ("pmulld", "paddd"),
          ("pslldq", "psrldq")]
 
 

@@ -102,7 +102,6 @@ def extract(cpu, x):
 
 
 @form(V3, "vextracti128", "iyx")
-@form(V4, "vextracti32x4", "iyx izx")
 @form(V4, "vextracti64x4", "izy")
 def extract_part(cpu, x):
     k, source, to = x.operands
@@ -164,8 +163,7 @@ for mnemonic, word in (("paddq", "add"), ("psubq", "sub"), ("pxor", "xor"), ("xo
                        ("pand", "and")):
     form(V2, mnemonic, "mx xx")(by_lane(word))
     form(V3, "v" + mnemonic, NEW)(by_lane(word))
-for mnemonic, word in (("vpaddq", "add"), ("vpsubq", "sub"), ("vpxorq", "xor"), ("vporq", "or"), ("vpandq", "and"),
-                       ("vpmullq", "mul")):
+for mnemonic, word in (("vpaddq", "add"), ("vpsubq", "sub"), ("vpxorq", "xor"), ("vporq", "or"), ("vpmullq", "mul")):
     form(V4, mnemonic, WIDE)(by_lane(word))
 for mnemonic, word in (("paddd", "add"), ("psubd", "sub"), ("pmulld", "mul")):
     form(V2, mnemonic, "mx xx")(by_half(word))

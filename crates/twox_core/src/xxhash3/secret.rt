@@ -2,8 +2,8 @@
 
 ghost use Rattle.std.specs.Prelude.{◌≤◌, length};
 
-use super::DefaultSecret;
 use super::parts::{array_at, chunks_at, pair_at, pairs_at};
+use super::{DEFAULT_SECRET_LENGTH, DefaultSecret};
 use std::{error, fmt};
 use twox_words::words::{u32_at, u64_at};
 
@@ -108,7 +108,7 @@ impl<'a> Secret<'a> {
         requires { length (secret_bytes self) ≡ 192 }
         ensures { result.now ≡ secret_bytes self.entry }
     {
-        array_at(self.bytes, 0)
+        array_at::<DEFAULT_SECRET_LENGTH>(self.bytes, 0)
     }
 
     /// The first eight chunks of 16 bytes.
