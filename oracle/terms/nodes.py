@@ -103,7 +103,10 @@ def made(kind, parts, width, most, constant, is_exact):
 
 
 def symbol(name, width):
-    return node(SYMBOL, (name,), width, (1 << width) - 1)
+    found = node(SYMBOL, (name,), width, (1 << width) - 1)
+    if found.width != width:
+        raise WrongRule(f"{name} of {width} bits, and of {found.width}")
+    return found
 
 
 def values_of_symbol(name, width):

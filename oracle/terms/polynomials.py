@@ -12,11 +12,13 @@ from .nodes import Undecided, symbol
 WORD = 64
 DEPTH = 4                     # how often a fact may be taken away
 TRIED, KEPT = 60, 8           # points that are drawn, and how many are kept
+NEAR, STAYS = 600, 0.7        # how many are drawn near to known ones, and of these how often a variable stays
 SEARCHED = 20000              # how many are drawn until one is found
 CHOICES = 0, 1, 2, 3, 5, 62, 200
 FURTHER = 0, 1, 7, 15, 480, 1 << 20, 1 << 32     # where none of these was found
 
 facts, least, known = [], {}, {}   # polynomials >= 0; variable -> its least value; what was decided under these facts
+KEY = "facts' key"                 # in `known`: what stands for the facts in `possible`
 possible = {}                      # a set of facts -> points at which they hold
 
 
@@ -121,18 +123,18 @@ def is_same(a, b):
 @contextlib.contextmanager
 def given(*more):
     """What holds inside of a `with`. A fact `v - c` says where the variable v begins."""
-    size, bounds = len(facts), dict(least)
+    size, bounds, around = len(facts), dict(least), known.get(KEY)
     try:
         for fact in more:
             suppose(fact)
-        known.clear()
-        expect_possible()
+        expect_possible(around)
         yield
     finally:
         del facts[size:]
         least.clear()
         least.update(bounds)
         known.clear()
+        known[KEY] = around
 
 
 def suppose(fact):
@@ -167,26 +169,39 @@ def names_of(*polynomials):
 def points_for(x):
     """Some points at which each fact holds, with values for the variables of x."""
     names = sorted(names_of(x) - names_of(*facts))
-    for number, point in enumerate(possible.get(known.get("facts' key"), ())):
+    for number, point in enumerate(possible.get(known.get(KEY), ())):
         yield {**point, **{name: least.get(name, 0) + CHOICES[(number + k) % len(CHOICES)] for k,
                            name in enumerate(names)}}
 
 
-def expect_possible():
-    """Of facts that hold nowhere anything would follow: there have to be points at which these hold."""
-    key = known["facts' key"] = frozenset([*map(repr, facts), *least.items()])
+def expect_possible(around):
+    """Of facts that hold nowhere anything would follow: there have to be points at which these hold. Points at which the
+    facts around them hold are tried first."""
+    key = frozenset([*map(repr, facts), *least.items()])
+    known.clear()
+    known[KEY] = key
     if key not in possible:
-        names, draw, found = sorted(names_of(*facts)), random.Random(1), []
-        for attempt in range(2 * SEARCHED):
-            choices = CHOICES if attempt < SEARCHED else FURTHER
-            point = {name: least.get(name, 0) + (draw.choice(choices) if attempt else 0) for name in names}
-            if all(value_at(fact, point) >= 0 for fact in facts):
-                found.append(point)
-            if len(found) == KEPT or found and attempt > TRIED:
-                break
+        names, draw = sorted(names_of(*facts)), random.Random(1)
+        found = drawn_points(names, draw, possible.get(around, ()), NEAR) or drawn_points(names, draw, (), 2 * SEARCHED)
         if not found:
             raise Undecided(f"facts that hold nowhere, as far as was seen: {facts} {least}")
         possible[key] = found
+
+
+def drawn_points(names, draw, around, attempts):
+    """Points at which the facts hold; or some that are near to others, of which most variables stay."""
+    found = []
+    for attempt in range(attempts):
+        choices = CHOICES if attempt < SEARCHED else FURTHER
+        begun = around[attempt % len(around)] if around else {}
+        kept = {name for name in begun if attempt < TRIED or draw.random() < STAYS}
+        point = {name: max(begun[name], least.get(name, 0)) if name in kept else
+                 least.get(name, 0) + (draw.choice(choices) if attempt else 0) for name in names}
+        if all(value_at(fact, point) >= 0 for fact in facts):
+            found.append(point)
+        if len(found) == KEPT or found and attempt > TRIED:
+            break
+    return found
 
 
 def from_zero(x):

@@ -63,10 +63,14 @@ class AnyUpdates:
     def __init__(self, cpu, hash_name):
         self.cpu, self.hash_name = cpu, hash_name
         self.width, self.stripe, self.at = int(hash_name), int(hash_name) // 2, LAYOUTS[hash_name]
-        self.forget()
+        self.read()
 
     def forget(self):
         nodes.forget()
+        self.read()
+
+    def read(self):
+        """The definition's texts."""
         suppositions.clear()
         self.seed = seed_symbol(self.hash_name)
         self.texts = definition.program().run(traced=suppositions)

@@ -30,7 +30,7 @@ def expect(what, ours, theirs):
 
 def words_of(width, name):
     """A hash as the registers that hand it over: one of 64 bits, or two."""
-    return [(symbol(f"{name}{k}", min(width, 64)), min(width, 64)) for k in range(max(1, width // 64))]
+    return [(symbol(f"{name}{k} of {width}", min(width, 64)), min(width, 64)) for k in range(max(1, width // 64))]
 
 
 def canonical_forms(cpu):

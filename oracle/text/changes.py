@@ -6,6 +6,7 @@ and the other calls, which compare by themselves. It is noticed where a question
 does what no call may do. Those that aren't are listed in equal_changes.txt with their reasons. A crash of this program
 isn't counted as noticed."""
 import collections
+import functools
 import itertools
 import os
 import random
@@ -15,7 +16,7 @@ from terms.loops import REFUSALS, NotShown
 from terms.nodes import WrongRule, is_same
 from terms.sides import Request
 
-from . import calls, one_shots, streams, xxh3_updates
+from . import any_updates, calls, one_shots, streams, xxh3_updates
 from .instructions import PARTS, SETS, TABLE, VECTORS, letters
 from .objects import Immediate, Place, Register
 from .processor import Processor
@@ -24,7 +25,7 @@ EQUAL = os.path.join(os.path.dirname(os.path.abspath(__file__)), "equal_changes.
 LIMIT = 300_000                   # instructions of a changed text's call
 MOST, NEAR, FEWEST = 200, 20, 10  # questions that a change is asked, requests near to them, and if it has a reason
 MANY, FEW, SOME = 100, 50, 25     # changes of a text, with --all and without, and of some functions
-UPDATES = 8                       # cases of updates of XXH3 that a change is asked, with --all
+UPDATES = 8                       # cases of updates of a hash that a change is asked, with --all
 IDLE = "nop", "prefetcht0", "vzeroupper", "ud2"
 UNNOTICED, CRASH = "unnoticed", "A CRASH"
 ALIKE = [("je", "jne"), ("jb", "jbe"), ("ja", "jae"), ("jb", "jae"), ("sete", "setne"), ("cmovb", "cmovae"),
@@ -94,16 +95,26 @@ def questions(entries, is_all):
               calls.without_mark, calls.out_of_range, calls.refused_resets, calls.updates_of_nothing,
               calls.null_pointers, calls.derived_secret, some_secrets]
     return [*(of_request(request, entries) for request in asked),
-            *(Question(call.__name__, silent(call)) for call in [*others, *map(update, range(UPDATES * is_all))])]
+            *(Question(call.__name__, silent(call)) for call in others),
+            *(Question(repr(call), silent(call)) for call in (updates() if is_all else ()))]
 
 
-def update(k):
-    """One of some cases of an update of XXH3, from any state to any other."""
-    def ask(cpu):
-        proof = xxh3_updates.Xxh3Updates(cpu)
-        cases = list(proof.all_updates())
-        proof.update(*cases[k * len(cases) // UPDATES])
-    return ask
+def updates():
+    """Some cases of an update, from any state to any other."""
+    for k in range(UPDATES):
+        yield functools.partial(update_of_xxh3, k)
+        yield from (functools.partial(update_of, name, k) for name in any_updates.LAYOUTS)
+
+
+def update_of_xxh3(k, cpu):
+    proof = xxh3_updates.Xxh3Updates(cpu)
+    cases = list(proof.all_updates())
+    proof.update(*cases[k * len(cases) // UPDATES])
+
+
+def update_of(name, k, cpu):
+    cases = list(any_updates.updates(name))
+    any_updates.AnyUpdates(cpu, name).update(cases[k * len(cases) // UPDATES])
 
 
 def some_secrets(cpu):

@@ -132,6 +132,8 @@ TEXTS = [
           begun("twox_c.xxh3_state.Xxh3State.update", "mov 0x298(%rdi),%rax", "shr $0x28,%rax",
                 *adds_to("(%rdi)")),
           any_update, "the state at 0 is"),
+    Wrong("the upper half of a hash that is lost", begun("XXH128_canonicalFromHash", "mov %esi,%esi"),
+          calls.canonical_forms, "another value"),
     Wrong("bytes that objdump leaves out", begun(VERSION, "nop", ".zero 16"), calls.version, "the instruction add bm"),
     Wrong("a jump into an instruction", begun(VERSION, "jmp 1f+1", "1: mov $0x1234,%eax"), calls.version,
           "no instruction at"),

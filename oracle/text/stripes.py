@@ -114,9 +114,11 @@ class StripesProof(Proof):
     def guess_of_some(self, first):
         """Where so many stripes are left, and so many till the block's end."""
         for left, more, is_twice in GUESSES:
+            facts = minus(self.family.q, plus(self.first_place[1], more, 1)), minus(self.family.total, plus(first, left))
+            if any(is_natural(minus(-1, fact)) for fact in facts):
+                continue
             try:
-                with given(minus(self.family.q, plus(self.first_place[1], more, 1)),
-                           minus(self.family.total, plus(first, left))):
+                with given(*facts):
                     if self.guess(first, left, is_twice):
                         return True
             except REFUSALS as error:

@@ -34,6 +34,9 @@ def choose(given, found):
     for kind in comparison.kinds(SECRETS):
         lengths = range(301) if given.all or kind[2] != SECRETS[1] else range(0, 301, 20)
         out.append(compared(f"{title_of(*kind)}, one-shots of 0 to 300 bytes", found, kind, lengths))
+        if given.all and kind[2] is None and kind[0].startswith("3-"):
+            asked = [*shared.MORE, every_length.PREFETCHED]
+            out.append(compared(f"{title_of(*kind)}, one-shots of 301 to 1100 bytes, and 31744", found, kind, asked))
         if kind[2] != SECRETS[1]:
             asked = comparison.STREAMED if given.all else STREAMED
             out.append(compared(f"{title_of(*kind)}, streams of 5 to 700 bytes", found, kind, asked, True))
