@@ -1,5 +1,5 @@
 -- The words of the headline.
-use Rattle.std.specs.Prelude.{◌≡◌, ◌⊎◌, ℕ, false, List, [], ◌++◌}
+use Rattle.std.specs.Prelude.{◌≡◌, ◌⊎◌, ℕ, List, [], ◌++◌}
 use Rattle.xxh_io.specs.Digest.{Took}
 use Rattle.xxh_io.specs.Rules.{SinkRules}
 use Rattle.xxh_io.specs.declared.kind.Kind.{Kind}
