@@ -99,7 +99,10 @@ def of_secret(q):
     if q != DERIVED:
         yield from own_cases(q)
         return
-    yield from (xxh3_case(q, 0, J) for J in range(4, q))
+    yield from (xxh3_case(q, 0, J) for J in range(4, q - 1))
+    # x86-64-v4 has a way of its own from a whole block on.
+    yield xxh3_case(q, 0, q - 1, at_most(variable("t"), 62))
+    yield Case(64 * q, q - 1, [], {}, q)
     yield from derived_cases()
     yield Case(PREFETCHED, FAR - 1, [], {}, q)
 

@@ -25,11 +25,12 @@ NEAR = 0, 1, -1, -2, -4           # stripes that lie between a pointer and what 
 class Family:
     """What the definition says: after(k)(j), word j of `count` after k stripes, of so many bytes each and of which
     there are `total`. suppose(k, values) makes these values the words for k. `blocks` has the stripes of a block and
-    how many blocks there are, where a loop may count the stripes of a block."""
+    how many blocks there are, where a loop may count the stripes of a block; `begins` after how many stripes the loops
+    begin, where that is known."""
 
-    def __init__(self, name, stripe, total, count, after, suppose, blocks=None):
+    def __init__(self, name, stripe, total, count, after, suppose, blocks=None, begins=()):
         self.name, self.stripe, self.total, self.count, self.after = name, stripe, total, count, after
-        self.blocks = blocks
+        self.blocks, self.begins = blocks, begins
         self.put, self.known = suppose, {}
 
     def word(self, k, j):
@@ -158,8 +159,8 @@ class Proof:
     def firsts(self):
         """After how many stripes the loop may begin: guesses by the places in the message, for which some cells hold
         the definition's words."""
-        guesses = [0]
-        for x in self.cpu.registers.values():
+        guesses = [*self.family.begins] or [0]
+        for x in self.cpu.registers.values() if not self.family.begins else ():
             if isinstance(x, Address) and len(x.bases) == 1 and isinstance(x.bases[0][0], Input):
                 with contextlib.suppress(Undecided):
                     memory, at = x.place()

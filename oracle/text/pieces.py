@@ -57,11 +57,11 @@ class Pieces:
         suppositions.suppose(self.after(k), values)
         return Words("before", PLACE + 8, [*((8 * i, 8, x) for i, x in enumerate(values)), (PLACE, 8, place)], alignment=8)
 
-    def call(self, state, first, length, total):
+    def call(self, state, first, length, total, begins):
         """What the function hands over for the bytes from `first` on, which are `total` stripes with those before."""
         made = Words("after", state.length, [], alignment=8)
         family = Family(WIDENED, STRIPE, total, COUNT, self.after,
-                        lambda k, values: suppositions.suppose(self.after(k), values))
+                        lambda k, values: suppositions.suppose(self.after(k), values), begins=[begins])
         self.cpu.not_zero, self.cpu.live = [], [made]
         self.cpu.loops, self.cpu.limit = None if isinstance(length, int) else Loops(self.cpu.program, family), LIMIT
         piece = Piece(self.source, first, length)
@@ -88,6 +88,7 @@ class Pieces:
         length = plus(times(STRIPE, minus(total, k)), cut.bytes)
         self.begin(plus(begun, length))
         with given(at_most(self.source.length, LONGEST), *([minus(d, 1)] if cut.has_blocks else [])):
-            made = self.call(self.state(k, cut.before), begun, length, total)
+            at_block = times(Q, plus(a, 1 if cut.before else 0))
+            made = self.call(self.state(k, cut.before), begun, length, total, at_block)
         if not is_same_number(made.load(PLACE, 8), cut.behind):
             raise NotShown(f"the place is {made.load(PLACE, 8)} and not {cut.behind}")

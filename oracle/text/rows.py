@@ -198,7 +198,9 @@ def every_length_rows(texts, is_all):
                         functools.partial(up_to_240, name, program, kind)) for name, program in texts.items()]
         for q in every_length.KEPT:
             title = f"XXH{kind.replace(':', ', ')} of {64 + 8 * q} to {71 + 8 * q} bytes: every length from 241 on"
-            out += of_every_length(texts, kind, title, every_length.with_rests(q))
+            out += of_every_length(before_v4(texts), kind, title, every_length.with_rests(q))
+        title = f"XXH{kind.replace(':', ', ')} of 192 bytes: every length from 241 on"
+        out += of_every_length({V4: texts[V4]}, kind, title, every_length.with_rests(every_length.DERIVED)[::2])
     return out
 
 
