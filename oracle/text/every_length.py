@@ -72,6 +72,12 @@ def of_secret():
     return [with_rest(case, rest) for case in found for rest in (False, True)]
 
 
+def of_secret_by_turns():
+    """Those of it where x86-64-v4 has no way of its own, or takes a number of blocks by that. Its others are asked one by
+    one: of 192 bytes, up to a block and a little more."""
+    return [case for case in of_secret() if case.rest or parts_of(case.length).get((TURNS,))]
+
+
 def with_rest(case, rest):
     """With a secret of `rest` bytes more than its stripes ask for: 0, or 1 to 7."""
     u = variable("u")
