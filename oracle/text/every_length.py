@@ -75,7 +75,7 @@ def of_secret():
 def of_secret_by_turns():
     """Those of it where x86-64-v4 has no way of its own, or takes a number of blocks by that. Its others are asked one by
     one: of 192 bytes, up to a block and a little more."""
-    return [case for case in of_secret() if case.rest or parts_of(case.length).get((TURNS,))]
+    return [case for case in of_secret() if isinstance(case.rest, Poly) or (TURNS,) in parts_of(case.length)]
 
 
 def with_rest(case, rest):
