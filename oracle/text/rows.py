@@ -200,7 +200,8 @@ def every_length_rows(texts, is_all):
             title = f"XXH{kind.replace(':', ', ')} of {64 + 8 * q} to {71 + 8 * q} bytes: every length from 241 on"
             out += of_every_length(before_v4(texts), kind, title, every_length.with_rests(q))
         of_v4, title = {V4: texts[V4]}, f"XXH{kind.replace(':', ', ')} of 192 bytes: every length from 1,025 on"
-        out += of_every_length(of_v4, kind, title, [every_length.with_rest(case, False) for case in every_length.derived_cases()])
+        asked = [every_length.with_rest(case, False) for case in every_length.derived_cases()]
+        out += of_every_length(of_v4, kind, title, asked)
         out.append(one_by_one(of_v4, (*kind.split(":"), 192), [*range(241, MORE.stop), every_length.PREFETCHED], f", {V4}"))
     return out
 
