@@ -1,11 +1,13 @@
 /* Measures two shared libraries of the same names in turns, in one process, through the pointers that dlsym gives:
  *
- *     shared OURS THEIRS [--quick] [--only WORD]..
+ *     shared OURS THEIRS [--dispatch] [--quick] [--only WORD]..
  *
  * OURS and THEIRS are what dlopen is asked for: a path, or libxxhash.so.0 for the file that the loader chooses. It
  * writes a line for each row and library, as driver.c does:
  *
  *     FORM NAME SIZE LIBRARY NANOSECONDS
+ *
+ * With --dispatch THEIRS is called by the names `.._dispatch`, where it has them.
  *
  * FORM is oneshot or stream; SIZE is the input's length, or of a stream the length of its pieces. NANOSECONDS is what
  * a call takes, or what a stream takes for 1 MiB with its reset and its digest: the best of many short turns (turns.h).
@@ -14,6 +16,7 @@
 #define _GNU_SOURCE
 #include <dlfcn.h>
 #include <link.h>
+#include <stdbool.h>
 #include "../c/include/xxhash.h"
 #include "turns.h"
 
@@ -45,7 +48,15 @@ static void fail(const char *what)
     exit(1);
 }
 
-static void load(struct library *library, const char *name, const char *path)
+static void *address_of(void *handle, const char *call, bool is_dispatched)
+{
+    char name[64];
+    snprintf(name, sizeof name, "%s_dispatch", call);
+    void *address = is_dispatched ? dlsym(handle, name) : NULL;
+    return address ? address : dlsym(handle, call);
+}
+
+static void load(struct library *library, const char *name, const char *path, bool is_dispatched)
 {
     struct link_map *map;
     void *handle = dlopen(path, RTLD_NOW | RTLD_LOCAL);
@@ -54,7 +65,7 @@ static void load(struct library *library, const char *name, const char *path)
     fprintf(stderr, "%s: %s\n", name, map->l_name);
     library->name = name;
 #define LOAD(call) \
-    if (!(library->call = (__typeof__(&call))dlsym(handle, #call))) fail(dlerror());
+    if (!(library->call = (__typeof__(&call))address_of(handle, #call, is_dispatched))) fail(dlerror());
     EACH_CALL(LOAD)
     library->state_32 = library->XXH32_createState();
     library->state_64 = library->XXH64_createState();
@@ -144,10 +155,11 @@ int main(int argc, char **argv)
     static const size_t few_lengths[] = { 1, 4, 16, 64, 240, 256, 1 << 10, 16 << 10, MIB, 0 };
     static const size_t pieces[] = { 1, 8, 16, 32, 64, 256, 1000, 4096, 65536, 0 };
     static const size_t few_pieces[] = { 1, 16, 64, 256, 1000, 65536, 0 };
-    if (argc < 3 || !read_words(argc, argv, 3))
-        return fprintf(stderr, "usage: shared OURS THEIRS [--quick] [--only WORD]..\n"), 2;
-    load(&libraries[0], "ours", argv[1]); /* first, since the loader gives a name that it knows no second file */
-    load(&libraries[1], "c_shared", argv[2]);
+    const bool is_dispatched = argc > 3 && strcmp(argv[3], "--dispatch") == 0;
+    if (argc < 3 || !read_words(argc, argv, 3 + is_dispatched))
+        return fprintf(stderr, "usage: shared OURS THEIRS [--dispatch] [--quick] [--only WORD]..\n"), 2;
+    load(&libraries[0], "ours", argv[1], false); /* first, since the loader gives a name that it knows no second file */
+    load(&libraries[1], "c_shared", argv[2], is_dispatched);
     if (!fill_input(ROOM)) fail("no memory");
     rows(ONESHOT, quick ? few_lengths : lengths);
     rows(STREAM, quick ? few_pieces : pieces);
