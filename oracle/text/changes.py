@@ -24,7 +24,7 @@ from .processor import Processor
 EQUAL = os.path.join(os.path.dirname(os.path.abspath(__file__)), "equal_changes.txt")
 LIMIT = 300_000                   # instructions of a changed text's call
 MOST, NEAR, FEWEST = 200, 20, 10  # questions that a change is asked, requests near to them, and if it has a reason
-MANY, FEW, SOME = 100, 50, 25     # changes of a text, with --all and without, and of some functions
+MANY, FEW, SOME = 100, 40, 20     # changes of a text, with --all and without, and of some functions
 UPDATES = 8                       # cases of updates of a hash that a change is asked, with --all
 IDLE = "nop", "prefetcht0", "vzeroupper", "ud2"
 UNNOTICED, CRASH = "unnoticed", "A CRASH"
