@@ -97,11 +97,11 @@ def shared(rows):
 
 
 def dispatch():
-    """A sentence on the calls `.._dispatch`: the ratios at the shortest and at the longest input, over both widths."""
+    """The calls `.._dispatch`, of both widths."""
     with open(f"{TOP}/bench/data/dispatch.tsv") as lines:
-        rows = [it.split("\t") for it in lines if not it.startswith("#")]
-    at = [f"{' and '.join(it[1:]).strip()} at {int(it[0]):,} bytes" for it in (rows[0], rows[2], rows[-2])]
-    return ["Debian has AVX-512 code behind the names `.._dispatch`. Of 64 and 128 bits the same ratio is " + ", ".join(at) + ".", ""]
+        rows = [it.strip().split("\t") for it in lines if not it.startswith("#")]
+    return ["Debian has AVX-512 code behind the names `.._dispatch`. The same ratio, where both have it:", "",
+            *markdown(["what", "64 bits", "128 bits"], rows)]
 
 
 def programs(rows):
