@@ -269,9 +269,9 @@ def reasons():
         return dict(line.strip().split(" | ") for line in file if line.strip() and not line.startswith("#"))
 
 
-def few(asked, most):
-    """So many of the requests, and the calls that compare by themselves."""
-    return [*[question for question in asked if question.request][:most],
+def few(asked):
+    """Some of the requests, and the calls that compare by themselves."""
+    return [*[question for question in asked if question.request][:MOST],
             *(question for question in asked if not question.request)]
 
 
@@ -294,7 +294,7 @@ def noticed(name, program, is_all, word=""):
         has_reason = is_equal(text, known)
         reached = [question for k, question in enumerate(asked) if found[place] >> k & 1]
         order.shuffle(reached)
-        what = outcome(cpu, instructions, few(reached, FEWEST if has_reason else MOST), entries, order)
+        what = outcome(cpu, instructions, reached[:FEWEST] if has_reason else few(reached), entries, order)
         told[what.split(":")[0]] += 1
         if what.startswith((CRASH, "WrongRule")) or what == UNNOTICED and not has_reason:
             bad.append(f"{what}: {text}")

@@ -67,9 +67,17 @@ def cases(kind):
 
 def of_secret():
     """Above 240 bytes with a secret of 192 to 199 bytes. The texts ask whether it has 192."""
-    found = [xxh3_case(0, 3, minus(variable("t"), 48)), *(xxh3_case(0, J) for J in range(4, DERIVED))]
+    found = [xxh3_case(0, 3, minus(variable("t"), 48)), *(xxh3_case(0, J) for J in range(4, DERIVED - 1))]
+    # x86-64-v4 asks whether there is a whole block.
+    found += [xxh3_case(0, DERIVED - 1, at_most(variable("t"), 62)), Case(64 * DERIVED, DERIVED - 1, [], {})]
     found += [*derived_cases(), Case(PREFETCHED, FAR - 1, [], {})]
     return [with_rest(case, rest) for case in found for rest in (False, True)]
+
+
+def of_secret_by_turns():
+    """Those of it where x86-64-v4 has no way of its own, or takes a number of blocks by that. Its others are asked one by
+    one: of 192 bytes, up to a block and a little more."""
+    return [case for case in of_secret() if isinstance(case.rest, Poly) or (TURNS,) in parts_of(case.length)]
 
 
 def with_rest(case, rest):

@@ -55,8 +55,8 @@ class Processor:
         return f"{prefix}#{self.made}"
 
     def fresh(self, prefix, width=WORD):
-        """A symbol of a new name."""
-        return symbol(self.new_name(prefix), width)
+        """A symbol of a new name, which other processors may have for another one of the same width."""
+        return symbol(f"{self.new_name(prefix)}:{width}", width)
 
     # ---- calls
 

@@ -228,7 +228,7 @@ def every_length_rows(texts, is_all):
     if not is_all:
         out += of_every_length({V4: made[V4]}, "3-64:seed", "XXH3-64, seed: one case of every length",
                                every_length.cases("3-64:seed")[:1])
-    return out + long_rows(made, is_all)
+    return out + long_rows(made, is_all) + (short_rows_of_v4(texts) if is_all else [])
 
 
 def long_rows(made, is_all):
@@ -247,9 +247,17 @@ def long_rows(made, is_all):
         if is_all:
             out += [counted(f"{title} any length: 0 to 240 bytes, {name}", 241,
                             functools.partial(up_to_240, make, kind)) for name, make in made.items()]
-            out += of_every_length(made, kind, f"{title} 192 to 199 bytes: every length from 241 on",
-                                   every_length.of_secret())
+            title = f"{title} 192 to 199 bytes: every length from 241 on"
+            out += of_every_length(before_v4(made), kind, title, every_length.of_secret())
+            of_v4 = {name: make for name, make in made.items() if name == V4}
+            out += of_every_length(of_v4, kind, title, every_length.of_secret_by_turns())
     return out
+
+
+def short_rows_of_v4(texts):
+    """With a secret of 192 bytes, which x86-64-v4 asks for: the lengths that its row of every length leaves out."""
+    return [one_by_one({V4: texts[V4]}, (*kind.split(":"), 192), [*range(241, MORE.stop), every_length.PREFETCHED], f", {V4}")
+            for kind in ANY_SECRET]
 
 
 def of_every_length(made, kind, title, asked, seed=None):

@@ -71,7 +71,7 @@ class Processor:
         return f"{prefix}#{self.made}"
 
     def fresh(self, prefix, width=WORD):
-        return symbol(self.new_name(prefix), width)
+        return symbol(f"{self.new_name(prefix)}:{width}", width)
 
     def unset_lane(self):
         return self.fresh("a lane")
