@@ -1,5 +1,5 @@
 #!/usr/bin/env python3
-"""Draws what was measured, as the table of web/README.md:
+"""Draws what was measured, as the table of docs/history/TUNING.md:
 
     web/bench_c/table.py NAME=FILE..
 
