@@ -33,10 +33,10 @@ threads = [threading.Thread(target=run, args=(each,)) for each in made]
 
 
 class Clock:
-    """A thread that counts as long as the interpreter lets it, about each millisecond."""
+    """A thread that notes, about each millisecond, how long the thread that made it has computed so far."""
 
     def __enter__(self):
-        self.ticks, self.ends = 0, False
+        self.seen, self.ends, self.clock = [], False, time.pthread_getcpuclockid(threading.get_ident())
         self.thread = threading.Thread(target=self.tick)
         self.thread.start()
         return self
@@ -44,7 +44,7 @@ class Clock:
     def tick(self):
         while not self.ends:
             time.sleep(0.001)
-            self.ticks += 1
+            self.seen.append(time.clock_gettime(self.clock))
 
     def __exit__(self, *_):
         self.ends = True
@@ -53,12 +53,15 @@ class Clock:
 
 class Threads(unittest.TestCase):
     def lets_others_run(self, call):
-        """The clock goes on during one call: the call is made again where the machine was too busy to tell."""
+        """The clock goes on in the midst of one call: the call is made again where the machine was too busy to tell. Before
+        and behind a call others may always run, however long the machine lets this thread wait there."""
         with Clock() as clock:
             for _ in range(50):
-                before, start = clock.ticks, time.monotonic()
+                before = time.thread_time()
                 call()
-                if time.monotonic() - start > 0.003 and clock.ticks > before + 1:
+                after = time.thread_time()
+                quarter = (after - before) / 4
+                if any(before + quarter < seen < after - quarter for seen in clock.seen):
                     return
         self.fail('no other thread ran')
 
