@@ -99,8 +99,9 @@ class Module:
         return found
 
     def functions(self, place):
-        names = self.leads_to(place.within) if place.within else self.bodies
-        return [name for name in names if plain(name).endswith(place.function)]
+        """In the module's order, so that a module is written alike each time."""
+        within = self.leads_to(place.within) if place.within else self.bodies
+        return [name for name in self.bodies if name in within and plain(name).endswith(place.function)]
 
     def written(self, place, argument):
         for line in range(place.lines):
