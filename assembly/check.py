@@ -31,7 +31,7 @@ import tempfile
 
 ASSEMBLY = os.path.dirname(os.path.abspath(__file__))
 TOP = os.path.dirname(ASSEMBLY)
-sys.path[:0] = [ASSEMBLY, os.path.join(TOP, 'c', 'checks')]
+sys.path[:0] = [ASSEMBLY, os.path.join(TOP, 'c', 'checks'), os.path.join(TOP, 'checks', 'lib')]
 sys.dont_write_bytecode = True
 
 import compile as compiling
@@ -42,7 +42,7 @@ import unwinding
 import wide
 from report import Fault, Report, want
 from same_bytes import compare, compare_sums, Object
-from tools import sets_here
+from library import sets_here
 
 BUILDS = {'c': 'c/build', 'rust': 'rust/build-library'}
 SETS = {('c', 'x86-64'): ('x86-64-v2', 'x86-64-v3', 'x86-64-v4'), ('rust', 'x86-64'): ('x86-64', 'x86-64-v3'),

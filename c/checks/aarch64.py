@@ -8,12 +8,13 @@ import headers
 import made
 import package
 import values
+from arm_roots import TOOLS, debian_root
 from check import check_texts
+from library import C, Built
 from report import Fault, want
 from sides import EmulatedSide, run
-from tools import C, QUIET, TOP, Built, install_packages, must
+from tools import TOP, install_packages, must
 
-TOOLS = 'aarch64-linux-gnu-'
 HEADER = '/usr/include/xxhash.h'
 PACKAGES = {TOOLS + 'gcc': 'gcc-aarch64-linux-gnu', TOOLS + 'objcopy': 'binutils-aarch64-linux-gnu',
             '/usr/aarch64-linux-gnu/include/stdio.h': 'libc6-dev-arm64-cross', 'nm': 'binutils',
@@ -22,40 +23,6 @@ PACKAGES = {TOOLS + 'gcc': 'gcc-aarch64-linux-gnu', TOOLS + 'objcopy': 'binutils
 THEIRS = '/usr/lib/aarch64-linux-gnu/libxxhash.so.0'
 # A constant of the reference, and a wrong one.
 RIGHT, WRONG = '#define XXH_PRIME32_1  0x9E3779B1U', '#define XXH_PRIME32_1  0x9E3779B3U'
-
-
-def debian_root(folder, *packages):
-    """Debian's packages for arm64 and all that they need, unpacked below a folder. apt works on lists and a cache of
-    its own there, so that the machine's own packages stay as they are."""
-    for part in ('state/lists/partial', 'cache/archives/partial', 'root'):
-        os.makedirs(os.path.join(folder, part))
-    status = os.path.join(folder, 'status')
-    open(status, 'w').close()
-    settings = {'APT::Architecture': 'arm64', 'APT::Architectures::': 'arm64', 'APT::Sandbox::User': 'root',
-                'Debug::NoLocking': '1', 'Dir::State': os.path.join(folder, 'state'), 'Dir::State::status': status,
-                'Dir::Cache': os.path.join(folder, 'cache')}
-    apt = ['apt-get', '-qq', *(word for name, value in settings.items() for word in ('-o', f'{name}={value}'))]
-    must([*apt, 'update'], env=QUIET)
-    must([*apt, 'install', '-y', '--no-install-recommends', '--download-only', *packages], env=QUIET)
-    archives, root = os.path.join(folder, 'cache', 'archives'), os.path.join(folder, 'root')
-    for name in os.listdir(archives):
-        if name.endswith('.deb'):
-            must(['dpkg-deb', '-x', os.path.join(archives, name), root])
-    return root
-
-
-def musl_gcc(room):
-    """A compiler for musl on 64-bit ARM: Debian's cross compiler, over Debian's musl for that processor."""
-    root = debian_root(os.path.join(room, 'musl'), 'musl-dev')
-    specs, path = os.path.join(room, 'musl-gcc.specs'), os.path.join(room, 'aarch64-linux-musl-gcc')
-    with open(os.path.join(root, 'usr/lib/aarch64-linux-musl/musl-gcc.specs')) as file:
-        text = file.read()
-    with open(specs, 'w') as file:
-        file.write(text.replace('/usr/', root + '/usr/'))
-    with open(path, 'w') as file:
-        file.write(f'#!/bin/sh\nexec {TOOLS}gcc "$@" -specs {specs}\n')
-    os.chmod(path, 0o755)
-    return path
 
 
 def reference(built, name, change=('', ''), flags=('-O2',)):

@@ -3,7 +3,8 @@ import os
 import subprocess
 
 from report import want
-from tools import C, must
+from library import C
+from tools import must
 
 SHOWS = '''#include <stdio.h>
 int main(int count, char **words)

@@ -5,7 +5,8 @@ import subprocess
 
 from report import want
 from sides import THEIRS
-from tools import C, must
+from library import C
+from tools import must
 
 HEADER = '/usr/include/xxhash.h'
 # The word comes after the header was included once, as where another header includes it.

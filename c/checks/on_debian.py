@@ -15,7 +15,8 @@ import tempfile
 from collections import namedtuple
 
 from report import want
-from tools import C, TOP, Built, clean_copy, install_packages, must
+from library import C, Built
+from tools import TOP, clean_copy, install_packages, must
 
 sys.path.append(os.path.join(TOP, 'release', 'parts'))
 from roots import TAKEN, new_base, new_root

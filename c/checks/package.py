@@ -11,7 +11,8 @@ from file_program import file_program_agrees
 from launcher import OLD, SETS
 from report import tail, want
 from sides import THEIRS, Side, others, run
-from tools import C, TOP, must, sets_here, sets_of_library
+from library import C, sets_here, sets_of_library
+from tools import TOP, must
 
 NAME = 'twox-hash'
 PREFIX = '/usr/lib/twox-hash'

@@ -4,7 +4,8 @@ import shutil
 import subprocess
 
 from report import tail, want
-from tools import C, must
+from library import C
+from tools import must
 
 HEADER = '/usr/include/xxhash.h'
 STATES = '''#define XXH_STATIC_LINKING_ONLY

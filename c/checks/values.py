@@ -3,7 +3,8 @@ import os
 import subprocess
 
 from report import want
-from tools import C, must
+from library import C
+from tools import must
 
 # What release 0.8.3 has beside the names of 0.8.1, on x86-64.
 NEWER = {'XXH_featureTest'}

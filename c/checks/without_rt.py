@@ -14,7 +14,8 @@ import suits
 import values
 from report import Fault, tail, want
 from sides import THEIRS, Side
-from tools import Built, clean_copy, hide_rt, install_packages, must, path_without
+from library import Built
+from tools import clean_copy, hide_rt, install_packages, must, path_without
 
 PACKAGES = {'gcc': 'gcc', 'g++': 'g++', '/usr/include/stdio.h': 'libc6-dev', 'nm': 'binutils', 'make': 'make',
             'python3': 'python3', 'pkg-config': 'pkg-config', 'cmake': 'cmake', 'clang': 'clang',

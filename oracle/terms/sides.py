@@ -9,7 +9,7 @@ import tempfile
 
 FOLDER = os.path.dirname(os.path.abspath(__file__))
 TOP = os.path.dirname(os.path.dirname(FOLDER))
-sys.path.append(os.path.join(TOP, "c", "checks"))
+sys.path.append(os.path.join(TOP, "checks", "lib"))
 
 import tools
 

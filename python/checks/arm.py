@@ -1,7 +1,7 @@
 """The package for 64-bit ARM under qemu-aarch64, in Debian's Python for that processor."""
 import os
 
-from aarch64 import debian_root
+from arm_roots import debian_root
 from builds import text_is_proved
 from report import want
 from room import copied, packed, run, site

@@ -7,7 +7,7 @@ import sys
 
 PYTHON_FOLDER = os.path.dirname(os.path.dirname(os.path.abspath(__file__)))
 TOP = os.path.dirname(PYTHON_FOLDER)
-sys.path[:0] = [os.path.join(TOP, 'c', 'checks'), os.path.join(TOP, 'assembly')]
+sys.path[:0] = [os.path.join(TOP, 'checks', 'lib'), os.path.join(TOP, 'assembly')]
 
 from report import Fault, tail, want
 

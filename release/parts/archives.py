@@ -7,7 +7,7 @@ import re
 import shutil
 
 import provenance
-from aarch64 import debian_root
+from arm_roots import debian_root
 from packing import read_tar, tree_of, write_tar
 from tools import must
 

@@ -4,7 +4,7 @@ import glob
 import os
 import subprocess
 
-from aarch64 import debian_root
+from arm_roots import debian_root
 from report import tail, want
 from tools import TOP, four_hashes, install_packages, must
 

@@ -8,9 +8,9 @@ import sys
 
 RUST = os.path.dirname(os.path.dirname(os.path.abspath(__file__)))
 TOP = os.path.dirname(RUST)
-sys.path[:0] = [os.path.join(TOP, 'c', 'checks'), os.path.join(TOP, 'assembly')]
+sys.path[:0] = [os.path.join(TOP, 'checks', 'lib'), os.path.join(TOP, 'assembly')]
 
-import aarch64
+import arm_roots
 from report import tail, want
 from tools import install
 
@@ -163,7 +163,7 @@ class ArmRoom(Room):
 
     def __init__(self, path):
         super().__init__(path)
-        self.root = aarch64.debian_root(os.path.join(path, 'debian'), 'libc6', 'libxxhash-dev', 'libstd-rust-web-dev')
+        self.root = arm_roots.debian_root(os.path.join(path, 'debian'), 'libc6', 'libxxhash-dev', 'libstd-rust-web-dev')
         self.sysroot = os.path.join(path, 'sysroot')
         os.makedirs(os.path.join(self.sysroot, 'lib', 'rustlib'))
         os.symlink(os.path.join(self.root, 'usr', 'lib', 'rustlib', ARM),

@@ -11,7 +11,7 @@ import tempfile
 WEB = os.path.dirname(os.path.dirname(os.path.abspath(__file__)))
 sys.dont_write_bytecode = True
 TOP = os.path.dirname(WEB)
-sys.path[:0] = [os.path.join(WEB, "tests"), os.path.join(TOP, "oracle"), os.path.join(TOP, "c", "checks")]
+sys.path[:0] = [os.path.join(WEB, "tests"), os.path.join(TOP, "oracle"), os.path.join(TOP, "checks", "lib")]
 
 from browser import Chromium, Firefox, WebKit
 from page import Requests, Served

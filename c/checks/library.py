@@ -1,0 +1,85 @@
+"""The library for C as c/install puts it, for each set of instructions, and copies of it that are wrong."""
+import os
+import shutil
+import subprocess
+
+from tools import TOP, must
+
+C = os.path.join(TOP, 'c')
+
+
+def sets_of_library():
+    """The sets of instructions that the library is made for on x86-64, the one for every processor first."""
+    return must(['make', '-s', '-C', C, 'sets']).split()
+
+
+def sets_here():
+    """Those of them that the loader takes on this machine."""
+    told = subprocess.run(['/lib64/ld-linux-x86-64.so.2', '--help'], stdout=subprocess.PIPE, text=True).stdout
+    first, *above = sets_of_library()
+    return [first, *(name for name in above if f'{name} (supported' in told)]
+
+
+class Built:
+    """What is checked: the installed library of a processor, and copies of it that are wrong."""
+
+    def __init__(self, room, target='x86-64', tools=''):
+        self.room, self.tools = room, tools
+        self.set_paths(os.path.join(room, 'prefix'))
+        must([os.path.join(C, 'install'), '--target', target, self.prefix])
+
+    def set_paths(self, prefix):
+        self.prefix, self.folder = prefix, os.path.join(prefix, 'lib')
+        self.include = os.path.join(self.prefix, 'include')
+        self.archive = os.path.join(self.folder, 'libtwox_hash.a')
+        self.plain = os.path.join(self.folder, 'libxxhash.so.0')
+
+    def shared(self, instructions):
+        """The shared library for a set of instructions."""
+        above = [] if instructions == sets_of_library()[0] else ['glibc-hwcaps', instructions]
+        return os.path.join(self.folder, *above, 'libxxhash.so.0')
+
+    def libraries(self):
+        """The shared library of each set, and of those that the loader takes here."""
+        return [self.shared(name) for name in sets_of_library()], [self.shared(name) for name in sets_here()]
+
+    def tool(self, name, *words):
+        return must([self.tools + name, *words])
+
+    def program(self, name, *words):
+        """A program in C, with the installed header."""
+        path = os.path.join(self.room, name)
+        self.tool('gcc', '-O2', '-g', '-Wall', '-Wextra', '-Werror', '-I', self.include, *words, '-o', path)
+        return path
+
+    def object(self, name, source, *flags):
+        path = os.path.join(self.room, name + '.o')
+        self.tool('gcc', '-O1', '-g', '-fPIC', '-Wall', '-Wextra', '-I', self.include, *flags, '-c', source, '-o', path)
+        return path
+
+    def link(self, name, archive, *words):
+        """A shared library of the archive and other objects, in a folder of its own."""
+        os.makedirs(os.path.join(self.room, name), exist_ok=True)
+        path = os.path.join(self.room, name, 'libxxhash.so.0')
+        names = '-Wl,--version-script=' + os.path.join(C, 'libxxhash.map')
+        self.tool('gcc', '-shared', *words, '-Wl,--whole-archive', archive, '-Wl,--no-whole-archive', names,
+                  '-Wl,-soname,libxxhash.so.0', '-o', path)
+        return path
+
+    def wrong(self, name, *flags):
+        """The library with each hash changed, as checks/wrong.c has it."""
+        changed = self.object(name, os.path.join(C, 'checks', 'wrong.c'), *flags)
+        names = [line.split()[-1] for line in self.tool('nm', '-u', changed).splitlines() if ' right_' in line]
+        archive = os.path.join(self.room, name + '.a')
+        renamed = [word for right in names for word in ('--redefine-sym', f'{right.removeprefix("right_")}={right}')]
+        self.tool('objcopy', *renamed, self.archive, archive)
+        return self.link(name, archive, changed)
+
+    def sanitized(self):
+        """The library with its C built for AddressSanitizer."""
+        archive = os.path.join(self.room, 'proved.a')
+        shutil.copy(self.archive, archive)
+        self.tool('ar', 'd', archive, 'states.o')
+        states = self.object('sanitized', os.path.join(C, 'states.c'), '-fsanitize=address',
+                             '-I', os.path.join(C, 'asm'))
+        return self.link('sanitized', archive, '-fsanitize=address', states)
