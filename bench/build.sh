@@ -14,16 +14,7 @@ fail() {
     exit 1
 }
 . ../assembly/common.sh
-
-# need PACKAGE COMMAND: installs the Debian package where the command is missing.
-need() {
-    command -v "$2" > /dev/null || "$top/checks/install" "$1" || fail "no $2, and its package $1 could not be installed"
-}
-
-# need_file PACKAGE PATTERN: installs the Debian package where no such file is there.
-need_file() {
-    compgen -G "$2" > /dev/null || "$top/checks/install" "$1" || fail "no $2, and its package $1 could not be installed"
-}
+. ../checks/lib/need.sh
 
 # our_library TREE SET FILE: builds the libraries of the benchmark's crates in a tree, proved, for an instruction
 # set, as one object, as the tree builds what it ships: with prefetches, if it has them. Kernels that calls have to name

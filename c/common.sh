@@ -8,9 +8,9 @@ fail() {
     exit 1
 }
 
-# need COMMAND PACKAGE: stops where the command is missing, and names the package that has it.
-need() {
-    command -v "$1" > /dev/null || fail "no $1: install the package $2"
+# require PACKAGE COMMAND: stops where the command is missing, and names the package that has it.
+require() {
+    command -v "$2" > /dev/null || fail "no $2: install the package $1"
 }
 
 # read_target WORDS: takes --target NAME off the words, and leaves the others in `words`. `target` is then the
