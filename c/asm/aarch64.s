@@ -1099,14 +1099,14 @@ twox_core.xxhash3.stripes.take_many_stripes:
 	and x8, x12, #0x7f00
 	add x9, x13, x8
 	adrp x8, .L90_80
-	cbz x15, .L6_298
+	cbz x15, .L6_2a0
 	ubfx x14, x14, #6, #2
 	add x15, x4, x11
 	b .L6_bc
 .L6_b0:
 	subs x14, x14, #0x1
 	add x2, x2, #0x40
-	b.eq .L6_298
+	b.eq .L6_2a0
 .L6_bc:
 	add x16, x4, x10, lsl #3
 	prfm pldl1keep, [x2, #320]
@@ -1177,67 +1177,69 @@ twox_core.xxhash3.stripes.take_many_stripes:
 	mov x0, sp
 	add x1, sp, #0x50
 	bl twox_core.xxhash3.stripes.take_stripes
-	b .L6_80c
+	b .L6_814
 .L6_1d0:
-	ldr x9, [sp, #144]
+	ldr x8, [sp, #144]
 	ldp q0, q1, [x1]
-	movi v3.2d, #0x0
-	add x0, sp, #0xf0
-	stur xzr, [x29, #-48]
-	lsl w8, w9, #10
-	str xzr, [sp, #304]
+	add x0, sp, #0xe0
+	str xzr, [sp, #288]
 	mov x21, x4
-	stp q0, q1, [sp, #160]
-	ldp q2, q0, [x1, #32]
-	sub w8, w8, w9, lsl #6
-	add x1, sp, #0xa0
-	str x9, [sp, #224]
-	stp q3, q3, [x29, #-176]
+	lsl w9, w8, #10
+	stur x8, [x29, #-48]
 	mov x22, x5
+	stp q0, q1, [x29, #-112]
+	movi v1.2d, #0x0
+	sub w8, w9, w8, lsl #6
+	ldp q0, q2, [x1, #32]
+	sub x1, x29, #0x70
 	and x8, x8, #0x3c0
-	stp q2, q0, [sp, #192]
 	sub x23, x3, x8
 	mov x3, x8
-	stp q3, q3, [x29, #-144]
-	stp q3, q3, [x29, #-112]
+	stp q0, q2, [x29, #-80]
+	stp q1, q1, [sp, #224]
 	add x20, x2, x8
-	stp q3, q3, [x29, #-80]
-	stp q3, q3, [sp, #240]
-	stp q3, q3, [sp, #272]
+	stp q1, q1, [sp, #256]
 	bl twox_core.xxhash3.stripes.take_stripes
-	sub x0, x29, #0xb0
-	add x1, sp, #0xf0
+	movi v0.2d, #0x0
+	add x0, sp, #0xa0
+	add x1, sp, #0xe0
 	and x3, x23, #0xfffffffffffffc00
 	mov x2, x20
 	mov x4, x21
 	mov x5, x22
 	and x24, x23, #0xfffffffffffffc00
+	stp q0, q0, [sp, #160]
+	stp q0, q0, [sp, #192]
 	bl twox_core.xxhash3.stripes.blocks.take_many_blocks
-	ldp q0, q1, [x29, #-176]
-	sub x0, x29, #0x70
-	add x1, sp, #0xa0
+	ldp q0, q1, [sp, #160]
+	sub x0, x29, #0xc0
+	sub x1, x29, #0x70
 	add x2, x20, x24
 	and x3, x23, #0x3ff
 	mov x4, x21
 	mov x5, x22
-	str xzr, [sp, #224]
-	stp q0, q1, [sp, #160]
-	ldp q0, q2, [x29, #-144]
-	stp q0, q2, [sp, #192]
+	stur xzr, [x29, #-48]
+	stp q0, q1, [x29, #-112]
+	ldp q0, q2, [sp, #192]
+	stur xzr, [x29, #-128]
+	stp q0, q2, [x29, #-80]
+	movi v0.2d, #0x0
+	stp q0, q0, [x29, #-192]
+	stp q0, q0, [x29, #-160]
 	bl twox_core.xxhash3.stripes.take_stripes
-	ldp q3, q2, [x29, #-112]
-	ldur x10, [x29, #-48]
-	ldp q0, q1, [x29, #-80]
-	b .L6_800
-.L6_298:
+	ldp q3, q2, [x29, #-192]
+	ldur x10, [x29, #-128]
+	ldp q0, q1, [x29, #-160]
+	b .L6_808
+.L6_2a0:
 	lsr x14, x12, #8
 	add x15, x4, x11
-	b .L6_2b0
-.L6_2a4:
+	b .L6_2b8
+.L6_2ac:
 	subs x14, x14, #0x1
 	add x13, x13, #0x100
-	b.eq .L6_4e4
-.L6_2b0:
+	b.eq .L6_4ec
+.L6_2b8:
 	add x16, x4, x10, lsl #3
 	prfm pldl1keep, [x13, #1024]
 	prfm pldl1keep, [x13, #1088]
@@ -1346,7 +1348,7 @@ twox_core.xxhash3.stripes.take_many_stripes:
 	umlal v3.2d, v5.2s, v20.2s
 	umlal v1.2d, v17.2s, v7.2s
 	umlal v0.2d, v16.2s, v6.2s
-	b.ne .L6_2a4
+	b.ne .L6_2ac
 	ldp q4, q5, [x15]
 	ushr v6.2d, v3.2d, #47
 	ldp q7, q16, [x15, #32]
@@ -1378,10 +1380,10 @@ twox_core.xxhash3.stripes.take_many_stripes:
 	umlal v3.2d, v6.2s, v17.2s
 	umlal v0.2d, v5.2s, v17.2s
 	umlal v1.2d, v4.2s, v17.2s
-	b .L6_2a4
-.L6_4e4:
+	b .L6_2ac
+.L6_4ec:
 	ubfx x12, x12, #6, #2
-	cbz x12, .L6_800
+	cbz x12, .L6_808
 	add x13, x4, x10, lsl #3
 	prfm pldl1keep, [x9, #320]
 	add x10, x10, #0x1
@@ -1415,7 +1417,7 @@ twox_core.xxhash3.stripes.take_many_stripes:
 	umlal v3.2d, v17.2s, v4.2s
 	umlal v1.2d, v19.2s, v7.2s
 	umlal v0.2d, v18.2s, v6.2s
-	b.ne .L6_5f0
+	b.ne .L6_5f8
 	ldp q4, q5, [x11]
 	ushr v6.2d, v3.2d, #47
 	ldp q7, q16, [x11, #32]
@@ -1447,9 +1449,9 @@ twox_core.xxhash3.stripes.take_many_stripes:
 	umlal v3.2d, v6.2s, v17.2s
 	umlal v0.2d, v5.2s, v17.2s
 	umlal v1.2d, v4.2s, v17.2s
-.L6_5f0:
+.L6_5f8:
 	cmp x12, #0x1
-	b.eq .L6_800
+	b.eq .L6_808
 	add x13, x4, x10, lsl #3
 	prfm pldl1keep, [x9, #384]
 	add x10, x10, #0x1
@@ -1482,7 +1484,7 @@ twox_core.xxhash3.stripes.take_many_stripes:
 	umlal v3.2d, v17.2s, v4.2s
 	umlal v1.2d, v19.2s, v7.2s
 	umlal v0.2d, v18.2s, v6.2s
-	b.ne .L6_6f8
+	b.ne .L6_700
 	ldp q4, q5, [x11]
 	ushr v6.2d, v3.2d, #47
 	ldp q7, q16, [x11, #32]
@@ -1514,9 +1516,9 @@ twox_core.xxhash3.stripes.take_many_stripes:
 	umlal v3.2d, v6.2s, v17.2s
 	umlal v0.2d, v5.2s, v17.2s
 	umlal v1.2d, v4.2s, v17.2s
-.L6_6f8:
+.L6_700:
 	cmp x12, #0x2
-	b.eq .L6_800
+	b.eq .L6_808
 	add x12, x4, x10, lsl #3
 	prfm pldl1keep, [x9, #448]
 	add x10, x10, #0x1
@@ -1549,7 +1551,7 @@ twox_core.xxhash3.stripes.take_many_stripes:
 	umlal v3.2d, v17.2s, v4.2s
 	umlal v1.2d, v19.2s, v7.2s
 	umlal v0.2d, v18.2s, v6.2s
-	b.ne .L6_800
+	b.ne .L6_808
 	ldp q4, q5, [x11]
 	ushr v6.2d, v3.2d, #47
 	ldp q7, q16, [x11, #32]
@@ -1581,11 +1583,11 @@ twox_core.xxhash3.stripes.take_many_stripes:
 	umlal v3.2d, v6.2s, v17.2s
 	umlal v0.2d, v5.2s, v17.2s
 	umlal v1.2d, v4.2s, v17.2s
-.L6_800:
+.L6_808:
 	stp q3, q2, [sp]
 	stp q0, q1, [sp, #32]
 	str x10, [sp, #64]
-.L6_80c:
+.L6_814:
 	ldp q0, q1, [sp, #32]
 	ldr x8, [sp, #64]
 	str x8, [x19, #64]

@@ -905,7 +905,7 @@ twox_core.xxhash3.stripes.take_many_stripes:
 	vmovdqu (%rsi),%ymm0
 	vmovdqu 0x20(%rsi),%ymm1
 	vmovdqu %ymm1,0x70(%rsp)
-	mov %rdi,%r14
+	mov %rdi,%rbx
 	vmovdqu %ymm0,0x50(%rsp)
 	vpxor %xmm0,%xmm0,%xmm0
 	vmovdqu %ymm0,(%rsp)
@@ -940,14 +940,14 @@ twox_core.xxhash3.stripes.take_many_stripes:
 	mov %ecx,%esi
 	and $0x7f00,%esi
 	test %r10d,%r10d
-	je .L6_2e7
+	je .L6_2f2
 	shr $0x6,%r10d
 	jmp .L6_ed
 	.byte 102,102,102,102,46,15,31,132,0,0,0,0,0
 .L6_e0:
 	add $0x40,%rdx
 	dec %r10
-	je .L6_2e7
+	je .L6_2f2
 .L6_ed:
 	prefetcht0 0x140(%rdx)
 	vmovdqu (%rdx),%ymm2
@@ -984,67 +984,70 @@ twox_core.xxhash3.stripes.take_many_stripes:
 	xor %edi,%edi
 	jmp .L6_e0
 .L6_191:
+	mov 0x90(%rsp),%rax
 	vmovups (%rsi),%ymm0
 	vmovups 0x20(%rsi),%ymm1
 	vmovups %ymm1,0xc0(%rsp)
 	vmovups %ymm0,0xa0(%rsp)
-	mov 0x90(%rsp),%rax
-	vxorps %xmm0,%xmm0,%xmm0
-	vmovups %ymm0,0xf0(%rsp)
-	vmovups %ymm0,0x110(%rsp)
-	vmovups %ymm0,0x140(%rsp)
-	vmovups %ymm0,0x160(%rsp)
-	vmovups %ymm0,0x180(%rsp)
-	vmovups %ymm0,0x1a0(%rsp)
-	movq $0x0,0x130(%rsp)
-	movq $0x0,0x1c0(%rsp)
 	mov %rax,0xe0(%rsp)
 	neg %eax
 	and $0xf,%eax
 	shl $0x6,%eax
 	lea (%rdx,%rax,1),%rbp
+	vxorps %xmm0,%xmm0,%xmm0
+	vmovups %ymm0,0x180(%rsp)
 	sub %rax,%rcx
+	vmovups %ymm0,0x1a0(%rsp)
+	movq $0x0,0x1c0(%rsp)
 	lea 0x180(%rsp),%rdi
 	lea 0xa0(%rsp),%rsi
-	mov %rcx,%r12
+	mov %rcx,%r15
 	mov %rax,%rcx
-	mov %r8,%r15
-	mov %r9,%r13
+	mov %r8,%r14
+	mov %r9,%r12
 	vzeroupper
 	call twox_core.xxhash3.stripes.take_stripes
-	mov %r12,%rcx
+	mov %r15,%rcx
 	and $0xfffffffffffffc00,%rcx
-	lea (%rcx,%rbp,1),%rbx
-	and $0x3ff,%r12d
+	lea (%rcx,%rbp,1),%r13
+	and $0x3ff,%r15d
+	vxorps %xmm0,%xmm0,%xmm0
+	vmovups %ymm0,0x140(%rsp)
+	vmovups %ymm0,0x160(%rsp)
 	lea 0x140(%rsp),%rdi
 	lea 0x180(%rsp),%rsi
 	mov %rbp,%rdx
-	mov %r15,%r8
-	mov %r13,%r9
+	mov %r14,%r8
+	mov %r12,%r9
+	vzeroupper
 	call twox_core.xxhash3.stripes.blocks.take_many_blocks
-	vmovups 0x160(%rsp),%ymm0
-	vmovups %ymm0,0xc0(%rsp)
 	vmovups 0x140(%rsp),%ymm0
+	vmovups 0x160(%rsp),%ymm1
+	vmovups %ymm1,0xc0(%rsp)
 	vmovups %ymm0,0xa0(%rsp)
+	vxorps %xmm0,%xmm0,%xmm0
+	vmovups %ymm0,0xf0(%rsp)
 	movq $0x0,0xe0(%rsp)
+	vmovups %ymm0,0x110(%rsp)
+	movq $0x0,0x130(%rsp)
 	lea 0xf0(%rsp),%rdi
 	lea 0xa0(%rsp),%rsi
-	mov %rbx,%rdx
-	mov %r12,%rcx
-	mov %r15,%r8
-	mov %r13,%r9
+	mov %r13,%rdx
+	mov %r15,%rcx
+	mov %r14,%r8
+	mov %r12,%r9
 	vzeroupper
 	call twox_core.xxhash3.stripes.take_stripes
 	vmovdqu 0xf0(%rsp),%ymm1
 	vmovdqu 0x110(%rsp),%ymm0
 	mov 0x130(%rsp),%rdi
 	jmp .L6_6a2
-.L6_2e7:
+.L6_2f2:
 	add %r9,%rsi
 	mov %rcx,%rdx
 	shr $0x8,%rdx
 	jmp .L6_310
-	.byte 102,102,102,102,46,15,31,132,0,0,0,0,0
+	.byte 102,144
 .L6_300:
 	add $0x100,%r9
 	dec %rdx
@@ -1241,11 +1244,11 @@ twox_core.xxhash3.stripes.take_many_stripes:
 	mov %rdi,0x40(%rsp)
 .L6_6b2:
 	mov 0x40(%rsp),%rax
-	mov %rax,0x40(%r14)
+	mov %rax,0x40(%rbx)
 	vmovups (%rsp),%ymm0
 	vmovups 0x20(%rsp),%ymm1
-	vmovups %ymm1,0x20(%r14)
-	vmovups %ymm0,(%r14)
+	vmovups %ymm1,0x20(%rbx)
+	vmovups %ymm0,(%rbx)
 	add $0x1c8,%rsp
 	.cfi_def_cfa_offset 56
 	pop %rbx

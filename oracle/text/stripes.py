@@ -88,7 +88,9 @@ class StripesProof(Proof):
         self.first_place = start
         if not self.guess_of_some(first):
             return False
-        left = divided(minus(family.total, first), self.step)[0]
+        left, over = divided(minus(family.total, first), self.step)
+        if isinstance(left, int) and over:           # so few turns are run one by one
+            return False
         self.find_counters(first, left)
         left = minus(left, self.left_at_end(first, left, part.end))
         if not is_natural(left):

@@ -1364,7 +1364,7 @@ LBB6_12.i4:
 	umlal.2d	v0, v6, v16
 	umlal.2d	v1, v7, v17
 	b.ne	LBB6_12.i4
-LBB6_13.i4:                                ; %"twox_core::xxhash3::large::Algorithm::accumulate_block::<#ebc3218c48dd1f1e>.exit.i"
+LBB6_13.i4:                                ; %"twox_core::xxhash3::large::Algorithm::last_round::<#ebc3218c48dd1f1e>.exit.i"
 	ldur	q4, [x8, #-64]
 	ldur	q5, [x0, #121]
 	mov	x2, #60239
@@ -1568,7 +1568,7 @@ _twox_core.xxhash3.stripes.take_many_stripes.i4:
 	ubfx	x14, x14, #6, #2
 	add	x15, x4, x11
 	b	LBB7_6.i4
-LBB7_5.i4:                                 ; %"twox_core::xxhash3::stripes::StripeAccumulator::process_stripe::<#ebc3218c48dd1f1e>.exit558.i"
+LBB7_5.i4:                                 ; %"twox_core::xxhash3::stripes::StripeAccumulator::process_stripe::<#ebc3218c48dd1f1e>.exit724.i"
 	subs	x14, x14, #1
 	add	x2, x2, #64
 	b.eq	LBB7_10.i4
@@ -1644,55 +1644,57 @@ LBB7_8.i4:
 	bl	_twox_core.xxhash3.stripes.take_stripes.i4
 	b	LBB7_24.i4
 LBB7_9.i4:
-	ldr	x9, [sp, #144]
+	ldr	x8, [sp, #144]
 	ldp	q0, q1, [x1]
-	movi.2d	v3, #0000000000000000
-	add	x0, sp, #240
-	stur	xzr, [x29, #-112]
-	lsl	w8, w9, #10
-	str	xzr, [sp, #304]
+	add	x0, sp, #224
+	str	xzr, [sp, #288]
 	mov	x21, x4
-	stp	q0, q1, [sp, #160]
-	ldp	q2, q0, [x1, #32]
-	sub	w8, w8, w9, lsl #6
-	add	x1, sp, #160
-	str	x9, [sp, #224]
-	stp	q3, q3, [x29, #-240]
+	lsl	w9, w8, #10
+	stur	x8, [x29, #-112]
 	mov	x22, x5
+	stp	q0, q1, [x29, #-176]
+	movi.2d	v1, #0000000000000000
+	sub	w8, w9, w8, lsl #6
+	ldp	q0, q2, [x1, #32]
+	sub	x1, x29, #176
 	and	x8, x8, #0x3c0
-	stp	q2, q0, [sp, #192]
 	sub	x23, x3, x8
 	mov	x3, x8
-	stp	q3, q3, [x29, #-208]
-	stp	q3, q3, [x29, #-176]
+	stp	q0, q2, [x29, #-144]
+	stp	q1, q1, [sp, #224]
 	add	x20, x2, x8
-	stp	q3, q3, [x29, #-144]
-	stp	q3, q3, [sp, #240]
-	stp	q3, q3, [sp, #272]
+	stp	q1, q1, [sp, #256]
 	bl	_twox_core.xxhash3.stripes.take_stripes.i4
-	sub	x0, x29, #240
-	add	x1, sp, #240
+	movi.2d	v0, #0000000000000000
+	add	x0, sp, #160
+	add	x1, sp, #224
 	and	x3, x23, #0xfffffffffffffc00
 	mov	x2, x20
 	mov	x4, x21
 	mov	x5, x22
 	and	x24, x23, #0xfffffffffffffc00
+	stp	q0, q0, [sp, #160]
+	stp	q0, q0, [sp, #192]
 	bl	_twox_core.xxhash3.stripes.blocks.take_many_blocks.i4
-	ldp	q0, q1, [x29, #-240]
-	sub	x0, x29, #176
-	add	x1, sp, #160
+	ldp	q0, q1, [sp, #160]
+	sub	x0, x29, #256
+	sub	x1, x29, #176
 	add	x2, x20, x24
 	and	x3, x23, #0x3ff
 	mov	x4, x21
 	mov	x5, x22
-	str	xzr, [sp, #224]
-	stp	q0, q1, [sp, #160]
-	ldp	q0, q2, [x29, #-208]
-	stp	q0, q2, [sp, #192]
+	stur	xzr, [x29, #-112]
+	stp	q0, q1, [x29, #-176]
+	ldp	q0, q2, [sp, #192]
+	stur	xzr, [x29, #-192]
+	stp	q0, q2, [x29, #-144]
+	movi.2d	v0, #0000000000000000
+	stp	q0, q0, [x29, #-256]
+	stp	q0, q0, [x29, #-224]
 	bl	_twox_core.xxhash3.stripes.take_stripes.i4
-	ldp	q3, q2, [x29, #-176]
-	ldur	x10, [x29, #-112]
-	ldp	q0, q1, [x29, #-144]
+	ldp	q3, q2, [x29, #-256]
+	ldur	x10, [x29, #-192]
+	ldp	q0, q1, [x29, #-224]
 	b	LBB7_23.i4
 LBB7_10.i4:
 	lsr	x14, x12, #8
@@ -2538,7 +2540,7 @@ LBB10_8.i4:
 	umlal.2d	v0, v6, v16
 	umlal.2d	v1, v7, v17
 	b.ne	LBB10_8.i4
-LBB10_9.i4:                                ; %"twox_core::xxhash3::large::Algorithm::accumulate_block::<#ebc3218c48dd1f1e>.exit.i"
+LBB10_9.i4:                                ; %"twox_core::xxhash3::large::Algorithm::last_round::<#ebc3218c48dd1f1e>.exit.i"
 	add	x9, x21, x19
 	ldur	q4, [x8, #-64]
 	cmp	x19, #136
@@ -2616,7 +2618,7 @@ LBB10_9.i4:                                ; %"twox_core::xxhash3::large::Algori
 	movk	x10, #5718, lsl #48
 	mul	x8, x8, x10
 	eor	x0, x8, x8, lsr #32
-LBB10_11.i4:                               ; %"twox_core::xxhash3::large::final_merge.exit202.i"
+LBB10_11.i4:                               ; %"twox_core::xxhash3::large::final_merge.exit51.i.i"
 	ldur	q4, [x9, #-75]
 	mov	x10, #60239
 	cmp	x19, #136
@@ -3086,7 +3088,7 @@ LBB11_22.i4:
 	umlal.2d	v0, v6, v16
 	umlal.2d	v1, v7, v17
 	b.ne	LBB11_22.i4
-LBB11_23.i4:                               ; %"twox_core::xxhash3::large::Algorithm::accumulate_block::<#ebc3218c48dd1f1e>.exit.i"
+LBB11_23.i4:                               ; %"twox_core::xxhash3::large::Algorithm::last_round::<#ebc3218c48dd1f1e>.exit.i"
 	add	x10, x0, x1
 	ldur	q4, [x9, #-64]
 	cmp	x1, #136
@@ -3164,7 +3166,7 @@ LBB11_23.i4:                               ; %"twox_core::xxhash3::large::Algori
 	eor	x8, x8, x8, lsr #37
 	mul	x8, x8, x9
 	eor	x8, x8, x8, lsr #32
-LBB11_25.i4:                               ; %"twox_core::xxhash3::large::final_merge.exit707.i"
+LBB11_25.i4:                               ; %"twox_core::xxhash3::large::final_merge.exit51.i.i"
 	ldur	q4, [x10, #-75]
 	mov	x12, #60239
 	cmp	x1, #136
@@ -3490,7 +3492,7 @@ LBB12_13.i4:
 	umlal.2d	v2, v18, v20
 	umlal.2d	v3, v19, v21
 	b.ne	LBB12_13.i4
-LBB12_14.i4:                               ; %"twox_core::xxhash3::large::Algorithm::accumulate_block::<#ebc3218c48dd1f1e>.exit.i"
+LBB12_14.i4:                               ; %"twox_core::xxhash3::large::Algorithm::last_round::<#ebc3218c48dd1f1e>.exit.i"
 	add	x8, x2, x3
 	ext.16b	v17, v5, v5, #8
 	ext.16b	v18, v4, v4, #8
@@ -3565,7 +3567,7 @@ LBB12_14.i4:                               ; %"twox_core::xxhash3::large::Algori
 	movk	x10, #5718, lsl #48
 	mul	x9, x9, x10
 	eor	x0, x9, x9, lsr #32
-LBB12_16.i4:                               ; %"twox_core::xxhash3::large::final_merge.exit263.i"
+LBB12_16.i4:                               ; %"twox_core::xxhash3::large::final_merge.exit51.i.i"
 	ldur	q2, [x8, #-75]
 	ldur	q3, [x8, #-59]
 	mov	x10, #60239
@@ -5778,7 +5780,7 @@ LBB18_8.i4:
 	umlal.2d	v1, v6, v16
 	umlal.2d	v0, v7, v17
 	b.ne	LBB18_8.i4
-LBB18_9.i4:                                ; %"twox_core::xxhash3::large::Algorithm::accumulate_block::<#ebc3218c48dd1f1e>.exit.i.i"
+LBB18_9.i4:                                ; %"twox_core::xxhash3::large::Algorithm::last_round::<#ebc3218c48dd1f1e>.exit.i.i"
 	add	x9, x19, x20
 	ldur	q4, [x8, #-64]
 	cmp	x20, #136
@@ -6279,7 +6281,7 @@ LBB19_22.i4:
 	umlal.2d	v1, v6, v16
 	umlal.2d	v0, v7, v17
 	b.ne	LBB19_22.i4
-LBB19_23.i4:                               ; %"twox_core::xxhash3::large::Algorithm::accumulate_block::<#ebc3218c48dd1f1e>.exit.i.i"
+LBB19_23.i4:                               ; %"twox_core::xxhash3::large::Algorithm::last_round::<#ebc3218c48dd1f1e>.exit.i.i"
 	add	x10, x0, x1
 	ldur	q4, [x9, #-64]
 	cmp	x1, #136
@@ -6612,7 +6614,7 @@ LBB20_13.i4:
 	umlal.2d	v3, v18, v20
 	umlal.2d	v2, v19, v21
 	b.ne	LBB20_13.i4
-LBB20_14.i4:                               ; %"twox_core::xxhash3::large::Algorithm::accumulate_block::<#ebc3218c48dd1f1e>.exit.i.i"
+LBB20_14.i4:                               ; %"twox_core::xxhash3::large::Algorithm::last_round::<#ebc3218c48dd1f1e>.exit.i.i"
 	add	x8, x2, x3
 	ext.16b	v17, v5, v5, #8
 	ext.16b	v18, v4, v4, #8
@@ -7760,7 +7762,7 @@ LBB23_3.i4:
 LBB23_5.i4:
 	cmp	x13, #8
 	b.lo	LBB23_7.i4
-; %bb.6:                                ; %"core::option::Option::unwrap::<*>.exit240"
+; %bb.6:                                ; %"core::option::Option::unwrap::<*>.exit201"
 	ldr	x10, [x1]
 	str	x10, [x9]
 	add	x9, x9, x13
@@ -7770,7 +7772,7 @@ LBB23_5.i4:
 LBB23_7.i4:
 	cmp	x13, #4
 	b.lo	LBB23_9.i4
-; %bb.8:                                ; %"core::option::Option::unwrap::<*>.exit260"
+; %bb.8:                                ; %"core::option::Option::unwrap::<*>.exit221"
 	ldr	w10, [x1]
 	str	w10, [x9]
 	add	x9, x9, x13
@@ -7783,7 +7785,7 @@ LBB23_9.i4:
 	ldrb	w10, [x1]
 	strb	w10, [x9]
 	b	LBB23_12.i4
-LBB23_11.i4:                               ; %"core::option::Option::unwrap::<*>.exit280"
+LBB23_11.i4:                               ; %"core::option::Option::unwrap::<*>.exit241"
 	ldrh	w10, [x1]
 	strh	w10, [x9]
 	add	x9, x9, x13
@@ -8037,7 +8039,7 @@ LBB23_30.i4:
 LBB23_32.i4:
 	cmp	x13, #8
 	b.lo	LBB23_34.i4
-; %bb.33:                               ; %"core::option::Option::unwrap::<*>.exit745"
+; %bb.33:                               ; %"core::option::Option::unwrap::<*>.exit700"
 	ldr	x8, [x14]
 	add	x9, x11, x13
 	str	x8, [x11]
@@ -8049,7 +8051,7 @@ LBB23_32.i4:
 LBB23_34.i4:
 	cmp	x13, #4
 	b.lo	LBB23_36.i4
-; %bb.35:                               ; %"core::option::Option::unwrap::<*>.exit765"
+; %bb.35:                               ; %"core::option::Option::unwrap::<*>.exit720"
 	ldr	w8, [x14]
 	add	x9, x11, x13
 	str	w8, [x11]
@@ -8061,7 +8063,7 @@ LBB23_34.i4:
 LBB23_36.i4:
 	cmp	x13, #2
 	b.lo	LBB23_38.i4
-; %bb.37:                               ; %"core::option::Option::unwrap::<*>.exit785"
+; %bb.37:                               ; %"core::option::Option::unwrap::<*>.exit740"
 	ldrh	w8, [x14]
 	add	x9, x11, x13
 	strh	w8, [x11]
@@ -8141,7 +8143,7 @@ LBB24_3.i4:
 LBB24_5.i4:
 	cmp	x8, #8
 	b.lo	LBB24_7.i4
-; %bb.6:                                ; %"core::option::Option::unwrap::<*>.exit139"
+; %bb.6:                                ; %"core::option::Option::unwrap::<*>.exit123"
 	ldr	x11, [x21]
 	str	x11, [x10]
 	add	x10, x10, x8
@@ -8151,7 +8153,7 @@ LBB24_5.i4:
 LBB24_7.i4:
 	cmp	x8, #4
 	b.lo	LBB24_9.i4
-; %bb.8:                                ; %"core::option::Option::unwrap::<*>.exit159"
+; %bb.8:                                ; %"core::option::Option::unwrap::<*>.exit143"
 	ldr	w11, [x21]
 	str	w11, [x10]
 	add	x10, x10, x8
@@ -8164,7 +8166,7 @@ LBB24_9.i4:
 	ldrb	w11, [x21]
 	strb	w11, [x10]
 	b	LBB24_12.i4
-LBB24_11.i4:                               ; %"core::option::Option::unwrap::<*>.exit179"
+LBB24_11.i4:                               ; %"core::option::Option::unwrap::<*>.exit163"
 	ldrh	w11, [x21]
 	strh	w11, [x10]
 	add	x10, x10, x8
@@ -8350,7 +8352,7 @@ LBB24_24.i4:
 LBB24_26.i4:
 	cmp	x23, #8
 	b.lo	LBB24_28.i4
-; %bb.27:                               ; %"core::option::Option::unwrap::<*>.exit437"
+; %bb.27:                               ; %"core::option::Option::unwrap::<*>.exit415"
 	ldr	x8, [x25]
 	add	x9, x22, x23
 	str	x8, [x22]
@@ -8361,7 +8363,7 @@ LBB24_26.i4:
 LBB24_28.i4:
 	cmp	x23, #4
 	b.lo	LBB24_30.i4
-; %bb.29:                               ; %"core::option::Option::unwrap::<*>.exit457"
+; %bb.29:                               ; %"core::option::Option::unwrap::<*>.exit435"
 	ldr	w8, [x25]
 	add	x9, x22, x23
 	str	w8, [x22]
@@ -8372,7 +8374,7 @@ LBB24_28.i4:
 LBB24_30.i4:
 	cmp	x23, #2
 	b.lo	LBB24_32.i4
-; %bb.31:                               ; %"core::option::Option::unwrap::<*>.exit477"
+; %bb.31:                               ; %"core::option::Option::unwrap::<*>.exit455"
 	ldrh	w8, [x25]
 	add	x9, x22, x23
 	strh	w8, [x22]

@@ -6718,10 +6718,10 @@ twox_core.width_128.oneshot_long.i4:
 	.cfi_endproc
 .Lfunc_end7.i4:
 	.size	twox_core.width_128.oneshot_long.i4, .Lfunc_end7.i4-twox_core.width_128.oneshot_long.i4
-	.section	.text.twox_core.xxhash3.stripes.take_many_stripes.i4,"ax",@progbits
+	.section	.text.twox_core.xxhash3.stripes.take_many_stripes.2.i4,"ax",@progbits
 	.p2align	1
-	.type	twox_core.xxhash3.stripes.take_many_stripes.i4,@function
-twox_core.xxhash3.stripes.take_many_stripes.i4:
+	.type	twox_core.xxhash3.stripes.take_many_stripes.2.i4,@function
+twox_core.xxhash3.stripes.take_many_stripes.2.i4:
 	.cfi_startproc
 	addi	sp, sp, -1616
 	.cfi_def_cfa_offset 1616
@@ -6753,7 +6753,7 @@ twox_core.xxhash3.stripes.take_many_stripes.i4:
 	.cfi_offset 27, -104
 	mv	s3, a5
 	sd	a4, 968(sp)
-	mv	s4, a3
+	mv	s5, a3
 	mv	s1, a2
 	mv	s0, a1
 	mv	s2, a0
@@ -6764,13 +6764,14 @@ twox_core.xxhash3.stripes.take_many_stripes.i4:
 	li	a2, 72
 	li	a1, 0
 	call	memset
+	mv	a3, s5
 	li	a0, 1024
-	bltu	s4, a0, .LBB8_8.i4
+	bltu	s5, a0, .LBB8_8.i4
 	addi	a0, s3, -64
 	andi	a1, a0, -8
 	li	a2, 128
 	bne	a1, a2, .LBB8_8.i4
-	srli	a1, s4, 10
+	srli	a1, a3, 10
 	li	a2, 30
 	sd	s2, 24(sp)
 	bltu	a2, a1, .LBB8_9.i4
@@ -6782,7 +6783,7 @@ twox_core.xxhash3.stripes.take_many_stripes.i4:
 	sd	a1, 1032(sp)
 	ld	a1, 1184(sp)
 	sd	a1, 1040(sp)
-	ld	a3, 1224(sp)
+	ld	a4, 1224(sp)
 	ld	a1, 1192(sp)
 	sd	a1, 1048(sp)
 	ld	a1, 1200(sp)
@@ -6793,13 +6794,13 @@ twox_core.xxhash3.stripes.take_many_stripes.i4:
 	sd	a1, 1072(sp)
 	lui	a1, 8
 	addi	a2, a1, -256
-	slli	a1, a3, 6
-	sd	a3, 1080(sp)
-	slli	a3, a3, 7
-	add	a1, a1, a3
+	slli	a1, a4, 6
+	sd	a4, 1080(sp)
+	slli	a4, a4, 7
+	add	a1, a1, a4
 	andi	a1, a1, 192
 	add	s0, s1, a1
-	sub	a3, s4, a1
+	sub	a3, a3, a1
 	sd	a3, 16(sp)
 	and	a2, a2, a3
 	sd	a2, 728(sp)
@@ -7631,304 +7632,304 @@ twox_core.xxhash3.stripes.take_many_stripes.i4:
 	addi	a0, sp, 1088
 	addi	a1, sp, 1160
 	mv	a2, s1
-	mv	a3, s4
 	ld	a4, 968(sp)
 	mv	a5, s3
-	call	twox_core.xxhash3.stripes.take_stripes.i4
+	call	twox_core.xxhash3.stripes.take_stripes.2.i4
 	j	.LBB8_20.i4
 .LBB8_9.i4:
-	lbu	a1, 56(s0)
-	lbu	a0, 57(s0)
-	lbu	t0, 58(s0)
-	lbu	t1, 59(s0)
-	lbu	a5, 60(s0)
-	lbu	t2, 61(s0)
-	lbu	t6, 62(s0)
-	lbu	s7, 63(s0)
-	lbu	s9, 48(s0)
-	lbu	a2, 49(s0)
-	lbu	t4, 50(s0)
-	lbu	t5, 51(s0)
-	lbu	a3, 52(s0)
-	sd	a3, 1032(sp)
-	sd	s4, 1080(sp)
-	lbu	s4, 53(s0)
+	lbu	a6, 56(s0)
+	lbu	a7, 57(s0)
+	lbu	s9, 58(s0)
+	lbu	s11, 59(s0)
+	lbu	a0, 60(s0)
+	sd	a0, 1064(sp)
+	lbu	t1, 61(s0)
+	lbu	t2, 62(s0)
+	lbu	t3, 63(s0)
+	lbu	t6, 48(s0)
+	lbu	s10, 49(s0)
+	lbu	ra, 50(s0)
+	lbu	a1, 51(s0)
+	lbu	t4, 52(s0)
+	lbu	t5, 53(s0)
+	sd	s1, 1008(sp)
 	lbu	s2, 54(s0)
-	lbu	a7, 55(s0)
-	lbu	a6, 40(s0)
-	lbu	a4, 41(s0)
-	lbu	s5, 42(s0)
-	lbu	s6, 43(s0)
-	lbu	a3, 44(s0)
-	sd	a3, 1016(sp)
-	lbu	s8, 45(s0)
-	lbu	ra, 46(s0)
-	lbu	a3, 47(s0)
-	slli	a0, a0, 8
-	or	a0, a0, a1
-	sd	a0, 1072(sp)
-	lbu	t3, 32(s0)
-	lbu	a1, 33(s0)
-	lbu	s10, 34(s0)
-	lbu	a0, 35(s0)
-	sd	a0, 1000(sp)
-	slli	t0, t0, 16
-	slli	t1, t1, 24
-	slli	t2, t2, 8
-	slli	t6, t6, 16
+	lbu	s7, 55(s0)
+	lbu	s4, 40(s0)
+	lbu	a2, 41(s0)
+	lbu	a4, 42(s0)
+	lbu	a0, 43(s0)
+	lbu	t0, 44(s0)
+	lbu	s5, 45(s0)
+	lbu	s6, 46(s0)
+	lbu	s8, 47(s0)
+	slli	a7, a7, 8
+	slli	s9, s9, 16
+	slli	s11, s11, 24
+	or	a5, a7, a6
+	sd	a5, 1080(sp)
+	or	a5, s11, s9
+	sd	a5, 1072(sp)
+	lbu	a6, 32(s0)
+	lbu	a7, 33(s0)
+	lbu	s11, 34(s0)
+	lbu	s9, 35(s0)
+	slli	t1, t1, 8
+	slli	t2, t2, 16
+	slli	t3, t3, 24
+	slli	s10, s10, 8
+	slli	ra, ra, 16
+	slli	a1, a1, 24
+	ld	a5, 1064(sp)
+	or	a5, t1, a5
+	sd	a5, 1064(sp)
+	or	a5, t3, t2
+	sd	a5, 1056(sp)
+	or	a5, s10, t6
+	sd	a5, 1048(sp)
+	or	a1, a1, ra
+	sd	a1, 1040(sp)
+	lbu	s10, 36(s0)
+	lbu	ra, 37(s0)
+	lbu	t1, 38(s0)
+	lbu	a1, 39(s0)
+	slli	t5, t5, 8
+	slli	s2, s2, 16
 	slli	s7, s7, 24
 	slli	a2, a2, 8
-	or	a0, t1, t0
-	sd	a0, 1064(sp)
-	or	a0, t2, a5
-	sd	a0, 1056(sp)
-	or	a0, s7, t6
-	sd	a0, 1048(sp)
-	or	a0, a2, s9
-	sd	a0, 1040(sp)
-	lbu	s9, 36(s0)
-	lbu	a2, 37(s0)
-	lbu	a0, 38(s0)
-	lbu	s11, 39(s0)
-	slli	t4, t4, 16
-	slli	t5, t5, 24
-	slli	s4, s4, 8
-	slli	s2, s2, 16
-	slli	a7, a7, 24
-	slli	a4, a4, 8
-	or	t4, t5, t4
-	ld	a5, 1032(sp)
-	or	a5, s4, a5
-	sd	a5, 1032(sp)
-	or	t5, a7, s2
-	or	a4, a4, a6
-	sd	a4, 1024(sp)
-	lbu	a4, 24(s0)
-	lbu	a5, 25(s0)
-	lbu	a7, 26(s0)
-	lbu	t0, 27(s0)
-	slli	s5, s5, 16
-	slli	s6, s6, 24
-	slli	s8, s8, 8
-	slli	ra, ra, 16
-	slli	a6, a3, 24
-	slli	a1, a1, 8
-	or	t2, s6, s5
-	ld	a3, 1016(sp)
-	or	a3, s8, a3
-	sd	a3, 1016(sp)
-	or	t6, a6, ra
-	or	a1, a1, t3
-	sd	a1, 1008(sp)
+	slli	a4, a4, 16
+	slli	a0, a0, 24
+	or	s1, t5, t4
+	sd	s1, 1032(sp)
+	or	s1, s7, s2
+	sd	s1, 1024(sp)
+	or	a2, a2, s4
+	sd	a2, 1000(sp)
+	or	s2, a0, a4
+	lbu	a0, 24(s0)
+	lbu	s4, 25(s0)
+	lbu	a4, 26(s0)
+	lbu	a2, 27(s0)
+	slli	s5, s5, 8
+	slli	s6, s6, 16
+	slli	s8, s8, 24
+	slli	a7, a7, 8
+	slli	s11, s11, 16
+	slli	s1, s9, 24
+	or	a5, s5, t0
+	sd	a5, 992(sp)
+	or	t6, s8, s6
+	or	a5, a7, a6
+	sd	a5, 984(sp)
+	or	s5, s1, s11
 	lbu	a6, 28(s0)
-	lbu	ra, 29(s0)
-	lbu	a1, 30(s0)
-	lbu	a3, 31(s0)
-	slli	s10, s10, 16
-	ld	t3, 1000(sp)
-	slli	t3, t3, 24
-	slli	a2, a2, 8
-	slli	a0, a0, 16
-	slli	s11, s11, 24
-	slli	a5, a5, 8
-	or	s5, t3, s10
-	or	s4, a2, s9
-	or	t3, s11, a0
-	or	s10, a5, a4
+	lbu	a7, 29(s0)
+	lbu	s1, 30(s0)
+	sd	s3, 1016(sp)
+	lbu	s3, 31(s0)
+	slli	ra, ra, 8
+	slli	s11, t1, 16
+	slli	a1, a1, 24
+	slli	a5, s4, 8
+	slli	a4, a4, 16
+	slli	a2, a2, 24
+	or	s6, ra, s10
+	or	s4, a1, s11
+	or	s10, a5, a0
+	or	s11, a2, a4
 	lbu	a0, 16(s0)
-	lbu	a2, 17(s0)
-	lbu	s9, 18(s0)
-	lbu	a5, 19(s0)
-	slli	a7, a7, 16
-	slli	t0, t0, 24
-	slli	a4, ra, 8
-	slli	a1, a1, 16
-	slli	a3, a3, 24
-	slli	a2, a2, 8
-	or	ra, t0, a7
-	or	t1, a4, a6
-	or	s11, a3, a1
-	or	t0, a2, a0
-	lbu	a0, 20(s0)
-	lbu	a1, 21(s0)
-	lbu	a2, 22(s0)
-	lbu	a3, 23(s0)
-	slli	s9, s9, 16
-	slli	a5, a5, 24
+	lbu	a1, 17(s0)
+	lbu	a2, 18(s0)
+	lbu	a4, 19(s0)
+	slli	a7, a7, 8
+	slli	s1, s1, 16
+	slli	s3, s3, 24
 	slli	a1, a1, 8
-	slli	a4, a2, 16
-	slli	a2, a3, 24
-	or	s9, a5, s9
-	or	s6, a1, a0
-	or	a6, a2, a4
+	slli	a2, a2, 16
+	slli	a4, a4, 24
+	or	ra, a7, a6
+	or	t5, s3, s1
+	or	s8, a1, a0
+	or	t4, a4, a2
+	lbu	a0, 21(s0)
+	lbu	a1, 22(s0)
+	lbu	a2, 23(s0)
+	lbu	a4, 20(s0)
+	slli	a0, a0, 8
+	slli	a1, a1, 16
+	slli	s1, a2, 24
+	or	s7, a0, a4
+	or	t2, s1, a1
 	lbu	a0, 9(s0)
 	lbu	a1, 8(s0)
-	lbu	a5, 10(s0)
-	lbu	a2, 11(s0)
+	lbu	s1, 10(s0)
+	lbu	a5, 11(s0)
 	slli	a0, a0, 8
-	or	a7, a0, a1
-	slli	a5, a5, 16
-	slli	a0, a2, 24
-	or	a2, a0, a5
+	or	s3, a0, a1
+	slli	s1, s1, 16
+	slli	a0, a5, 24
+	or	t0, a0, s1
 	lbu	a5, 13(s0)
-	lbu	a1, 12(s0)
-	lbu	a3, 14(s0)
+	lbu	s1, 12(s0)
+	lbu	a1, 14(s0)
 	lbu	a0, 15(s0)
 	slli	a5, a5, 8
-	or	a5, a5, a1
-	slli	a3, a3, 16
+	or	t3, a5, s1
+	slli	a1, a1, 16
 	slli	a0, a0, 24
-	or	a1, a0, a3
-	lbu	a3, 1(s0)
-	mv	s8, s3
-	lbu	s3, 0(s0)
-	mv	s7, s1
-	lbu	s2, 2(s0)
+	or	a6, a0, a1
+	lbu	a2, 1(s0)
+	lbu	s1, 0(s0)
+	lbu	a1, 2(s0)
 	lbu	a0, 3(s0)
-	slli	a3, a3, 8
-	or	a3, a3, s3
-	slli	s2, s2, 16
+	slli	a2, a2, 8
+	or	t1, a2, s1
+	slli	a1, a1, 16
 	slli	a0, a0, 24
-	or	s2, a0, s2
-	lbu	s1, 5(s0)
-	lbu	a0, 4(s0)
-	lbu	s3, 6(s0)
+	or	a7, a0, a1
+	lbu	a1, 5(s0)
+	lbu	s1, 4(s0)
+	lbu	a0, 6(s0)
 	lbu	s0, 7(s0)
-	slli	s1, s1, 8
-	or	a0, a0, s1
-	slli	s3, s3, 16
+	slli	a1, a1, 8
+	or	a2, a1, s1
+	slli	a0, a0, 16
 	slli	s0, s0, 24
-	or	s0, s0, s3
-	ld	s1, 1072(sp)
-	ld	a4, 1064(sp)
-	or	s3, a4, s1
-	ld	a4, 1056(sp)
-	ld	s1, 1048(sp)
-	or	s1, s1, a4
-	ld	a4, 1040(sp)
-	or	t4, t4, a4
-	ld	a4, 1032(sp)
-	or	t5, t5, a4
-	ld	a4, 1024(sp)
-	or	t2, t2, a4
-	ld	a4, 1016(sp)
-	or	t6, t6, a4
-	ld	a4, 1008(sp)
-	or	s5, s5, a4
-	or	t3, t3, s4
-	or	s4, ra, s10
-	or	t1, s11, t1
-	or	t0, s9, t0
-	or	a6, a6, s6
-	or	s6, a2, a7
-	or	a1, a1, a5
-	or	a3, s2, a3
 	or	a0, a0, s0
+	ld	a1, 1080(sp)
+	ld	s0, 1072(sp)
+	or	s0, s0, a1
+	ld	a1, 1064(sp)
+	ld	s1, 1056(sp)
+	or	s1, s1, a1
+	ld	a1, 1048(sp)
+	ld	s9, 1040(sp)
+	or	a1, s9, a1
+	ld	a5, 1032(sp)
+	ld	a4, 1024(sp)
+	or	s9, a4, a5
+	ld	a4, 1000(sp)
+	or	s2, s2, a4
+	ld	a4, 992(sp)
+	or	t6, t6, a4
+	ld	a4, 984(sp)
+	or	s5, s5, a4
+	or	s4, s4, s6
+	or	s6, s11, s10
+	or	t5, t5, ra
+	or	t4, t4, s8
+	or	t2, t2, s7
+	or	t0, t0, s3
+	or	a6, a6, t3
+	or	a4, a7, t1
+	or	a0, a0, a2
 	slli	s1, s1, 32
-	or	a7, s1, s3
-	slli	t5, t5, 32
-	or	a5, t5, t4
+	or	a7, s1, s0
+	slli	s9, s9, 32
+	or	t3, s9, a1
 	slli	t6, t6, 32
-	or	s1, t6, t2
-	slli	t3, t3, 32
-	or	s0, t3, s5
-	slli	t1, t1, 32
-	or	a4, t1, s4
+	or	s1, t6, s2
+	slli	s4, s4, 32
+	or	a5, s4, s5
+	slli	t5, t5, 32
+	or	t1, t5, s6
+	slli	t2, t2, 32
+	or	t2, t2, t4
+	ld	a1, 1224(sp)
 	slli	a6, a6, 32
 	or	a2, a6, t0
-	slli	a1, a1, 32
-	or	a1, a1, s6
 	slli	a0, a0, 32
-	or	a0, a0, a3
-	sd	s0, 1264(sp)
-	sd	s1, 1272(sp)
-	sd	a5, 1280(sp)
-	sd	a7, 1288(sp)
-	ld	s2, 1224(sp)
-	sd	a0, 1232(sp)
-	sd	a1, 1240(sp)
-	sd	a2, 1248(sp)
-	sd	a4, 1256(sp)
-	addi	a0, sp, 1440
+	or	a0, a0, a4
+	slli	a4, a1, 6
+	neg	a4, a4
+	andi	s0, a4, 960
+	sd	a5, 1472(sp)
+	sd	s1, 1480(sp)
+	sd	t3, 1488(sp)
+	sd	a7, 1496(sp)
+	ld	s1, 1008(sp)
+	add	s5, s1, s0
+	sub	s2, a3, s0
+	sd	a0, 1440(sp)
+	sd	a2, 1448(sp)
+	sd	t2, 1456(sp)
+	sd	t1, 1464(sp)
+	sd	a1, 1504(sp)
+	addi	a0, sp, 1296
 	li	a2, 72
 	li	a1, 0
 	call	memset
-	sd	zero, 1376(sp)
-	sd	zero, 1384(sp)
-	sd	zero, 1392(sp)
-	sd	zero, 1400(sp)
-	sd	zero, 1408(sp)
-	sd	zero, 1416(sp)
-	sd	zero, 1424(sp)
-	sd	zero, 1432(sp)
-	addi	a0, sp, 1304
+	addi	a0, sp, 1296
+	addi	a1, sp, 1440
+	mv	a2, s1
+	mv	a3, s0
+	ld	s0, 968(sp)
+	mv	a4, s0
+	ld	s1, 1016(sp)
+	mv	a5, s1
+	call	twox_core.xxhash3.stripes.take_stripes.2.i4
+	andi	a3, s2, -1024
+	andi	s2, s2, 1023
+	sd	zero, 1232(sp)
+	sd	zero, 1240(sp)
+	sd	zero, 1248(sp)
+	sd	zero, 1256(sp)
+	add	s3, s5, a3
+	sd	zero, 1264(sp)
+	sd	zero, 1272(sp)
+	sd	zero, 1280(sp)
+	sd	zero, 1288(sp)
+	addi	a0, sp, 1232
+	addi	a1, sp, 1296
+	mv	a2, s5
+	mv	a4, s0
+	mv	a5, s1
+	call	twox_core.xxhash3.stripes.blocks.take_many_blocks.2.i4
+	ld	a0, 1264(sp)
+	ld	a1, 1272(sp)
+	ld	a2, 1280(sp)
+	ld	a3, 1288(sp)
+	sd	a0, 1472(sp)
+	sd	a1, 1480(sp)
+	sd	a2, 1488(sp)
+	sd	a3, 1496(sp)
+	ld	a0, 1232(sp)
+	ld	a1, 1240(sp)
+	ld	a2, 1248(sp)
+	ld	a3, 1256(sp)
+	sd	a0, 1440(sp)
+	sd	a1, 1448(sp)
+	sd	a2, 1456(sp)
+	sd	a3, 1464(sp)
+	sd	zero, 1504(sp)
+	addi	a0, sp, 1368
 	li	a2, 72
 	li	a1, 0
 	call	memset
-	slli	a0, s2, 6
-	neg	a0, a0
-	andi	a3, a0, 960
-	add	s0, s7, a3
-	ld	s1, 1080(sp)
-	sub	s1, s1, a3
-	sd	s2, 1296(sp)
-	addi	a0, sp, 1304
-	addi	a1, sp, 1232
-	mv	a2, s7
-	ld	s3, 968(sp)
-	mv	a4, s3
-	mv	a5, s8
-	call	twox_core.xxhash3.stripes.take_stripes.i4
-	andi	a3, s1, -1024
-	add	s2, s0, a3
-	andi	s5, s1, 1023
-	addi	a0, sp, 1376
-	addi	a1, sp, 1304
-	mv	a2, s0
-	mv	a4, s3
-	mv	a5, s8
-	call	twox_core.xxhash3.stripes.blocks.take_many_blocks.i4
-	ld	a0, 1408(sp)
-	ld	a1, 1416(sp)
-	ld	a2, 1424(sp)
-	ld	a3, 1432(sp)
-	sd	a0, 1264(sp)
-	sd	a1, 1272(sp)
-	sd	a2, 1280(sp)
-	sd	a3, 1288(sp)
-	ld	a0, 1376(sp)
-	ld	a1, 1384(sp)
-	ld	a2, 1392(sp)
-	ld	a3, 1400(sp)
-	sd	a0, 1232(sp)
-	sd	a1, 1240(sp)
-	sd	a2, 1248(sp)
-	sd	a3, 1256(sp)
-	sd	zero, 1296(sp)
-	addi	a0, sp, 1440
-	addi	a1, sp, 1232
-	mv	a2, s2
-	mv	a3, s5
-	mv	a4, s3
-	mv	a5, s8
-	call	twox_core.xxhash3.stripes.take_stripes.i4
-	ld	a0, 1440(sp)
+	addi	a0, sp, 1368
+	addi	a1, sp, 1440
+	mv	a2, s3
+	mv	a3, s2
+	mv	a4, s0
+	mv	a5, s1
+	call	twox_core.xxhash3.stripes.take_stripes.2.i4
+	ld	a0, 1368(sp)
 	sd	a0, 1016(sp)
-	ld	a0, 1448(sp)
+	ld	a0, 1376(sp)
 	sd	a0, 1024(sp)
-	ld	a0, 1456(sp)
+	ld	a0, 1384(sp)
 	sd	a0, 1032(sp)
-	ld	a0, 1464(sp)
+	ld	a0, 1392(sp)
 	sd	a0, 1040(sp)
-	ld	a0, 1472(sp)
+	ld	a0, 1400(sp)
 	sd	a0, 1048(sp)
-	ld	a0, 1480(sp)
+	ld	a0, 1408(sp)
 	sd	a0, 1056(sp)
-	ld	a0, 1488(sp)
+	ld	a0, 1416(sp)
 	sd	a0, 1064(sp)
-	ld	a0, 1496(sp)
+	ld	a0, 1424(sp)
 	sd	a0, 1072(sp)
-	ld	a0, 1504(sp)
+	ld	a0, 1432(sp)
 	sd	a0, 1080(sp)
 	j	.LBB8_19.i4
 .LBB8_10.i4:
@@ -10871,11 +10872,11 @@ twox_core.xxhash3.stripes.take_many_stripes.i4:
 	ret
 	.cfi_endproc
 .Lfunc_end8.i4:
-	.size	twox_core.xxhash3.stripes.take_many_stripes.i4, .Lfunc_end8.i4-twox_core.xxhash3.stripes.take_many_stripes.i4
-	.section	.text.twox_core.xxhash3.stripes.take_stripes.i4,"ax",@progbits
+	.size	twox_core.xxhash3.stripes.take_many_stripes.2.i4, .Lfunc_end8.i4-twox_core.xxhash3.stripes.take_many_stripes.2.i4
+	.section	.text.twox_core.xxhash3.stripes.take_stripes.2.i4,"ax",@progbits
 	.p2align	1
-	.type	twox_core.xxhash3.stripes.take_stripes.i4,@function
-twox_core.xxhash3.stripes.take_stripes.i4:
+	.type	twox_core.xxhash3.stripes.take_stripes.2.i4,@function
+twox_core.xxhash3.stripes.take_stripes.2.i4:
 	.cfi_startproc
 	addi	sp, sp, -464
 	.cfi_def_cfa_offset 464
@@ -12156,11 +12157,11 @@ twox_core.xxhash3.stripes.take_stripes.i4:
 	ret
 	.cfi_endproc
 .Lfunc_end9.i4:
-	.size	twox_core.xxhash3.stripes.take_stripes.i4, .Lfunc_end9.i4-twox_core.xxhash3.stripes.take_stripes.i4
-	.section	.text.twox_core.xxhash3.stripes.blocks.take_many_blocks.i4,"ax",@progbits
+	.size	twox_core.xxhash3.stripes.take_stripes.2.i4, .Lfunc_end9.i4-twox_core.xxhash3.stripes.take_stripes.2.i4
+	.section	.text.twox_core.xxhash3.stripes.blocks.take_many_blocks.2.i4,"ax",@progbits
 	.p2align	1
-	.type	twox_core.xxhash3.stripes.blocks.take_many_blocks.i4,@function
-twox_core.xxhash3.stripes.blocks.take_many_blocks.i4:
+	.type	twox_core.xxhash3.stripes.blocks.take_many_blocks.2.i4,@function
+twox_core.xxhash3.stripes.blocks.take_many_blocks.2.i4:
 	.cfi_startproc
 	addi	sp, sp, -1520
 	.cfi_def_cfa_offset 1520
@@ -14642,7 +14643,7 @@ twox_core.xxhash3.stripes.blocks.take_many_blocks.i4:
 	ret
 	.cfi_endproc
 .Lfunc_end10.i4:
-	.size	twox_core.xxhash3.stripes.blocks.take_many_blocks.i4, .Lfunc_end10.i4-twox_core.xxhash3.stripes.blocks.take_many_blocks.i4
+	.size	twox_core.xxhash3.stripes.blocks.take_many_blocks.2.i4, .Lfunc_end10.i4-twox_core.xxhash3.stripes.blocks.take_many_blocks.2.i4
 	.section	.rodata.cst8,"aM",@progbits,8
 	.p2align	3, 0x0
 .LCPI11_0.i4:
@@ -14761,7 +14762,7 @@ twox_core.width_128.oneshot_many.i4:
 	mv	a3, s8
 	mv	a4, s3
 	ld	a5, 48(sp)
-	call	twox_core.xxhash3.stripes.take_many_stripes.i4
+	call	twox_core.xxhash3.stripes.take_many_stripes.2.i4
 	ld	a7, 576(sp)
 	ld	a6, 584(sp)
 	ld	t1, 592(sp)
@@ -34832,7 +34833,7 @@ twox_core.width_64.oneshot_many.i4:
 	mv	a4, s2
 	sd	s3, 32(sp)
 	mv	a5, s3
-	call	twox_core.xxhash3.stripes.take_many_stripes.i4
+	call	twox_core.xxhash3.stripes.take_many_stripes.2.i4
 	ld	a6, 560(sp)
 	ld	a7, 568(sp)
 	ld	t0, 576(sp)
@@ -52160,7 +52161,7 @@ twox_core.xxhash3.streaming.core_state.CoreState.write_through.2.i4:
 	mv	a3, s1
 	ld	a4, 88(sp)
 	ld	a5, 48(sp)
-	call	twox_core.xxhash3.stripes.take_many_stripes.i4
+	call	twox_core.xxhash3.stripes.take_many_stripes.2.i4
 	addi	a1, sp, 512
 	li	a2, 72
 	mv	a0, s4

@@ -1431,7 +1431,7 @@ twox_core.width_128.oneshot_long.i4_v3:
 	popq	%r14
 	retq
 	.seh_endproc
-	.def	twox_core.xxhash3.stripes.take_many_stripes.i4_v3;
+	.def	twox_core.xxhash3.stripes.take_many_stripes.2.i4_v3;
 	.scl	3;
 	.type	32;
 	.endef
@@ -1442,10 +1442,10 @@ twox_core.width_128.oneshot_long.i4_v3:
 	.long	2654435761
 .LCPI7_1.i4_v3:
 	.quad	2654435761
-	.section	.text$twox_core.xxhash3.stripes.take_many_stripes.i4_v3,"xr",one_only,twox_core.xxhash3.stripes.take_many_stripes.i4_v3,unique,7
+	.section	.text$twox_core.xxhash3.stripes.take_many_stripes.2.i4_v3,"xr",one_only,twox_core.xxhash3.stripes.take_many_stripes.2.i4_v3,unique,7
 	.p2align	4
-twox_core.xxhash3.stripes.take_many_stripes.i4_v3:
-.seh_proc twox_core.xxhash3.stripes.take_many_stripes.i4_v3
+twox_core.xxhash3.stripes.take_many_stripes.2.i4_v3:
+.seh_proc twox_core.xxhash3.stripes.take_many_stripes.2.i4_v3
 	pushq	%r15
 	.seh_pushreg %r15
 	pushq	%r14
@@ -1458,12 +1458,10 @@ twox_core.xxhash3.stripes.take_many_stripes.i4_v3:
 	.seh_pushreg %rsi
 	pushq	%rdi
 	.seh_pushreg %rdi
-	pushq	%rbp
-	.seh_pushreg %rbp
 	pushq	%rbx
 	.seh_pushreg %rbx
-	subq	$584, %rsp
-	.seh_stackalloc 584
+	subq	$576, %rsp
+	.seh_stackalloc 576
 	vmovdqa	%xmm9, 560(%rsp)
 	.seh_savexmm %xmm9, 560
 	vmovdqa	%xmm8, 544(%rsp)
@@ -1474,19 +1472,19 @@ twox_core.xxhash3.stripes.take_many_stripes.i4_v3:
 	.seh_savexmm %xmm6, 512
 	.seh_endprologue
 	movq	%rcx, %rsi
-	movq	696(%rsp), %rbp
+	movq	680(%rsp), %r13
 	movq	64(%rdx), %rax
 	movq	%rax, 192(%rsp)
 	vmovdqu	(%rdx), %ymm0
 	vmovdqu	32(%rdx), %ymm1
 	vmovdqu	%ymm1, 160(%rsp)
-	movq	688(%rsp), %r13
+	movq	672(%rsp), %r12
 	vmovdqu	%ymm0, 128(%rsp)
 	vpxor	%xmm0, %xmm0, %xmm0
 	vmovdqu	%ymm0, 48(%rsp)
 	vmovdqu	%ymm0, 80(%rsp)
 	movq	$0, 112(%rsp)
-	leaq	-64(%rbp), %rax
+	leaq	-64(%r13), %rax
 	movq	%rax, %rcx
 	andq	$-8, %rcx
 	cmpq	$128, %rcx
@@ -1495,12 +1493,12 @@ twox_core.xxhash3.stripes.take_many_stripes.i4_v3:
 	setae	%r10b
 	testb	%cl, %r10b
 	jne	.LBB7_2.i4_v3
-	movq	%rbp, 40(%rsp)
-	movq	%r13, 32(%rsp)
+	movq	%r13, 40(%rsp)
+	movq	%r12, 32(%rsp)
 	leaq	48(%rsp), %rcx
 	leaq	128(%rsp), %rdx
 	vzeroupper
-	callq	twox_core.xxhash3.stripes.take_stripes.i4_v3
+	callq	twox_core.xxhash3.stripes.take_stripes.2.i4_v3
 	jmp	.LBB7_23.i4_v3
 .LBB7_2.i4_v3:
 	cmpq	$31743, %r9
@@ -1531,13 +1529,13 @@ twox_core.xxhash3.stripes.take_many_stripes.i4_v3:
 	vmovdqu	32(%r8), %ymm3
 	vpshufd	$78, %ymm2, %ymm4
 	vpaddq	%ymm4, %ymm1, %ymm1
-	vpxor	(%r13,%rdx,8), %ymm2, %ymm2
+	vpxor	(%r12,%rdx,8), %ymm2, %ymm2
 	vpsrlq	$32, %ymm2, %ymm4
 	vpmuludq	%ymm4, %ymm2, %ymm2
 	vpaddq	%ymm2, %ymm1, %ymm1
 	vpshufd	$78, %ymm3, %ymm2
 	vpaddq	%ymm0, %ymm2, %ymm0
-	vpxor	32(%r13,%rdx,8), %ymm3, %ymm2
+	vpxor	32(%r12,%rdx,8), %ymm3, %ymm2
 	vpsrlq	$32, %ymm2, %ymm3
 	vpmuludq	%ymm3, %ymm2, %ymm2
 	vpaddq	%ymm2, %ymm0, %ymm0
@@ -1545,12 +1543,12 @@ twox_core.xxhash3.stripes.take_many_stripes.i4_v3:
 	cmpq	$16, %rdx
 	jne	.LBB7_7.i4_v3
 	vpsrlq	$47, %ymm1, %ymm2
-	vpxor	(%r13,%rax), %ymm2, %ymm2
+	vpxor	(%r12,%rax), %ymm2, %ymm2
 	vpxor	%ymm1, %ymm2, %ymm1
 	vpbroadcastq	.LCPI7_0.i4_v3(%rip), %ymm2
 	vpmulld	%ymm2, %ymm1, %ymm3
 	vpsrlq	$47, %ymm0, %ymm4
-	vpxor	32(%r13,%rax), %ymm4, %ymm4
+	vpxor	32(%r12,%rax), %ymm4, %ymm4
 	vpxor	%ymm0, %ymm4, %ymm0
 	vpmulld	%ymm2, %ymm0, %ymm2
 	vpbroadcastq	.LCPI7_1.i4_v3(%rip), %ymm4
@@ -1561,59 +1559,61 @@ twox_core.xxhash3.stripes.take_many_stripes.i4_v3:
 	xorl	%edx, %edx
 	jmp	.LBB7_7.i4_v3
 .LBB7_21.i4_v3:
+	movq	192(%rsp), %rax
 	vmovups	(%rdx), %ymm0
 	vmovups	32(%rdx), %ymm1
 	vmovups	%ymm1, 240(%rsp)
 	vmovups	%ymm0, 208(%rsp)
-	movq	192(%rsp), %rax
-	vxorps	%xmm0, %xmm0, %xmm0
-	vmovups	%ymm0, 288(%rsp)
-	vmovups	%ymm0, 320(%rsp)
-	vmovups	%ymm0, 368(%rsp)
-	vmovups	%ymm0, 400(%rsp)
-	vmovups	%ymm0, 432(%rsp)
-	vmovups	%ymm0, 464(%rsp)
-	movq	$0, 352(%rsp)
-	movq	$0, 496(%rsp)
 	movq	%rax, 272(%rsp)
 	negl	%eax
 	andl	$15, %eax
 	shll	$6, %eax
 	leaq	(%r8,%rax), %r14
+	vxorps	%xmm0, %xmm0, %xmm0
+	vmovups	%ymm0, 432(%rsp)
 	subq	%rax, %r9
-	movq	%rbp, 40(%rsp)
-	movq	%r13, 32(%rsp)
+	vmovups	%ymm0, 464(%rsp)
+	movq	$0, 496(%rsp)
+	movq	%r13, 40(%rsp)
+	movq	%r12, 32(%rsp)
 	leaq	432(%rsp), %r15
-	leaq	208(%rsp), %rdi
+	leaq	208(%rsp), %rdx
 	movq	%r15, %rcx
-	movq	%rdi, %rdx
-	movq	%r9, %rbx
+	movq	%r9, %rdi
 	movq	%rax, %r9
 	vzeroupper
-	callq	twox_core.xxhash3.stripes.take_stripes.i4_v3
-	movq	%rbx, %r9
+	callq	twox_core.xxhash3.stripes.take_stripes.2.i4_v3
+	movq	%rdi, %r9
 	andq	$-1024, %r9
-	leaq	(%r14,%r9), %r12
-	andl	$1023, %ebx
-	movq	%rbp, 40(%rsp)
-	movq	%r13, 32(%rsp)
+	leaq	(%r14,%r9), %rbx
+	andl	$1023, %edi
+	vxorps	%xmm0, %xmm0, %xmm0
+	vmovups	%ymm0, 368(%rsp)
+	vmovups	%ymm0, 400(%rsp)
+	movq	%r13, 40(%rsp)
+	movq	%r12, 32(%rsp)
 	leaq	368(%rsp), %rcx
 	movq	%r15, %rdx
 	movq	%r14, %r8
-	callq	twox_core.xxhash3.stripes.blocks.take_many_blocks.i4_v3
-	vmovups	400(%rsp), %ymm0
-	vmovups	%ymm0, 240(%rsp)
-	vmovups	368(%rsp), %ymm0
-	vmovups	%ymm0, 208(%rsp)
-	movq	$0, 272(%rsp)
-	movq	%rbp, 40(%rsp)
-	movq	%r13, 32(%rsp)
-	leaq	288(%rsp), %rcx
-	movq	%rdi, %rdx
-	movq	%r12, %r8
-	movq	%rbx, %r9
 	vzeroupper
-	callq	twox_core.xxhash3.stripes.take_stripes.i4_v3
+	callq	twox_core.xxhash3.stripes.blocks.take_many_blocks.2.i4_v3
+	vmovups	368(%rsp), %ymm0
+	vmovups	400(%rsp), %ymm1
+	vmovups	%ymm1, 240(%rsp)
+	vmovups	%ymm0, 208(%rsp)
+	vxorps	%xmm0, %xmm0, %xmm0
+	vmovups	%ymm0, 288(%rsp)
+	movq	$0, 272(%rsp)
+	vmovups	%ymm0, 320(%rsp)
+	movq	$0, 352(%rsp)
+	movq	%r13, 40(%rsp)
+	movq	%r12, 32(%rsp)
+	leaq	288(%rsp), %rcx
+	leaq	208(%rsp), %rdx
+	movq	%rbx, %r8
+	movq	%rdi, %r9
+	vzeroupper
+	callq	twox_core.xxhash3.stripes.take_stripes.2.i4_v3
 	vmovdqu	288(%rsp), %ymm1
 	vmovdqu	320(%rsp), %ymm0
 	movq	352(%rsp), %rdx
@@ -1637,21 +1637,21 @@ twox_core.xxhash3.stripes.take_many_stripes.i4_v3:
 	vmovdqu	32(%r10), %ymm2
 	vmovdqu	64(%r10), %ymm5
 	vmovdqu	96(%r10), %ymm3
-	vpxor	(%r13,%rdx,8), %ymm4, %ymm6
+	vpxor	(%r12,%rdx,8), %ymm4, %ymm6
 	vpsrlq	$32, %ymm6, %ymm7
 	vpmuludq	%ymm7, %ymm6, %ymm6
 	vpaddq	%ymm1, %ymm6, %ymm1
-	vpxor	8(%r13,%rdx,8), %ymm5, %ymm6
+	vpxor	8(%r12,%rdx,8), %ymm5, %ymm6
 	vpsrlq	$32, %ymm6, %ymm7
 	vpmuludq	%ymm7, %ymm6, %ymm6
 	vmovdqu	128(%r10), %ymm7
-	vpxor	16(%r13,%rdx,8), %ymm7, %ymm8
+	vpxor	16(%r12,%rdx,8), %ymm7, %ymm8
 	vpsrlq	$32, %ymm8, %ymm9
 	vpmuludq	%ymm9, %ymm8, %ymm8
 	vpaddq	%ymm6, %ymm8, %ymm6
 	vpaddq	%ymm6, %ymm1, %ymm1
 	vmovdqu	192(%r10), %ymm6
-	vpxor	24(%r13,%rdx,8), %ymm6, %ymm8
+	vpxor	24(%r12,%rdx,8), %ymm6, %ymm8
 	vpsrlq	$32, %ymm8, %ymm9
 	vpmuludq	%ymm9, %ymm8, %ymm8
 	vpaddq	%ymm4, %ymm5, %ymm4
@@ -1659,22 +1659,22 @@ twox_core.xxhash3.stripes.take_many_stripes.i4_v3:
 	vpaddq	%ymm5, %ymm4, %ymm4
 	vpshufd	$78, %ymm4, %ymm4
 	vpaddq	%ymm4, %ymm8, %ymm4
-	vpxor	32(%r13,%rdx,8), %ymm2, %ymm5
+	vpxor	32(%r12,%rdx,8), %ymm2, %ymm5
 	vpaddq	%ymm4, %ymm1, %ymm1
 	vpsrlq	$32, %ymm5, %ymm4
 	vpmuludq	%ymm4, %ymm5, %ymm4
 	vpaddq	%ymm0, %ymm4, %ymm0
-	vpxor	40(%r13,%rdx,8), %ymm3, %ymm4
+	vpxor	40(%r12,%rdx,8), %ymm3, %ymm4
 	vpsrlq	$32, %ymm4, %ymm5
 	vpmuludq	%ymm5, %ymm4, %ymm4
 	vmovdqu	160(%r10), %ymm5
-	vpxor	48(%r13,%rdx,8), %ymm5, %ymm6
+	vpxor	48(%r12,%rdx,8), %ymm5, %ymm6
 	vpsrlq	$32, %ymm6, %ymm7
 	vpmuludq	%ymm7, %ymm6, %ymm6
 	vpaddq	%ymm6, %ymm4, %ymm4
 	vpaddq	%ymm4, %ymm0, %ymm0
 	vmovdqu	224(%r10), %ymm4
-	vpxor	56(%r13,%rdx,8), %ymm4, %ymm6
+	vpxor	56(%r12,%rdx,8), %ymm4, %ymm6
 	vpsrlq	$32, %ymm6, %ymm7
 	vpmuludq	%ymm7, %ymm6, %ymm6
 	vpaddq	%ymm2, %ymm3, %ymm2
@@ -1687,12 +1687,12 @@ twox_core.xxhash3.stripes.take_many_stripes.i4_v3:
 	cmpq	$16, %rdx
 	jne	.LBB7_11.i4_v3
 	vpsrlq	$47, %ymm1, %ymm2
-	vpxor	(%r13,%rax), %ymm2, %ymm2
+	vpxor	(%r12,%rax), %ymm2, %ymm2
 	vpxor	%ymm1, %ymm2, %ymm1
 	vpbroadcastq	.LCPI7_0.i4_v3(%rip), %ymm2
 	vpmulld	%ymm2, %ymm1, %ymm3
 	vpsrlq	$47, %ymm0, %ymm4
-	vpxor	32(%r13,%rax), %ymm4, %ymm4
+	vpxor	32(%r12,%rax), %ymm4, %ymm4
 	vpxor	%ymm0, %ymm4, %ymm0
 	vpbroadcastq	.LCPI7_1.i4_v3(%rip), %ymm4
 	vpmuludq	%ymm4, %ymm1, %ymm1
@@ -1710,13 +1710,13 @@ twox_core.xxhash3.stripes.take_many_stripes.i4_v3:
 	vmovdqu	(%rcx), %ymm2
 	vmovdqu	32(%rcx), %ymm3
 	vpshufd	$78, %ymm2, %ymm4
-	vpxor	(%r13,%rdx,8), %ymm2, %ymm2
+	vpxor	(%r12,%rdx,8), %ymm2, %ymm2
 	vpsrlq	$32, %ymm2, %ymm5
 	vpmuludq	%ymm5, %ymm2, %ymm2
 	vpaddq	%ymm2, %ymm4, %ymm2
 	vpaddq	%ymm2, %ymm1, %ymm1
 	vpshufd	$78, %ymm3, %ymm2
-	vpxor	32(%r13,%rdx,8), %ymm3, %ymm3
+	vpxor	32(%r12,%rdx,8), %ymm3, %ymm3
 	vpsrlq	$32, %ymm3, %ymm4
 	vpmuludq	%ymm4, %ymm3, %ymm3
 	vpaddq	%ymm3, %ymm2, %ymm2
@@ -1725,12 +1725,12 @@ twox_core.xxhash3.stripes.take_many_stripes.i4_v3:
 	cmpq	$16, %rdx
 	jne	.LBB7_15.i4_v3
 	vpsrlq	$47, %ymm1, %ymm2
-	vpxor	(%r13,%rax), %ymm2, %ymm2
+	vpxor	(%r12,%rax), %ymm2, %ymm2
 	vpxor	%ymm1, %ymm2, %ymm1
 	vpbroadcastq	.LCPI7_0.i4_v3(%rip), %ymm2
 	vpmulld	%ymm2, %ymm1, %ymm3
 	vpsrlq	$47, %ymm0, %ymm4
-	vpxor	32(%r13,%rax), %ymm4, %ymm4
+	vpxor	32(%r12,%rax), %ymm4, %ymm4
 	vpxor	%ymm0, %ymm4, %ymm0
 	vpbroadcastq	.LCPI7_1.i4_v3(%rip), %ymm4
 	vpmuludq	%ymm4, %ymm1, %ymm1
@@ -1746,13 +1746,13 @@ twox_core.xxhash3.stripes.take_many_stripes.i4_v3:
 	vmovdqu	64(%rcx), %ymm2
 	vmovdqu	96(%rcx), %ymm3
 	vpshufd	$78, %ymm2, %ymm4
-	vpxor	(%r13,%rdx,8), %ymm2, %ymm2
+	vpxor	(%r12,%rdx,8), %ymm2, %ymm2
 	vpsrlq	$32, %ymm2, %ymm5
 	vpmuludq	%ymm5, %ymm2, %ymm2
 	vpaddq	%ymm2, %ymm4, %ymm2
 	vpaddq	%ymm2, %ymm1, %ymm1
 	vpshufd	$78, %ymm3, %ymm2
-	vpxor	32(%r13,%rdx,8), %ymm3, %ymm3
+	vpxor	32(%r12,%rdx,8), %ymm3, %ymm3
 	vpsrlq	$32, %ymm3, %ymm4
 	vpmuludq	%ymm4, %ymm3, %ymm3
 	vpaddq	%ymm3, %ymm2, %ymm2
@@ -1761,12 +1761,12 @@ twox_core.xxhash3.stripes.take_many_stripes.i4_v3:
 	cmpq	$16, %rdx
 	jne	.LBB7_18.i4_v3
 	vpsrlq	$47, %ymm1, %ymm2
-	vpxor	(%r13,%rax), %ymm2, %ymm2
+	vpxor	(%r12,%rax), %ymm2, %ymm2
 	vpxor	%ymm1, %ymm2, %ymm1
 	vpbroadcastq	.LCPI7_0.i4_v3(%rip), %ymm2
 	vpmulld	%ymm2, %ymm1, %ymm3
 	vpsrlq	$47, %ymm0, %ymm4
-	vpxor	32(%r13,%rax), %ymm4, %ymm4
+	vpxor	32(%r12,%rax), %ymm4, %ymm4
 	vpxor	%ymm0, %ymm4, %ymm0
 	vpbroadcastq	.LCPI7_1.i4_v3(%rip), %ymm4
 	vpmuludq	%ymm4, %ymm1, %ymm1
@@ -1782,13 +1782,13 @@ twox_core.xxhash3.stripes.take_many_stripes.i4_v3:
 	vmovdqu	128(%rcx), %ymm2
 	vmovdqu	160(%rcx), %ymm3
 	vpshufd	$78, %ymm2, %ymm4
-	vpxor	(%r13,%rdx,8), %ymm2, %ymm2
+	vpxor	(%r12,%rdx,8), %ymm2, %ymm2
 	vpsrlq	$32, %ymm2, %ymm5
 	vpmuludq	%ymm5, %ymm2, %ymm2
 	vpaddq	%ymm2, %ymm4, %ymm2
 	vpaddq	%ymm2, %ymm1, %ymm1
 	vpshufd	$78, %ymm3, %ymm2
-	vpxor	32(%r13,%rdx,8), %ymm3, %ymm3
+	vpxor	32(%r12,%rdx,8), %ymm3, %ymm3
 	vpsrlq	$32, %ymm3, %ymm4
 	vpmuludq	%ymm4, %ymm3, %ymm3
 	vpaddq	%ymm3, %ymm2, %ymm2
@@ -1797,12 +1797,12 @@ twox_core.xxhash3.stripes.take_many_stripes.i4_v3:
 	cmpq	$16, %rdx
 	jne	.LBB7_22.i4_v3
 	vpsrlq	$47, %ymm1, %ymm2
-	vpxor	(%r13,%rax), %ymm2, %ymm2
+	vpxor	(%r12,%rax), %ymm2, %ymm2
 	vpxor	%ymm1, %ymm2, %ymm1
 	vpbroadcastq	.LCPI7_0.i4_v3(%rip), %ymm2
 	vpmulld	%ymm2, %ymm1, %ymm3
 	vpsrlq	$47, %ymm0, %ymm4
-	vpxor	32(%r13,%rax), %ymm4, %ymm4
+	vpxor	32(%r12,%rax), %ymm4, %ymm4
 	vpxor	%ymm0, %ymm4, %ymm0
 	vpbroadcastq	.LCPI7_1.i4_v3(%rip), %ymm4
 	vpmuludq	%ymm4, %ymm1, %ymm1
@@ -1827,9 +1827,8 @@ twox_core.xxhash3.stripes.take_many_stripes.i4_v3:
 	vmovaps	544(%rsp), %xmm8
 	vmovaps	560(%rsp), %xmm9
 	vzeroupper
-	addq	$584, %rsp
+	addq	$576, %rsp
 	popq	%rbx
-	popq	%rbp
 	popq	%rdi
 	popq	%rsi
 	popq	%r12
@@ -1838,7 +1837,7 @@ twox_core.xxhash3.stripes.take_many_stripes.i4_v3:
 	popq	%r15
 	retq
 	.seh_endproc
-	.def	twox_core.xxhash3.stripes.take_stripes.i4_v3;
+	.def	twox_core.xxhash3.stripes.take_stripes.2.i4_v3;
 	.scl	3;
 	.type	32;
 	.endef
@@ -1849,9 +1848,9 @@ twox_core.xxhash3.stripes.take_many_stripes.i4_v3:
 	.long	2654435761
 .LCPI8_1.i4_v3:
 	.quad	2654435761
-	.section	.text$twox_core.xxhash3.stripes.take_stripes.i4_v3,"xr",one_only,twox_core.xxhash3.stripes.take_stripes.i4_v3,unique,8
+	.section	.text$twox_core.xxhash3.stripes.take_stripes.2.i4_v3,"xr",one_only,twox_core.xxhash3.stripes.take_stripes.2.i4_v3,unique,8
 	.p2align	4
-twox_core.xxhash3.stripes.take_stripes.i4_v3:
+twox_core.xxhash3.stripes.take_stripes.2.i4_v3:
 	vmovdqu	(%rdx), %ymm1
 	vmovdqu	32(%rdx), %ymm0
 	movq	64(%rdx), %r10
@@ -1909,7 +1908,7 @@ twox_core.xxhash3.stripes.take_stripes.i4_v3:
 	movq	%r10, 64(%rcx)
 	vzeroupper
 	retq
-	.def	twox_core.xxhash3.stripes.blocks.take_many_blocks.i4_v3;
+	.def	twox_core.xxhash3.stripes.blocks.take_many_blocks.2.i4_v3;
 	.scl	3;
 	.type	32;
 	.endef
@@ -1920,10 +1919,10 @@ twox_core.xxhash3.stripes.take_stripes.i4_v3:
 	.long	2654435761
 .LCPI9_1.i4_v3:
 	.quad	2654435761
-	.section	.text$twox_core.xxhash3.stripes.blocks.take_many_blocks.i4_v3,"xr",one_only,twox_core.xxhash3.stripes.blocks.take_many_blocks.i4_v3,unique,9
+	.section	.text$twox_core.xxhash3.stripes.blocks.take_many_blocks.2.i4_v3,"xr",one_only,twox_core.xxhash3.stripes.blocks.take_many_blocks.2.i4_v3,unique,9
 	.p2align	4
-twox_core.xxhash3.stripes.blocks.take_many_blocks.i4_v3:
-.seh_proc twox_core.xxhash3.stripes.blocks.take_many_blocks.i4_v3
+twox_core.xxhash3.stripes.blocks.take_many_blocks.2.i4_v3:
+.seh_proc twox_core.xxhash3.stripes.blocks.take_many_blocks.2.i4_v3
 	pushq	%rsi
 	.seh_pushreg %rsi
 	pushq	%rdi
@@ -2168,7 +2167,7 @@ twox_core.width_128.oneshot_many.i4_v3:
 	movq	%r14, %r8
 	movq	%r15, %r9
 	vzeroupper
-	callq	twox_core.xxhash3.stripes.take_many_stripes.i4_v3
+	callq	twox_core.xxhash3.stripes.take_many_stripes.2.i4_v3
 	vmovdqu	48(%rsp), %ymm1
 	vmovdqu	80(%rsp), %ymm0
 	movq	%r15, %rax
@@ -4642,7 +4641,7 @@ twox_core.width_64.oneshot_many.i4_v3:
 	movq	%r14, %r8
 	movq	%r15, %r9
 	vzeroupper
-	callq	twox_core.xxhash3.stripes.take_many_stripes.i4_v3
+	callq	twox_core.xxhash3.stripes.take_many_stripes.2.i4_v3
 	vmovdqu	48(%rsp), %ymm1
 	vmovdqu	80(%rsp), %ymm0
 	movq	%r15, %rax
@@ -6525,7 +6524,7 @@ twox_core.xxhash3.streaming.core_state.CoreState.write_through.2.i4_v3:
 	movq	%r14, %r8
 	movq	%r12, %r9
 	vzeroupper
-	callq	twox_core.xxhash3.stripes.take_many_stripes.i4_v3
+	callq	twox_core.xxhash3.stripes.take_many_stripes.2.i4_v3
 	movq	128(%rsp), %rax
 	movq	%rax, 64(%rsi)
 	vmovups	64(%rsp), %ymm0

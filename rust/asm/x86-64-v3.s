@@ -1438,7 +1438,7 @@ twox_core.xxhash3.stripes.take_many_stripes.i4_v3:
 	vmovdqu (%rsi),%ymm0
 	vmovdqu 0x20(%rsi),%ymm1
 	vmovdqu %ymm1,0x70(%rsp)
-	mov %rdi,%r14
+	mov %rdi,%rbx
 	vmovdqu %ymm0,0x50(%rsp)
 	vpxor %xmm0,%xmm0,%xmm0
 	vmovdqu %ymm0,(%rsp)
@@ -1473,14 +1473,14 @@ twox_core.xxhash3.stripes.take_many_stripes.i4_v3:
 	mov %ecx,%esi
 	and $0x7f00,%esi
 	test %r10d,%r10d
-	je .L8_2e7.i4_v3
+	je .L8_2f2.i4_v3
 	shr $0x6,%r10d
 	jmp .L8_ed.i4_v3
 	.byte 102,102,102,102,46,15,31,132,0,0,0,0,0
 .L8_e0.i4_v3:
 	add $0x40,%rdx
 	dec %r10
-	je .L8_2e7.i4_v3
+	je .L8_2f2.i4_v3
 .L8_ed.i4_v3:
 	prefetcht0 0x140(%rdx)
 	vmovdqu (%rdx),%ymm2
@@ -1517,67 +1517,70 @@ twox_core.xxhash3.stripes.take_many_stripes.i4_v3:
 	xor %edi,%edi
 	jmp .L8_e0.i4_v3
 .L8_191.i4_v3:
+	mov 0x90(%rsp),%rax
 	vmovups (%rsi),%ymm0
 	vmovups 0x20(%rsi),%ymm1
 	vmovups %ymm1,0xc0(%rsp)
 	vmovups %ymm0,0xa0(%rsp)
-	mov 0x90(%rsp),%rax
-	vxorps %xmm0,%xmm0,%xmm0
-	vmovups %ymm0,0xf0(%rsp)
-	vmovups %ymm0,0x110(%rsp)
-	vmovups %ymm0,0x140(%rsp)
-	vmovups %ymm0,0x160(%rsp)
-	vmovups %ymm0,0x180(%rsp)
-	vmovups %ymm0,0x1a0(%rsp)
-	movq $0x0,0x130(%rsp)
-	movq $0x0,0x1c0(%rsp)
 	mov %rax,0xe0(%rsp)
 	neg %eax
 	and $0xf,%eax
 	shl $0x6,%eax
 	lea (%rdx,%rax,1),%rbp
+	vxorps %xmm0,%xmm0,%xmm0
+	vmovups %ymm0,0x180(%rsp)
 	sub %rax,%rcx
+	vmovups %ymm0,0x1a0(%rsp)
+	movq $0x0,0x1c0(%rsp)
 	lea 0x180(%rsp),%rdi
 	lea 0xa0(%rsp),%rsi
-	mov %rcx,%r12
+	mov %rcx,%r15
 	mov %rax,%rcx
-	mov %r8,%r15
-	mov %r9,%r13
+	mov %r8,%r14
+	mov %r9,%r12
 	vzeroupper
 	call twox_core.xxhash3.stripes.take_stripes.i4_v3
-	mov %r12,%rcx
+	mov %r15,%rcx
 	and $0xfffffffffffffc00,%rcx
-	lea (%rcx,%rbp,1),%rbx
-	and $0x3ff,%r12d
+	lea (%rcx,%rbp,1),%r13
+	and $0x3ff,%r15d
+	vxorps %xmm0,%xmm0,%xmm0
+	vmovups %ymm0,0x140(%rsp)
+	vmovups %ymm0,0x160(%rsp)
 	lea 0x140(%rsp),%rdi
 	lea 0x180(%rsp),%rsi
 	mov %rbp,%rdx
-	mov %r15,%r8
-	mov %r13,%r9
+	mov %r14,%r8
+	mov %r12,%r9
+	vzeroupper
 	call twox_core.xxhash3.stripes.blocks.take_many_blocks.i4_v3
-	vmovups 0x160(%rsp),%ymm0
-	vmovups %ymm0,0xc0(%rsp)
 	vmovups 0x140(%rsp),%ymm0
+	vmovups 0x160(%rsp),%ymm1
+	vmovups %ymm1,0xc0(%rsp)
 	vmovups %ymm0,0xa0(%rsp)
+	vxorps %xmm0,%xmm0,%xmm0
+	vmovups %ymm0,0xf0(%rsp)
 	movq $0x0,0xe0(%rsp)
+	vmovups %ymm0,0x110(%rsp)
+	movq $0x0,0x130(%rsp)
 	lea 0xf0(%rsp),%rdi
 	lea 0xa0(%rsp),%rsi
-	mov %rbx,%rdx
-	mov %r12,%rcx
-	mov %r15,%r8
-	mov %r13,%r9
+	mov %r13,%rdx
+	mov %r15,%rcx
+	mov %r14,%r8
+	mov %r12,%r9
 	vzeroupper
 	call twox_core.xxhash3.stripes.take_stripes.i4_v3
 	vmovdqu 0xf0(%rsp),%ymm1
 	vmovdqu 0x110(%rsp),%ymm0
 	mov 0x130(%rsp),%rdi
 	jmp .L8_6a2.i4_v3
-.L8_2e7.i4_v3:
+.L8_2f2.i4_v3:
 	add %r9,%rsi
 	mov %rcx,%rdx
 	shr $0x8,%rdx
 	jmp .L8_310.i4_v3
-	.byte 102,102,102,102,46,15,31,132,0,0,0,0,0
+	.byte 102,144
 .L8_300.i4_v3:
 	add $0x100,%r9
 	dec %rdx
@@ -1774,11 +1777,11 @@ twox_core.xxhash3.stripes.take_many_stripes.i4_v3:
 	mov %rdi,0x40(%rsp)
 .L8_6b2.i4_v3:
 	mov 0x40(%rsp),%rax
-	mov %rax,0x40(%r14)
+	mov %rax,0x40(%rbx)
 	vmovups (%rsp),%ymm0
 	vmovups 0x20(%rsp),%ymm1
-	vmovups %ymm1,0x20(%r14)
-	vmovups %ymm0,(%r14)
+	vmovups %ymm1,0x20(%rbx)
+	vmovups %ymm0,(%rbx)
 	add $0x1c8,%rsp
 	.cfi_def_cfa_offset 56
 	pop %rbx

@@ -1701,7 +1701,7 @@ twox_core.width_128.oneshot_long.i4:
 	popq	%r15
 	retq
 	.seh_endproc
-	.def	twox_core.xxhash3.stripes.take_many_stripes.i4;
+	.def	twox_core.xxhash3.stripes.take_many_stripes.2.i4;
 	.scl	3;
 	.type	32;
 	.endef
@@ -1715,10 +1715,10 @@ twox_core.width_128.oneshot_long.i4:
 .LCPI7_1.i4:
 	.quad	2654435761
 	.quad	2654435761
-	.section	.text$twox_core.xxhash3.stripes.take_many_stripes.i4,"xr",one_only,twox_core.xxhash3.stripes.take_many_stripes.i4,unique,7
+	.section	.text$twox_core.xxhash3.stripes.take_many_stripes.2.i4,"xr",one_only,twox_core.xxhash3.stripes.take_many_stripes.2.i4,unique,7
 	.p2align	4
-twox_core.xxhash3.stripes.take_many_stripes.i4:
-.seh_proc twox_core.xxhash3.stripes.take_many_stripes.i4
+twox_core.xxhash3.stripes.take_many_stripes.2.i4:
+.seh_proc twox_core.xxhash3.stripes.take_many_stripes.2.i4
 	pushq	%r15
 	.seh_pushreg %r15
 	pushq	%r14
@@ -1731,12 +1731,10 @@ twox_core.xxhash3.stripes.take_many_stripes.i4:
 	.seh_pushreg %rsi
 	pushq	%rdi
 	.seh_pushreg %rdi
-	pushq	%rbp
-	.seh_pushreg %rbp
 	pushq	%rbx
 	.seh_pushreg %rbx
-	subq	$696, %rsp
-	.seh_stackalloc 696
+	subq	$688, %rsp
+	.seh_stackalloc 688
 	movdqa	%xmm15, 672(%rsp)
 	.seh_savexmm %xmm15, 672
 	movdqa	%xmm14, 656(%rsp)
@@ -1759,8 +1757,8 @@ twox_core.xxhash3.stripes.take_many_stripes.i4:
 	.seh_savexmm %xmm6, 528
 	.seh_endprologue
 	movq	%rcx, %rsi
-	movq	808(%rsp), %rbp
-	movq	800(%rsp), %r13
+	movq	792(%rsp), %r13
+	movq	784(%rsp), %r12
 	movq	64(%rdx), %rax
 	movq	%rax, 192(%rsp)
 	movdqu	(%rdx), %xmm0
@@ -1777,7 +1775,7 @@ twox_core.xxhash3.stripes.take_many_stripes.i4:
 	movdqa	%xmm0, 80(%rsp)
 	movdqa	%xmm0, 96(%rsp)
 	movq	$0, 112(%rsp)
-	leaq	-64(%rbp), %rax
+	leaq	-64(%r13), %rax
 	movq	%rax, %rcx
 	andq	$-8, %rcx
 	cmpq	$128, %rcx
@@ -1786,11 +1784,11 @@ twox_core.xxhash3.stripes.take_many_stripes.i4:
 	setae	%r10b
 	testb	%cl, %r10b
 	jne	.LBB7_2.i4
-	movq	%rbp, 40(%rsp)
-	movq	%r13, 32(%rsp)
+	movq	%r13, 40(%rsp)
+	movq	%r12, 32(%rsp)
 	leaq	48(%rsp), %rcx
 	leaq	128(%rsp), %rdx
-	callq	twox_core.xxhash3.stripes.take_stripes.i4
+	callq	twox_core.xxhash3.stripes.take_stripes.2.i4
 	jmp	.LBB7_19.i4
 .LBB7_2.i4:
 	cmpq	$31743, %r9
@@ -1827,10 +1825,10 @@ twox_core.xxhash3.stripes.take_many_stripes.i4:
 	paddq	%xmm2, %xmm10
 	pshufd	$78, %xmm8, %xmm11
 	paddq	%xmm3, %xmm11
-	movdqu	(%r13,%rdx,8), %xmm12
-	movdqu	16(%r13,%rdx,8), %xmm13
-	movdqu	32(%r13,%rdx,8), %xmm7
-	movdqu	48(%r13,%rdx,8), %xmm5
+	movdqu	(%r12,%rdx,8), %xmm12
+	movdqu	16(%r12,%rdx,8), %xmm13
+	movdqu	32(%r12,%rdx,8), %xmm7
+	movdqu	48(%r12,%rdx,8), %xmm5
 	pxor	%xmm8, %xmm12
 	pxor	%xmm9, %xmm13
 	movdqa	%xmm13, %xmm2
@@ -1858,10 +1856,10 @@ twox_core.xxhash3.stripes.take_many_stripes.i4:
 	incq	%rdx
 	cmpq	$16, %rdx
 	jne	.LBB7_7.i4
-	movdqu	(%r13,%rax), %xmm6
-	movdqu	16(%r13,%rax), %xmm7
-	movdqu	32(%r13,%rax), %xmm5
-	movdqu	48(%r13,%rax), %xmm0
+	movdqu	(%r12,%rax), %xmm6
+	movdqu	16(%r12,%rax), %xmm7
+	movdqu	32(%r12,%rax), %xmm5
+	movdqu	48(%r12,%rax), %xmm0
 	pxor	%xmm3, %xmm6
 	psrlq	$47, %xmm3
 	pxor	%xmm6, %xmm3
@@ -1899,6 +1897,7 @@ twox_core.xxhash3.stripes.take_many_stripes.i4:
 	xorl	%edx, %edx
 	jmp	.LBB7_7.i4
 .LBB7_17.i4:
+	movq	192(%rsp), %rax
 	movups	(%rdx), %xmm0
 	movups	16(%rdx), %xmm1
 	movups	32(%rdx), %xmm2
@@ -1907,47 +1906,40 @@ twox_core.xxhash3.stripes.take_many_stripes.i4:
 	movaps	%xmm2, 240(%rsp)
 	movaps	%xmm1, 224(%rsp)
 	movaps	%xmm0, 208(%rsp)
-	movq	192(%rsp), %rax
-	xorps	%xmm0, %xmm0
-	movaps	%xmm0, 288(%rsp)
-	movaps	%xmm0, 304(%rsp)
-	movaps	%xmm0, 320(%rsp)
-	movaps	%xmm0, 336(%rsp)
-	movq	$0, 352(%rsp)
-	movaps	%xmm0, 368(%rsp)
-	movaps	%xmm0, 384(%rsp)
-	movaps	%xmm0, 400(%rsp)
-	movaps	%xmm0, 416(%rsp)
-	movaps	%xmm0, 496(%rsp)
-	movaps	%xmm0, 480(%rsp)
-	movaps	%xmm0, 464(%rsp)
-	movaps	%xmm0, 448(%rsp)
-	movq	$0, 512(%rsp)
 	movq	%rax, 272(%rsp)
 	negl	%eax
 	andl	$15, %eax
 	shll	$6, %eax
-	leaq	(%r8,%rax), %r15
+	leaq	(%r8,%rax), %r14
 	subq	%rax, %r9
-	movq	%rbp, 40(%rsp)
-	movq	%r13, 32(%rsp)
-	leaq	448(%rsp), %r12
-	leaq	208(%rsp), %rdi
-	movq	%r12, %rcx
-	movq	%rdi, %rdx
-	movq	%r9, %rbx
+	pxor	%xmm6, %xmm6
+	movdqa	%xmm6, 448(%rsp)
+	movdqa	%xmm6, 464(%rsp)
+	movdqa	%xmm6, 480(%rsp)
+	movdqa	%xmm6, 496(%rsp)
+	movq	$0, 512(%rsp)
+	movq	%r13, 40(%rsp)
+	movq	%r12, 32(%rsp)
+	leaq	448(%rsp), %r15
+	leaq	208(%rsp), %rdx
+	movq	%r15, %rcx
+	movq	%r9, %rdi
 	movq	%rax, %r9
-	callq	twox_core.xxhash3.stripes.take_stripes.i4
-	movq	%rbx, %r9
+	callq	twox_core.xxhash3.stripes.take_stripes.2.i4
+	movq	%rdi, %r9
 	andq	$-1024, %r9
-	leaq	(%r15,%r9), %r14
-	andl	$1023, %ebx
-	movq	%rbp, 40(%rsp)
-	movq	%r13, 32(%rsp)
+	leaq	(%r14,%r9), %rbx
+	andl	$1023, %edi
+	movdqa	%xmm6, 368(%rsp)
+	movdqa	%xmm6, 384(%rsp)
+	movdqa	%xmm6, 400(%rsp)
+	movdqa	%xmm6, 416(%rsp)
+	movq	%r13, 40(%rsp)
+	movq	%r12, 32(%rsp)
 	leaq	368(%rsp), %rcx
-	movq	%r12, %rdx
-	movq	%r15, %r8
-	callq	twox_core.xxhash3.stripes.blocks.take_many_blocks.i4
+	movq	%r15, %rdx
+	movq	%r14, %r8
+	callq	twox_core.xxhash3.stripes.blocks.take_many_blocks.2.i4
 	movdqa	368(%rsp), %xmm0
 	movaps	384(%rsp), %xmm1
 	movaps	400(%rsp), %xmm2
@@ -1957,13 +1949,18 @@ twox_core.xxhash3.stripes.take_many_stripes.i4:
 	movaps	%xmm1, 224(%rsp)
 	movdqa	%xmm0, 208(%rsp)
 	movq	$0, 272(%rsp)
-	movq	%rbp, 40(%rsp)
-	movq	%r13, 32(%rsp)
+	movdqa	%xmm6, 288(%rsp)
+	movdqa	%xmm6, 304(%rsp)
+	movdqa	%xmm6, 320(%rsp)
+	movdqa	%xmm6, 336(%rsp)
+	movq	$0, 352(%rsp)
+	movq	%r13, 40(%rsp)
+	movq	%r12, 32(%rsp)
 	leaq	288(%rsp), %rcx
-	movq	%rdi, %rdx
-	movq	%r14, %r8
-	movq	%rbx, %r9
-	callq	twox_core.xxhash3.stripes.take_stripes.i4
+	leaq	208(%rsp), %rdx
+	movq	%rbx, %r8
+	movq	%rdi, %r9
+	callq	twox_core.xxhash3.stripes.take_stripes.2.i4
 	movdqa	288(%rsp), %xmm3
 	movdqa	304(%rsp), %xmm2
 	movdqa	320(%rsp), %xmm1
@@ -1981,10 +1978,10 @@ twox_core.xxhash3.stripes.take_many_stripes.i4:
 	decq	%r8
 	je	.LBB7_12.i4
 .LBB7_9.i4:
-	movdqu	(%r13,%rdx,8), %xmm9
-	movdqu	8(%r13,%rdx,8), %xmm6
-	movdqu	16(%r13,%rdx,8), %xmm12
-	movdqu	24(%r13,%rdx,8), %xmm7
+	movdqu	(%r12,%rdx,8), %xmm9
+	movdqu	8(%r12,%rdx,8), %xmm6
+	movdqu	16(%r12,%rdx,8), %xmm12
+	movdqu	24(%r12,%rdx,8), %xmm7
 	movdqu	(%r10), %xmm5
 	movdqu	16(%r10), %xmm0
 	movdqa	%xmm0, 432(%rsp)
@@ -2013,7 +2010,7 @@ twox_core.xxhash3.stripes.take_many_stripes.i4:
 	movdqu	144(%r10), %xmm11
 	movdqu	128(%r10), %xmm9
 	pxor	%xmm9, %xmm12
-	movdqu	32(%r13,%rdx,8), %xmm6
+	movdqu	32(%r12,%rdx,8), %xmm6
 	movdqa	%xmm12, %xmm10
 	psrlq	$32, %xmm10
 	pmuludq	%xmm12, %xmm10
@@ -2029,7 +2026,7 @@ twox_core.xxhash3.stripes.take_many_stripes.i4:
 	movdqu	208(%r10), %xmm12
 	movdqu	192(%r10), %xmm13
 	pxor	%xmm13, %xmm7
-	movdqu	40(%r13,%rdx,8), %xmm8
+	movdqu	40(%r12,%rdx,8), %xmm8
 	movdqa	%xmm7, %xmm15
 	psrlq	$32, %xmm15
 	pmuludq	%xmm7, %xmm15
@@ -2054,7 +2051,7 @@ twox_core.xxhash3.stripes.take_many_stripes.i4:
 	paddq	%xmm10, %xmm3
 	pxor	%xmm7, %xmm6
 	movdqa	%xmm7, %xmm15
-	movdqu	48(%r13,%rdx,8), %xmm12
+	movdqu	48(%r12,%rdx,8), %xmm12
 	movdqa	%xmm12, %xmm0
 	pxor	%xmm5, %xmm0
 	movdqa	%xmm0, %xmm9
@@ -2067,7 +2064,7 @@ twox_core.xxhash3.stripes.take_many_stripes.i4:
 	paddq	%xmm4, %xmm9
 	movdqu	96(%r10), %xmm1
 	movdqu	112(%r10), %xmm0
-	movdqu	56(%r13,%rdx,8), %xmm10
+	movdqu	56(%r12,%rdx,8), %xmm10
 	movdqa	%xmm10, %xmm4
 	pxor	%xmm0, %xmm4
 	pxor	%xmm1, %xmm8
@@ -2083,7 +2080,7 @@ twox_core.xxhash3.stripes.take_many_stripes.i4:
 	movdqa	%xmm12, %xmm7
 	psrlq	$32, %xmm7
 	pmuludq	%xmm12, %xmm7
-	movdqu	64(%r13,%rdx,8), %xmm4
+	movdqu	64(%r12,%rdx,8), %xmm4
 	pxor	%xmm8, %xmm4
 	paddq	%xmm13, %xmm7
 	movdqa	%xmm4, %xmm12
@@ -2094,7 +2091,7 @@ twox_core.xxhash3.stripes.take_many_stripes.i4:
 	paddq	%xmm9, %xmm12
 	movdqu	240(%r10), %xmm4
 	movdqu	224(%r10), %xmm9
-	movdqu	72(%r13,%rdx,8), %xmm11
+	movdqu	72(%r12,%rdx,8), %xmm11
 	pxor	%xmm9, %xmm10
 	pxor	%xmm4, %xmm11
 	movdqa	%xmm10, %xmm13
@@ -2122,10 +2119,10 @@ twox_core.xxhash3.stripes.take_many_stripes.i4:
 	addq	$4, %rdx
 	cmpq	$16, %rdx
 	jne	.LBB7_11.i4
-	movdqu	(%r13,%rax), %xmm6
-	movdqu	16(%r13,%rax), %xmm7
-	movdqu	32(%r13,%rax), %xmm5
-	movdqu	48(%r13,%rax), %xmm0
+	movdqu	(%r12,%rax), %xmm6
+	movdqu	16(%r12,%rax), %xmm7
+	movdqu	32(%r12,%rax), %xmm5
+	movdqu	48(%r12,%rax), %xmm0
 	pxor	%xmm3, %xmm6
 	psrlq	$47, %xmm3
 	pxor	%xmm6, %xmm3
@@ -2184,10 +2181,10 @@ twox_core.xxhash3.stripes.take_many_stripes.i4:
 	paddq	%xmm2, %xmm10
 	pshufd	$78, %xmm8, %xmm11
 	paddq	%xmm3, %xmm11
-	movdqu	(%r13,%rdx,8), %xmm12
-	movdqu	16(%r13,%rdx,8), %xmm13
-	movdqu	32(%r13,%rdx,8), %xmm7
-	movdqu	48(%r13,%rdx,8), %xmm5
+	movdqu	(%r12,%rdx,8), %xmm12
+	movdqu	16(%r12,%rdx,8), %xmm13
+	movdqu	32(%r12,%rdx,8), %xmm7
+	movdqu	48(%r12,%rdx,8), %xmm5
 	pxor	%xmm8, %xmm12
 	pxor	%xmm9, %xmm13
 	movdqa	%xmm13, %xmm2
@@ -2215,10 +2212,10 @@ twox_core.xxhash3.stripes.take_many_stripes.i4:
 	incq	%rdx
 	cmpq	$16, %rdx
 	jne	.LBB7_16.i4
-	movdqu	(%r13,%rax), %xmm6
-	movdqu	16(%r13,%rax), %xmm7
-	movdqu	32(%r13,%rax), %xmm5
-	movdqu	48(%r13,%rax), %xmm0
+	movdqu	(%r12,%rax), %xmm6
+	movdqu	16(%r12,%rax), %xmm7
+	movdqu	32(%r12,%rax), %xmm5
+	movdqu	48(%r12,%rax), %xmm0
 	pxor	%xmm3, %xmm6
 	psrlq	$47, %xmm3
 	pxor	%xmm6, %xmm3
@@ -2282,9 +2279,8 @@ twox_core.xxhash3.stripes.take_many_stripes.i4:
 	movaps	640(%rsp), %xmm13
 	movaps	656(%rsp), %xmm14
 	movaps	672(%rsp), %xmm15
-	addq	$696, %rsp
+	addq	$688, %rsp
 	popq	%rbx
-	popq	%rbp
 	popq	%rdi
 	popq	%rsi
 	popq	%r12
@@ -2293,7 +2289,7 @@ twox_core.xxhash3.stripes.take_many_stripes.i4:
 	popq	%r15
 	retq
 	.seh_endproc
-	.def	twox_core.xxhash3.stripes.take_stripes.i4;
+	.def	twox_core.xxhash3.stripes.take_stripes.2.i4;
 	.scl	3;
 	.type	32;
 	.endef
@@ -2307,10 +2303,10 @@ twox_core.xxhash3.stripes.take_many_stripes.i4:
 .LCPI8_1.i4:
 	.quad	2654435761
 	.quad	2654435761
-	.section	.text$twox_core.xxhash3.stripes.take_stripes.i4,"xr",one_only,twox_core.xxhash3.stripes.take_stripes.i4,unique,8
+	.section	.text$twox_core.xxhash3.stripes.take_stripes.2.i4,"xr",one_only,twox_core.xxhash3.stripes.take_stripes.2.i4,unique,8
 	.p2align	4
-twox_core.xxhash3.stripes.take_stripes.i4:
-.seh_proc twox_core.xxhash3.stripes.take_stripes.i4
+twox_core.xxhash3.stripes.take_stripes.2.i4:
+.seh_proc twox_core.xxhash3.stripes.take_stripes.2.i4
 	subq	$136, %rsp
 	.seh_stackalloc 136
 	movdqa	%xmm13, 112(%rsp)
@@ -2446,7 +2442,7 @@ twox_core.xxhash3.stripes.take_stripes.i4:
 	addq	$136, %rsp
 	retq
 	.seh_endproc
-	.def	twox_core.xxhash3.stripes.blocks.take_many_blocks.i4;
+	.def	twox_core.xxhash3.stripes.blocks.take_many_blocks.2.i4;
 	.scl	3;
 	.type	32;
 	.endef
@@ -2460,10 +2456,10 @@ twox_core.xxhash3.stripes.take_stripes.i4:
 .LCPI9_1.i4:
 	.quad	2654435761
 	.quad	2654435761
-	.section	.text$twox_core.xxhash3.stripes.blocks.take_many_blocks.i4,"xr",one_only,twox_core.xxhash3.stripes.blocks.take_many_blocks.i4,unique,9
+	.section	.text$twox_core.xxhash3.stripes.blocks.take_many_blocks.2.i4,"xr",one_only,twox_core.xxhash3.stripes.blocks.take_many_blocks.2.i4,unique,9
 	.p2align	4
-twox_core.xxhash3.stripes.blocks.take_many_blocks.i4:
-.seh_proc twox_core.xxhash3.stripes.blocks.take_many_blocks.i4
+twox_core.xxhash3.stripes.blocks.take_many_blocks.2.i4:
+.seh_proc twox_core.xxhash3.stripes.blocks.take_many_blocks.2.i4
 	pushq	%rsi
 	.seh_pushreg %rsi
 	pushq	%rdi
@@ -2849,7 +2845,7 @@ twox_core.width_128.oneshot_many.i4:
 	leaq	120(%rsp), %rdx
 	movq	%r14, %r8
 	movq	%r15, %r9
-	callq	twox_core.xxhash3.stripes.take_many_stripes.i4
+	callq	twox_core.xxhash3.stripes.take_many_stripes.2.i4
 	movdqa	48(%rsp), %xmm1
 	movdqa	64(%rsp), %xmm2
 	movdqa	80(%rsp), %xmm3
@@ -6238,7 +6234,7 @@ twox_core.width_64.oneshot_many.i4:
 	leaq	120(%rsp), %rdx
 	movq	%r14, %r8
 	movq	%r15, %r9
-	callq	twox_core.xxhash3.stripes.take_many_stripes.i4
+	callq	twox_core.xxhash3.stripes.take_many_stripes.2.i4
 	movdqa	48(%rsp), %xmm2
 	movdqa	64(%rsp), %xmm3
 	movdqa	80(%rsp), %xmm0
@@ -8981,7 +8977,7 @@ twox_core.xxhash3.streaming.core_state.CoreState.write_through.2.i4:
 	leaq	144(%rsp), %rdx
 	movq	%r14, %r8
 	movq	%rbx, %r9
-	callq	twox_core.xxhash3.stripes.take_many_stripes.i4
+	callq	twox_core.xxhash3.stripes.take_many_stripes.2.i4
 	movq	128(%rsp), %rax
 	movq	%rax, 64(%rsi)
 	movaps	64(%rsp), %xmm0

@@ -1671,7 +1671,7 @@ twox_core.xxhash3.stripes.take_many_stripes.i4:
 	.cfi_offset 3, -56
 	sub $0x1d8,%rsp
 	.cfi_def_cfa_offset 528
-	mov %rdi,%r14
+	mov %rdi,%rbx
 	mov 0x40(%rsi),%rax
 	mov %rax,0x90(%rsp)
 	movdqu (%rsi),%xmm0
@@ -1700,7 +1700,7 @@ twox_core.xxhash3.stripes.take_many_stripes.i4:
 	mov %rsp,%rdi
 	lea 0x50(%rsp),%rsi
 	call twox_core.xxhash3.stripes.take_stripes.i4
-	jmp .L8_a52.i4
+	jmp .L8_a6c.i4
 .L8_aa.i4:
 	cmp $0x7bff,%rcx
 	ja .L8_2b1.i4
@@ -1718,14 +1718,14 @@ twox_core.xxhash3.stripes.take_many_stripes.i4:
 	mov %ecx,%esi
 	and $0x7f00,%esi
 	test %r10d,%r10d
-	je .L8_46e.i4
+	je .L8_479.i4
 	shr $0x6,%r10d
 	jmp .L8_11d.i4
 	.byte 102,102,102,46,15,31,132,0,0,0,0,0
 .L8_110.i4:
 	add $0x40,%rdx
 	dec %r10
-	je .L8_46e.i4
+	je .L8_479.i4
 .L8_11d.i4:
 	prefetcht0 0x140(%rdx)
 	movdqu (%rdx),%xmm8
@@ -1808,6 +1808,7 @@ twox_core.xxhash3.stripes.take_many_stripes.i4:
 	xor %edi,%edi
 	jmp .L8_110.i4
 .L8_2b1.i4:
+	mov 0x90(%rsp),%rax
 	movups (%rsi),%xmm0
 	movups 0x10(%rsi),%xmm1
 	movups 0x20(%rsi),%xmm2
@@ -1816,44 +1817,39 @@ twox_core.xxhash3.stripes.take_many_stripes.i4:
 	movaps %xmm2,0xc0(%rsp)
 	movaps %xmm1,0xb0(%rsp)
 	movaps %xmm0,0xa0(%rsp)
-	mov 0x90(%rsp),%rax
-	xorps %xmm0,%xmm0
-	movaps %xmm0,0xf0(%rsp)
-	movaps %xmm0,0x100(%rsp)
-	movaps %xmm0,0x110(%rsp)
-	movaps %xmm0,0x120(%rsp)
-	movq $0x0,0x130(%rsp)
-	movaps %xmm0,0x140(%rsp)
-	movaps %xmm0,0x150(%rsp)
-	movaps %xmm0,0x160(%rsp)
-	movaps %xmm0,0x170(%rsp)
-	movaps %xmm0,0x1c0(%rsp)
-	movaps %xmm0,0x1b0(%rsp)
-	movaps %xmm0,0x1a0(%rsp)
-	movaps %xmm0,0x190(%rsp)
-	movq $0x0,0x1d0(%rsp)
 	mov %rax,0xe0(%rsp)
 	neg %eax
 	and $0xf,%eax
 	shl $0x6,%eax
 	lea (%rdx,%rax,1),%rbp
 	sub %rax,%rcx
+	xorps %xmm0,%xmm0
+	movaps %xmm0,0x190(%rsp)
+	movaps %xmm0,0x1a0(%rsp)
+	movaps %xmm0,0x1b0(%rsp)
+	movaps %xmm0,0x1c0(%rsp)
+	movq $0x0,0x1d0(%rsp)
 	lea 0x190(%rsp),%rdi
 	lea 0xa0(%rsp),%rsi
-	mov %rcx,%r12
+	mov %rcx,%r15
 	mov %rax,%rcx
-	mov %r8,%r15
-	mov %r9,%r13
+	mov %r8,%r14
+	mov %r9,%r12
 	call twox_core.xxhash3.stripes.take_stripes.i4
-	mov %r12,%rcx
+	mov %r15,%rcx
 	and $0xfffffffffffffc00,%rcx
-	lea (%rcx,%rbp,1),%rbx
-	and $0x3ff,%r12d
+	lea (%rcx,%rbp,1),%r13
+	and $0x3ff,%r15d
+	xorps %xmm0,%xmm0
+	movaps %xmm0,0x140(%rsp)
+	movaps %xmm0,0x150(%rsp)
+	movaps %xmm0,0x160(%rsp)
+	movaps %xmm0,0x170(%rsp)
 	lea 0x140(%rsp),%rdi
 	lea 0x190(%rsp),%rsi
 	mov %rbp,%rdx
-	mov %r15,%r8
-	mov %r13,%r9
+	mov %r14,%r8
+	mov %r12,%r9
 	call twox_core.xxhash3.stripes.blocks.take_many_blocks.i4
 	movdqa 0x140(%rsp),%xmm0
 	movaps 0x150(%rsp),%xmm1
@@ -1864,30 +1860,37 @@ twox_core.xxhash3.stripes.take_many_stripes.i4:
 	movaps %xmm1,0xb0(%rsp)
 	movdqa %xmm0,0xa0(%rsp)
 	movq $0x0,0xe0(%rsp)
+	pxor %xmm0,%xmm0
+	movdqa %xmm0,0xf0(%rsp)
+	movdqa %xmm0,0x100(%rsp)
+	movdqa %xmm0,0x110(%rsp)
+	movdqa %xmm0,0x120(%rsp)
+	movq $0x0,0x130(%rsp)
 	lea 0xf0(%rsp),%rdi
 	lea 0xa0(%rsp),%rsi
-	mov %rbx,%rdx
-	mov %r12,%rcx
-	mov %r15,%r8
-	mov %r13,%r9
+	mov %r13,%rdx
+	mov %r15,%rcx
+	mov %r14,%r8
+	mov %r12,%r9
 	call twox_core.xxhash3.stripes.take_stripes.i4
 	movdqa 0xf0(%rsp),%xmm3
 	movdqa 0x100(%rsp),%xmm2
 	movdqa 0x110(%rsp),%xmm1
 	movdqa 0x120(%rsp),%xmm4
 	mov 0x130(%rsp),%rdi
-	jmp .L8_a36.i4
-.L8_46e.i4:
+	jmp .L8_a50.i4
+.L8_479.i4:
 	add %r9,%rsi
 	mov %rcx,%rdx
 	shr $0x8,%rdx
-	jmp .L8_490.i4
-	.byte 102,15,31,68,0,0
-.L8_480.i4:
-	add $0x100,%r9
-	dec %rdx
-	je .L8_870.i4
+	jmp .L8_4a9.i4
+	.byte 102,102,46,15,31,132,0,0,0,0,0
 .L8_490.i4:
+	add $0x100,%r9
+	.byte 102,15,31,132,0,0,0,0,0
+	dec %rdx
+	je .L8_885.i4
+.L8_4a9.i4:
 	movdqu (%r8,%rdi,8),%xmm9
 	movdqu 0x8(%r8,%rdi,8),%xmm6
 	movdqu 0x10(%r8,%rdi,8),%xmm12
@@ -2027,9 +2030,8 @@ twox_core.xxhash3.stripes.take_many_stripes.i4:
 	prefetcht0 0x480(%r9)
 	prefetcht0 0x4c0(%r9)
 	add $0x4,%rdi
-	.byte 102,15,31,68,0,0
 	cmp $0x10,%rdi
-	jne .L8_480.i4
+	jne .L8_490.i4
 	movdqu (%r8,%rax,1),%xmm6
 	movdqu 0x10(%r8,%rax,1),%xmm7
 	movdqu 0x20(%r8,%rax,1),%xmm5
@@ -2069,20 +2071,21 @@ twox_core.xxhash3.stripes.take_many_stripes.i4:
 	pmuludq %xmm7,%xmm1
 	paddq %xmm5,%xmm1
 	xor %edi,%edi
-	jmp .L8_480.i4
-.L8_870.i4:
+	.byte 102,144
+	jmp .L8_490.i4
+.L8_885.i4:
 	shr $0x6,%ecx
 	and $0x3,%ecx
-	je .L8_a36.i4
+	je .L8_a50.i4
 	shl $0x6,%ecx
 	xor %edx,%edx
-	jmp .L8_89d.i4
-	.byte 102,102,102,102,46,15,31,132,0,0,0,0,0
-.L8_890.i4:
+	jmp .L8_8ad.i4
+	.byte 15,31,132,0,0,0,0,0
+.L8_8a0.i4:
 	add $0x40,%rdx
 	cmp %rdx,%rcx
-	je .L8_a36.i4
-.L8_89d.i4:
+	je .L8_a50.i4
+.L8_8ad.i4:
 	prefetcht0 0x140(%rsi,%rdx,1)
 	movdqu (%rsi,%rdx,1),%xmm8
 	movdqu 0x10(%rsi,%rdx,1),%xmm9
@@ -2121,8 +2124,9 @@ twox_core.xxhash3.stripes.take_many_stripes.i4:
 	pmuludq %xmm5,%xmm4
 	paddq %xmm8,%xmm4
 	inc %rdi
+	.byte 102,46,15,31,132,0,0,0,0,0
 	cmp $0x10,%rdi
-	jne .L8_890.i4
+	jne .L8_8a0.i4
 	movdqu (%r8,%rax,1),%xmm6
 	movdqu 0x10(%r8,%rax,1),%xmm7
 	movdqu 0x20(%r8,%rax,1),%xmm5
@@ -2162,24 +2166,24 @@ twox_core.xxhash3.stripes.take_many_stripes.i4:
 	pmuludq %xmm7,%xmm1
 	paddq %xmm5,%xmm1
 	xor %edi,%edi
-	jmp .L8_890.i4
-.L8_a36.i4:
+	jmp .L8_8a0.i4
+.L8_a50.i4:
 	movdqa %xmm3,(%rsp)
 	movdqa %xmm2,0x10(%rsp)
 	movdqa %xmm1,0x20(%rsp)
 	movdqa %xmm4,0x30(%rsp)
 	mov %rdi,0x40(%rsp)
-.L8_a52.i4:
+.L8_a6c.i4:
 	mov 0x40(%rsp),%rax
-	mov %rax,0x40(%r14)
+	mov %rax,0x40(%rbx)
 	movaps (%rsp),%xmm0
 	movaps 0x10(%rsp),%xmm1
 	movaps 0x20(%rsp),%xmm2
 	movaps 0x30(%rsp),%xmm3
-	movups %xmm3,0x30(%r14)
-	movups %xmm2,0x20(%r14)
-	movups %xmm1,0x10(%r14)
-	movups %xmm0,(%r14)
+	movups %xmm3,0x30(%rbx)
+	movups %xmm2,0x20(%rbx)
+	movups %xmm1,0x10(%rbx)
+	movups %xmm0,(%rbx)
 	add $0x1d8,%rsp
 	.cfi_def_cfa_offset 56
 	pop %rbx

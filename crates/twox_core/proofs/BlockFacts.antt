@@ -46,6 +46,11 @@ stripes_to_end s xs a k h =
     ∙ at_end s (accumulate_block (drop (8 * j) s) a.accumulator xs k) (stripe_at xs (64 * k)) (j + k) (omega arith)
     ∙ rw (stripe_at-drop s (8 * j) (8 * k) (8 * (j + k)) (omega arith)) refl
 
+pub stripes_to_block_end : (s xs : List ℕ) (a : StripeAccumulator) (k : ℕ) → stripes_of s ≡ 16 → a.current_stripe < 16 → a.current_stripe + k ≡ 16
+    → after_stripes s a xs k ≡ at_start (round_scramble (accumulate_block (drop (8 * a.current_stripe) s) a.accumulator xs k) (stripe_at s (length s - 64)))
+stripes_to_block_end s xs a zero all low h = absurd (omega arith)
+stripes_to_block_end s xs a (suc k) all low h = stripes_to_end s xs a k (h ∙ sym all)
+
 -- ---- the place in the secret
 
 place_within : (s xs : List ℕ) (a : StripeAccumulator) (k : ℕ) → a.current_stripe + k < stripes_of s

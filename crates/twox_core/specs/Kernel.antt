@@ -8,6 +8,10 @@ use Rattle.twox_core.specs.Steps.{mul64, word64}
 use Rattle.twox_core.specs.Parts.{stripe_at}
 use Rattle.twox_core.specs.Long.{accumulate_one, halves_product, scramble_one}
 
+-- the four values f 0 to f 3
+abbrev pub four : (ℕ → ℕ) → List ℕ
+four f = f 0 ∷ f 1 ∷ f 2 ∷ f 3 ∷ []
+
 -- the eight values f 0 to f 7
 abbrev pub eight : (ℕ → ℕ) → List ℕ
 eight f = f 0 ∷ f 1 ∷ f 2 ∷ f 3 ∷ f 4 ∷ f 5 ∷ f 6 ∷ f 7 ∷ []
@@ -23,6 +27,10 @@ round_scramble a u = eight (λ i. scramble_one i (slice_index a i) u 0)
 -- one accumulator of value a from its own word, its neighbour's and the secret's
 abbrev pub sum_with_words : ℕ → ℕ → ℕ → ℕ → ℕ
 sum_with_words a own other key = (a + other + halves_product (bit_xor own key)) % 2 ^ 64
+
+-- accumulator i of the list a, from its word of w, its neighbour's and its key of k
+abbrev pub sum_with_words_at : List ℕ → List ℕ → List ℕ → ℕ → ℕ
+sum_with_words_at a w k i = sum_with_words (slice_index a i) (slice_index w i) (slice_index w (bit_xor i 1)) (slice_index k i)
 
 -- one accumulator of value a after stripe k of the bytes t, under the secret u: its own word begins at byte p of the
 -- stripe, and its neighbour's at byte q

@@ -1,9 +1,9 @@
 //! XXH3 above 240 bytes, over any kernel: the xxHash specification, "XXH3 algorithm description (for large
 //! inputs)".
 
-ghost use Rattle.std.specs.Prelude.{◌≡◌, ◌+◌, ◌-◌, ◌*◌, ◌/◌, ◌%◌, ◌^◌, ◌<◌, ◌≤◌, ℕ, List, length, take, drop, slice_index, bit_xor, IsTrue};
+ghost use Rattle.std.specs.Prelude.{◌≡◌, ◌+◌, ◌-◌, ◌*◌, ◌/◌, ◌%◌, ◌^◌, ◌<◌, ◌≤◌, ℕ, List, length, slice_index, bit_xor, IsTrue};
 ghost use Rattle.twox_core.specs.Long.{merge_accumulators, stripes_of};
-ghost use Rattle.twox_core.specs.Ending.{accumulate_block, block_accumulators, last_block, last_stripe, final_accumulators, finalize_64, finalize_128};
+ghost use Rattle.twox_core.specs.Ending.{block_accumulators, last_block, last_stripe, final_accumulators, finalize_64, finalize_128};
 ghost use Rattle.twox_core.specs.SecretBytes.{secret_bytes};
 ghost use Rattle.twox_core.specs.Steps.{fold};
 
@@ -19,10 +19,12 @@ mod word;
 use self::word::words;
 use super::parts::array_at;
 use super::primes::{PRIME64_1, PRIME64_2};
-use super::stripes::{BYTES_IN_BLOCK, MANY_BYTES, STRIPES_IN_BLOCK, StripeAccumulator};
+use super::stripes::{
+    BYTES_IN_BLOCK, MANY_BYTES, STRIPES_IN_BLOCK, StripeAccumulator, accumulate_within,
+};
 use super::{DEFAULT_SECRET_LENGTH, Secret, Vector, avalanche, fold};
 use std::simd::u64x4;
-use twox_words::words::{IntoU64, IntoU128, bp_as_chunks};
+use twox_words::words::{IntoU64, IntoU128};
 
 /// The kernel of every call that names none.
 pub type Kernel = lanes4::Impl;
@@ -201,35 +203,14 @@ impl<V: Vector> Algorithm<V> {
         ensures { result
             ≡ final_accumulators acc last_block.now last_stripe.now (secret_bytes secret.entry) }
     {
-        let mut acc = self.accumulate_block(acc, last_block, (last_block.len() - 1) / 64, secret);
+        let count = (last_block.len() - 1) / 64;
+        let mut acc = accumulate_within(acc, self.0, last_block, count, 0, secret);
         self.0.accumulate(
             &mut acc,
             last_stripe,
             secret.last_stripe_secret_better_name(),
         );
         acc
-    }
-
-    // The accumulators with the first stripes of a block, from the secret's start on. No scramble follows, so this
-    // loop has no test for one.
-    #[inline(always)]
-    fn accumulate_block(
-        &self,
-        acc: [u64; 8],
-        block: &[u8],
-        count: usize,
-        secret: Secret<'_>,
-    ) -> [u64; 8]
-        requires there { 64 * count ≤ length block.now }
-        requires places { count ≤ stripes_of (secret_bytes secret) }
-        ensures { result ≡ accumulate_block (secret_bytes secret.entry) acc block.now count }
-    {
-        let (stripes, _) = bp_as_chunks(block);
-        let mut taken = acc;
-        'stripes: for i in 0..count {
-            self.0.accumulate(&mut taken, &stripes[i], secret.stripe(i));
-        }
-        taken
     }
 }
 

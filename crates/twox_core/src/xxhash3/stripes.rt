@@ -8,22 +8,26 @@
 //! | `process_piece` | a stream's stripes, which begin and end anywhere in a block | any |
 //! | `process_stripes`, `take_stripes` | one after another, under any secret | any |
 //! | `process_blocks` | whole blocks of a one-shot | less than 31 KiB |
-//! | `take_many_stripes` | by one of the next two or `take_stripes` | 2 KiB and more of a piece, 31 of a one-shot |
+//! | `take_many_stripes` | by one of the next three or `take_stripes` | 2 KiB and more of a piece, 31 of a one-shot |
 //! | `process_by_fours` | four at a time, from any place | 1 to 31 KiB |
 //! | `process_by_blocks` | whole blocks, by `take_many_blocks`, and what stands around them | 31 KiB and more |
+//! | `take_widened` | the same by eight lanes, with no call | 1 KiB and more |
 //!
-//! `process_blocks` and the last two are for secrets of 192 bytes, as the default one and each derived one has.
+//! `process_blocks` and the last three are for secrets of 192 bytes, as the default one and each derived one has.
 
-ghost use Rattle.std.specs.Prelude.{◌≡◌, ◌/◌, ◌<◌, ◌≤◌, length};
+ghost use Rattle.std.specs.Prelude.{◌≡◌, ◌+◌, ◌*◌, ◌/◌, ◌<◌, ◌≤◌, length};
 ghost use Rattle.twox_core.specs.Long.{stripes_of};
 ghost use Rattle.twox_core.specs.SecretBytes.{secret_bytes};
-ghost use Rattle.twox_core.specs.Stripes.{AfterStripes, current_stripe_of};
+ghost use Rattle.twox_core.specs.Stripes.{AfterStripes, at_start, after_stripes, current_stripe_of};
 
 mod blocks;
 mod fours;
+mod within;
 
 pub(super) use self::blocks::{BYTES_IN_BLOCK, STRIPES_IN_BLOCK};
 use self::blocks::{process_blocks, take_many_blocks};
+pub(super) use self::within::accumulate_within;
+use self::within::process_within;
 use super::large::lanes8;
 use super::{DEFAULT_SECRET_LENGTH, DefaultSecret, INITIAL_ACCUMULATORS, Secret, Vector};
 use twox_words::words::bp_as_chunks;
@@ -201,46 +205,25 @@ fn take_many_stripes<V: Vector>(
         taken.process_by_fours(v, bytes, secret);
         taken
     } else {
-        process_by_blocks(from, v, bytes, secret)
+        process_by_blocks::<V, false>(from, v, bytes, secret)
     }
 }
 
-// The accumulators with the stripes taken by whole blocks, under a secret of 192 bytes: first the stripes to the end of
-// a block, and last those of a block that isn't whole.
-#[inline(always)]
-fn process_by_blocks<V: Vector>(
-    from: StripeAccumulator,
-    v: V,
-    bytes: &[u8],
-    secret: Secret<'_>,
-) -> StripeAccumulator
-    requires all { stripes_of (secret_bytes secret) ≡ 16 }
-    requires place { current_stripe_of from < 16 }
-    requires some { 1024 ≤ length bytes.now }
-    ensures { AfterStripes (secret_bytes secret.entry) from bytes.now result }
-{
-    let to_block = (STRIPES_IN_BLOCK - from.current_stripe()) % STRIPES_IN_BLOCK;
-    let (front, rest) = bytes.split_at(64 * to_block);
-    let at_block = take_stripes(from, v, front, secret);
-    let (whole, rest) = rest.split_at(rest.len() / BYTES_IN_BLOCK * BYTES_IN_BLOCK);
-    let taken = take_many_blocks(at_block.accumulators(), v, whole, secret);
-    take_stripes(StripeAccumulator::starting_with(taken), v, rest, secret)
-}
-
-// Likewise by eight lanes, out of line, in one function that knows the secret's length: so it has no branch that is never
-// taken.
+// The same by eight lanes, in one function that knows the secret's length: so it has no branch that is never taken.
 #[inline(never)]
 fn take_widened(from: StripeAccumulator, bytes: &[u8], secret: &DefaultSecret) -> StripeAccumulator
     requires place { current_stripe_of from < 16 }
     requires some { 1024 ≤ length bytes.now }
     ensures { AfterStripes secret.now from bytes.now result }
 {
-    process_in_place(from, lanes8::Impl {}, bytes, Secret::new(secret).unwrap())
+    let secret = Secret::new(secret).unwrap();
+    process_by_blocks::<lanes8::Impl, true>(from, lanes8::Impl {}, bytes, secret)
 }
 
-// `process_by_blocks` with no call.
+// The accumulators with the stripes taken by whole blocks, under a secret of 192 bytes: first the stripes to the end of
+// a block, and last those of a block that isn't whole. The caller says whether all that stands in its own code.
 #[inline(always)]
-fn process_in_place<V: Vector>(
+fn process_by_blocks<V: Vector, const IN_PLACE: bool>(
     from: StripeAccumulator,
     v: V,
     bytes: &[u8],
@@ -253,24 +236,48 @@ fn process_in_place<V: Vector>(
 {
     let to_block = (STRIPES_IN_BLOCK - from.current_stripe()) % STRIPES_IN_BLOCK;
     let (front, rest) = bytes.split_at(64 * to_block);
-    let at_block = with_stripes(from, v, front, secret);
+    let at_block = with_part_of_block::<V, IN_PLACE>(from, v, front, secret);
     let (whole, rest) = rest.split_at(rest.len() / BYTES_IN_BLOCK * BYTES_IN_BLOCK);
-    let taken = process_blocks::<V, true>(at_block.accumulators(), v, whole, secret);
-    with_stripes(StripeAccumulator::starting_with(taken), v, rest, secret)
+    let taken = with_blocks::<V, IN_PLACE>(at_block.accumulators(), v, whole, secret);
+    let at_start = StripeAccumulator::starting_with(taken);
+    with_part_of_block::<V, IN_PLACE>(at_start, v, rest, secret)
 }
 
-// The accumulators with the stripes taken, in place.
+// The accumulators with the stripes of a part of a block taken, in place or out of line.
 #[inline(always)]
-fn with_stripes<V: Vector>(
+fn with_part_of_block<V: Vector, const IN_PLACE: bool>(
     from: StripeAccumulator,
     v: V,
     bytes: &[u8],
     secret: Secret<'_>,
 ) -> StripeAccumulator
-    requires { current_stripe_of from < stripes_of (secret_bytes secret) }
+    requires all { stripes_of (secret_bytes secret) ≡ 16 }
+    requires place { current_stripe_of from < 16 }
+    requires fits { current_stripe_of from + length bytes.now / 64 ≤ 16 }
     ensures { AfterStripes (secret_bytes secret.entry) from bytes.now result }
 {
-    let mut taken = from;
-    taken.process_stripes(v, bytes, secret);
-    taken
+    if IN_PLACE {
+        process_within(from, v, bytes, secret)
+    } else {
+        take_stripes(from, v, bytes, secret)
+    }
+}
+
+// The accumulators after whole blocks, in place or out of line.
+#[inline(always)]
+fn with_blocks<V: Vector, const IN_PLACE: bool>(
+    acc: [u64; 8],
+    v: V,
+    bytes: &[u8],
+    secret: Secret<'_>,
+) -> [u64; 8]
+    requires { stripes_of (secret_bytes secret) ≡ 16 }
+    ensures { let s = secret_bytes secret.entry in
+        at_start result ≡ after_stripes s (at_start acc) bytes.now (16 * (length bytes.now / 1024)) }
+{
+    if IN_PLACE {
+        process_blocks::<V, true>(acc, v, bytes, secret)
+    } else {
+        take_many_blocks(acc, v, bytes, secret)
+    }
 }

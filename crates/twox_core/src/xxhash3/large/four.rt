@@ -1,7 +1,7 @@
 //! What the kernels of four accumulators at a time share: all but how they multiply and scramble.
 
 ghost use Rattle.std.specs.Prelude.{◌≡◌, ◌+◌, ◌*◌, ◌%◌, ◌^◌, ◌≤◌, [], ◌∷◌, slice_index, bit_xor};
-ghost use Rattle.twox_core.specs.Kernel.{sum_with_words, sum_with_four_stripes};
+ghost use Rattle.twox_core.specs.Kernel.{four, sum_with_words_at, sum_with_four_stripes};
 ghost use Rattle.twox_core.specs.Long.{halves_product};
 
 use super::word::words;
@@ -12,10 +12,8 @@ use std::simd::u64x4;
 pub(super) trait HalvesProducts: Copy {
     // The product of the halves of each word under its key.
     fn halves_products(&self, words: [u64; 4], keys: [u64; 4]) -> [u64; 4]
-        ensures { result ≡ halves_product (bit_xor (slice_index words 0) (slice_index keys 0)) % 2 ^ 64
-            ∷ halves_product (bit_xor (slice_index words 1) (slice_index keys 1)) % 2 ^ 64
-            ∷ halves_product (bit_xor (slice_index words 2) (slice_index keys 2)) % 2 ^ 64
-            ∷ halves_product (bit_xor (slice_index words 3) (slice_index keys 3)) % 2 ^ 64 ∷ [] };
+        ensures { result
+            ≡ four (λ i. halves_product (bit_xor (slice_index words i) (slice_index keys i)) % 2 ^ 64) };
 }
 
 // Four accumulators: each gains its neighbour's word and the product of the halves of its own word under its key.
@@ -27,14 +25,7 @@ pub(super) fn accumulate_four<K: HalvesProducts>(
     words: [u64; 4],
     keys: [u64; 4],
 ) -> [u64; 4]
-    ensures a { slice_index result 0
-        ≡ sum_with_words (slice_index acc 0) (slice_index words 0) (slice_index words 1) (slice_index keys 0) }
-    ensures b { slice_index result 1
-        ≡ sum_with_words (slice_index acc 1) (slice_index words 1) (slice_index words 0) (slice_index keys 1) }
-    ensures c { slice_index result 2
-        ≡ sum_with_words (slice_index acc 2) (slice_index words 2) (slice_index words 3) (slice_index keys 2) }
-    ensures d { slice_index result 3
-        ≡ sum_with_words (slice_index acc 3) (slice_index words 3) (slice_index words 2) (slice_index keys 3) }
+    ensures { result ≡ four (sum_with_words_at acc words keys) }
 {
     let [a0, a1, a2, a3] = acc;
     let [w0, w1, w2, w3] = words;

@@ -1,7 +1,7 @@
 //! The kernel that works on four accumulators at a time, by `std::simd`.
 
 ghost use Rattle.std.specs.Prelude.{◌≡◌, ◌+◌, ◌*◌, ◌/◌, ◌%◌, ◌^◌, [], ◌∷◌, slice_index};
-ghost use Rattle.twox_core.specs.Kernel.{scramble_with_word};
+ghost use Rattle.twox_core.specs.Kernel.{four, scramble_with_word};
 ghost use Rattle.twox_core.specs.Primes.{prime32_1};
 
 use super::four::{HalvesProducts, accumulate_four, accumulate_four_by_four};
@@ -78,10 +78,7 @@ impl HalvesProducts for Products {
 
 #[inline]
 fn scramble_four(acc: [u64; 4], keys: [u64; 4]) -> [u64; 4]
-    ensures a { slice_index result 0 ≡ scramble_with_word (slice_index acc 0) (slice_index keys 0) }
-    ensures b { slice_index result 1 ≡ scramble_with_word (slice_index acc 1) (slice_index keys 1) }
-    ensures c { slice_index result 2 ≡ scramble_with_word (slice_index acc 2) (slice_index keys 2) }
-    ensures d { slice_index result 3 ≡ scramble_with_word (slice_index acc 3) (slice_index keys 3) }
+    ensures { result ≡ four (λ i. scramble_with_word (slice_index acc i) (slice_index keys i)) }
 {
     let [a0, a1, a2, a3] = acc;
     let [k0, k1, k2, k3] = keys;

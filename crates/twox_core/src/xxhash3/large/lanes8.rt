@@ -1,7 +1,7 @@
 //! The kernel that works on all eight accumulators at once, by `std::simd`, for vectors of 512 bits.
 
-ghost use Rattle.std.specs.Prelude.{◌≡◌, ◌+◌, ◌%◌, ◌^◌, slice_index, bit_xor};
-ghost use Rattle.twox_core.specs.Kernel.{eight, sum_with_words, sum_with_four_stripes, scramble_with_word};
+ghost use Rattle.std.specs.Prelude.{◌≡◌, ◌+◌, ◌*◌, ◌%◌, ◌^◌, slice_index, bit_xor};
+ghost use Rattle.twox_core.specs.Kernel.{eight, sum_with_words_at, sum_with_four_stripes, scramble_with_word};
 ghost use Rattle.twox_core.specs.Long.{halves_product};
 
 use super::word::all_words;
@@ -37,22 +37,7 @@ impl Vector for Impl {
 // Eight accumulators: each gains its neighbour's word and the product of the halves of its own word under its key.
 #[inline]
 fn accumulate_eight(acc: [u64; 8], words: [u64; 8], keys: [u64; 8]) -> [u64; 8]
-    ensures a { slice_index result 0
-        ≡ sum_with_words (slice_index acc 0) (slice_index words 0) (slice_index words 1) (slice_index keys 0) }
-    ensures b { slice_index result 1
-        ≡ sum_with_words (slice_index acc 1) (slice_index words 1) (slice_index words 0) (slice_index keys 1) }
-    ensures c { slice_index result 2
-        ≡ sum_with_words (slice_index acc 2) (slice_index words 2) (slice_index words 3) (slice_index keys 2) }
-    ensures d { slice_index result 3
-        ≡ sum_with_words (slice_index acc 3) (slice_index words 3) (slice_index words 2) (slice_index keys 3) }
-    ensures e { slice_index result 4
-        ≡ sum_with_words (slice_index acc 4) (slice_index words 4) (slice_index words 5) (slice_index keys 4) }
-    ensures f { slice_index result 5
-        ≡ sum_with_words (slice_index acc 5) (slice_index words 5) (slice_index words 4) (slice_index keys 5) }
-    ensures g { slice_index result 6
-        ≡ sum_with_words (slice_index acc 6) (slice_index words 6) (slice_index words 7) (slice_index keys 6) }
-    ensures h { slice_index result 7
-        ≡ sum_with_words (slice_index acc 7) (slice_index words 7) (slice_index words 6) (slice_index keys 7) }
+    ensures { result ≡ eight (sum_with_words_at acc words keys) }
 {
     sum(sum(acc, exchanged(words)), halves_products(words, keys))
 }
@@ -61,22 +46,8 @@ fn accumulate_eight(acc: [u64; 8], words: [u64; 8], keys: [u64; 8]) -> [u64; 8]
 #[tactic(auto, using(crate::proofs::KernelFacts::four_sums))]
 #[inline(always)]
 fn accumulate_eight_by_four(acc: [u64; 8], stripes: &[u8; 256], secret: &[u8; 88]) -> [u64; 8]
-    ensures a { slice_index result 0
-        ≡ sum_with_four_stripes (slice_index acc 0) stripes.now secret.now 0 8 }
-    ensures b { slice_index result 1
-        ≡ sum_with_four_stripes (slice_index acc 1) stripes.now secret.now 8 0 }
-    ensures c { slice_index result 2
-        ≡ sum_with_four_stripes (slice_index acc 2) stripes.now secret.now 16 24 }
-    ensures d { slice_index result 3
-        ≡ sum_with_four_stripes (slice_index acc 3) stripes.now secret.now 24 16 }
-    ensures e { slice_index result 4
-        ≡ sum_with_four_stripes (slice_index acc 4) stripes.now secret.now 32 40 }
-    ensures f { slice_index result 5
-        ≡ sum_with_four_stripes (slice_index acc 5) stripes.now secret.now 40 32 }
-    ensures g { slice_index result 6
-        ≡ sum_with_four_stripes (slice_index acc 6) stripes.now secret.now 48 56 }
-    ensures h { slice_index result 7
-        ≡ sum_with_four_stripes (slice_index acc 7) stripes.now secret.now 56 48 }
+    ensures { result ≡ eight (λ i. sum_with_four_stripes (slice_index acc i) stripes.now secret.now
+        (8 * i) (8 * bit_xor i 1)) }
 {
     let first = all_words(array_at(stripes, 0));
     let first_product = halves_products(first, all_words(array_at(secret, 0)));

@@ -10,7 +10,7 @@ returns g c =
     let s = secret_bytes c.args.secret in
     let m = c.args.bytes.now in
     let from = c.args.from in
-    let at_block = c.take_stripes-at_block.result in
+    let at_block = c.with_part_of_block-at_block.result in
     let k = (16 - c.current_stripe.result) % 16 in
     let rest = drop (64 * k) m in
     let w = length rest / 1024 * 1024 in
@@ -21,12 +21,12 @@ returns g c =
     let all : k + (n + j) ≡ length m / 64 = omega (arith, length-drop w rest, length-drop (64 * k) m) in
     let place : k ≡ (16 - from.current_stripe) % 16 = ap (λ (p : ℕ). (16 - p) % 16) c.current_stripe.ensures in
     let front : at_block ≡ after_stripes s from m k =
-    rw (c.split_at.ensures.front, front_len) at c.take_stripes-at_block.ensures.exact ∙ after_stripes-take s from m (64 * k) k (omega arith) in
+    rw (c.split_at.ensures.front, front_len) at c.with_part_of_block-at_block.ensures.exact ∙ after_stripes-take s from m (64 * k) k (omega arith) in
     let begins : at_block.current_stripe ≡ 0 = rw front (place_at_block s m from k (omega arith) (omega arith) place) in
     let same : at_start c.accumulators.result ≡ at_block = ap at_start c.accumulators.ensures ∙ at_start-same at_block begins in
-    let blocks : at_start c.take_many_blocks-taken.result ≡ after_stripes s at_block rest n =
-    rw (c.split_at-2.ensures.front, c.split_at.ensures.back, whole_len, same) at c.take_many_blocks-taken.ensures
+    let blocks : at_start c.with_blocks-taken.result ≡ after_stripes s at_block rest n =
+    rw (c.split_at-2.ensures.front, c.split_at.ensures.back, whole_len, same) at c.with_blocks-taken.ensures
     ∙ after_stripes-take s at_block rest w n (omega arith) in
-    let ended : c.take_stripes.result ≡ after_stripes s c.starting_with.result (drop w rest) j =
-    rw (c.split_at-2.ensures.back, c.split_at.ensures.back) at c.take_stripes.ensures.exact in
-    record { exact = rw all at (ended ∙ three_parts s m from at_block c.starting_with.result k n j w (omega arith) front (c.starting_with.ensures ∙ blocks)); place = c.take_stripes.ensures.place }
+    let ended : c.with_part_of_block.result ≡ after_stripes s c.starting_with-at_start.result (drop w rest) j =
+    rw (c.split_at-2.ensures.back, c.split_at.ensures.back) at c.with_part_of_block.ensures.exact in
+    record { exact = rw all at (ended ∙ three_parts s m from at_block c.starting_with-at_start.result k n j w (omega arith) front (c.starting_with-at_start.ensures ∙ blocks)); place = c.with_part_of_block.ensures.place }
