@@ -49,8 +49,14 @@ pub(super) fn process_within<V: Vector>(
 {
     let count = bytes.len() / 64;
     let place = from.current_stripe + count;
-    let mut taken =
-        accumulate_within(from.accumulator, v, bytes, count, from.current_stripe, secret);
+    let mut taken = accumulate_within(
+        from.accumulator,
+        v,
+        bytes,
+        count,
+        from.current_stripe,
+        secret,
+    );
     if place < STRIPES_IN_BLOCK {
         return StripeAccumulator {
             accumulator: taken,
