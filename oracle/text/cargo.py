@@ -1,7 +1,7 @@
-"""The texts below the cargo crate, rust/asm, and how their exports are called, as rust/src/library.rs does it. The names
-of a text end in the number of the interface and the set of instructions: here they are without them.
+"""The texts below the cargo crate, rust/asm, and how their exports are called, as rust/src/library.rs does it. The
+names of a text have the number of the interface and the set of instructions in them: here they are without.
 
-A stream of XXH3 is handed its secret by each call: the default one, one of 192 bytes that a seed derived, or its own.
+A stream of XXH3 is given its secret by each call: the default one, one of 192 bytes that a seed derived, or its own.
 It begins with the seed, and all else is what a state of the library for C begins with."""
 import os
 import re
@@ -22,7 +22,8 @@ NAMED = re.compile(r"twox_rust_\d+_(\w+?)(?:_v3)?|(.+)\.i\d+(?:_v3)?|twox_rust_(
 WEAK, HIDDEN = 2, 2               # a symbol's binding, and its visibility
 DONE, TOO_SHORT, NO_STREAM = 0, 1, 2                  # codes
 WAYS = {"default": "", "seed": "_with_seed", "secret": "_with_secret", "both": "_with_seed_and_secret"}
-SHORTEST, LONGEST_WITHOUT, DERIVED = 136, 240, 192    # bytes of a secret, of what needs none, of one that a seed derives
+SHORTEST, DERIVED = 136, 192      # bytes of a secret, and of one that a seed derives
+LONGEST_WITHOUT = 240             # bytes of a message that needs none where there is a seed
 
 
 class CargoProgram(Program):
@@ -69,8 +70,8 @@ class Value(Words):
 
 
 def call_into(cpu, hash_name, name, *arguments):
-    """(code, value) of a call that may refuse: of 64 bits both are in registers; one of 128 bits is written, and a refusal
-    writes nothing."""
+    """(code, value) of a call that may refuse: of 64 bits both are in registers; one of 128 bits is written, and a
+    refusal writes nothing."""
     if hash_name != "3-128":
         code, value = cpu.call(name, *arguments)
         return low(code, 32), value
@@ -114,8 +115,8 @@ class ForCargo:
 
     @staticmethod
     def reset(cpu, request, state):
-        """A stream of no bytes yet, and its secret in `state.secret`; whether that is one of 192 bytes for which there is a
-        call of its own, in `state.is_of_192`."""
+        """A stream of no bytes yet. `state.secret` has its secret, and `state.is_of_192` whether that is one of 192
+        bytes for which there is a call of its own."""
         name, seed = export_name(request.hash_name), request.seed()
         if is_plain(request.hash_name):
             cpu.call(f"{name}_start", address(state), (seed, int(request.hash_name)))

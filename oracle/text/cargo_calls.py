@@ -1,5 +1,5 @@
-"""What of the exports below the cargo crate is neither a one-shot nor an update that is taken: hashes of a word, derived
-secrets, refusals, records that are tested. As calls.py has it for the library for C."""
+"""What of the exports below the cargo crate is neither a one-shot nor an update that is taken: hashes of a word,
+derived secrets, refusals, records that are tested. As calls.py has it for the library for C."""
 import itertools
 import re
 
@@ -60,10 +60,10 @@ def refused(cpu, hash_name, state, code, secret=()):
         writes.append("xxh3_write_192")
     before = contents(state)
     for name in writes:
-        handed = secret[:1] if name == "xxh3_write_192" else secret
+        of_name = secret[:1] if name == "xxh3_write_192" else secret
         for piece in (Input("m", 5), Input("m", 700), None):
             length = piece.length if piece else 0
-            rax, _ = cpu.call(name, address(state), *handed, address(piece) if piece else 0, length)
+            rax, _ = cpu.call(name, address(state), *of_name, address(piece) if piece else 0, length)
             expect_code(name, low(rax, 32), code)
             expect_same(name, before, state)
     name = f"{export_name(hash_name)}_finish"
@@ -95,8 +95,8 @@ def without_mark(cpu):
 
 
 def out_of_range(cpu):
-    """Streams of XXH3 with a part that no call leaves, with a secret of 192 bytes: more bytes that wait than there is room
-    for, none after some came, a place behind the secret's end."""
+    """Streams of XXH3 with a part that no call leaves, with a secret of 192 bytes: more bytes that wait than there is
+    room for, none after some came, a place behind the secret's end."""
     v, count = variable("v"), 0
     secret = address(Input("s", 192)), 192
     for hash_name in ("3-64", "3-128"):

@@ -15,8 +15,9 @@ RETURN = b"\xc3"
 
 def shown_by():
     """Export -> the beginning of a row's title."""
-    out = {"interface": "the number of the interface", "derive_secret": "derived secrets", "xxh3_start": "streams of XXH3",
-           "xxh3_write": "streams of XXH3", "xxh3_write_192": "streams of XXH3", **dict.fromkeys(WORDS, "hashes of a word")}
+    out = {"interface": "the number of the interface", "derive_secret": "derived secrets",
+           **dict.fromkeys(("xxh3_start", "xxh3_write", "xxh3_write_192"), "streams of XXH3"),
+           **dict.fromkeys(WORDS, "hashes of a word")}
     for name in ("32", "64"):
         out.update({f"xxh{name}": f"XXH{name}, seed", f"xxh{name}_test": "records that bytes lead to"})
         out.update({f"xxh{name}_{call}": f"streams of XXH{name}" for call in ("start", "write", "finish")})

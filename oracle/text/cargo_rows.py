@@ -1,5 +1,5 @@
-"""The rows of oracle/machine-text on the texts below the cargo crate, rust/asm, for x86-64. Some functions of the text for
-x86-64-v3 are c/asm's, byte for byte, and have the rows that show these too."""
+"""The rows of oracle/machine-text on the texts below the cargo crate, rust/asm, for x86-64. Some functions of the text
+for x86-64-v3 are c/asm's, byte for byte, and have the rows that show these too."""
 import functools
 import subprocess
 import tempfile
@@ -53,7 +53,8 @@ def one_shot_rows(texts, is_all):
             yield rows.compared(texts, title, comparison.requests(*kind, [*rows.MORE, every_length.PREFETCHED]))
     for hash_name in ("3-64", "3-128"):
         lengths = [0, 17, 241] if is_all else [241]
-        yield rows.of_each(texts, f"{BEGIN}XXH{hash_name}, secrets that are too short", 2 * calls.SHORTEST * len(lengths),
+        title, least = f"{BEGIN}XXH{hash_name}, secrets that are too short", 2 * calls.SHORTEST * len(lengths)
+        yield rows.of_each(texts, title, least,
                            functools.partial(calls.short_secrets, hash_name=hash_name, lengths=lengths))
         if is_all:
             requests = (Request(hash_name, kind, n, size) for size in rows.SOME_SECRETS for kind in ("secret", "both")
@@ -62,7 +63,7 @@ def one_shot_rows(texts, is_all):
 
 
 def stream_rows(texts, is_all):
-    """A stream of XXH3 has a seed, and a secret of its own, or one that the seed derives, as the default one is of 0."""
+    """A stream of XXH3 has a seed, and a secret of its own, or one that the seed derives: of 0 that is the default one."""
     made = rows.makers(texts)
     for kind in comparison.kinds(STREAM_SECRETS if is_all else SECRETS):
         if kind[1] != "secret" and (is_all or kind[:2] in STREAMED):
@@ -103,5 +104,6 @@ def call_rows(texts, like):
             of(f"{BEGIN}records with other accumulators", 200, cargo_calls.other_accumulators),
             rows.counted(f"{BEGIN}functions of {LIKE} that are c/asm's, byte for byte", LEAST_SHARED,
                          lambda: (len(shared(texts[f"cargo's {LIKE}"], like[LIKE])), [])),
-            rows.counted(f"{BEGIN}the code of a word in a caller is its export's", len(WORDS), lambda: (expect_bodies(next(iter(texts.values()))), [])),
+            rows.counted(f"{BEGIN}the code of a word in a caller is its export's", len(WORDS),
+                         lambda: (expect_bodies(next(iter(texts.values()))), [])),
             rows.counted(f"{BEGIN}wrong texts are refused", len(cargo_planted.WRONG), cargo_planted.refused)]

@@ -1,5 +1,5 @@
-"""The streams of XXH3 of a text below the cargo crate, by induction over the updates, as xxh3_updates.py has them for the
-library for C. A stream has no mark and no secret: each call is handed that. It always has a seed, which may be 0."""
+"""The streams of XXH3 of a text below the cargo crate, by induction over the updates, as xxh3_updates.py has them for
+the library for C. A stream has no mark and no secret: each call is given that. It always has a seed, which may be 0."""
 from terms.every_length import LONGEST
 from terms.loops import NotShown
 from terms.memory import Piece
@@ -63,8 +63,8 @@ class CargoUpdates(Xxh3Updates):
     # ---- the write of secrets of 192 bytes
 
     def one_update(self):
-        """`xxh3_write_192` takes pieces that the buffer has room for as `xxh3_write` does, and else leads to the function
-        that this one leads to, with the same arguments."""
+        """`xxh3_write_192` takes pieces that the buffer has room for as `xxh3_write` does, and else leads to the
+        function that this one leads to, with the same arguments."""
         self.use(BLOCK, 0)
         self.is_of_192 = True
         try:
@@ -127,7 +127,7 @@ class CargoUpdates(Xxh3Updates):
                 raise NotShown(f"a piece of {length} bytes is taken in two ways: {ways}")
 
     def led_to(self, name, state, *arguments):
-        """The arguments that a call hands to the function that takes such pieces, with the state as it was."""
+        """The arguments that a call gives to the function that takes such pieces, with the state as it was."""
         before, caught = dict(state.cells), []
 
         def catch():
