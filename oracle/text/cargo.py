@@ -18,7 +18,7 @@ from .processor import Processor
 from .values import address, joined, low
 
 FOLDER = os.path.join(TOP, "rust", "asm")
-NAMED = re.compile(r"twox_rust_\d+_(\w+?)(?:_v3)?|(.+)\.i\d+(?:_v3)?|twox_rust_(interface)(?:_v3)?")
+NAMED = re.compile(r"twox_rust_\d+_(\w+?)(?:_v[34])?|(.+)\.i\d+(?:_v[34])?|twox_rust_(interface)(?:_v[34])?")
 WEAK, HIDDEN = 2, 2               # a symbol's binding, and its visibility
 DONE, TOO_SHORT, NO_STREAM = 0, 1, 2                  # codes
 WAYS = {"default": "", "seed": "_with_seed", "secret": "_with_secret", "both": "_with_seed_and_secret"}

@@ -10,7 +10,7 @@ from .objects import Program
 
 BEGIN = "cargo: "                 # of each row's title
 WORDS = "xxh32_of_word", "xxh64_of_word", "xxh3_64_of_word"
-RETURN = b"\xc3"
+RETURN, WIDEST = b"\xc3", 64      # bytes: of `ret`, and how many an instruction reads at most
 
 
 def shown_by():
@@ -39,17 +39,24 @@ def exports_left_out(texts, titles):
 # ---- functions that are another text's
 
 def shape(program, section):
-    """A section's bytes, and where each relocation leads: a constant stands for its place."""
-    found = []
-    for place, (symbol, addend) in sorted(program.relocations[section].items()):
-        to, offset = program.target_of(symbol, addend + 4)
-        found.append((place, program.constants.get(to, bare(to)), offset))
-    return program.object.body(program.heads[section]), found
+    """A section's bytes, and where its instructions lead out of it."""
+    code = program.sections[section]
+    led = [(at, led_to(program, x)) for at, x in sorted(code.items()) if x.target and x.target[0] != section]
+    return program.object.body(program.heads[section]), led
+
+
+def led_to(program, instruction):
+    """A function, or of a constant what the instruction reads, which is all of it where it takes the address."""
+    name, at = instruction.target
+    if name not in program.constants:
+        return bare(name), at
+    data, alignment = program.constants[name]
+    return (data, alignment, at) if instruction.mnemonic == "lea" else (data[at:at + WIDEST], alignment, at % WIDEST)
 
 
 def bare(section):
     """The name of a section without the number of the interface."""
-    return re.sub(r"\.i\d+(_v3)?$", "", section)
+    return re.sub(r"\.i\d+(_v[34])?$", "", section)
 
 
 def shared(program, other):
@@ -58,8 +65,8 @@ def shared(program, other):
     shapes = {name: shape(program, place[0]) for name, place in found.items()}
     equal = {name for name in found if shapes[name] == shape(other, other.functions[name][0])}
     while True:
-        left = {name for name in equal if all(to[6:] in equal for _, to, _ in shapes[name][1]
-                                              if isinstance(to, str) and to.startswith(".text."))}
+        left = {name for name in equal if all(to[0][6:] in equal for _, to in shapes[name][1]
+                                              if isinstance(to[0], str) and to[0].startswith(".text."))}
         if left == equal:
             return equal
         equal = left

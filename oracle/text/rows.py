@@ -82,7 +82,7 @@ def export_row(texts, titles):
 
 
 def before_v4(texts):
-    return {name: program for name, program in texts.items() if name != V4}
+    return {name: program for name, program in texts.items() if not name.endswith(V4)}
 
 
 def texts_of(texts, hash_name):
@@ -252,7 +252,7 @@ def long_rows(made, is_all):
                             functools.partial(up_to_240, make, kind)) for name, make in made.items()]
             title = f"{title} 192 to 199 bytes: every length from 241 on"
             out += of_every_length(before_v4(made), kind, title, every_length.of_secret())
-            of_v4 = {name: make for name, make in made.items() if name == V4}
+            of_v4 = {name: make for name, make in made.items() if name.endswith(V4)}
             out += of_every_length(of_v4, kind, title, every_length.of_secret_by_turns())
     return out
 
