@@ -45,7 +45,7 @@ from same_bytes import compare, compare_sums, Object
 from library import sets_here
 
 BUILDS = {'c': 'c/build', 'rust': 'rust/build-library'}
-SETS = {('c', 'x86-64'): ('x86-64-v2', 'x86-64-v3', 'x86-64-v4'), ('rust', 'x86-64'): ('x86-64', 'x86-64-v3'),
+SETS = {('c', 'x86-64'): ('x86-64-v2', 'x86-64-v3', 'x86-64-v4'), ('rust', 'x86-64'): ('x86-64', 'x86-64-v3', 'x86-64-v4'),
         ('c', 'aarch64'): ('aarch64',), ('rust', 'aarch64'): ('aarch64',)}
 WIDE = 'x86-64-v4'
 WRONG_TEXTS = 15
@@ -294,7 +294,7 @@ def check_texts(report, library, target, sysroot=None):
             if name == WIDE:
                 report.attempt(f'{shown}: instructions of mnemonics.txt alone', other_instructions_are_noticed, text, room)
             check_frames(report, library, target, text, room)
-            if (library, target) == ('rust', 'x86-64') and shutil.which('clang'):
+            if (library, target) == ('rust', 'x86-64') and name != WIDE and shutil.which('clang'):
                 report.attempt(f'{shown} with the directives of macOS', is_same_for_macos, text, proved,
                                os.path.join(out, 'asm', target), room)
 
@@ -339,7 +339,7 @@ def check_frames_elsewhere(report):
              'aarch64-android': frames_of_text.of_arm, 'x86-64-windows': frames_of_text.of_windows,
              'x86-64-v3-windows': frames_of_text.of_windows,
              **{f'{name}-macos': frames_of_text.as_on_linux(os.path.join(folder, f'{name}.s'))
-                for name in SETS['rust', 'x86-64']}}
+                for name in SETS['rust', 'x86-64'] if name != WIDE}}
     for name, read in texts.items():
         path = os.path.join(folder, f'{name}.s')
         report.attempt(f'rust/asm/{name}.s: the frames', frames_of_text.are_right, path, read)

@@ -11,7 +11,6 @@ from terms.nodes import is_same, symbol
 from terms.polynomials import at_most, given, minus, plus, times, variable
 
 from .every_length import DERIVED, FAR, MANY, PREFETCHED
-from .one_shots import name_of, value_of
 from .stripes import Part
 from .values import address
 from .xxh3_updates import LEAST, TAKE, Xxh3Updates
@@ -52,10 +51,11 @@ class AnySecret(Xxh3Updates):
         seed = [symbol("seed64", 64)] if way == "both" else []
         parts = [Part((0, 0), times(self.q, B), (B, 0)), Part((B, 0), J, (B, J))]
         with given(*self.facts_of_any(), *case.facts, at_most(n, LONGEST)):
-            answer = self.run([], name_of(f"3-{width}", way), parts, address(self.source), n,
-                              address(self.secret_source), self.secret_length, *seed, summaries=[TAKE])
+            ask = functools.partial(self.cpu.library.one_shot, self.cpu, f"3-{width}", way)
+            value = self.run([], ask, parts, address(self.source), n, address(self.secret_source), self.secret_length,
+                             *seed, summaries=[TAKE])
             said = self.texts[f"xxh3_{width}"](seed[0] if seed else 0, self.secret, self.message)
-            if not is_same(value_of(f"3-{width}", answer), said):
+            if not is_same(value, said):
                 raise NotShown(f"{n} bytes with a secret of {self.secret_length}: another value")
 
     def questions(self, way, width):

@@ -17,14 +17,13 @@ from terms.memory import Input, Piece
 from terms.nodes import is_same
 from terms.polynomials import at_most, given, minus, plus, times, variable
 from terms.polynomials import is_same as is_same_number
-from terms.sides import seed_symbol
+from terms.sides import Request, seed_symbol
 
 from . import streams
 from .every_length import LIMIT, UNROLLED
 from .induction import Family, Loops
 from .memory import Words
 from .processor import NO_LIMIT
-from .values import address, low
 
 # Where the parts of a state lie: the accumulators, the seed, the marked word, the total, the buffer; and the mark.
 Layout = collections.namedtuple("Layout", "accumulators seed marked total buffer mark")
@@ -100,8 +99,8 @@ class AnyUpdates:
         if not is_same_number(a, 0):
             accumulators = [self.cpu.fresh("accumulator", self.width) for _ in range(4)]
             suppositions.suppose(lambda j: self.accumulator(j, a), accumulators)
-        state = Words("state", streams.SIZES[self.hash_name],
-                      [(at, 1, self.cpu.fresh("a byte", 8)) for at in range(streams.SIZES[self.hash_name])],
+        size = self.cpu.library.SIZES[self.hash_name]
+        state = Words("state", size, [(at, 1, self.cpu.fresh("a byte", 8)) for at in range(size)],
                       alignment=streams.ALIGNMENT.get(self.hash_name, 8))
         for at, size, x in self.parts(a, r, accumulators):
             state.store(at, size, x)
@@ -113,9 +112,10 @@ class AnyUpdates:
             if not (is_same(found, x) or is_same_number(found, x)):
                 raise NotShown(f"{what}: the state at {at} is {found} and not {x}, of {self.stripe} * ({a}) + {r}")
 
-    def call(self, name, state, *arguments):
+    def call(self, what, state, *rest):
+        """A call of the library: what resets a state, updates it or asks it."""
         self.cpu.not_zero, self.cpu.live = [], [state]
-        return self.cpu.call(f"XXH{self.width}_{name}", address(state), *arguments)
+        return what(self.cpu, *rest)
 
     # ---- the three parts
 
@@ -124,7 +124,7 @@ class AnyUpdates:
         self.begin(0)
         with given(at_most(self.source.length, LONGEST)):
             state = streams.new_state(self.cpu, self.hash_name)
-            streams.expect_answer(self.call("reset", state, (self.seed, self.width)), streams.OK)
+            self.call(self.cpu.library.reset, state, Request(self.hash_name, "seed", 0), state)
             self.expect_state("a reset", state, 0, 0)
 
     def update(self, one):
@@ -140,7 +140,7 @@ class AnyUpdates:
             piece = Piece(self.source, begun, minus(ended, begun))
             self.cpu.loops, self.cpu.limit = Loops(self.cpu.program, self.family(b)), LIMIT
             try:
-                streams.expect_answer(self.call("update", state, address(piece), piece.length), streams.OK)
+                self.call(self.cpu.library.update, state, self.hash_name, state, piece)
             except REFUSALS as error:
                 raise NotShown("; ".join([str(error), *self.cpu.loops.refused])) from error
             finally:
@@ -161,7 +161,7 @@ class AnyUpdates:
         with given(at_most(n, LONGEST), *([] if is_same_number(a, 0) else [minus(a, 1)])):
             state = self.state(a, r)
             before = streams.contents(state, 1)
-            rax, _ = self.call("digest", state)
+            value = self.call(self.cpu.library.digest, state, self.hash_name, state)
             streams.expect_same("a digest", before, state, 1)
-            if not is_same(low(rax, self.width), self.texts[f"xxh{self.width}"](self.seed, self.message)):
+            if not is_same(value, self.texts[f"xxh{self.width}"](self.seed, self.message)):
                 raise NotShown(f"a digest of {n} bytes: another value")

@@ -207,8 +207,8 @@ def null_pointers(cpu):
             secret = [] if size is None else [address(request.secret) if size else 0, size]
             theirs = 0 if kind == "secret" and not size else request.of_definition(entries)
             cpu.not_zero = []
-            ours = cpu.call(one_shots.name_of(hash_name, kind), 0, 0, *secret, *one_shots.of_seed(request))
-            expect(f"{request} at null", one_shots.value_of(hash_name, ours), theirs)
+            ours = cpu.library.one_shot(cpu, hash_name, kind, 0, 0, *secret, *one_shots.of_seed(request))
+            expect(f"{request} at null", ours, theirs)
             count += 1
     return count
 

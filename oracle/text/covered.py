@@ -38,7 +38,7 @@ def variables(q, u, b, j, f, L=0):
     at = (j + g) % q
     D, e = divmod(n - (q - at), q)
     return {"q": q, "u": u, "b": b, "j": j, "f": f, "g": g, "r": r, "i": q - j, "y": g - (q - j), "n": n, "D": D, "e": e,
-            "left": left - 64 * n, "more": L - 33, "rest": 0}
+            "left": left - 64 * n, "more": L - 33, "w": L - 65, "rest": 0}
 
 
 def has(point, facts, said):

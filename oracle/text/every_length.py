@@ -18,7 +18,6 @@ from terms.polynomials import Poly, at_most, given, minus, parts_of, plus, times
 from terms.sides import seed_symbol
 
 from .induction import Family, Loops
-from .one_shots import name_of, value_of
 from .processor import NO_LIMIT
 from .values import address
 
@@ -164,7 +163,7 @@ class EveryLength:
         self.cpu.not_zero = []
         with given(at_most(secret.length, LONGEST_SECRET)):
             arguments = [address(source), n, address(secret), secret.length, *([seed] if self.way == "both" else [])]
-            ours = value_of(self.hash_name, self.cpu.call(name_of(self.hash_name, self.way), *arguments))
+            ours = self.cpu.library.one_shot(self.cpu, self.hash_name, self.way, *arguments)
             theirs = definition.value(self.texts, self.hash_name, self.way, seed, Bytes(secret, 0, secret.length),
                                       Bytes(source, 0, n))
         if not nodes.is_same(ours, theirs):
@@ -202,7 +201,7 @@ class EveryLength:
         if isinstance(case.length, Poly):
             self.cpu.loops, self.cpu.limit = loops, LIMIT
         try:
-            return value_of(self.hash_name, self.cpu.call(name_of(self.hash_name, self.way), *arguments))
+            return self.cpu.library.one_shot(self.cpu, self.hash_name, self.way, *arguments)
         except REFUSALS as error:
             raise NotShown("; ".join([str(error), *loops.refused])) from error
         finally:

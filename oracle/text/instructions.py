@@ -8,8 +8,8 @@ from terms.llvm_text import Unsupported
 
 from .objects import Immediate, Place, Register
 
-V2, V3, V4 = "x86-64-v2", "x86-64-v3", "x86-64-v4"
-SETS = {V2: (V2,), V3: (V2, V3), V4: (V2, V3, V4)}      # which sets a processor of that name has
+V1, V2, V3, V4 = NAMES = "x86-64", "x86-64-v2", "x86-64-v3", "x86-64-v4"
+SETS = {name: NAMES[:k + 1] for k, name in enumerate(NAMES)}      # which sets a processor of that name has
 TABLE = {}                                 # (mnemonic, letters) -> (set, function)
 WIDE = "rax", "rcx", "rdx", "rbx", "rsp", "rbp", "rsi", "rdi", *(f"r{k}" for k in range(8, 16))
 LETTERS = {8: "b", 16: "w", 32: "l", 64: "q"}

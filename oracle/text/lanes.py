@@ -3,7 +3,7 @@ the upper lanes of a register as they are, and want their places in memory align
 from terms.llvm_text import Unsupported
 from terms.polynomials import plus
 
-from .instructions import OLDER, V2, V3, V4, VECTORS, form
+from .instructions import OLDER, V1, V2, V3, V4, VECTORS, form
 from .objects import Register
 from .values import WORD, arithmetic, bits, joined
 
@@ -62,7 +62,7 @@ def of_halves(words):
 
 # ---- moves
 
-@form(V2, "movdqu movups movdqa movaps", "mx xm xx")
+@form(V1, "movdqu movups movdqa movaps", "mx xm xx")
 @form(V3, "vmovdqu vmovups vmovdqa vmovaps", "mx xm my ym")
 @form(V3, "vmovdqa", "yy")
 @form(V4, "vmovdqu64", "mz zm zz")
@@ -74,9 +74,9 @@ def move(cpu, x):
     write(cpu, to, x, read(cpu, source, x, count, alignment), alignment)
 
 
-@form(V2, "movq", "qx xq")
-@form(V3, "vmovq", "qx xq xx")
-@form(V2, "movsd", "mx")
+@form(V1, "movq", "qx xq")
+@form(V3, "vmovq", "qx xq xx mx")
+@form(V1, "movsd", "mx")
 @form(V3, "vmovsd", "mx")
 def move_low(cpu, x):
     """64 bits; into a vector the rest of 128 becomes 0."""
@@ -88,7 +88,7 @@ def move_low(cpu, x):
         cpu.put(to, WORD, word, x)
 
 
-@form(V3, "vmovd", "lx")
+@form(V3, "vmovd", "lx mx")
 def move_narrow(cpu, x):
     source, to = x.operands
     write(cpu, to, x, [cpu.get(source, 32, x), 0])
@@ -101,7 +101,7 @@ def extract(cpu, x):
     cpu.put(to, WORD, cpu.lanes(source, 1, k.value & 1)[0], x)
 
 
-@form(V3, "vextracti128", "iyx")
+@form(V3, "vextracti128 vextractf128", "iyx")
 @form(V4, "vextracti64x4", "izy")
 def extract_part(cpu, x):
     k, source, to = x.operands
@@ -126,10 +126,10 @@ def broadcast(cpu, x):
     write(cpu, to, x, [word] * lanes_count(x))
 
 
-@form(V3, "vpbroadcastd", "mx my")
+@form(V3, "vpbroadcastd", "mx my xx xy")
 def broadcast_half(cpu, x):
     source, to = x.operands
-    word = cpu.get(source, 32, x)
+    word = halves(cpu.lanes(source)[0])[0] if is_vector(source) else cpu.get(source, 32, x)
     write(cpu, to, x, of_halves([word] * 2 * lanes_count(x)))
 
 
@@ -161,16 +161,16 @@ def by_half(word):
 NEW, WIDE = "mxx xxx myy yyy", "mzz zzz"
 for mnemonic, word in (("paddq", "add"), ("psubq", "sub"), ("pxor", "xor"), ("xorps", "xor"), ("por", "or"),
                        ("pand", "and")):
-    form(V2, mnemonic, "mx xx")(by_lane(word))
+    form(V1, mnemonic, "mx xx")(by_lane(word))
     form(V3, "v" + mnemonic, NEW)(by_lane(word))
 for mnemonic, word in (("vpaddq", "add"), ("vpsubq", "sub"), ("vpxorq", "xor"), ("vporq", "or"), ("vpmullq", "mul")):
     form(V4, mnemonic, WIDE)(by_lane(word))
 for mnemonic, word in (("paddd", "add"), ("psubd", "sub"), ("pmulld", "mul")):
-    form(V2, mnemonic, "mx xx")(by_half(word))
+    form(V2 if mnemonic == "pmulld" else V1, mnemonic, "mx xx")(by_half(word))
     form(V3, "v" + mnemonic, NEW)(by_half(word))
 
 
-@form(V2, "pmuludq", "mx xx")
+@form(V1, "pmuludq", "mx xx")
 @form(V3, "vpmuludq", NEW)
 @form(V4, "vpmuludq", WIDE)
 def products(cpu, x):
@@ -187,7 +187,7 @@ def shifted(word):
 
 
 for mnemonic, word in (("psrlq", "lshr"), ("psllq", "shl")):
-    form(V2, mnemonic, "ix")(shifted(word))
+    form(V1, mnemonic, "ix")(shifted(word))
     form(V3, "v" + mnemonic, "ixx iyy")(shifted(word))
     form(V4, "v" + mnemonic, "izz")(shifted(word))
 
@@ -212,7 +212,7 @@ def logic_of_three(cpu, x):
 
 # ---- other orders
 
-@form(V2, "pshufd", "ixx")
+@form(V1, "pshufd", "ixx")
 @form(V3, "vpshufd", "ixx iyy")
 @form(V4, "vpshufd", "izz")
 def shuffle(cpu, x):
@@ -224,9 +224,25 @@ def shuffle(cpu, x):
     write(cpu, to, x, out)
 
 
-@form(V2, "punpcklqdq punpckhqdq", "xx mx")
+@form(V1, "shufps", "ixx")
+@form(V3, "vshufps", "ixxx")
+def shuffle_two(cpu, x):
+    """Two words of the first source, and two of the other one."""
+    order, second, first = x.operands[:3]
+    first, second = ([word for lane in cpu.lanes(y, 2) for word in halves(lane)] for y in (first, second))
+    words = [(first if k < 2 else second)[order.value >> 2 * k & 3] for k in range(4)]
+    write(cpu, x.operands[-1], x, of_halves(words))
+
+
+@form(V1, "punpckldq", "xx mx")
+def unpack_halves(cpu, x):
+    (a, _), (b, _) = two(cpu, x)
+    write(cpu, x.operands[-1], x, of_halves([half for pair in zip(halves(a), halves(b)) for half in pair]))
+
+
+@form(V1, "punpcklqdq punpckhqdq", "xx mx")
 @form(V3, "vpunpcklqdq vpunpckhqdq", NEW)
-@form(V2, "movlhps", "xx")
+@form(V1, "movlhps", "xx")
 @form(V3, "vmovlhps", "xxx")
 def unpack(cpu, x):
     is_high, (a, b) = "hqdq" in x.mnemonic, two(cpu, x)
@@ -279,13 +295,14 @@ def permute_two(cpu, x):
     write(cpu, x.operands[-1], x, of_halves(picked(order, first + second)))
 
 
+@form(V1, "pslldq psrldq", "ix")
 @form(V3, "vpslldq vpsrldq", "ixx iyy")
 def shift_bytes(cpu, x):
-    k, source, to = x.operands
-    lanes, out = read(cpu, source, x, lanes_count(x)), []
+    k, *rest = x.operands
+    lanes, out = read(cpu, rest[0], x, lanes_count(x)), []
     for first in range(0, len(lanes), 2):
         out += bytes_moved(lanes[first:first + 2], min(k.value, 16), "sll" in x.mnemonic)
-    write(cpu, to, x, out)
+    write(cpu, rest[-1], x, out)
 
 
 def bytes_moved(pair, count, is_left):
@@ -295,3 +312,10 @@ def bytes_moved(pair, count, is_left):
     return [joined(*((byte, 8) for byte in moved[at:at + 8])) for at in (0, 8)]
 
 
+@form(V3, "vptest", "xx yy")
+def test(cpu, x):
+    """Whether no bit is in both, which is the flag of 0."""
+    result = 0
+    for p, q in zip(*(cpu.lanes(y, lanes_count(x)) for y in x.operands)):
+        result = arithmetic("or", WORD, result, p if p is q else arithmetic("and", WORD, p, q))
+    cpu.set_flags("shift", WORD, None, None, result)

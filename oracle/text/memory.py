@@ -106,6 +106,15 @@ def copy(to, source, n, may_overlap):
         memory.store(at + k, size, value)
 
 
+def fill(to, byte, n):
+    """memset, of a number of words."""
+    memory, at = to.place()
+    if not isinstance(byte, int) or not isinstance(n, int) or n % 8:
+        raise Unsupported(f"{n} bytes of {byte}")
+    for k in range(0, n, 8):
+        memory.store(at + k, 8, int.from_bytes(bytes([byte]) * 8, "little"))
+
+
 def is_apart(a, b, n):
     return is_natural(minus(a, plus(b, n))) or is_natural(minus(b, plus(a, n)))
 

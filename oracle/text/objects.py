@@ -28,7 +28,7 @@ PROGBITS, SECTION, FUNCTION, LABEL, GLOBAL = 1, 3, 2, 0, 1
 CODE, CONSTANTS, MERGEABLE = LOADED | 4, LOADED, LOADED | 0x10      # a section's flags
 UNLOADED = NONE, SYMTAB, STRTAB, RELA
 PC32, PLT32 = 2, 4                            # relocations: a distance from the next instruction
-OUTER = "memcpy", "memmove"                   # what the text calls and another library has
+OUTER = "memcpy", "memmove", "memset"         # what the text calls and another library has
 PREFIXES = "data16", "cs"                     # of an instruction that does nothing
 RELOCATED = Place(0, "rip", None, 1)          # what a relocation at an instruction's end says
 LINE = re.compile(r" *([0-9a-f]+):\t((?:[0-9a-f]{2} )+) *(?:\t(.*))?")
@@ -39,6 +39,8 @@ TARGET = re.compile(r"([0-9a-f]+)(?: <.*>)?")
 class Program:
     """The sections of instructions, name -> address -> Instruction; the functions and exports, name -> (section,
     address); and the constants, name -> (bytes, alignment)."""
+
+    BINDING = GLOBAL              # of an export
 
     def __init__(self, path):
         self.object = Object(path)
@@ -85,7 +87,8 @@ class Program:
         functions, exports = {}, {}
         for symbol in self.object.symbols:
             kind = symbol.info & 15
-            if is_global(symbol) and (symbol.info >> 4 != GLOBAL or kind not in (LABEL, FUNCTION)):
+            binding = self.BINDING if symbol.section else GLOBAL
+            if is_global(symbol) and (symbol.info >> 4 != binding or kind not in (LABEL, FUNCTION)):
                 raise Unsupported(f"{symbol.name} is weak, or no function")
             if symbol.section and is_global(symbol):
                 exports[symbol.name] = self.place_of(symbol)

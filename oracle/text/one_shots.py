@@ -41,5 +41,4 @@ def of_text(cpu, request):
     arguments = [address(request.message), request.length]
     if request.secret:
         arguments += [address(request.secret), request.secret_length]
-    answer = cpu.call(name_of(request.hash_name, request.kind), *arguments, *of_seed(request))
-    return value_of(request.hash_name, answer)
+    return cpu.library.one_shot(cpu, request.hash_name, request.kind, *arguments, *of_seed(request))

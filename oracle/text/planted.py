@@ -173,15 +173,15 @@ TEXTS = [
 ]
 
 
-def is_refused(wrong, room):
-    """None, or what there is to say of a wrong text."""
-    with open(SOURCE, encoding="utf-8") as file:
+def is_refused(wrong, room, source=SOURCE, read=lambda path: Processor(Program(path), V2)):
+    """None, or what there is to say of a wrong text, which is made of another one."""
+    with open(source, encoding="utf-8") as file:
         text = wrong.change(file.read())
     with open(f"{room}/wrong.s", "w", encoding="utf-8") as file:
         file.write(text)
     subprocess.run(["gcc", "-c", f"{room}/wrong.s", "-o", f"{room}/wrong.o"], check=True)
     try:
-        wrong.ask(Processor(Program(f"{room}/wrong.o"), V2))
+        wrong.ask(read(f"{room}/wrong.o"))
     except REFUSALS as error:
         return None if re.search(wrong.words, str(error)) else f"{wrong.what}: refused for another reason: {error}"
     return f"{wrong.what}: not refused"

@@ -14,7 +14,8 @@ from terms.rules import ones
 
 from . import flags
 from .instructions import PARTS, VECTORS, WIDE, known
-from .memory import ENTRY, RED, Constants, ReturnTo, Stack, Words, copy
+from .library import ForC
+from .memory import ENTRY, RED, Constants, ReturnTo, Stack, Words, copy, fill
 from .objects import OUTER, Immediate, Register
 from .values import WORD, Address, address, arithmetic, bits, joined, low
 
@@ -35,6 +36,7 @@ class Processor:
     TAKES_STRIPES = ARGUMENTS     # where the arguments lie of a function that gives a record in memory
 
     TOGETHER = 1                  # accumulators of 32 bits that one-shots have in a cell
+    library = ForC                # how its exports are called
 
     def __init__(self, program, name):
         self.program, self.name = program, name
@@ -42,7 +44,7 @@ class Processor:
         self.code = {section: {at: (known(x, name), x) for at, x in code.items()}
                      for section, code in program.sections.items()}
         for outer in OUTER:
-            self.code[outer] = {0: (functools.partial(call_of_outer, outer == "memmove"), None)}
+            self.code[outer] = {0: (functools.partial(call_of_outer, outer), None)}
         self.not_zero, self.loops, self.live, self.replaced = [], None, [], {}
         self.used, self.made, self.limit, self.count = set(), 0, NO_LIMIT, 0
 
@@ -103,7 +105,8 @@ class Processor:
         place, or None at the end."""
         section, at = place
         if place in self.replaced:
-            return self.replaced[place]()
+            to = self.replaced[place]()
+            return None if to[0] == OUT else to
         code, heads = self.code.get(section), self.loops.heads(section) if self.loops else ()
         while True:
             if code is None or at not in code:
@@ -255,21 +258,25 @@ class Processor:
         return flags.condition(self, name)
 
 
-def call_of_outer(may_overlap, cpu, _):
-    """memcpy or memmove, which are another's."""
+def call_of_outer(name, cpu, _):
+    """memcpy, memmove or memset, which are another's."""
     to, source, n = (cpu.registers[name] for name in ARGUMENTS[:3])
     memory, at = cpu.registers["rsp"].place()
     if (at + 8) % 16:
         raise Unsupported("a call with the stack at no multiple of 16")
     memory.forget_below(at)
-    if not (isinstance(to, Address) and isinstance(source, Address)) and not is_same(n, 0):
+    places = [to] if name == "memset" else [to, source]
+    if not all(isinstance(place, Address) for place in places) and not is_same(n, 0):
         raise Undecided("a copy from or to no place")
     if not is_same(n, 0):
         room, first = to.place()
         cpu.expect_writable(room)
         if room is memory and not is_natural(minus(first, at + 8)):
             raise Unsupported("a copy to what lies below the stack")
-    copy(to, source, n, may_overlap)
+    if name == "memset":
+        fill(to, low(source, 8), n)
+    else:
+        copy(to, source, n, name == "memmove")
     place = cpu.return_from_another()
     cpu.registers["rax"] = to
     return place

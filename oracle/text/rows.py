@@ -14,6 +14,7 @@ from terms.sides import TOP, Request
 
 from . import (any_secret, any_updates, calls, changes, covered, every_length, exports, lanes, on_processor, one_shots, planted,
                scalar, streams, xxh3_updates)
+from .cargo import CargoProcessor, CargoProgram
 from .instructions import SETS, TABLE, V2, V3, V4
 from .objects import Program
 from .processor import Processor
@@ -50,7 +51,8 @@ def assembled(source, to):
 
 def makers(texts):
     """Name -> what makes a processor of that text."""
-    return {name: functools.partial(Processor, program, name) for name, program in texts.items()}
+    return {name: functools.partial(CargoProcessor, program) if isinstance(program, CargoProgram) else
+            functools.partial(Processor, program, name) for name, program in texts.items()}
 
 
 def processors(texts):
@@ -66,11 +68,12 @@ def counted(title, least, ask):
     return Row(title, outcome)
 
 
-def choose(options, texts):
+def choose(options, texts, others):
+    """The rows on c/asm; other texts have their own, but their instructions are compared here."""
     rows = one_shot_rows(texts, options.all) + secret_rows(texts, options.all) + every_length_rows(texts, options.all)
-    rows += stream_rows(texts, options.all) + call_rows(texts, options.all) + machine_rows(texts, options.all)
+    rows += stream_rows(texts, options.all) + call_rows(texts, options.all) + machine_rows(texts, others, options.all)
     rows.insert(0, export_row(texts, [row.title for row in rows]))
-    return [row for row in rows if options.only in row.title]
+    return rows
 
 
 def export_row(texts, titles):
@@ -79,7 +82,7 @@ def export_row(texts, titles):
 
 
 def before_v4(texts):
-    return {name: program for name, program in texts.items() if name != V4}
+    return {name: program for name, program in texts.items() if not name.endswith(V4)}
 
 
 def texts_of(texts, hash_name):
@@ -141,43 +144,43 @@ def stream_rows(texts, is_all):
     return [*out, *plain_stream_rows(makers(before_v4(texts)), is_all), *xxh3_rows(makers(texts), is_all)]
 
 
-def plain_stream_rows(made, is_all):
+def plain_stream_rows(made, is_all, some=SOME_UPDATES):
     """Streams of XXH32 and XXH64 of any updates: all cases, in parts, or some."""
     out = [counted("each update of XXH32 and XXH64 has its row", 2, updates_left_out)]
     for hash_name in any_updates.LAYOUTS:
         count = len(list(any_updates.updates(hash_name)))
         for name, make in made.items():
             for part in range(UPDATE_PARTS) if is_all else [None]:
-                words = f"part {part + 1} of {UPDATE_PARTS}" if is_all else f"each {SOME_UPDATES}th case"
-                least = count // (UPDATE_PARTS if is_all else SOME_UPDATES)
+                words = f"part {part + 1} of {UPDATE_PARTS}" if is_all else f"each {some}th case"
+                least = count // (UPDATE_PARTS if is_all else some)
                 out.append(counted(f"streams of XXH{hash_name}: any updates, to 2^64 - 1 bytes, {name}, {words}", least,
-                                   functools.partial(any_streams, make, hash_name, part)))
+                                   functools.partial(any_streams, make, hash_name, part, some)))
     return out
 
 
-def xxh3_rows(made, is_all):
+def xxh3_rows(made, is_all, kind=xxh3_updates.Xxh3Updates):
     """Streams of XXH3 of any updates: all that is to be shown, in parts, or some cases of each kind."""
     out = [counted("each update of XXH3 has its row", COVERED[is_all] * len(made),
-                   functools.partial(points_left_out, made, is_all))]
+                   functools.partial(points_left_out, made, is_all, kind))]
     for name, make in made.items():
         for what, (some, parts) in XXH3_CASES.items():
             for part in range(parts) if is_all else [None]:
                 words = f"part {part + 1} of {parts}" if is_all else "some cases"
                 out.append(counted(f"streams of XXH3: {what}, to 2^64 - 1 bytes, {name}, {words}", some,
-                                   functools.partial(any_xxh3, make, what, part)))
+                                   functools.partial(any_xxh3, make, what, part, kind)))
     return out
 
 
-def points_left_out(made, is_all):
+def points_left_out(made, is_all, kind):
     """(points that are looked at, those that no case has)."""
     count = COVERED[is_all] // 3
     bad = [f"{name}: no case has {point}" for name, make in made.items()
-           for point in covered.left_out(xxh3_updates.Xxh3Updates(make()), count)]
+           for point in covered.left_out(kind(make()), count)]
     return 3 * count * len(made), bad[:5]
 
 
-def any_xxh3(make, what, part):
-    proof = xxh3_updates.Xxh3Updates(make())
+def any_xxh3(make, what, part, kind):
+    proof = kind(make())
     asked, (some, parts) = proof.questions()[what], XXH3_CASES[what]
     return count_shown(proof, asked[::len(asked) // some] if part is None else asked[part::parts])
 
@@ -193,12 +196,12 @@ def updates_left_out():
     return len(any_updates.LAYOUTS) - len(bad), bad
 
 
-def any_streams(make, hash_name, part):
+def any_streams(make, hash_name, part, some):
     """Reset, digests, and the updates of a part, or a sample of them."""
     proof = any_updates.AnyUpdates(make(), hash_name)
     cases = list(any_updates.updates(hash_name))
     asked = [functools.partial(proof.update, one) for one in
-             (cases[::SOME_UPDATES] if part is None else cases[part::UPDATE_PARTS])]
+             (cases[::some] if part is None else cases[part::UPDATE_PARTS])]
     asked += [proof.reset, *(functools.partial(proof.digest, a, r) for r in range(int(hash_name) // 2)
                              for a in (0, variable("a")))] if not part else []
     return count_shown(proof, asked)
@@ -249,7 +252,7 @@ def long_rows(made, is_all):
                             functools.partial(up_to_240, make, kind)) for name, make in made.items()]
             title = f"{title} 192 to 199 bytes: every length from 241 on"
             out += of_every_length(before_v4(made), kind, title, every_length.of_secret())
-            of_v4 = {name: make for name, make in made.items() if name == V4}
+            of_v4 = {name: make for name, make in made.items() if name.endswith(V4)}
             out += of_every_length(of_v4, kind, title, every_length.of_secret_by_turns())
     return out
 
@@ -337,11 +340,11 @@ def call_rows(texts, is_all):
 
 # ---- the machine, and what has to be noticed
 
-def machine_rows(texts, is_all):
+def machine_rows(texts, others, is_all):
     forms = sum(kind in SETS[on_processor.processor_here()] for kind, _ in TABLE.values())
     without = "" if on_processor.is_v4() else ", without what it lacks of x86-64-v4"
     return [counted(f"the table of instructions beside the processor{without}", forms - 40,
-                    functools.partial(beside_processor, texts, is_all)),
+                    functools.partial(beside_processor, [*texts.values(), *others.values()], is_all)),
             counted("wrong texts of each kind are refused", len(planted.WRONG), planted.refused),
             *(counted(f"changes of one instruction, {name}", changes.MANY if is_all else changes.FEW,
                       functools.partial(changes.noticed, name, program, is_all))
@@ -350,7 +353,7 @@ def machine_rows(texts, is_all):
                     functools.partial(changes.noticed, V4, texts[V4], is_all, "widened"))]
 
 
-def beside_processor(texts, is_all):
+def beside_processor(programs, is_all):
     on_processor.expect_processor()
     with tempfile.TemporaryDirectory(prefix="machine-text-") as room:
-        return on_processor.compare(texts.values(), room, each=is_all)
+        return on_processor.compare(programs, room, each=is_all)

@@ -6,7 +6,7 @@ from terms.polynomials import Poly, is_same, lifted, plus
 from terms.rules import ones
 
 from .flags import carry
-from .instructions import V2, V3, form
+from .instructions import V1, V3, form
 from .memory import ReturnTo
 from .objects import Register
 from .values import WORD, arithmetic, bits, high_and_low, is_term, joined, low
@@ -17,34 +17,34 @@ TWO = "il iq ml mq ll qq"          # operands of sums and comparisons
 
 # ---- moves
 
-@form(V2, "nop", "")
-@form(V2, "prefetcht0", "m")
+@form(V1, "nop", "")
+@form(V1, "prefetcht0", "m")
 def nothing(cpu, x):
     pass
 
 
-@form(V2, "ud2", "")
+@form(V1, "ud2", "")
 def never(cpu, x):
     raise Unsupported("ud2")
 
 
-@form(V2, "mov", "il iq ml mq wm lm ll qm qq bm hm bb")
-@form(V2, "movl movq", "im")
-@form(V2, "movabs", "iq")
+@form(V1, "mov", "il iq ml mq wm lm ll qm qq bm hm bb")
+@form(V1, "movl movq", "im")
+@form(V1, "movabs", "iq")
 def move(cpu, x):
     source, to = x.operands
     width = cpu.width(x)
     cpu.put(to, width, cpu.get(source, width, x), x)
 
 
-@form(V2, "movzbl", "ml bl")
-@form(V2, "movzwl", "ml wl")
+@form(V1, "movzbl", "ml bl")
+@form(V1, "movzwl", "ml wl")
 def move_widened(cpu, x):
     source, to = x.operands
     cpu.put(to, cpu.width(x), cpu.get(source, {"b": 8, "w": 16}[x.mnemonic[4]], x), x)
 
 
-@form(V2, "movsbl", "bl")
+@form(V1, "movsbl", "bl")
 def move_with_sign(cpu, x):
     source, to = x.operands
     byte = cpu.get(source, 8, x)
@@ -60,7 +60,7 @@ def move_turned(cpu, x):
     cpu.put(to, width, turned(cpu.get(source, width, x), width), x)
 
 
-@form(V2, "bswap", "l q")
+@form(V1, "bswap", "l q")
 def turn(cpu, x):
     to, = x.operands
     width = cpu.width(x)
@@ -72,19 +72,19 @@ def turned(x, width):
     return joined(*((bits(x, k, 8), 8) for k in range(width - 8, -8, -8)))
 
 
-@form(V2, "lea", "ml mq")
+@form(V1, "lea", "ml mq")
 def load_address(cpu, x):
     place, to = x.operands
     width = cpu.width(x)
     cpu.put(to, width, low(cpu.effective(place, x), width), x)
 
 
-@form(V2, "push", "q")
+@form(V1, "push", "q")
 def push(cpu, x):
     cpu.push(cpu.get(x.operands[0], WORD, x))
 
 
-@form(V2, "pop", "q")
+@form(V1, "pop", "q")
 def pop(cpu, x):
     value = cpu.pop()
     if isinstance(value, ReturnTo):
@@ -94,7 +94,7 @@ def pop(cpu, x):
 
 # ---- branches
 
-@form(V2, "ret", "")
+@form(V1, "ret", "")
 def leave(cpu, x):
     to = cpu.pop()
     if not isinstance(to, ReturnTo):
@@ -102,13 +102,13 @@ def leave(cpu, x):
     return to
 
 
-@form(V2, "call", "")
+@form(V1, "call", "")
 def call(cpu, x):
     cpu.push(ReturnTo(x.section, x.end))
     return x.target
 
 
-@form(V2, "jmp", "")
+@form(V1, "jmp", "")
 def jump(cpu, x):
     return x.target
 
@@ -136,9 +136,9 @@ def move_where(name):
 
 
 for condition in CONDITIONS:
-    form(V2, "j" + condition, "")(jump_where(condition))
-    form(V2, "set" + condition, "b")(set_where(condition))
-    form(V2, "cmov" + condition, "qq mq ll ml")(move_where(condition))
+    form(V1, "j" + condition, "")(jump_where(condition))
+    form(V1, "set" + condition, "b")(set_where(condition))
+    form(V1, "cmov" + condition, "qq mq ll ml")(move_where(condition))
 
 
 # ---- sums, differences, bits
@@ -163,19 +163,19 @@ def binary(word, kind):
 
 
 for mnemonic, kind in (("add", "add"), ("sub", "sub"), ("xor", "logic"), ("or", "logic"), ("and", "logic")):
-    form(V2, mnemonic, TWO)(binary(mnemonic, kind))
-form(V2, "or", "bb")(binary("or", "logic"))
+    form(V1, mnemonic, TWO)(binary(mnemonic, kind))
+form(V1, "or", "bb")(binary("or", "logic"))
 
 
-@form(V2, "cmp", TWO + " ib lm qm")
-@form(V2, "cmpl cmpq", "im")
+@form(V1, "cmp", TWO + " ib lm qm")
+@form(V1, "cmpl cmpq", "im")
 def compare(cpu, x):
     source, to = x.operands
     width = cpu.width(x)
     cpu.set_flags("sub", width, cpu.get(to, width, x), cpu.get(source, width, x), None)
 
 
-@form(V2, "test", "ib il iq bb ll qq")
+@form(V1, "test", "ib il iq bb ll qq")
 def test(cpu, x):
     source, to = x.operands
     width = cpu.width(x)
@@ -183,7 +183,7 @@ def test(cpu, x):
     cpu.set_flags("logic", width, a, b, a if source == to else arithmetic("and", width, a, b))
 
 
-@form(V2, "sbb", "ib ll qq")
+@form(V1, "sbb", "ib ll qq")
 def subtract_with_borrow(cpu, x):
     source, to = x.operands
     width = cpu.width(x)
@@ -195,7 +195,7 @@ def subtract_with_borrow(cpu, x):
     cpu.set_flags("borrow", width, a, plus(b, borrow), result)
 
 
-@form(V2, "inc dec", "l q")
+@form(V1, "inc dec", "l q")
 def step(cpu, x):
     to, = x.operands
     width, kept = cpu.width(x), cpu.carry
@@ -205,7 +205,7 @@ def step(cpu, x):
     cpu.put(to, width, result, x)
 
 
-@form(V2, "neg", "l q")
+@form(V1, "neg", "l q")
 def negate(cpu, x):
     to, = x.operands
     width = cpu.width(x)
@@ -215,7 +215,7 @@ def negate(cpu, x):
     cpu.put(to, width, result, x)
 
 
-@form(V2, "not", "l q")
+@form(V1, "not", "l q")
 def complement(cpu, x):
     to, = x.operands
     width = cpu.width(x)
@@ -224,7 +224,7 @@ def complement(cpu, x):
 
 # ---- products and quotients
 
-@form(V2, "imul", "qq ll iml imq ill iqq")
+@form(V1, "imul", "qq ll iml imq ill iqq")
 def product(cpu, x):
     width, to = cpu.width(x), x.operands[-1]
     a, b = (cpu.get(y, width, x) for y in x.operands[:2])
@@ -232,7 +232,7 @@ def product(cpu, x):
     cpu.forget_flags()
 
 
-@form(V2, "mul", "q")
+@form(V1, "mul", "q")
 def whole_product(cpu, x):
     a, b = cpu.registers["rax"], cpu.get(x.operands[0], WORD, x)
     cpu.registers["rdx"], cpu.registers["rax"] = high_and_low(a, b)
@@ -247,7 +247,7 @@ def whole_product_apart(cpu, x):
     cpu.put(upper, WORD, above, x)
 
 
-@form(V2, "div", "w l q")
+@form(V1, "div", "w l q")
 def divide(cpu, x):
     source, = x.operands
     width = cpu.width(x)
@@ -273,8 +273,8 @@ def shift(word):
     return operation
 
 
-form(V2, "shl", "il iq l q")(shift("shl"))
-form(V2, "shr", "il iq l q")(shift("lshr"))
+form(V1, "shl", "il iq l q")(shift("shl"))
+form(V1, "shr", "il iq l q")(shift("lshr"))
 
 
 def side_shifted(width, a, b, k):
@@ -284,12 +284,22 @@ def side_shifted(width, a, b, k):
     return operations.either(BINARY["shl"](width, lifted(a), k), bits(b, width - k, k))
 
 
-@form(V2, "shld", "ill iqq")
+@form(V1, "shld", "ill iqq")
 def shift_in(cpu, x):
     k, source, to = x.operands
     width = cpu.width(x)
     cpu.put(to, width, side_shifted(width, cpu.get(to, width, x), cpu.get(source, width, x), k.value % width), x)
     if k.value % width:
+        cpu.forget_flags()
+
+
+@form(V1, "rol", "il iq l q")
+def rotate_in_place(cpu, x):
+    to, width = x.operands[-1], cpu.width(x)
+    k = x.operands[0].value % width if len(x.operands) == 2 else 1
+    a = cpu.get(to, width, x)
+    cpu.put(to, width, side_shifted(width, a, a, k), x)
+    if k:
         cpu.forget_flags()
 
 

@@ -10,7 +10,7 @@ from terms.polynomials import is_same as is_same_number
 from terms.sides import TOP
 
 from .memory import Words
-from .one_shots import NAMES, WAYS, is_plain, of_seed, suppose_seed, value_of
+from .one_shots import NAMES, WAYS, is_plain, of_seed, suppose_seed
 from .values import address, low
 
 OK, ERROR = 0, 1
@@ -32,7 +32,7 @@ def state_name(hash_name):
 
 def new_state(cpu, hash_name):
     """Memory of a state's size, which holds anything."""
-    size = SIZES[state_name(hash_name)]
+    size = cpu.library.SIZES[state_name(hash_name)]
     cells = [(at, 8, cpu.fresh("a state's word")) for at in range(0, size, 8)]
     return Words("state", size, cells, alignment=ALIGNMENT.get(hash_name, 8))
 
@@ -70,17 +70,18 @@ def update(cpu, hash_name, state, piece):
 
 
 def digest(cpu, hash_name, state):
+    """The hash of what a state was given; the state stays."""
     before = contents(state)
-    answer = cpu.call(f"{NAMES[hash_name]}_digest", address(state))
+    value = cpu.library.digest(cpu, hash_name, state)
     expect_same("a digest", before, state)
-    return value_of(hash_name, answer)
+    return value
 
 
 def of_text(cpu, request):
     suppose_seed(cpu, request)
-    state, at = new_state(cpu, request.hash_name), 0
-    expect_answer(reset(cpu, request, state), OK)
+    library, state, at = cpu.library, new_state(cpu, request.hash_name), 0
+    library.reset(cpu, request, state)
     for end in [*request.cuts, request.length]:
-        expect_answer(update(cpu, request.hash_name, state, Piece(request.message, at, end - at)), OK)
+        library.update(cpu, request.hash_name, state, Piece(request.message, at, end - at))
         at = end
     return digest(cpu, request.hash_name, state)

@@ -26,7 +26,6 @@ from . import exports, streams
 from .every_length import FAR, LIMIT
 from .induction import Loops, same
 from .memory import ENTRY, Words
-from .one_shots import value_of
 from .processor import NO_LIMIT
 from .runs import Source, State
 from .stripes import DEEP, Part, Stripes, StripesProof, Summary
@@ -95,6 +94,9 @@ EMPTY = Start((0, 0), 0, 0, (0, 0), [])
 
 
 class Xxh3Updates:
+    CORE = 0                      # where in a state the accumulators lie, and behind them all but what `own` has
+    HAS_SEED = 0, 1               # whether a stream was made with a seed
+
     def __init__(self, cpu):
         self.cpu, self.told, self.refused = cpu, [], []
         self.use(variable("q"))
@@ -126,7 +128,7 @@ class Xxh3Updates:
         return {UPDATES: [functools.partial(self.update, *case) for case in self.all_updates()],
                 DIGESTS: [*(functools.partial(self.reset, *case) for case in self.resets()),
                           *(functools.partial(self.digest, *case, has_seed, width) for case in self.digests()
-                            for has_seed in (0, 1) for width in WIDTHS)],
+                            for has_seed in self.HAS_SEED for width in WIDTHS)],
                 STRIPES: [self.one_update, *(functools.partial(self.taken_of, *case) for case in self.all_taken())]}
 
     def one_update(self):
@@ -166,40 +168,54 @@ class Xxh3Updates:
     def numbers(self, place, f):
         """What a state holds besides accumulators, last stripe and buffer: (offset, value), of eight bytes each."""
         k = self.stripes(place)
-        return [(PLACE, place[1]), (COUNT, k), (WAITING, f), (TOTAL, plus(times(64, k), f)), (MARKED, MARK),
-                (SECRET_LENGTH, self.secret_length)]
+        core = (PLACE, place[1]), (COUNT, k), (WAITING, f), (TOTAL, plus(times(64, k), f))
+        return [*((self.CORE + at, x) for at, x in core), *self.own()]
+
+    def own(self):
+        """What only a state of the library for C has."""
+        return [(MARKED, MARK), (SECRET_LENGTH, self.secret_length)]
+
+    def seeds(self):
+        """How a state was made, and with which seed."""
+        return [(HAS_SEED, self.has_seed), (SEED, self.seed)]
 
     def buffered(self, place, f):
-        return [] if is_same_number(f, 0) else [(BUFFER, plus(BUFFER, f), self.source,
-                                                 minus(times(64, self.stripes(place)), BUFFER))]
+        at = self.CORE + BUFFER
+        return [] if is_same_number(f, 0) else [(at, plus(at, f), self.source,
+                                                 minus(times(64, self.stripes(place)), at))]
 
-    def secret_run(self):
-        return SECRET, plus(SECRET, self.secret_length), self.secret_source, -SECRET
+    def secret_runs(self):
+        """The secret, where a state keeps it."""
+        return [(SECRET, plus(SECRET, self.secret_length), self.secret_source, -SECRET)]
+
+    def words(self, at, values):
+        """Cells of eight bytes each, one behind the other: (offset, value)."""
+        return [(self.CORE + at + 8 * k, x) for k, x in enumerate(values)]
 
     def last_stripe(self, place):
         at = minus(times(64, self.stripes(place)), 64)
         return [self.source.load(plus(at, 8 * k), 8) for k in range(8)]
 
     def state(self, place, f, last=None, has_seed=None, seed=None):
-        cells = [(ACCUMULATORS + 8 * i, 8, x) for i, x in enumerate(self.accumulators(place))]
-        cells += [(at, 8, x) for at, x in self.numbers(place, f)]
         self.last = last or [self.cpu.fresh("last") for _ in range(8)]
-        cells += [(LAST + 8 * k, 8, x) for k, x in enumerate(self.last)]
         self.has_seed = self.cpu.fresh("has a seed") if has_seed is None else has_seed
         self.seed = self.cpu.fresh("seed") if seed is None else seed
-        cells += [(HAS_SEED, 8, self.has_seed), (SEED, 8, self.seed)]
-        return State("state", streams.SIZES["3"], cells, [*self.buffered(place, f), self.secret_run()],
-                     (BUFFER, BUFFER + ROOM))
+        cells = [*self.words(ACCUMULATORS, self.accumulators(place)), *self.numbers(place, f),
+                 *self.words(LAST, self.last), *self.seeds()]
+        at = self.CORE + BUFFER
+        state = State("state", self.cpu.library.SIZES["3"], [(at, 8, x) for at, x in cells],
+                      [*self.buffered(place, f), *self.secret_runs()], (at, at + ROOM))
+        state.secret = self.secret_source
+        return state
 
     def expect_state(self, what, state, place, f, last):
-        cells = [(ACCUMULATORS + 8 * i, self.after(self.stripes(place))(i)) for i in range(8)]
-        cells += [*self.numbers(place, f), (HAS_SEED, self.has_seed), (SEED, self.seed)]
-        cells += [(LAST + 8 * k, x) for k, x in enumerate(last)]
+        words = map(self.after(self.stripes(place)), range(8))
+        cells = [*self.words(ACCUMULATORS, words), *self.numbers(place, f), *self.seeds(), *self.words(LAST, last)]
         for at, x in cells:
             found = state.load(at, 8)
             if not (is_same(found, x) or is_same_number(found, x)):
                 raise NotShown(f"{what}: the state at {at} is {found} and not {x}")
-        for run in [*self.buffered(place, f), self.secret_run()]:
+        for run in [*self.buffered(place, f), *self.secret_runs()]:
             if not state.has_run(run):
                 raise NotShown(f"{what}: the state isn't {run}, but has {state.runs()}")
 
@@ -214,21 +230,20 @@ class Xxh3Updates:
             piece = Piece(self.source, begun, length)
             if not is_same_number(plus(begun, length), ended):
                 raise NotShown("the case's piece has another length")
-            answer = self.run([state], "XXH3_64bits_update", parts, address(state), address(piece), length,
-                              summaries=summaries)
-            streams.expect_answer(answer, streams.OK)
+            self.run([state], self.cpu.library.update, parts, self.cpu, "3-64", state, piece, summaries=summaries)
             self.expect_state("an update", state, *end, self.last if last is None else last())
             if parts and not is_natural(minus(self.stripes(end[0]), 4)):
                 raise NotShown("fewer than four stripes are taken")
 
-    def run(self, live, name, parts, *arguments, summaries=(), not_zero=(), **more):
-        """Calls a function, with loops over stripes shown, and with summaries of other functions."""
+    def run(self, live, what, parts, *arguments, summaries=(), not_zero=(), **more):
+        """A call, of a function of a name or by the library, with loops over stripes shown, and with summaries of other
+        functions."""
         cpu, family = self.cpu, self.family(*parts)
         cpu.not_zero, cpu.live, cpu.loops, cpu.limit = not_zero, live, Loops(cpu.program, family, StripesProof), LIMIT
         for summary in summaries:
             summary.put_into(cpu, family, self.source, self.secret_source)
         try:
-            return cpu.call(name, *arguments, **more)
+            return (what if callable(what) else functools.partial(cpu.call, what))(*arguments, **more)
         except REFUSALS as error:
             raise NotShown("; ".join([str(error), *cpu.loops.refused])) from error
         finally:
@@ -238,11 +253,16 @@ class Xxh3Updates:
     def small_pieces(self):
         """Pieces that the buffer has room for: as arguments of `update`."""
         b, j, f, more = (variable(name) for name in ("b", "j", "f", "more"))
-        sizes = [*((n, []) for n in range(33)), (plus(33, more), [])]
+        sizes = [*((n, []) for n in range(33)), *((plus(33, more), facts) for facts in self.ways_from_33(more))]
         for place, of_place, buffered in (((0, 0), [], 0), ((b, j), [minus(minus(self.q, 1), j), minus(f, 1)], f)):
             for n, of_n in sizes:
                 yield (place, buffered), (place, plus(buffered, n)), n, [*of_place, *of_n,
                                                                          at_most(plus(buffered, n), ROOM)]
+
+    @staticmethod
+    def ways_from_33(more):
+        """Of pieces of 33 + more bytes: facts, for each way of its own that a text has for them."""
+        yield []
 
     def end_of(self, place, to, least):
         """Ways to take n stripes from a place, at least so many: (turns, place behind them, facts)."""
@@ -302,7 +322,7 @@ class Xxh3Updates:
         arguments = [address(self.secret_source), self.secret_length] if is_own else []
         arguments += [seed] if "Seed" in name else []
         self.begin(0)
-        size = streams.SIZES["3"]
+        size = self.cpu.library.SIZES["3"]
         with given(*self.facts):
             cells = [(at, 8, self.cpu.fresh("a state's word")) for at in range(0, size, 8)]
             state = State("state", size, cells, [], (0, 0))
@@ -316,7 +336,7 @@ class Xxh3Updates:
             if not is_own:
                 secret = self.texts["derived_secret"](seed)
                 expected += [(SECRET + k, self.texts["word64"](secret, k)) for k in range(0, DERIVED, 8)]
-            elif not state.has_run(self.secret_run()):
+            elif not all(map(state.has_run, self.secret_runs())):
                 raise NotShown(f"{name}: the secret isn't there")
             for at, x in expected:
                 if not same(state.load(at, 8), x):
@@ -349,13 +369,13 @@ class Xxh3Updates:
             needs_last = isinstance(f, int) and f < 64 and not is_same_number(self.stripes(place), 0)
             state = self.state(place, f, self.last_stripe(place) if needs_last else None, has_seed, seed)
             before = dict(state.cells)
-            answer = self.run([state], f"XXH3_{width}bits_digest", parts, address(state))
+            value = self.run([state], self.cpu.library.digest, parts, self.cpu, f"3-{width}", state)
             if state.cells.keys() != before.keys() or any(state.cells[at] is not x and not (
                     at != RUNS and same(state.cells[at][1], x[1])) for at, x in before.items()):
                 raise NotShown("a digest changes the state")
             secret = self.texts["effective_secret"](self.secret, self.message) if has_seed else self.secret
             said = self.texts[f"xxh3_{width}"](seed if has_seed else 0, secret, self.message)
-            if not is_same(value_of(f"3-{width}", answer), said):
+            if not is_same(value, said):
                 raise NotShown(f"a digest of {n} bytes: another value")
 
     # ---- the functions that take stripes

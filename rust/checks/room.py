@@ -33,6 +33,8 @@ ARM_PACKAGES = {'aarch64-linux-gnu-gcc': 'gcc-aarch64-linux-gnu',
                 'aarch64-linux-gnu-objcopy': 'binutils-aarch64-linux-gnu',
                 '/usr/aarch64-linux-gnu/include/stdio.h': 'libc6-dev-arm64-cross', 'qemu-aarch64': 'qemu-user',
                 **DEBIANS_RUST}
+# What runs a program on a processor that lacks what this one has.
+OLDER_PACKAGES = {'qemu-x86_64': 'qemu-user'}
 # The sources of Rust's standard library, of which it is built for targets that Debian has none for.
 SOURCES = '/usr/lib/rustlib/src/rust/library'
 SOURCE_PACKAGES = {**DEBIANS_RUST, SOURCES: 'rust-web-src', 'musl-gcc': 'musl-tools', 'make': 'make',
@@ -273,6 +275,7 @@ def errors_of(text):
     return '\n'.join(line for line in text.splitlines() if line.startswith('error')) or text
 
 
-def has_v3():
+def has(name):
+    """Whether this processor has a set, as x86-64-v3."""
     done = subprocess.run(['/lib64/ld-linux-x86-64.so.2', '--help'], stdout=subprocess.PIPE, text=True)
-    return 'x86-64-v3 (supported' in done.stdout
+    return f'{name} (supported' in done.stdout

@@ -14,7 +14,7 @@ use alloc::boxed::Box;
 use core::mem::MaybeUninit;
 
 #[cfg(target_arch = "x86_64")]
-use crate::processor::{ask, known, Known, FEW, IS_BUILT_FOR_V3};
+use crate::processor::{ask, has_v3, known, Known, FEW, IS_BUILT_FOR_V3, IS_BUILT_FOR_V4, LONG};
 
 /// The library's record of XXH32.
 #[derive(Clone, PartialEq)]
@@ -261,6 +261,8 @@ enum Input {
     OftenFew(usize),
     /// Maybe a whole buffer of bytes that came before.
     Kept,
+    /// So many, and maybe such a buffer.
+    Piece(usize),
 }
 
 /// So many bytes have the export's code once more, where that is in its caller: behind the choice of a set their own
@@ -293,11 +295,11 @@ macro_rules! call_of_export {
 }
 
 /// Declares each export in its sets, and a function that calls the one for so many bytes. What it takes stands in three
-/// parts: records, slices, and the rest.
+/// parts: records, slices, and the rest. With `widened: true` the set for x86-64-v4 has code of its own.
 macro_rules! exports {
     ($(fn $name:ident(
         $($record:ident: $record_kind:ty),*; $([$slice:ident])*; $($other:ident: $other_kind:ty),*
-    ) $(-> $answer:ty)?, by $input:expr;)*) => {
+    ) $(-> $answer:ty)?, by $input:expr, widened: $widened:literal;)*) => {
         mod any_processor {
             use super::*;
             $(call_of_export! {
@@ -313,17 +315,29 @@ macro_rules! exports {
             })*
         }
 
+        #[cfg(all(target_arch = "x86_64", target_os = "linux", not(twox_hash_lto)))]
+        mod x86_64_v4 {
+            use super::*;
+            $(call_of_export! {
+                "_v4", fn $name($($record: $record_kind),*; $([$slice])*; $($other: $other_kind),*) $(-> $answer)?
+            })*
+        }
+        // Elsewhere there is no text for it.
+        #[cfg(all(target_arch = "x86_64", any(not(target_os = "linux"), twox_hash_lto)))]
+        use x86_64_v3 as x86_64_v4;
+
         // Calls of their own, so that few bytes pay nothing for the choice.
         #[cfg(target_arch = "x86_64")]
         mod this_processor {
             use super::*;
             $(#[inline(never)]
             pub fn $name($($record: $record_kind,)* $($slice: &[u8],)* $($other: $other_kind),*) $(-> $answer)? {
-                if known() == Known::HasV3 {
+                match known() {
+                    // SAFETY: as below, and the processor has x86-64-v4.
+                    Known::HasV4 if $widened => unsafe { x86_64_v4::$name($($record,)* $($slice,)* $($other),*) },
                     // SAFETY: as below, and the processor has x86-64-v3.
-                    unsafe { x86_64_v3::$name($($record,)* $($slice,)* $($other),*) }
-                } else {
-                    unknown_processor::$name($($record,)* $($slice,)* $($other),*)
+                    Known::HasV3 | Known::HasV4 => unsafe { x86_64_v3::$name($($record,)* $($slice,)* $($other),*) },
+                    _ => unknown_processor::$name($($record,)* $($slice,)* $($other),*),
                 }
             })*
         }
@@ -345,16 +359,24 @@ macro_rules! exports {
 
         // SAFETY: the declaration is the export's. What it reads and writes are borrows that last for the call: whole
         // slices and records of its layout, of which those that it writes overlap no other. It keeps no address. The
-        // compiler was told of x86-64-v3 before that set is called.
+        // compiler was told of a set's processor, or the processor was asked, before that set is called.
         $(#[inline(always)]
         pub fn $name($($record: $record_kind,)* $($slice: &[u8],)* $($other: $other_kind),*) $(-> $answer)? {
             #[cfg(target_arch = "x86_64")]
             match $input {
+                _ if IS_BUILT_FOR_V4 && $widened => {
+                    return unsafe { x86_64_v4::$name($($record,)* $($slice,)* $($other),*) };
+                }
                 _ if IS_BUILT_FOR_V3 => return unsafe { x86_64_v3::$name($($record,)* $($slice,)* $($other),*) },
-                Input::Kept if known() == Known::HasV3 => {
+                Input::Piece(length) if length >= LONG && known() == Known::HasV4 => {
+                    return unsafe { x86_64_v4::$name($($record,)* $($slice,)* $($other),*) };
+                }
+                Input::Kept | Input::Piece(_) if has_v3() => {
                     return unsafe { x86_64_v3::$name($($record,)* $($slice,)* $($other),*) };
                 }
-                Input::Kept => return unknown_processor::$name($($record,)* $($slice,)* $($other),*),
+                Input::Kept | Input::Piece(_) => {
+                    return unknown_processor::$name($($record,)* $($slice,)* $($other),*);
+                }
                 Input::OftenFew(length) if cfg!(twox_hash_lto) && length <= VERY_FEW => {
                     return unsafe { any_processor::$name($($record,)* $($slice,)* $($other),*) };
                 }
@@ -369,38 +391,41 @@ macro_rules! exports {
 }
 
 exports! {
-    fn xxh32(; [input]; seed: u32) -> u32, by Input::OftenFew(input.len());
-    fn xxh32_start(stream: &mut Record32;; seed: u32), by Input::None;
-    fn xxh32_write(stream: &mut Record32; [input];) -> u32, by Input::Of(input.len());
-    fn xxh32_finish(stream: &Record32;;) -> Answer, by Input::None;
-    fn xxh32_test(stream: &Record32;;) -> u32, by Input::None;
-    fn xxh32_of_word(;; word: u64, seed: u32) -> u32, by Input::None;
+    fn xxh32(; [input]; seed: u32) -> u32, by Input::OftenFew(input.len()), widened: false;
+    fn xxh32_start(stream: &mut Record32;; seed: u32), by Input::None, widened: false;
+    fn xxh32_write(stream: &mut Record32; [input];) -> u32, by Input::Of(input.len()), widened: false;
+    fn xxh32_finish(stream: &Record32;;) -> Answer, by Input::None, widened: false;
+    fn xxh32_test(stream: &Record32;;) -> u32, by Input::None, widened: false;
+    fn xxh32_of_word(;; word: u64, seed: u32) -> u32, by Input::None, widened: false;
 
-    fn xxh64(; [input]; seed: u64) -> u64, by Input::OftenFew(input.len());
-    fn xxh64_start(stream: &mut Record64;; seed: u64), by Input::None;
-    fn xxh64_write(stream: &mut Record64; [input];) -> u32, by Input::None;
-    fn xxh64_finish(stream: &Record64;;) -> Answer, by Input::None;
-    fn xxh64_test(stream: &Record64;;) -> u32, by Input::None;
-    fn xxh64_of_word(;; word: u64, seed: u64) -> u64, by Input::None;
+    fn xxh64(; [input]; seed: u64) -> u64, by Input::OftenFew(input.len()), widened: false;
+    fn xxh64_start(stream: &mut Record64;; seed: u64), by Input::None, widened: false;
+    fn xxh64_write(stream: &mut Record64; [input];) -> u32, by Input::None, widened: false;
+    fn xxh64_finish(stream: &Record64;;) -> Answer, by Input::None, widened: false;
+    fn xxh64_test(stream: &Record64;;) -> u32, by Input::None, widened: false;
+    fn xxh64_of_word(;; word: u64, seed: u64) -> u64, by Input::None, widened: false;
 
-    fn xxh3_64(; [input];) -> u64, by Input::Of(input.len());
-    fn xxh3_64_with_seed(; [input]; seed: u64) -> u64, by Input::Of(input.len());
-    fn xxh3_64_with_secret(; [input] [secret];) -> Answer, by Input::Of(input.len());
-    fn xxh3_64_with_seed_and_secret(; [input] [secret]; seed: u64) -> Answer, by Input::Of(input.len());
-    fn xxh3_64_of_word(;; word: u64, seed: u64) -> u64, by Input::None;
+    fn xxh3_64(; [input];) -> u64, by Input::Of(input.len()), widened: true;
+    fn xxh3_64_with_seed(; [input]; seed: u64) -> u64, by Input::Of(input.len()), widened: true;
+    fn xxh3_64_with_secret(; [input] [secret];) -> Answer, by Input::Of(input.len()), widened: true;
+    fn xxh3_64_with_seed_and_secret(; [input] [secret]; seed: u64) -> Answer, by Input::Of(input.len()), widened: true;
+    fn xxh3_64_of_word(;; word: u64, seed: u64) -> u64, by Input::None, widened: false;
 
-    fn xxh3_128(; [input];) -> Wide, by Input::OftenFew(input.len());
-    fn xxh3_128_with_seed(; [input]; seed: u64) -> Wide, by Input::OftenFew(input.len());
-    fn xxh3_128_with_secret(; [input] [secret]; value: &mut Wide) -> u32, by Input::OftenFew(input.len());
-    fn xxh3_128_with_seed_and_secret(; [input] [secret]; seed: u64, value: &mut Wide) -> u32, by Input::OftenFew(input.len());
+    fn xxh3_128(; [input];) -> Wide, by Input::OftenFew(input.len()), widened: true;
+    fn xxh3_128_with_seed(; [input]; seed: u64) -> Wide, by Input::OftenFew(input.len()), widened: true;
+    fn xxh3_128_with_secret(; [input] [secret]; value: &mut Wide) -> u32,
+        by Input::OftenFew(input.len()), widened: true;
+    fn xxh3_128_with_seed_and_secret(; [input] [secret]; seed: u64, value: &mut Wide) -> u32,
+        by Input::OftenFew(input.len()), widened: true;
 
-    fn xxh3_start(stream: &mut Stream;; seed: u64), by Input::None;
-    fn xxh3_write(stream: &mut Stream; [secret] [input];) -> u32, by Input::Kept;
-    fn xxh3_write_192(stream: &mut Stream, secret: &[u8; 192]; [input];) -> u32, by Input::Kept;
-    fn xxh3_64_finish(stream: &Stream; [secret];) -> Answer, by Input::Kept;
-    fn xxh3_128_finish(stream: &Stream; [secret]; value: &mut Wide) -> u32, by Input::Kept;
+    fn xxh3_start(stream: &mut Stream;; seed: u64), by Input::None, widened: false;
+    fn xxh3_write(stream: &mut Stream; [secret] [input];) -> u32, by Input::Piece(input.len()), widened: true;
+    fn xxh3_write_192(stream: &mut Stream, secret: &[u8; 192]; [input];) -> u32,
+        by Input::Piece(input.len()), widened: true;
+    fn xxh3_64_finish(stream: &Stream; [secret];) -> Answer, by Input::Kept, widened: false;
+    fn xxh3_128_finish(stream: &Stream; [secret]; value: &mut Wide) -> u32, by Input::Kept, widened: false;
 
-    fn derive_secret(secret: &mut MaybeUninit<[u8; 192]>;; seed: u64), by Input::None;
+    fn derive_secret(secret: &mut MaybeUninit<[u8; 192]>;; seed: u64), by Input::None, widened: false;
 }
 
 /// The secret that a seed derives, written by the library where it is to stay.

@@ -49,7 +49,7 @@ targets! {
             target_os = "linux",
             target_pointer_width = "64",
             any(target_env = "gnu", target_env = "musl")
-        ) => (att_syntax, raw) "x86-64.s" "x86-64-v3.s";
+        ) => (att_syntax, raw) "x86-64.s" "x86-64-v3.s" "x86-64-v4.s";
         all(
             target_arch = "aarch64",
             target_os = "linux",

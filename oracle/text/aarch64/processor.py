@@ -10,6 +10,7 @@ from terms.nodes import Undecided, symbol
 from terms.polynomials import is_number, is_same, plus
 
 from ..flags import is_below, is_equal
+from ..library import ForC
 from ..memory import ENTRY, Constants, Stack, Words, copy
 from ..values import WORD, Address, address, arithmetic, is_term, joined, low
 
@@ -59,6 +60,7 @@ class Processor:
 
     TAKES_STRIPES = ARGUMENTS[:6]                 # where the arguments lie of a function that gives a record in memory
     TOGETHER = 2                                  # accumulators of 32 bits that one-shots have in a cell
+    library = ForC                                # how its exports are called
     carry = None                                  # what `flags` has
 
     def __init__(self, program):
