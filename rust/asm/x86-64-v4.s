@@ -1648,55 +1648,94 @@ twox_core.width_128.oneshot_widened.i4_v4:
 	.type twox_core.xxhash3.stripes.take_widened.i4_v4,@function
 twox_core.xxhash3.stripes.take_widened.i4_v4:
 	.cfi_startproc
-	vmovdqu (%rsi),%ymm0
-	vmovdqu 0x20(%rsi),%ymm1
-	mov 0x40(%rsi),%rsi
-	mov %esi,%eax
+	push %r15
+	.cfi_def_cfa_offset 16
+	.cfi_offset 15, -16
+	push %r14
+	.cfi_def_cfa_offset 24
+	.cfi_offset 14, -24
+	push %rbx
+	.cfi_def_cfa_offset 32
+	.cfi_offset 3, -32
+	vmovdqu64 (%rsi),%zmm0
+	mov 0x40(%rsi),%r10
+	mov %r10d,%eax
 	neg %eax
 	and $0xf,%eax
 	shl $0x6,%eax
-	sub %rax,%rcx
-	.byte 102,15,31,68,0,0
+	mov %eax,%r11d
+	shr $0x6,%r11d
+	lea (%r11,%r10,1),%r9
 	test %eax,%eax
-	je .L9_c7.i4_v4
-	mov %eax,%r9d
-	shr $0x6,%r9d
-	vinserti64x4 $0x1,%ymm1,%zmm0,%zmm2
-	mov %rdx,%r10
-	jmp .L9_72.i4_v4
-	.byte 15,31,68,0,0
-.L9_40.i4_v4:
+	je .L9_35.i4_v4
+	cmp $0x40,%eax
+	jne .L9_4f.i4_v4
+	xor %esi,%esi
+	jmp .L9_e6.i4_v4
+.L9_35.i4_v4:
+	vmovdqu 0x20(%rsi),%ymm1
+	sub %rax,%rcx
+	.byte 15,31,0
+	cmp $0x10,%r9
+	jae .L9_12e.i4_v4
+	jmp .L9_155.i4_v4
+.L9_4f.i4_v4:
+	mov %r11d,%ebx
+	and $0xfffffffe,%ebx
+	lea 0x40(%rdx),%r14
+	lea (%r8,%r10,8),%r15
+	add $0x8,%r15
+	xor %esi,%esi
+	.byte 102,102,102,102,46,15,31,132,0,0,0,0,0
+.L9_70.i4_v4:
+	vmovdqu64 -0x40(%r14),%zmm1
+	vmovdqu64 (%r14),%zmm2
+	vpshufd $0x4e,%zmm1,%zmm3
+	vpaddq %zmm0,%zmm3,%zmm0
+	vpxorq -0x8(%r15,%rsi,8),%zmm1,%zmm1
+	vpsrlq $0x20,%zmm1,%zmm3
+	vpmuludq %zmm3,%zmm1,%zmm1
+	vpshufd $0x4e,%zmm2,%zmm3
+	vpaddq %zmm0,%zmm3,%zmm0
+	vpaddq %zmm1,%zmm0,%zmm0
+	vpxorq (%r15,%rsi,8),%zmm2,%zmm1
+	vpsrlq $0x20,%zmm1,%zmm2
+	vpmuludq %zmm2,%zmm1,%zmm1
+	vpaddq %zmm1,%zmm0,%zmm0
+	add $0x2,%rsi
+	sub $0xffffffffffffff80,%r14
+	cmp %rsi,%rbx
+	jne .L9_70.i4_v4
+	.byte 15,31,64,0
+	test $0x1,%r11b
+	je .L9_11e.i4_v4
+.L9_e6.i4_v4:
+	mov %rsi,%r11
+	shl $0x6,%r11
+	add %rsi,%r10
+	vmovdqu64 (%rdx,%r11,1),%zmm1
+	vpshufd $0x4e,%zmm1,%zmm2
+	vpaddq %zmm0,%zmm2,%zmm0
+	vpxorq (%r8,%r10,8),%zmm1,%zmm1
+	vpsrlq $0x20,%zmm1,%zmm2
+	vpmuludq %zmm2,%zmm1,%zmm1
+	vpaddq %zmm1,%zmm0,%zmm0
+.L9_11e.i4_v4:
+	vextracti64x4 $0x1,%zmm0,%ymm1
+	sub %rax,%rcx
+	cmp $0x10,%r9
+	jb .L9_155.i4_v4
+.L9_12e.i4_v4:
+	vinserti64x4 $0x1,%ymm1,%zmm0,%zmm0
 	vpsrlq $0x2f,%zmm0,%zmm1
 	vpternlogq $0x96,0x80(%r8),%zmm0,%zmm1
 	vpmullq .L63_8.i4_v4(%rip){1to8},%zmm1,%zmm0
 	vextracti64x4 $0x1,%zmm0,%ymm1
-	xor %esi,%esi
-	vinserti64x4 $0x1,%ymm1,%zmm0,%zmm2
-	add $0x40,%r10
-	dec %r9
-	je .L9_c7.i4_v4
-.L9_72.i4_v4:
-	prefetcht0 0x140(%r10)
-	vmovdqu64 (%r10),%zmm0
-	vpshufd $0x4e,%zmm0,%zmm1
-	vpxorq (%r8,%rsi,8),%zmm0,%zmm0
-	vpaddq %zmm2,%zmm1,%zmm1
-	vpsrlq $0x20,%zmm0,%zmm2
-	vpmuludq %zmm2,%zmm0,%zmm0
-	vpaddq %zmm0,%zmm1,%zmm0
-	inc %rsi
-	cmp $0x10,%rsi
-	je .L9_40.i4_v4
-	vextracti64x4 $0x1,%zmm0,%ymm1
-	vinserti64x4 $0x1,%ymm1,%zmm0,%zmm2
-	add $0x40,%r10
-	dec %r9
-	jne .L9_72.i4_v4
-.L9_c7.i4_v4:
+.L9_155.i4_v4:
 	mov %rcx,%rsi
 	shr $0xa,%rsi
 	vinserti64x4 $0x1,%ymm1,%zmm0,%zmm17
-	je .L9_4e7.i4_v4
+	je .L9_577.i4_v4
 	vmovdqu64 0x80(%r8),%zmm0
 	vmovdqu64 (%r8),%zmm1
 	vmovdqu64 0x8(%r8),%zmm2
@@ -1716,8 +1755,8 @@ twox_core.xxhash3.stripes.take_widened.i4_v4:
 	vmovdqu64 0x78(%r8),%zmm16
 	lea 0x3c0(%rdx),%r9
 	mov %rdx,%r10
-	.byte 102,102,46,15,31,132,0,0,0,0,0
-.L9_190.i4_v4:
+	.byte 102,102,102,102,46,15,31,132,0,0,0,0,0
+.L9_220.i4_v4:
 	prefetcht0 0x400(%rax,%r10,1)
 	prefetcht0 0x440(%rax,%r10,1)
 	prefetcht0 0x480(%rax,%r10,1)
@@ -1840,62 +1879,79 @@ twox_core.xxhash3.stripes.take_widened.i4_v4:
 	add $0x400,%r9
 	add $0x400,%r10
 	dec %rsi
-	jne .L9_190.i4_v4
+	jne .L9_220.i4_v4
 	vextracti64x4 $0x1,%zmm17,%ymm1
 	vmovdqa64 %ymm17,%ymm0
-.L9_4e7.i4_v4:
-	mov %ecx,%esi
-	shr $0x6,%esi
-	and $0xf,%esi
-	je .L9_5ae.i4_v4
-	add %rax,%rdx
+.L9_577.i4_v4:
+	mov %rcx,%r10
+	shr $0x6,%r10
+	mov %r10,%rsi
+	and $0xf,%rsi
+	je .L9_684.i4_v4
 	and $0xfffffffffffffc00,%rcx
-	add %rdx,%rcx
-	shl $0x6,%esi
-	xor %eax,%eax
-	xor %edx,%edx
-	jmp .L9_545.i4_v4
-	.byte 15,31,68,0,0
-.L9_510.i4_v4:
-	vpsrlq $0x2f,%zmm0,%zmm1
-	vpternlogq $0x96,0x80(%r8),%zmm0,%zmm1
-	vpmullq .L63_8.i4_v4(%rip){1to8},%zmm1,%zmm0
-	vextracti64x4 $0x1,%zmm0,%ymm1
-	xor %eax,%eax
-	vinserti64x4 $0x1,%ymm1,%zmm0,%zmm17
-	add $0x40,%rdx
-	.byte 15,31,0
-	cmp %rdx,%rsi
-	je .L9_59d.i4_v4
-.L9_545.i4_v4:
-	prefetcht0 0x140(%rcx,%rdx,1)
-	vmovdqu64 (%rcx,%rdx,1),%zmm0
+	cmp $0x1,%esi
+	jne .L9_59f.i4_v4
+	xor %r9d,%r9d
+	jmp .L9_642.i4_v4
+.L9_59f.i4_v4:
+	mov %r10d,%r11d
+	and $0xe,%r11d
+	lea (%rcx,%rax,1),%r9
+	lea (%rdx,%r9,1),%rbx
+	add $0x40,%rbx
+	xor %r9d,%r9d
+	.byte 102,102,46,15,31,132,0,0,0,0,0
+.L9_5c0.i4_v4:
+	vmovdqu64 -0x40(%rbx),%zmm0
+	vmovdqu64 (%rbx),%zmm1
+	vpshufd $0x4e,%zmm0,%zmm2
+	vpaddq %zmm17,%zmm2,%zmm2
+	vpxorq (%r8,%r9,8),%zmm0,%zmm0
+	vpsrlq $0x20,%zmm0,%zmm3
+	vpmuludq %zmm3,%zmm0,%zmm0
+	vpshufd $0x4e,%zmm1,%zmm3
+	vpaddq %zmm2,%zmm3,%zmm2
+	vpaddq %zmm0,%zmm2,%zmm0
+	vpxorq 0x8(%r8,%r9,8),%zmm1,%zmm1
+	vpsrlq $0x20,%zmm1,%zmm2
+	vpmuludq %zmm2,%zmm1,%zmm1
+	vpaddq %zmm1,%zmm0,%zmm17
+	add $0x2,%r9
+	sub $0xffffffffffffff80,%rbx
+	cmp %r9,%r11
+	jne .L9_5c0.i4_v4
+	test $0x1,%r10b
+	jne .L9_642.i4_v4
+	vextracti64x4 $0x1,%zmm17,%ymm1
+	vmovdqa64 %ymm17,%ymm0
+	.byte 144
+	jmp .L9_684.i4_v4
+.L9_642.i4_v4:
+	add %rax,%rdx
+	add %rcx,%rdx
+	mov %r9,%rax
+	shl $0x6,%rax
+	vmovdqu64 (%rdx,%rax,1),%zmm0
 	vpshufd $0x4e,%zmm0,%zmm1
-	vpxorq (%r8,%rax,8),%zmm0,%zmm0
 	vpaddq %zmm17,%zmm1,%zmm1
+	vpxorq (%r8,%r9,8),%zmm0,%zmm0
 	vpsrlq $0x20,%zmm0,%zmm2
 	vpmuludq %zmm2,%zmm0,%zmm0
 	vpaddq %zmm0,%zmm1,%zmm0
-	inc %rax
-	.byte 102,144
-	cmp $0x10,%rax
-	je .L9_510.i4_v4
 	vextracti64x4 $0x1,%zmm0,%ymm1
-	vinserti64x4 $0x1,%ymm1,%zmm0,%zmm17
-	add $0x40,%rdx
-	cmp %rdx,%rsi
-	jne .L9_545.i4_v4
-.L9_59d.i4_v4:
+.L9_684.i4_v4:
 	vmovdqu %ymm0,(%rdi)
 	vmovdqu %ymm1,0x20(%rdi)
-	mov %rax,0x40(%rdi)
-	vzeroupper
-	ret
-.L9_5ae.i4_v4:
-	xor %eax,%eax
-	vmovdqu %ymm0,(%rdi)
-	vmovdqu %ymm1,0x20(%rdi)
-	mov %rax,0x40(%rdi)
+	mov %rsi,0x40(%rdi)
+	pop %rbx
+	.cfi_def_cfa_offset 24
+	.cfi_restore 3
+	pop %r14
+	.cfi_def_cfa_offset 16
+	.cfi_restore 14
+	pop %r15
+	.cfi_def_cfa_offset 8
+	.cfi_restore 15
 	vzeroupper
 	ret
 	.cfi_endproc
@@ -1976,14 +2032,14 @@ twox_core.xxhash3.stripes.take_many_stripes.i4_v4:
 	mov %ecx,%esi
 	and $0x7f00,%esi
 	test %r10d,%r10d
-	je .L10_327.i4_v4
+	je .L10_332.i4_v4
 	shr $0x6,%r10d
 	jmp .L10_12d.i4_v4
 	.byte 15,31,0
 .L10_120.i4_v4:
 	add $0x40,%rdx
 	dec %r10
-	je .L10_327.i4_v4
+	je .L10_332.i4_v4
 .L10_12d.i4_v4:
 	prefetcht0 0x140(%rdx)
 	vmovdqu (%rdx),%ymm2
@@ -2020,67 +2076,70 @@ twox_core.xxhash3.stripes.take_many_stripes.i4_v4:
 	xor %edi,%edi
 	jmp .L10_120.i4_v4
 .L10_1d1.i4_v4:
+	mov 0xe0(%rsp),%rax
 	vmovups (%rsi),%ymm0
 	vmovups 0x20(%rsi),%ymm1
 	vmovups %ymm1,0x110(%rsp)
 	vmovups %ymm0,0xf0(%rsp)
-	mov 0xe0(%rsp),%rax
-	vxorps %xmm0,%xmm0,%xmm0
-	vmovups %ymm0,0x140(%rsp)
-	vmovups %ymm0,0x160(%rsp)
-	vmovups %ymm0,0x190(%rsp)
-	vmovups %ymm0,0x1b0(%rsp)
-	vmovups %ymm0,0x1d0(%rsp)
-	vmovups %ymm0,0x1f0(%rsp)
-	movq $0x0,0x180(%rsp)
-	movq $0x0,0x210(%rsp)
 	mov %rax,0x130(%rsp)
 	neg %eax
 	and $0xf,%eax
 	shl $0x6,%eax
 	lea (%rdx,%rax,1),%rbp
+	vxorps %xmm0,%xmm0,%xmm0
+	vmovups %ymm0,0x1d0(%rsp)
 	sub %rax,%rcx
+	vmovups %ymm0,0x1f0(%rsp)
+	movq $0x0,0x210(%rsp)
 	lea 0x1d0(%rsp),%rdi
 	lea 0xf0(%rsp),%rsi
-	mov %rcx,%r12
+	mov %rcx,%r15
 	mov %rax,%rcx
-	mov %r8,%r15
-	mov %r9,%r13
+	mov %r8,%r14
+	mov %r9,%r12
 	vzeroupper
 	call twox_core.xxhash3.stripes.take_stripes.i4_v4
-	mov %r12,%rcx
+	mov %r15,%rcx
 	and $0xfffffffffffffc00,%rcx
-	lea (%rcx,%rbp,1),%r14
-	and $0x3ff,%r12d
+	lea (%rcx,%rbp,1),%r13
+	and $0x3ff,%r15d
+	vxorps %xmm0,%xmm0,%xmm0
+	vmovups %ymm0,0x190(%rsp)
+	vmovups %ymm0,0x1b0(%rsp)
 	lea 0x190(%rsp),%rdi
 	lea 0x1d0(%rsp),%rsi
 	mov %rbp,%rdx
-	mov %r15,%r8
-	mov %r13,%r9
+	mov %r14,%r8
+	mov %r12,%r9
+	vzeroupper
 	call twox_core.xxhash3.stripes.blocks.take_many_blocks.i4_v4
-	vmovups 0x1b0(%rsp),%ymm0
-	vmovups %ymm0,0x110(%rsp)
 	vmovups 0x190(%rsp),%ymm0
+	vmovups 0x1b0(%rsp),%ymm1
+	vmovups %ymm1,0x110(%rsp)
 	vmovups %ymm0,0xf0(%rsp)
+	vxorps %xmm0,%xmm0,%xmm0
+	vmovups %ymm0,0x140(%rsp)
 	movq $0x0,0x130(%rsp)
+	vmovups %ymm0,0x160(%rsp)
+	movq $0x0,0x180(%rsp)
 	lea 0x140(%rsp),%rdi
 	lea 0xf0(%rsp),%rsi
-	mov %r14,%rdx
-	mov %r12,%rcx
-	mov %r15,%r8
-	mov %r13,%r9
+	mov %r13,%rdx
+	mov %r15,%rcx
+	mov %r14,%r8
+	mov %r12,%r9
 	vzeroupper
 	call twox_core.xxhash3.stripes.take_stripes.i4_v4
 	vmovdqu 0x140(%rsp),%ymm1
 	vmovdqu 0x160(%rsp),%ymm0
 	mov 0x180(%rsp),%rdi
 	jmp .L10_6e2.i4_v4
-.L10_327.i4_v4:
+.L10_332.i4_v4:
 	add %r9,%rsi
 	mov %rcx,%rdx
 	shr $0x8,%rdx
 	jmp .L10_350.i4_v4
-	.byte 102,102,102,102,46,15,31,132,0,0,0,0,0
+	.byte 102,144
 .L10_340.i4_v4:
 	add $0x100,%r9
 	dec %rdx
