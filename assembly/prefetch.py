@@ -30,10 +30,13 @@ EVERYWHERE = [
 # By the processor that a module is for. In few blocks a prefetch costs at x86-64-v2 what it has to gain.
 IN_MANY_BLOCKS = Place(BLOCKS + 'process_block', FOUR_STRIPES, 2, 4, BYTES_OF_MANY, within=BLOCKS + 'take_many_blocks')
 IN_BLOCKS = Place(BLOCKS + 'process_block', FOUR_STRIPES, 2, 4, BYTES_OF_MANY, apart=True)
+# By eight lanes: the stripes around whole blocks, and as a one-shot's last.
+IN_PARTS_OF_BLOCKS = Place('xxhash3::stripes::within::accumulate_within', ['lanes8::ImplVector::accumulate'], 2, 1,
+                           BYTES_OF_SINGLE_STRIPES, within='xxhash3::stripes::take_widened')
 PLACES = {
     'x86-64': [*EVERYWHERE, IN_MANY_BLOCKS],
     'x86-64-v2': [*EVERYWHERE, IN_MANY_BLOCKS],
-    'x86-64-v3': [*EVERYWHERE, IN_BLOCKS],
+    'x86-64-v3': [*EVERYWHERE, IN_BLOCKS, IN_PARTS_OF_BLOCKS],
     'generic': [*EVERYWHERE, IN_MANY_BLOCKS],
     'lime1': [],  # WebAssembly has no prefetch
 }

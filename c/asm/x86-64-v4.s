@@ -925,43 +925,46 @@ twox_core.width_64.oneshot_widened:
 	cmovae %rcx,%r8
 	add %rdx,%r8
 	shr $0x6,%r8
-	je .L6_545
+	je .L6_564
 	cmp $0x1,%r8
 	jne .L6_47f
 	xor %ecx,%ecx
-	jmp .L6_506
+	jmp .L6_51c
 .L6_47f:
 	mov %r8,%r9
 	and $0xfffffffffffffffe,%r9
 	lea (%rax,%rsi,1),%r10
-	add $0x40,%r10
+	add $0x180,%r10
 	xor %ecx,%ecx
-.L6_490:
-	vmovdqu64 -0x40(%r10),%zmm0
-	vmovdqu64 (%r10),%zmm1
-	vpshufd $0x4e,%zmm0,%zmm2
-	vpaddq %zmm17,%zmm2,%zmm2
+	.byte 102,102,102,102,46,15,31,132,0,0,0,0,0
+.L6_4a0:
+	prefetcht0 -0x40(%r10)
+	vmovdqu64 -0x180(%r10),%zmm0
+	vpshufd $0x4e,%zmm0,%zmm1
+	vpaddq %zmm17,%zmm1,%zmm1
 	vpxorq (%rdi,%rcx,8),%zmm0,%zmm0
-	vpsrlq $0x20,%zmm0,%zmm3
-	vpmuludq %zmm3,%zmm0,%zmm0
-	vpshufd $0x4e,%zmm1,%zmm3
-	vpaddq %zmm2,%zmm3,%zmm2
-	vpaddq %zmm0,%zmm2,%zmm0
-	vpxorq 0x8(%rdi,%rcx,8),%zmm1,%zmm1
+	vpsrlq $0x20,%zmm0,%zmm2
+	vpmuludq %zmm2,%zmm0,%zmm0
+	vmovdqu64 -0x140(%r10),%zmm2
+	prefetcht0 (%r10)
+	vpshufd $0x4e,%zmm2,%zmm3
+	vpaddq %zmm1,%zmm3,%zmm1
+	vpaddq %zmm0,%zmm1,%zmm0
+	vpxorq 0x8(%rdi,%rcx,8),%zmm2,%zmm1
 	vpsrlq $0x20,%zmm1,%zmm2
 	vpmuludq %zmm2,%zmm1,%zmm1
 	vpaddq %zmm1,%zmm0,%zmm17
 	add $0x2,%rcx
 	sub $0xffffffffffffff80,%r10
 	cmp %rcx,%r9
-	jne .L6_490
-	.byte 15,31,64,0
+	jne .L6_4a0
 	test $0x1,%r8b
-	je .L6_53e
-.L6_506:
+	je .L6_55d
+.L6_51c:
 	add %rsi,%rax
 	mov %rcx,%r8
 	shl $0x6,%r8
+	prefetcht0 0x140(%rax,%r8,1)
 	vmovdqu64 (%rax,%r8,1),%zmm0
 	vpshufd $0x4e,%zmm0,%zmm1
 	vpaddq %zmm17,%zmm1,%zmm1
@@ -969,9 +972,9 @@ twox_core.width_64.oneshot_widened:
 	vpsrlq $0x20,%zmm0,%zmm2
 	vpmuludq %zmm2,%zmm0,%zmm0
 	vpaddq %zmm0,%zmm1,%zmm17
-.L6_53e:
+.L6_55d:
 	vextracti64x4 $0x1,%zmm17,%ymm0
-.L6_545:
+.L6_564:
 	vmovdqu64 -0x40(%rsi,%rdx,1),%zmm1
 	vinserti64x4 $0x1,%ymm0,%zmm17,%zmm0
 	vpshufd $0x4e,%zmm1,%zmm2
@@ -1065,30 +1068,32 @@ twox_core.xxhash3.stripes.take_widened:
 	cmp $0x40,%eax
 	jne .L7_4f
 	xor %esi,%esi
-	jmp .L7_e6
+	jmp .L7_ec
 .L7_35:
 	vmovdqu 0x20(%rsi),%ymm1
 	sub %rax,%rcx
 	.byte 15,31,0
 	cmp $0x10,%r9
-	jae .L7_12e
-	jmp .L7_155
+	jae .L7_13d
+	jmp .L7_164
 .L7_4f:
 	mov %r11d,%ebx
 	and $0xfffffffe,%ebx
-	lea 0x40(%rdx),%r14
+	lea 0x180(%rdx),%r14
 	lea (%r8,%r10,8),%r15
 	add $0x8,%r15
 	xor %esi,%esi
-	.byte 102,102,102,102,46,15,31,132,0,0,0,0,0
+	.byte 102,46,15,31,132,0,0,0,0,0
 .L7_70:
-	vmovdqu64 -0x40(%r14),%zmm1
-	vmovdqu64 (%r14),%zmm2
-	vpshufd $0x4e,%zmm1,%zmm3
-	vpaddq %zmm0,%zmm3,%zmm0
+	prefetcht0 -0x40(%r14)
+	vmovdqu64 -0x180(%r14),%zmm1
+	vpshufd $0x4e,%zmm1,%zmm2
+	vpaddq %zmm0,%zmm2,%zmm0
 	vpxorq -0x8(%r15,%rsi,8),%zmm1,%zmm1
-	vpsrlq $0x20,%zmm1,%zmm3
-	vpmuludq %zmm3,%zmm1,%zmm1
+	vpsrlq $0x20,%zmm1,%zmm2
+	vpmuludq %zmm2,%zmm1,%zmm1
+	vmovdqu64 -0x140(%r14),%zmm2
+	prefetcht0 (%r14)
 	vpshufd $0x4e,%zmm2,%zmm3
 	vpaddq %zmm0,%zmm3,%zmm0
 	vpaddq %zmm1,%zmm0,%zmm0
@@ -1100,13 +1105,13 @@ twox_core.xxhash3.stripes.take_widened:
 	sub $0xffffffffffffff80,%r14
 	cmp %rsi,%rbx
 	jne .L7_70
-	.byte 15,31,64,0
 	test $0x1,%r11b
-	je .L7_11e
-.L7_e6:
+	je .L7_12d
+.L7_ec:
 	mov %rsi,%r11
 	shl $0x6,%r11
 	add %rsi,%r10
+	prefetcht0 0x140(%rdx,%r11,1)
 	vmovdqu64 (%rdx,%r11,1),%zmm1
 	vpshufd $0x4e,%zmm1,%zmm2
 	vpaddq %zmm0,%zmm2,%zmm0
@@ -1114,22 +1119,22 @@ twox_core.xxhash3.stripes.take_widened:
 	vpsrlq $0x20,%zmm1,%zmm2
 	vpmuludq %zmm2,%zmm1,%zmm1
 	vpaddq %zmm1,%zmm0,%zmm0
-.L7_11e:
+.L7_12d:
 	vextracti64x4 $0x1,%zmm0,%ymm1
 	sub %rax,%rcx
 	cmp $0x10,%r9
-	jb .L7_155
-.L7_12e:
+	jb .L7_164
+.L7_13d:
 	vinserti64x4 $0x1,%ymm1,%zmm0,%zmm0
 	vpsrlq $0x2f,%zmm0,%zmm1
 	vpternlogq $0x96,0x80(%r8),%zmm0,%zmm1
 	vpmullq .L96_8(%rip){1to8},%zmm1,%zmm0
 	vextracti64x4 $0x1,%zmm0,%ymm1
-.L7_155:
+.L7_164:
 	mov %rcx,%rsi
 	shr $0xa,%rsi
 	vinserti64x4 $0x1,%ymm1,%zmm0,%zmm17
-	je .L7_577
+	je .L7_587
 	vmovdqu64 0x80(%r8),%zmm0
 	vmovdqu64 (%r8),%zmm1
 	vmovdqu64 0x8(%r8),%zmm2
@@ -1149,8 +1154,8 @@ twox_core.xxhash3.stripes.take_widened:
 	vmovdqu64 0x78(%r8),%zmm16
 	lea 0x3c0(%rdx),%r9
 	mov %rdx,%r10
-	.byte 102,102,102,102,46,15,31,132,0,0,0,0,0
-.L7_220:
+	.byte 102,102,102,102,102,46,15,31,132,0,0,0,0,0
+.L7_230:
 	prefetcht0 0x400(%rax,%r10,1)
 	prefetcht0 0x440(%rax,%r10,1)
 	prefetcht0 0x480(%rax,%r10,1)
@@ -1273,58 +1278,61 @@ twox_core.xxhash3.stripes.take_widened:
 	add $0x400,%r9
 	add $0x400,%r10
 	dec %rsi
-	jne .L7_220
+	jne .L7_230
 	vextracti64x4 $0x1,%zmm17,%ymm1
 	vmovdqa64 %ymm17,%ymm0
-.L7_577:
+.L7_587:
 	mov %rcx,%r10
 	shr $0x6,%r10
 	mov %r10,%rsi
 	and $0xf,%rsi
-	je .L7_684
+	je .L7_6a4
 	and $0xfffffffffffffc00,%rcx
 	cmp $0x1,%esi
-	jne .L7_59f
+	jne .L7_5af
 	xor %r9d,%r9d
-	jmp .L7_642
-.L7_59f:
+	jmp .L7_65a
+.L7_5af:
 	mov %r10d,%r11d
 	and $0xe,%r11d
 	lea (%rcx,%rax,1),%r9
 	lea (%rdx,%r9,1),%rbx
-	add $0x40,%rbx
+	add $0x180,%rbx
 	xor %r9d,%r9d
-	.byte 102,102,46,15,31,132,0,0,0,0,0
-.L7_5c0:
-	vmovdqu64 -0x40(%rbx),%zmm0
-	vmovdqu64 (%rbx),%zmm1
-	vpshufd $0x4e,%zmm0,%zmm2
-	vpaddq %zmm17,%zmm2,%zmm2
+	.byte 15,31,132,0,0,0,0,0
+.L7_5d0:
+	prefetcht0 -0x40(%rbx)
+	vmovdqu64 -0x180(%rbx),%zmm0
+	vpshufd $0x4e,%zmm0,%zmm1
+	vpaddq %zmm17,%zmm1,%zmm1
 	vpxorq (%r8,%r9,8),%zmm0,%zmm0
-	vpsrlq $0x20,%zmm0,%zmm3
-	vpmuludq %zmm3,%zmm0,%zmm0
-	vpshufd $0x4e,%zmm1,%zmm3
-	vpaddq %zmm2,%zmm3,%zmm2
-	vpaddq %zmm0,%zmm2,%zmm0
-	vpxorq 0x8(%r8,%r9,8),%zmm1,%zmm1
+	vpsrlq $0x20,%zmm0,%zmm2
+	vpmuludq %zmm2,%zmm0,%zmm0
+	vmovdqu64 -0x140(%rbx),%zmm2
+	prefetcht0 (%rbx)
+	vpshufd $0x4e,%zmm2,%zmm3
+	vpaddq %zmm1,%zmm3,%zmm1
+	vpaddq %zmm0,%zmm1,%zmm0
+	vpxorq 0x8(%r8,%r9,8),%zmm2,%zmm1
 	vpsrlq $0x20,%zmm1,%zmm2
 	vpmuludq %zmm2,%zmm1,%zmm1
 	vpaddq %zmm1,%zmm0,%zmm17
 	add $0x2,%r9
 	sub $0xffffffffffffff80,%rbx
+	.byte 144
 	cmp %r9,%r11
-	jne .L7_5c0
+	jne .L7_5d0
 	test $0x1,%r10b
-	jne .L7_642
+	jne .L7_65a
 	vextracti64x4 $0x1,%zmm17,%ymm1
 	vmovdqa64 %ymm17,%ymm0
-	.byte 144
-	jmp .L7_684
-.L7_642:
+	jmp .L7_6a4
+.L7_65a:
 	add %rax,%rdx
 	add %rcx,%rdx
 	mov %r9,%rax
 	shl $0x6,%rax
+	prefetcht0 0x140(%rdx,%rax,1)
 	vmovdqu64 (%rdx,%rax,1),%zmm0
 	vpshufd $0x4e,%zmm0,%zmm1
 	vpaddq %zmm17,%zmm1,%zmm1
@@ -1333,7 +1341,7 @@ twox_core.xxhash3.stripes.take_widened:
 	vpmuludq %zmm2,%zmm0,%zmm0
 	vpaddq %zmm0,%zmm1,%zmm0
 	vextracti64x4 $0x1,%zmm0,%ymm1
-.L7_684:
+.L7_6a4:
 	vmovdqu %ymm0,(%rdi)
 	vmovdqu %ymm1,0x20(%rdi)
 	mov %rsi,0x40(%rdi)
@@ -4119,13 +4127,13 @@ twox_core.width_128.oneshot_widened:
 	sete %r10b
 	or %r9b,%r10b
 	je .L21_4b
-	vmovdqa64 .L93_40(%rip),%zmm3
+	vmovdqa64 .L93_40(%rip),%zmm2
 	vmovdqa .L95_260(%rip),%ymm5
 	jmp .L21_450
 .L21_4b:
 	vmovdqu64 0x80(%rdi),%zmm0
 	vmovdqu64 (%rdi),%zmm1
-	vmovdqu64 0x8(%rdi),%zmm2
+	vmovdqu64 0x8(%rdi),%zmm3
 	vmovdqu64 0x10(%rdi),%zmm4
 	vmovdqu64 0x18(%rdi),%zmm5
 	vmovdqu64 0x20(%rdi),%zmm6
@@ -4140,7 +4148,7 @@ twox_core.width_128.oneshot_widened:
 	vmovdqu64 0x68(%rdi),%zmm15
 	vmovdqu64 0x70(%rdi),%zmm16
 	vmovdqu64 0x78(%rdi),%zmm17
-	vmovdqa64 .L93_40(%rip),%zmm3
+	vmovdqa64 .L93_40(%rip),%zmm2
 	xor %r9d,%r9d
 	.byte 15,31,132,0,0,0,0,0
 .L21_100:
@@ -4155,15 +4163,15 @@ twox_core.width_128.oneshot_widened:
 	vpxorq %zmm18,%zmm1,%zmm22
 	vpsrlq $0x20,%zmm22,%zmm23
 	vpmuludq %zmm23,%zmm22,%zmm22
-	vpaddq %zmm3,%zmm22,%zmm3
-	vpxorq %zmm19,%zmm2,%zmm22
+	vpaddq %zmm2,%zmm22,%zmm2
+	vpxorq %zmm19,%zmm3,%zmm22
 	vpsrlq $0x20,%zmm22,%zmm23
 	vpmuludq %zmm23,%zmm22,%zmm22
 	vpxorq %zmm20,%zmm4,%zmm23
 	vpsrlq $0x20,%zmm23,%zmm24
 	vpmuludq %zmm24,%zmm23,%zmm23
 	vpaddq %zmm23,%zmm22,%zmm22
-	vpaddq %zmm22,%zmm3,%zmm3
+	vpaddq %zmm22,%zmm2,%zmm2
 	vpxorq %zmm21,%zmm5,%zmm22
 	vpsrlq $0x20,%zmm22,%zmm23
 	vpmuludq %zmm23,%zmm22,%zmm22
@@ -4184,7 +4192,7 @@ twox_core.width_128.oneshot_widened:
 	vpsrlq $0x20,%zmm23,%zmm24
 	vpmuludq %zmm24,%zmm23,%zmm23
 	vpaddq %zmm18,%zmm23,%zmm18
-	vpaddq %zmm3,%zmm18,%zmm3
+	vpaddq %zmm2,%zmm18,%zmm2
 	vpxorq %zmm20,%zmm7,%zmm18
 	vpsrlq $0x20,%zmm18,%zmm23
 	vpmuludq %zmm23,%zmm18,%zmm18
@@ -4201,7 +4209,7 @@ twox_core.width_128.oneshot_widened:
 	vpshufd $0x4e,%zmm19,%zmm19
 	vpaddq %zmm19,%zmm18,%zmm18
 	vpaddq %zmm23,%zmm18,%zmm18
-	vpaddq %zmm18,%zmm3,%zmm3
+	vpaddq %zmm18,%zmm2,%zmm2
 	prefetcht0 0x600(%rsi,%r9,1)
 	prefetcht0 0x640(%rsi,%r9,1)
 	prefetcht0 0x680(%rsi,%r9,1)
@@ -4230,7 +4238,7 @@ twox_core.width_128.oneshot_widened:
 	vpshufd $0x4e,%zmm18,%zmm18
 	vpaddq %zmm18,%zmm22,%zmm18
 	vpaddq %zmm23,%zmm18,%zmm18
-	vpaddq %zmm3,%zmm18,%zmm3
+	vpaddq %zmm2,%zmm18,%zmm2
 	prefetcht0 0x700(%rsi,%r9,1)
 	prefetcht0 0x740(%rsi,%r9,1)
 	prefetcht0 0x780(%rsi,%r9,1)
@@ -4259,15 +4267,15 @@ twox_core.width_128.oneshot_widened:
 	vpshufd $0x4e,%zmm18,%zmm18
 	vpaddq %zmm18,%zmm22,%zmm18
 	vpaddq %zmm23,%zmm18,%zmm18
-	vpaddq %zmm3,%zmm18,%zmm3
-	vpsrlq $0x2f,%zmm3,%zmm18
-	vpternlogq $0x96,%zmm0,%zmm3,%zmm18
-	vpmullq .L96_50(%rip){1to8},%zmm18,%zmm3
+	vpaddq %zmm2,%zmm18,%zmm2
+	vpsrlq $0x2f,%zmm2,%zmm18
+	vpternlogq $0x96,%zmm0,%zmm2,%zmm18
+	vpmullq .L96_50(%rip){1to8},%zmm18,%zmm2
 	add $0x400,%r9
 	.byte 102,15,31,68,0,0
 	dec %r8
 	jne .L21_100
-	vextracti64x4 $0x1,%zmm3,%ymm5
+	vextracti64x4 $0x1,%zmm2,%ymm5
 .L21_450:
 	cmp $0x401,%rcx
 	not %rdx
@@ -4275,53 +4283,56 @@ twox_core.width_128.oneshot_widened:
 	cmovae %rdx,%r8
 	add %rcx,%r8
 	shr $0x6,%r8
-	je .L21_545
+	je .L21_564
 	cmp $0x1,%r8
 	jne .L21_47f
 	xor %edx,%edx
-	jmp .L21_506
+	jmp .L21_51c
 .L21_47f:
 	mov %r8,%r9
 	and $0xfffffffffffffffe,%r9
 	lea (%rax,%rsi,1),%r10
-	add $0x40,%r10
+	add $0x180,%r10
 	xor %edx,%edx
-.L21_490:
-	vmovdqu64 -0x40(%r10),%zmm0
-	vmovdqu64 (%r10),%zmm1
-	vpshufd $0x4e,%zmm0,%zmm2
-	vpaddq %zmm3,%zmm2,%zmm2
-	vpxorq (%rdi,%rdx,8),%zmm0,%zmm0
-	vpsrlq $0x20,%zmm0,%zmm3
-	vpmuludq %zmm3,%zmm0,%zmm0
-	vpshufd $0x4e,%zmm1,%zmm3
-	vpaddq %zmm2,%zmm3,%zmm2
-	vpaddq %zmm0,%zmm2,%zmm0
-	vpxorq 0x8(%rdi,%rdx,8),%zmm1,%zmm1
-	vpsrlq $0x20,%zmm1,%zmm2
-	vpmuludq %zmm2,%zmm1,%zmm1
-	vpaddq %zmm1,%zmm0,%zmm3
-	add $0x2,%rdx
-	sub $0xffffffffffffff80,%r10
-	cmp %rdx,%r9
-	jne .L21_490
-	.byte 15,31,64,0
-	test $0x1,%r8b
-	je .L21_53e
-.L21_506:
-	add %rsi,%rax
-	mov %rdx,%r8
-	shl $0x6,%r8
-	vmovdqu64 (%rax,%r8,1),%zmm0
+	.byte 102,102,102,102,46,15,31,132,0,0,0,0,0
+.L21_4a0:
+	prefetcht0 -0x40(%r10)
+	vmovdqu64 -0x180(%r10),%zmm0
 	vpshufd $0x4e,%zmm0,%zmm1
-	vpaddq %zmm3,%zmm1,%zmm1
+	vpaddq %zmm2,%zmm1,%zmm1
 	vpxorq (%rdi,%rdx,8),%zmm0,%zmm0
 	vpsrlq $0x20,%zmm0,%zmm2
 	vpmuludq %zmm2,%zmm0,%zmm0
-	vpaddq %zmm0,%zmm1,%zmm3
-.L21_53e:
-	vextracti64x4 $0x1,%zmm3,%ymm5
-.L21_545:
+	vmovdqu64 -0x140(%r10),%zmm2
+	prefetcht0 (%r10)
+	vpshufd $0x4e,%zmm2,%zmm3
+	vpaddq %zmm1,%zmm3,%zmm1
+	vpaddq %zmm0,%zmm1,%zmm0
+	vpxorq 0x8(%rdi,%rdx,8),%zmm2,%zmm1
+	vpsrlq $0x20,%zmm1,%zmm2
+	vpmuludq %zmm2,%zmm1,%zmm1
+	vpaddq %zmm1,%zmm0,%zmm2
+	add $0x2,%rdx
+	sub $0xffffffffffffff80,%r10
+	cmp %rdx,%r9
+	jne .L21_4a0
+	test $0x1,%r8b
+	je .L21_55d
+.L21_51c:
+	add %rsi,%rax
+	mov %rdx,%r8
+	shl $0x6,%r8
+	prefetcht0 0x140(%rax,%r8,1)
+	vmovdqu64 (%rax,%r8,1),%zmm0
+	vpshufd $0x4e,%zmm0,%zmm1
+	vpaddq %zmm2,%zmm1,%zmm1
+	vpxorq (%rdi,%rdx,8),%zmm0,%zmm0
+	vpsrlq $0x20,%zmm0,%zmm2
+	vpmuludq %zmm2,%zmm0,%zmm0
+	vpaddq %zmm0,%zmm1,%zmm2
+.L21_55d:
+	vextracti64x4 $0x1,%zmm2,%ymm5
+.L21_564:
 	vmovdqu64 -0x40(%rsi,%rcx,1),%zmm6
 	vmovdqa .L97_0(%rip),%xmm1
 	vpbroadcastq 0x91(%rdi),%xmm0
@@ -4330,26 +4341,26 @@ twox_core.width_128.oneshot_widened:
 	vmovdqa .L97_10(%rip),%xmm1
 	vpbroadcastq 0xa1(%rdi),%xmm8
 	vpermi2d %zmm7,%zmm8,%zmm1
-	vmovdqa .L97_20(%rip),%xmm2
+	vmovdqa .L97_20(%rip),%xmm3
 	vmovdqa .L97_30(%rip),%xmm4
 	vpbroadcastq 0xb1(%rdi),%xmm9
-	vpermi2d %zmm8,%zmm7,%zmm2
+	vpermi2d %zmm8,%zmm7,%zmm3
 	vpermi2d %zmm9,%zmm7,%zmm4
-	vinserti64x4 $0x1,%ymm5,%zmm3,%zmm3
+	vinserti64x4 $0x1,%ymm5,%zmm2,%zmm2
 	vpshufd $0x4e,%zmm6,%zmm5
-	vpaddq %zmm3,%zmm5,%zmm3
+	vpaddq %zmm2,%zmm5,%zmm2
 	vpxorq %zmm6,%zmm7,%zmm5
 	vpsrlq $0x20,%zmm5,%zmm6
 	vpmuludq %zmm6,%zmm5,%zmm5
-	vpaddq %zmm5,%zmm3,%zmm6
+	vpaddq %zmm5,%zmm2,%zmm6
 	movabs $0x9e3779b185ebca87,%r9
 	vpxor 0xb(%rdi),%ymm6,%ymm8
 	imul %rcx,%r9
 	vextracti64x4 $0x1,%zmm6,%ymm5
 	vpxor 0x2b(%rdi),%ymm5,%ymm9
-	vmovdqa .L95_280(%rip),%ymm3
+	vmovdqa .L95_280(%rip),%ymm2
 	vmovdqa %ymm8,%ymm7
-	vpermt2q %ymm9,%ymm3,%ymm7
+	vpermt2q %ymm9,%ymm2,%ymm7
 	vmovq %xmm7,%rax
 	vpextrq $0x1,%xmm7,%rsi
 	vextracti128 $0x1,%ymm7,%xmm7
@@ -4396,14 +4407,14 @@ twox_core.width_128.oneshot_widened:
 	imul %rcx,%r9
 	not %r9
 	vpxor 0x75(%rdi),%ymm6,%ymm6
-	vinserti128 $0x1,%xmm4,%ymm2,%ymm2
+	vinserti128 $0x1,%xmm4,%ymm3,%ymm3
 	vinserti128 $0x1,%xmm1,%ymm0,%ymm0
-	vpunpcklqdq %ymm2,%ymm0,%ymm0
+	vpunpcklqdq %ymm3,%ymm0,%ymm0
 	vpxor %ymm0,%ymm5,%ymm0
-	vpermi2q %ymm0,%ymm6,%ymm3
-	vmovq %xmm3,%rcx
-	vpextrq $0x1,%xmm3,%rsi
-	vextracti128 $0x1,%ymm3,%xmm1
+	vpermi2q %ymm0,%ymm6,%ymm2
+	vmovq %xmm2,%rcx
+	vpextrq $0x1,%xmm2,%rsi
+	vextracti128 $0x1,%ymm2,%xmm1
 	vmovq %xmm1,%rdi
 	vpextrq $0x1,%xmm1,%rdx
 	vpermt2q %ymm0,%ymm7,%ymm6

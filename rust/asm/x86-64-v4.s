@@ -1308,13 +1308,13 @@ twox_core.width_128.oneshot_widened.i4_v4:
 	sete %r10b
 	or %r9b,%r10b
 	je .L8_4b.i4_v4
-	vmovdqa64 .L60_0.i4_v4(%rip),%zmm3
+	vmovdqa64 .L60_0.i4_v4(%rip),%zmm2
 	vmovdqa .L62_40.i4_v4(%rip),%ymm5
 	jmp .L8_450.i4_v4
 .L8_4b.i4_v4:
 	vmovdqu64 0x80(%rdi),%zmm0
 	vmovdqu64 (%rdi),%zmm1
-	vmovdqu64 0x8(%rdi),%zmm2
+	vmovdqu64 0x8(%rdi),%zmm3
 	vmovdqu64 0x10(%rdi),%zmm4
 	vmovdqu64 0x18(%rdi),%zmm5
 	vmovdqu64 0x20(%rdi),%zmm6
@@ -1329,7 +1329,7 @@ twox_core.width_128.oneshot_widened.i4_v4:
 	vmovdqu64 0x68(%rdi),%zmm15
 	vmovdqu64 0x70(%rdi),%zmm16
 	vmovdqu64 0x78(%rdi),%zmm17
-	vmovdqa64 .L60_0.i4_v4(%rip),%zmm3
+	vmovdqa64 .L60_0.i4_v4(%rip),%zmm2
 	xor %r9d,%r9d
 	.byte 15,31,132,0,0,0,0,0
 .L8_100.i4_v4:
@@ -1344,15 +1344,15 @@ twox_core.width_128.oneshot_widened.i4_v4:
 	vpxorq %zmm18,%zmm1,%zmm22
 	vpsrlq $0x20,%zmm22,%zmm23
 	vpmuludq %zmm23,%zmm22,%zmm22
-	vpaddq %zmm3,%zmm22,%zmm3
-	vpxorq %zmm19,%zmm2,%zmm22
+	vpaddq %zmm2,%zmm22,%zmm2
+	vpxorq %zmm19,%zmm3,%zmm22
 	vpsrlq $0x20,%zmm22,%zmm23
 	vpmuludq %zmm23,%zmm22,%zmm22
 	vpxorq %zmm20,%zmm4,%zmm23
 	vpsrlq $0x20,%zmm23,%zmm24
 	vpmuludq %zmm24,%zmm23,%zmm23
 	vpaddq %zmm23,%zmm22,%zmm22
-	vpaddq %zmm22,%zmm3,%zmm3
+	vpaddq %zmm22,%zmm2,%zmm2
 	vpxorq %zmm21,%zmm5,%zmm22
 	vpsrlq $0x20,%zmm22,%zmm23
 	vpmuludq %zmm23,%zmm22,%zmm22
@@ -1373,7 +1373,7 @@ twox_core.width_128.oneshot_widened.i4_v4:
 	vpsrlq $0x20,%zmm23,%zmm24
 	vpmuludq %zmm24,%zmm23,%zmm23
 	vpaddq %zmm18,%zmm23,%zmm18
-	vpaddq %zmm3,%zmm18,%zmm3
+	vpaddq %zmm2,%zmm18,%zmm2
 	vpxorq %zmm20,%zmm7,%zmm18
 	vpsrlq $0x20,%zmm18,%zmm23
 	vpmuludq %zmm23,%zmm18,%zmm18
@@ -1390,7 +1390,7 @@ twox_core.width_128.oneshot_widened.i4_v4:
 	vpshufd $0x4e,%zmm19,%zmm19
 	vpaddq %zmm19,%zmm18,%zmm18
 	vpaddq %zmm23,%zmm18,%zmm18
-	vpaddq %zmm18,%zmm3,%zmm3
+	vpaddq %zmm18,%zmm2,%zmm2
 	prefetcht0 0x600(%rsi,%r9,1)
 	prefetcht0 0x640(%rsi,%r9,1)
 	prefetcht0 0x680(%rsi,%r9,1)
@@ -1419,7 +1419,7 @@ twox_core.width_128.oneshot_widened.i4_v4:
 	vpshufd $0x4e,%zmm18,%zmm18
 	vpaddq %zmm18,%zmm22,%zmm18
 	vpaddq %zmm23,%zmm18,%zmm18
-	vpaddq %zmm3,%zmm18,%zmm3
+	vpaddq %zmm2,%zmm18,%zmm2
 	prefetcht0 0x700(%rsi,%r9,1)
 	prefetcht0 0x740(%rsi,%r9,1)
 	prefetcht0 0x780(%rsi,%r9,1)
@@ -1448,15 +1448,15 @@ twox_core.width_128.oneshot_widened.i4_v4:
 	vpshufd $0x4e,%zmm18,%zmm18
 	vpaddq %zmm18,%zmm22,%zmm18
 	vpaddq %zmm23,%zmm18,%zmm18
-	vpaddq %zmm3,%zmm18,%zmm3
-	vpsrlq $0x2f,%zmm3,%zmm18
-	vpternlogq $0x96,%zmm0,%zmm3,%zmm18
-	vpmullq .L63_0.i4_v4(%rip){1to8},%zmm18,%zmm3
+	vpaddq %zmm2,%zmm18,%zmm2
+	vpsrlq $0x2f,%zmm2,%zmm18
+	vpternlogq $0x96,%zmm0,%zmm2,%zmm18
+	vpmullq .L63_0.i4_v4(%rip){1to8},%zmm18,%zmm2
 	add $0x400,%r9
 	.byte 102,15,31,68,0,0
 	dec %r8
 	jne .L8_100.i4_v4
-	vextracti64x4 $0x1,%zmm3,%ymm5
+	vextracti64x4 $0x1,%zmm2,%ymm5
 .L8_450.i4_v4:
 	cmp $0x401,%rcx
 	not %rdx
@@ -1464,53 +1464,56 @@ twox_core.width_128.oneshot_widened.i4_v4:
 	cmovae %rdx,%r8
 	add %rcx,%r8
 	shr $0x6,%r8
-	je .L8_545.i4_v4
+	je .L8_564.i4_v4
 	cmp $0x1,%r8
 	jne .L8_47f.i4_v4
 	xor %edx,%edx
-	jmp .L8_506.i4_v4
+	jmp .L8_51c.i4_v4
 .L8_47f.i4_v4:
 	mov %r8,%r9
 	and $0xfffffffffffffffe,%r9
 	lea (%rax,%rsi,1),%r10
-	add $0x40,%r10
+	add $0x180,%r10
 	xor %edx,%edx
-.L8_490.i4_v4:
-	vmovdqu64 -0x40(%r10),%zmm0
-	vmovdqu64 (%r10),%zmm1
-	vpshufd $0x4e,%zmm0,%zmm2
-	vpaddq %zmm3,%zmm2,%zmm2
-	vpxorq (%rdi,%rdx,8),%zmm0,%zmm0
-	vpsrlq $0x20,%zmm0,%zmm3
-	vpmuludq %zmm3,%zmm0,%zmm0
-	vpshufd $0x4e,%zmm1,%zmm3
-	vpaddq %zmm2,%zmm3,%zmm2
-	vpaddq %zmm0,%zmm2,%zmm0
-	vpxorq 0x8(%rdi,%rdx,8),%zmm1,%zmm1
-	vpsrlq $0x20,%zmm1,%zmm2
-	vpmuludq %zmm2,%zmm1,%zmm1
-	vpaddq %zmm1,%zmm0,%zmm3
-	add $0x2,%rdx
-	sub $0xffffffffffffff80,%r10
-	cmp %rdx,%r9
-	jne .L8_490.i4_v4
-	.byte 15,31,64,0
-	test $0x1,%r8b
-	je .L8_53e.i4_v4
-.L8_506.i4_v4:
-	add %rsi,%rax
-	mov %rdx,%r8
-	shl $0x6,%r8
-	vmovdqu64 (%rax,%r8,1),%zmm0
+	.byte 102,102,102,102,46,15,31,132,0,0,0,0,0
+.L8_4a0.i4_v4:
+	prefetcht0 -0x40(%r10)
+	vmovdqu64 -0x180(%r10),%zmm0
 	vpshufd $0x4e,%zmm0,%zmm1
-	vpaddq %zmm3,%zmm1,%zmm1
+	vpaddq %zmm2,%zmm1,%zmm1
 	vpxorq (%rdi,%rdx,8),%zmm0,%zmm0
 	vpsrlq $0x20,%zmm0,%zmm2
 	vpmuludq %zmm2,%zmm0,%zmm0
-	vpaddq %zmm0,%zmm1,%zmm3
-.L8_53e.i4_v4:
-	vextracti64x4 $0x1,%zmm3,%ymm5
-.L8_545.i4_v4:
+	vmovdqu64 -0x140(%r10),%zmm2
+	prefetcht0 (%r10)
+	vpshufd $0x4e,%zmm2,%zmm3
+	vpaddq %zmm1,%zmm3,%zmm1
+	vpaddq %zmm0,%zmm1,%zmm0
+	vpxorq 0x8(%rdi,%rdx,8),%zmm2,%zmm1
+	vpsrlq $0x20,%zmm1,%zmm2
+	vpmuludq %zmm2,%zmm1,%zmm1
+	vpaddq %zmm1,%zmm0,%zmm2
+	add $0x2,%rdx
+	sub $0xffffffffffffff80,%r10
+	cmp %rdx,%r9
+	jne .L8_4a0.i4_v4
+	test $0x1,%r8b
+	je .L8_55d.i4_v4
+.L8_51c.i4_v4:
+	add %rsi,%rax
+	mov %rdx,%r8
+	shl $0x6,%r8
+	prefetcht0 0x140(%rax,%r8,1)
+	vmovdqu64 (%rax,%r8,1),%zmm0
+	vpshufd $0x4e,%zmm0,%zmm1
+	vpaddq %zmm2,%zmm1,%zmm1
+	vpxorq (%rdi,%rdx,8),%zmm0,%zmm0
+	vpsrlq $0x20,%zmm0,%zmm2
+	vpmuludq %zmm2,%zmm0,%zmm0
+	vpaddq %zmm0,%zmm1,%zmm2
+.L8_55d.i4_v4:
+	vextracti64x4 $0x1,%zmm2,%ymm5
+.L8_564.i4_v4:
 	vmovdqu64 -0x40(%rsi,%rcx,1),%zmm6
 	vmovdqa .L64_0.i4_v4(%rip),%xmm1
 	vpbroadcastq 0x91(%rdi),%xmm0
@@ -1519,26 +1522,26 @@ twox_core.width_128.oneshot_widened.i4_v4:
 	vmovdqa .L64_10.i4_v4(%rip),%xmm1
 	vpbroadcastq 0xa1(%rdi),%xmm8
 	vpermi2d %zmm7,%zmm8,%zmm1
-	vmovdqa .L64_20.i4_v4(%rip),%xmm2
+	vmovdqa .L64_20.i4_v4(%rip),%xmm3
 	vmovdqa .L64_30.i4_v4(%rip),%xmm4
 	vpbroadcastq 0xb1(%rdi),%xmm9
-	vpermi2d %zmm8,%zmm7,%zmm2
+	vpermi2d %zmm8,%zmm7,%zmm3
 	vpermi2d %zmm9,%zmm7,%zmm4
-	vinserti64x4 $0x1,%ymm5,%zmm3,%zmm3
+	vinserti64x4 $0x1,%ymm5,%zmm2,%zmm2
 	vpshufd $0x4e,%zmm6,%zmm5
-	vpaddq %zmm3,%zmm5,%zmm3
+	vpaddq %zmm2,%zmm5,%zmm2
 	vpxorq %zmm6,%zmm7,%zmm5
 	vpsrlq $0x20,%zmm5,%zmm6
 	vpmuludq %zmm6,%zmm5,%zmm5
-	vpaddq %zmm5,%zmm3,%zmm6
+	vpaddq %zmm5,%zmm2,%zmm6
 	movabs $0x9e3779b185ebca87,%r9
 	vpxor 0xb(%rdi),%ymm6,%ymm8
 	imul %rcx,%r9
 	vextracti64x4 $0x1,%zmm6,%ymm5
 	vpxor 0x2b(%rdi),%ymm5,%ymm9
-	vmovdqa .L62_60.i4_v4(%rip),%ymm3
+	vmovdqa .L62_60.i4_v4(%rip),%ymm2
 	vmovdqa %ymm8,%ymm7
-	vpermt2q %ymm9,%ymm3,%ymm7
+	vpermt2q %ymm9,%ymm2,%ymm7
 	vmovq %xmm7,%rax
 	vpextrq $0x1,%xmm7,%rsi
 	vextracti128 $0x1,%ymm7,%xmm7
@@ -1585,14 +1588,14 @@ twox_core.width_128.oneshot_widened.i4_v4:
 	imul %rcx,%r9
 	not %r9
 	vpxor 0x75(%rdi),%ymm6,%ymm6
-	vinserti128 $0x1,%xmm4,%ymm2,%ymm2
+	vinserti128 $0x1,%xmm4,%ymm3,%ymm3
 	vinserti128 $0x1,%xmm1,%ymm0,%ymm0
-	vpunpcklqdq %ymm2,%ymm0,%ymm0
+	vpunpcklqdq %ymm3,%ymm0,%ymm0
 	vpxor %ymm0,%ymm5,%ymm0
-	vpermi2q %ymm0,%ymm6,%ymm3
-	vmovq %xmm3,%rcx
-	vpextrq $0x1,%xmm3,%rsi
-	vextracti128 $0x1,%ymm3,%xmm1
+	vpermi2q %ymm0,%ymm6,%ymm2
+	vmovq %xmm2,%rcx
+	vpextrq $0x1,%xmm2,%rsi
+	vextracti128 $0x1,%ymm2,%xmm1
 	vmovq %xmm1,%rdi
 	vpextrq $0x1,%xmm1,%rdx
 	vpermt2q %ymm0,%ymm7,%ymm6
@@ -1671,30 +1674,32 @@ twox_core.xxhash3.stripes.take_widened.i4_v4:
 	cmp $0x40,%eax
 	jne .L9_4f.i4_v4
 	xor %esi,%esi
-	jmp .L9_e6.i4_v4
+	jmp .L9_ec.i4_v4
 .L9_35.i4_v4:
 	vmovdqu 0x20(%rsi),%ymm1
 	sub %rax,%rcx
 	.byte 15,31,0
 	cmp $0x10,%r9
-	jae .L9_12e.i4_v4
-	jmp .L9_155.i4_v4
+	jae .L9_13d.i4_v4
+	jmp .L9_164.i4_v4
 .L9_4f.i4_v4:
 	mov %r11d,%ebx
 	and $0xfffffffe,%ebx
-	lea 0x40(%rdx),%r14
+	lea 0x180(%rdx),%r14
 	lea (%r8,%r10,8),%r15
 	add $0x8,%r15
 	xor %esi,%esi
-	.byte 102,102,102,102,46,15,31,132,0,0,0,0,0
+	.byte 102,46,15,31,132,0,0,0,0,0
 .L9_70.i4_v4:
-	vmovdqu64 -0x40(%r14),%zmm1
-	vmovdqu64 (%r14),%zmm2
-	vpshufd $0x4e,%zmm1,%zmm3
-	vpaddq %zmm0,%zmm3,%zmm0
+	prefetcht0 -0x40(%r14)
+	vmovdqu64 -0x180(%r14),%zmm1
+	vpshufd $0x4e,%zmm1,%zmm2
+	vpaddq %zmm0,%zmm2,%zmm0
 	vpxorq -0x8(%r15,%rsi,8),%zmm1,%zmm1
-	vpsrlq $0x20,%zmm1,%zmm3
-	vpmuludq %zmm3,%zmm1,%zmm1
+	vpsrlq $0x20,%zmm1,%zmm2
+	vpmuludq %zmm2,%zmm1,%zmm1
+	vmovdqu64 -0x140(%r14),%zmm2
+	prefetcht0 (%r14)
 	vpshufd $0x4e,%zmm2,%zmm3
 	vpaddq %zmm0,%zmm3,%zmm0
 	vpaddq %zmm1,%zmm0,%zmm0
@@ -1706,13 +1711,13 @@ twox_core.xxhash3.stripes.take_widened.i4_v4:
 	sub $0xffffffffffffff80,%r14
 	cmp %rsi,%rbx
 	jne .L9_70.i4_v4
-	.byte 15,31,64,0
 	test $0x1,%r11b
-	je .L9_11e.i4_v4
-.L9_e6.i4_v4:
+	je .L9_12d.i4_v4
+.L9_ec.i4_v4:
 	mov %rsi,%r11
 	shl $0x6,%r11
 	add %rsi,%r10
+	prefetcht0 0x140(%rdx,%r11,1)
 	vmovdqu64 (%rdx,%r11,1),%zmm1
 	vpshufd $0x4e,%zmm1,%zmm2
 	vpaddq %zmm0,%zmm2,%zmm0
@@ -1720,22 +1725,22 @@ twox_core.xxhash3.stripes.take_widened.i4_v4:
 	vpsrlq $0x20,%zmm1,%zmm2
 	vpmuludq %zmm2,%zmm1,%zmm1
 	vpaddq %zmm1,%zmm0,%zmm0
-.L9_11e.i4_v4:
+.L9_12d.i4_v4:
 	vextracti64x4 $0x1,%zmm0,%ymm1
 	sub %rax,%rcx
 	cmp $0x10,%r9
-	jb .L9_155.i4_v4
-.L9_12e.i4_v4:
+	jb .L9_164.i4_v4
+.L9_13d.i4_v4:
 	vinserti64x4 $0x1,%ymm1,%zmm0,%zmm0
 	vpsrlq $0x2f,%zmm0,%zmm1
 	vpternlogq $0x96,0x80(%r8),%zmm0,%zmm1
 	vpmullq .L63_8.i4_v4(%rip){1to8},%zmm1,%zmm0
 	vextracti64x4 $0x1,%zmm0,%ymm1
-.L9_155.i4_v4:
+.L9_164.i4_v4:
 	mov %rcx,%rsi
 	shr $0xa,%rsi
 	vinserti64x4 $0x1,%ymm1,%zmm0,%zmm17
-	je .L9_577.i4_v4
+	je .L9_587.i4_v4
 	vmovdqu64 0x80(%r8),%zmm0
 	vmovdqu64 (%r8),%zmm1
 	vmovdqu64 0x8(%r8),%zmm2
@@ -1755,8 +1760,8 @@ twox_core.xxhash3.stripes.take_widened.i4_v4:
 	vmovdqu64 0x78(%r8),%zmm16
 	lea 0x3c0(%rdx),%r9
 	mov %rdx,%r10
-	.byte 102,102,102,102,46,15,31,132,0,0,0,0,0
-.L9_220.i4_v4:
+	.byte 102,102,102,102,102,46,15,31,132,0,0,0,0,0
+.L9_230.i4_v4:
 	prefetcht0 0x400(%rax,%r10,1)
 	prefetcht0 0x440(%rax,%r10,1)
 	prefetcht0 0x480(%rax,%r10,1)
@@ -1879,58 +1884,61 @@ twox_core.xxhash3.stripes.take_widened.i4_v4:
 	add $0x400,%r9
 	add $0x400,%r10
 	dec %rsi
-	jne .L9_220.i4_v4
+	jne .L9_230.i4_v4
 	vextracti64x4 $0x1,%zmm17,%ymm1
 	vmovdqa64 %ymm17,%ymm0
-.L9_577.i4_v4:
+.L9_587.i4_v4:
 	mov %rcx,%r10
 	shr $0x6,%r10
 	mov %r10,%rsi
 	and $0xf,%rsi
-	je .L9_684.i4_v4
+	je .L9_6a4.i4_v4
 	and $0xfffffffffffffc00,%rcx
 	cmp $0x1,%esi
-	jne .L9_59f.i4_v4
+	jne .L9_5af.i4_v4
 	xor %r9d,%r9d
-	jmp .L9_642.i4_v4
-.L9_59f.i4_v4:
+	jmp .L9_65a.i4_v4
+.L9_5af.i4_v4:
 	mov %r10d,%r11d
 	and $0xe,%r11d
 	lea (%rcx,%rax,1),%r9
 	lea (%rdx,%r9,1),%rbx
-	add $0x40,%rbx
+	add $0x180,%rbx
 	xor %r9d,%r9d
-	.byte 102,102,46,15,31,132,0,0,0,0,0
-.L9_5c0.i4_v4:
-	vmovdqu64 -0x40(%rbx),%zmm0
-	vmovdqu64 (%rbx),%zmm1
-	vpshufd $0x4e,%zmm0,%zmm2
-	vpaddq %zmm17,%zmm2,%zmm2
+	.byte 15,31,132,0,0,0,0,0
+.L9_5d0.i4_v4:
+	prefetcht0 -0x40(%rbx)
+	vmovdqu64 -0x180(%rbx),%zmm0
+	vpshufd $0x4e,%zmm0,%zmm1
+	vpaddq %zmm17,%zmm1,%zmm1
 	vpxorq (%r8,%r9,8),%zmm0,%zmm0
-	vpsrlq $0x20,%zmm0,%zmm3
-	vpmuludq %zmm3,%zmm0,%zmm0
-	vpshufd $0x4e,%zmm1,%zmm3
-	vpaddq %zmm2,%zmm3,%zmm2
-	vpaddq %zmm0,%zmm2,%zmm0
-	vpxorq 0x8(%r8,%r9,8),%zmm1,%zmm1
+	vpsrlq $0x20,%zmm0,%zmm2
+	vpmuludq %zmm2,%zmm0,%zmm0
+	vmovdqu64 -0x140(%rbx),%zmm2
+	prefetcht0 (%rbx)
+	vpshufd $0x4e,%zmm2,%zmm3
+	vpaddq %zmm1,%zmm3,%zmm1
+	vpaddq %zmm0,%zmm1,%zmm0
+	vpxorq 0x8(%r8,%r9,8),%zmm2,%zmm1
 	vpsrlq $0x20,%zmm1,%zmm2
 	vpmuludq %zmm2,%zmm1,%zmm1
 	vpaddq %zmm1,%zmm0,%zmm17
 	add $0x2,%r9
 	sub $0xffffffffffffff80,%rbx
+	.byte 144
 	cmp %r9,%r11
-	jne .L9_5c0.i4_v4
+	jne .L9_5d0.i4_v4
 	test $0x1,%r10b
-	jne .L9_642.i4_v4
+	jne .L9_65a.i4_v4
 	vextracti64x4 $0x1,%zmm17,%ymm1
 	vmovdqa64 %ymm17,%ymm0
-	.byte 144
-	jmp .L9_684.i4_v4
-.L9_642.i4_v4:
+	jmp .L9_6a4.i4_v4
+.L9_65a.i4_v4:
 	add %rax,%rdx
 	add %rcx,%rdx
 	mov %r9,%rax
 	shl $0x6,%rax
+	prefetcht0 0x140(%rdx,%rax,1)
 	vmovdqu64 (%rdx,%rax,1),%zmm0
 	vpshufd $0x4e,%zmm0,%zmm1
 	vpaddq %zmm17,%zmm1,%zmm1
@@ -1939,7 +1947,7 @@ twox_core.xxhash3.stripes.take_widened.i4_v4:
 	vpmuludq %zmm2,%zmm0,%zmm0
 	vpaddq %zmm0,%zmm1,%zmm0
 	vextracti64x4 $0x1,%zmm0,%ymm1
-.L9_684.i4_v4:
+.L9_6a4.i4_v4:
 	vmovdqu %ymm0,(%rdi)
 	vmovdqu %ymm1,0x20(%rdi)
 	mov %rsi,0x40(%rdi)
@@ -4861,43 +4869,46 @@ twox_core.width_64.oneshot_widened.i4_v4:
 	cmovae %rcx,%r8
 	add %rdx,%r8
 	shr $0x6,%r8
-	je .L21_545.i4_v4
+	je .L21_564.i4_v4
 	cmp $0x1,%r8
 	jne .L21_47f.i4_v4
 	xor %ecx,%ecx
-	jmp .L21_506.i4_v4
+	jmp .L21_51c.i4_v4
 .L21_47f.i4_v4:
 	mov %r8,%r9
 	and $0xfffffffffffffffe,%r9
 	lea (%rax,%rsi,1),%r10
-	add $0x40,%r10
+	add $0x180,%r10
 	xor %ecx,%ecx
-.L21_490.i4_v4:
-	vmovdqu64 -0x40(%r10),%zmm0
-	vmovdqu64 (%r10),%zmm1
-	vpshufd $0x4e,%zmm0,%zmm2
-	vpaddq %zmm17,%zmm2,%zmm2
+	.byte 102,102,102,102,46,15,31,132,0,0,0,0,0
+.L21_4a0.i4_v4:
+	prefetcht0 -0x40(%r10)
+	vmovdqu64 -0x180(%r10),%zmm0
+	vpshufd $0x4e,%zmm0,%zmm1
+	vpaddq %zmm17,%zmm1,%zmm1
 	vpxorq (%rdi,%rcx,8),%zmm0,%zmm0
-	vpsrlq $0x20,%zmm0,%zmm3
-	vpmuludq %zmm3,%zmm0,%zmm0
-	vpshufd $0x4e,%zmm1,%zmm3
-	vpaddq %zmm2,%zmm3,%zmm2
-	vpaddq %zmm0,%zmm2,%zmm0
-	vpxorq 0x8(%rdi,%rcx,8),%zmm1,%zmm1
+	vpsrlq $0x20,%zmm0,%zmm2
+	vpmuludq %zmm2,%zmm0,%zmm0
+	vmovdqu64 -0x140(%r10),%zmm2
+	prefetcht0 (%r10)
+	vpshufd $0x4e,%zmm2,%zmm3
+	vpaddq %zmm1,%zmm3,%zmm1
+	vpaddq %zmm0,%zmm1,%zmm0
+	vpxorq 0x8(%rdi,%rcx,8),%zmm2,%zmm1
 	vpsrlq $0x20,%zmm1,%zmm2
 	vpmuludq %zmm2,%zmm1,%zmm1
 	vpaddq %zmm1,%zmm0,%zmm17
 	add $0x2,%rcx
 	sub $0xffffffffffffff80,%r10
 	cmp %rcx,%r9
-	jne .L21_490.i4_v4
-	.byte 15,31,64,0
+	jne .L21_4a0.i4_v4
 	test $0x1,%r8b
-	je .L21_53e.i4_v4
-.L21_506.i4_v4:
+	je .L21_55d.i4_v4
+.L21_51c.i4_v4:
 	add %rsi,%rax
 	mov %rcx,%r8
 	shl $0x6,%r8
+	prefetcht0 0x140(%rax,%r8,1)
 	vmovdqu64 (%rax,%r8,1),%zmm0
 	vpshufd $0x4e,%zmm0,%zmm1
 	vpaddq %zmm17,%zmm1,%zmm1
@@ -4905,9 +4916,9 @@ twox_core.width_64.oneshot_widened.i4_v4:
 	vpsrlq $0x20,%zmm0,%zmm2
 	vpmuludq %zmm2,%zmm0,%zmm0
 	vpaddq %zmm0,%zmm1,%zmm17
-.L21_53e.i4_v4:
+.L21_55d.i4_v4:
 	vextracti64x4 $0x1,%zmm17,%ymm0
-.L21_545.i4_v4:
+.L21_564.i4_v4:
 	vmovdqu64 -0x40(%rsi,%rdx,1),%zmm1
 	vinserti64x4 $0x1,%ymm0,%zmm17,%zmm0
 	vpshufd $0x4e,%zmm1,%zmm2
