@@ -302,10 +302,12 @@ def plain_lines():
     return [
         of_list('three lengths of digits', X32 + b'  a\n' + GOOD + X128 + b'  a\n'),
         of_list('no line feed at the end', X64 + b'  a'),
-        # The originals tell a carriage return as it is.
-        of_list('carriage returns', X64 + b'  a\r\n' + EMPTY + b'  e\r\n', '-cw', wanted={
-            'out': b''.join(one_line(b"L:%d: Could not open or read '%s\r': No such file or directory." % row)
-                            for row in ((1, b'a'), (2, b'e'))) + b'2 listed files could not be read\n', 'err': b'', 'status': 1}),
+        # The originals take a carriage return for a part of the line.
+        of_list('carriage returns', X64 + b'  a\r\n' + EMPTY + b'  e\r\n# no\r\n\r\n' + X64 + b'  a\r', '-cw', wanted={
+            'out': b'a: OK\ne: OK\na: OK\n1 line is improperly formatted\n',
+            'err': b'L:4: Error: Improperly formatted checksum line.\n', 'status': 0}),
+        of_list('two carriage returns', X64 + b'  return\r\r\n', '-cw', wanted={
+            'out': one_line(b'return\r: OK'), 'err': b'', 'status': 0}),
         of_list('capital digits', X64.upper() + b'  a\n' + X64[:8].upper() + X64[8:] + b'  a\n'),
         of_list('a star, a letter, a NUL before the name', X64 + b' *a\n' + X64 + b' xa\n' + X64 + b' \0a\n', '-cw'),
         of_list('one space before the name', X64 + b' a\n', '-cw'),
@@ -362,7 +364,8 @@ def tagged_lines():
             b'XXH64 ((p)) = %s\n', b'XXH64 (b c) = %s\n', b'XXH64 () = %s\n', b'XXH64 (a) (b) = %s\n',
             b'XXH64 (a) = b) = %s\n'))),
         of_list('tagged lines cut short', b'X (\nX ()\nX () =\nX () = \n (a) = %s\n(a) = %s\nXXH64 (a = %s\n' % (X64, X64, X64), '-cw'),
-        of_list('tagged lines with carriage returns', b'XXH64 (a) = ' + X64 + b'\r\n', '-cw'),
+        of_list('tagged lines with carriage returns', b'XXH64 (a) = ' + X64 + b'\r\n', '-cw', wanted={
+            'out': b'a: OK\n', 'err': b'', 'status': 0}),
         of_list('a tagged line and no line feed', b'XXH64 (a) = ' + X64),
         of_list('both shapes', tagged(*tags) + GOOD),
     ]
@@ -500,6 +503,11 @@ def trees():
         Case('names of a file, by the other word', ('--filelist', '-H0', 'listed'), files=listed),
         Case('names of two files', ('--files-from', '--tag', 'listed', 'more'), files=listed),
         Case('names of the input', ('--files-from',), given=b'a\ne\n'),
+        Case('names with carriage returns', ('--files-from', 'listed'), files={'listed': b'return\r\na\r\n'}, wanted={
+            'out': b'\\' + X64 + b'  return\\r\n', 'err': one_line(b"Error: Could not open 'a\r': No such file or directory. "),
+            'status': 1}),
+        Case('an audit of a list with carriage returns', ('--audit', 'lines', 'a'), files={'lines': X64 + b'  a\r\n'}, wanted={
+            'out': b'a: same\n1 same, 0 changed, 0 moved, 0 new, 0 missing\n', 'err': b'', 'status': 0}),
         Case('names that NULs end', ('--files0-from', 'ended'), files=ended, wanted={
             'out': X64 + b'  a\n\\' + X64 + b'  line\\nfeed\n' + EMPTY + b'  e\n', 'err': b'', 'status': 0}),
         Case('an audit of names of the input, by -', ('--audit', '--files0-from', '-', 'good'), given=b'a\0', wanted={

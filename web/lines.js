@@ -33,10 +33,13 @@ export function isComment(line) {
   return line.startsWith("#");
 }
 
-/** What a line says, as the command reads it: lower-case digits, their hash and a file's name; null where it says nothing. */
+/**
+ * What a line says, as the command reads it: lower-case digits, their hash and a file's name; null where it says nothing. A
+ * carriage return at its end is no part of it, since lists from Windows have one.
+ */
 export function readLine(line) {
   if (isComment(line)) return null;
-  const text = line.split("\0", 1)[0];
+  const text = line.replace(/\r$/, "").split("\0", 1)[0];
   const isEscaped = /^[ \t]*\\/.test(text);
   const shown = readText(isEscaped ? text.slice(1) : text);
   const name = shown && isEscaped ? unescaped(shown.name) : shown?.name;
@@ -107,12 +110,9 @@ function readPasted(words) {
   return { digits: digits.toLowerCase(), kinds };
 }
 
-/**
- * The lines of a checksum file, and how many others it has; null where the text is none. A carriage return at a line's end
- * is no part of it, since lists from Windows have one; the command takes it for the last byte of the name.
- */
+/** The lines of a checksum file, and how many others it has; null where the text is none. */
 export function readList(text) {
-  const lines = text.split("\n").map((line) => line.replace(/\r$/, "")).filter((line) => line.trim() && !isComment(line));
+  const lines = text.split("\n").filter((line) => line.trim() && !isComment(line));
   const entries = lines.map(readLine).filter(Boolean);
   return entries.length * 2 > lines.length ? { entries, others: lines.length - entries.length } : null;
 }

@@ -6,6 +6,7 @@ use std::process::ExitCode;
 use xxh_io::from_read::FromRead;
 use xxh_io::from_write::FromWrite;
 use xxhsum_files::system::SystemFiles;
+use xxhsum_output::whole_lines::WholeLines;
 use xxhsum_program::arguments::ProcessArguments;
 use xxhsum_program::process::Terminals;
 use xxhsum_program::screen::Screen;
@@ -17,13 +18,15 @@ fn main(rt: HostRuntime) -> ExitCode {
         input: rt.stdin().is_terminal(),
         errors: rt.stderr().is_terminal(),
     };
+    // On a terminal each line is to be seen at once.
+    let gathers = !rt.stdout().is_terminal();
     ExitCode::from(run(
         rt.alloc(),
         &ProcessArguments::new(&rt),
         &SystemFiles::new(&rt),
         terminals,
         FromRead::new(rt.stdin()),
-        &mut FromWrite::new(rt.stdout()),
+        &mut WholeLines::new(FromWrite::new(rt.stdout()), gathers),
         &mut FromWrite::new(rt.stderr()),
         Screen::new(rt.stderr(), &rt),
     ))

@@ -9,7 +9,7 @@ use Rattle.xxhsum_line.specs.Escapes.{body_of, is_escaped, name_meant}
 use Rattle.xxhsum_line.specs.Meaning.{Means}
 use Rattle.xxhsum_line.specs.declared.entry.Meaning.{Meaning}
 use Rattle.xxhsum_line.specs.declared.entry.Meaning.TheVariants.{Comment, Malformed}
-use Rattle.xxhsum_line.specs.Parts.{HasNoParts, IsPlain, IsTagged, up_to_nul}
+use Rattle.xxhsum_line.specs.Parts.{HasNoParts, IsPlain, IsTagged, up_to_nul, without_return}
 use Rattle.xxhsum_line.specs.Tags.{kind_of_digits, kind_of_tag, is_little_tag}
 
 -- a text without parts says nothing
@@ -77,23 +77,23 @@ pub says_same : (is_little : Bool) (line : List ℕ) (kind : Kind) (value : ℕ)
     → Says is_little line kind value name → Says is_little line kind' value' name'
     → (kind ≡ kind') × (value ≡ value') × (name ≡ name')
 says_same is_little line kind value name kind' value' name' p q =
-    let text = up_to_nul line in
+    let text = up_to_nul (without_return line) in
     let same = text_says_same is_little (body_of text) kind value p.1 kind' value' q.1 p.2 q.2 in
     (same.0, same.1, same_Some name name' (sym p.3 ∙ ap (name_meant (is_escaped text)) same.2 ∙ q.3))
 
 -- ---- what is malformed
 
-pub nothing_shown : (is_little : Bool) (line : List ℕ) → is_comment line ≡ false → TextSaysNothing is_little (body_of (up_to_nul line))
+pub nothing_shown : (is_little : Bool) (line : List ℕ) → is_comment line ≡ false → TextSaysNothing is_little (body_of (up_to_nul (without_return line)))
     → SaysNothing is_little line
 nothing_shown is_little line no_comment none = (no_comment, λ kind value name p. none kind value p.1 p.2)
 
 pub nothing_meant : (is_little : Bool) (line : List ℕ) (kind : Kind) (value : ℕ) (shown : List ℕ) → is_comment line ≡ false
-    → TextSays is_little (body_of (up_to_nul line)) kind value shown → name_meant (is_escaped (up_to_nul line)) shown ≡ None
+    → TextSays is_little (body_of (up_to_nul (without_return line))) kind value shown → name_meant (is_escaped (up_to_nul (without_return line))) shown ≡ None
     → SaysNothing is_little line
 nothing_meant is_little line kind value shown no_comment says none = (
   no_comment,
   λ kind' value' name p.
-      let text = up_to_nul line in
+      let text = up_to_nul (without_return line) in
       let same = text_says_same is_little (body_of text) kind value shown kind' value' p.1 says p.2 in
       none-some name (sym none ∙ ap (name_meant (is_escaped text)) same.2 ∙ p.3),
 )

@@ -12,7 +12,7 @@ use Rattle.xxhsum_line.specs.Parts.{Lacks}
 stays : (c : ℕ) → nat_eq c 92 ≡ false → nat_eq c 10 ≡ false → nat_eq c 13 ≡ false → escape c ≡ c ∷ []
 stays c e e' e'' = cond-false (nat_eq c 92) _ _ e ∙ cond-false (nat_eq c 10) _ _ e' ∙ cond-false (nat_eq c 13) _ _ e''
 
-cases : (c : ℕ) → (c ≡ 92) ⊎ ((c ≡ 10) ⊎ ((c ≡ 13) ⊎ ((c ≢ 92) × (c ≢ 10) × (escape c ≡ c ∷ []))))
+cases : (c : ℕ) → (c ≡ 92) ⊎ ((c ≡ 10) ⊎ ((c ≡ 13) ⊎ ((c ≢ 92) × (c ≢ 10) × (c ≢ 13) × (escape c ≡ c ∷ []))))
 cases c =
     elim (cases_eq c 92) [
       | inl e ↦ inl e
@@ -20,7 +20,7 @@ cases c =
         | inl e ↦ inr (inl e)
         | inr n' ↦ elim (cases_eq c 13) [
           | inl e ↦ inr (inr (inl e))
-          | inr n'' ↦ inr (inr (inr (n, n', stays c (ne_eqb c 92 n) (ne_eqb c 10 n') (ne_eqb c 13 n''))))
+          | inr n'' ↦ inr (inr (inr (n, n', n'', stays c (ne_eqb c 92 n) (ne_eqb c 10 n') (ne_eqb c 13 n''))))
         ]
       ]
     ]
@@ -74,7 +74,7 @@ escape_meant c rest =
       | inl e ↦ rw e refl
       | inr (inl e) ↦ rw e refl
       | inr (inr (inl e)) ↦ rw e refl
-      | inr (inr (inr p)) ↦ ap (λ x. meant_behind false (x ++ rest)) p.2 ∙ meant_itself rest c p.0
+      | inr (inr (inr p)) ↦ ap (λ x. meant_behind false (x ++ rest)) p.3 ∙ meant_itself rest c p.0
     ]
 
 pub escape_is_undone : (name : List ℕ) → unescaped (escaped name) ≡ Some name
@@ -92,37 +92,32 @@ plain_names_stay (c ∷ name) h =
 
 -- ---- which bytes are lacked
 
-escape_lacks_line_feed : (c : ℕ) → Lacks 10 (escape c)
-escape_lacks_line_feed c =
-    let backslash : ◌≢◌ {A = ℕ} 92 10 = λ (e : ◌≡◌ {A = ℕ} 92 10). omega arith in
-    let n : ◌≢◌ {A = ℕ} 110 10 = λ (e : ◌≡◌ {A = ℕ} 110 10). omega arith in
-    let r : ◌≢◌ {A = ℕ} 114 10 = λ (e : ◌≡◌ {A = ℕ} 114 10). omega arith in
+escape_lacks : (b c : ℕ) → b < 32 → (c ≢ 92 → c ≢ 10 → c ≢ 13 → c ≢ b) → Lacks b (escape c)
+escape_lacks b c low other =
+    let backslash : ◌≢◌ {A = ℕ} 92 b = λ (e : ◌≡◌ {A = ℕ} 92 b). omega arith in
+    let n : ◌≢◌ {A = ℕ} 110 b = λ (e : ◌≡◌ {A = ℕ} 110 b). omega arith in
+    let r : ◌≢◌ {A = ℕ} 114 b = λ (e : ◌≡◌ {A = ℕ} 114 b). omega arith in
     elim (cases c) [
       | inl e ↦ rw e (backslash, (backslash, tt))
       | inr (inl e) ↦ rw e (backslash, (n, tt))
       | inr (inr (inl e)) ↦ rw e (backslash, (r, tt))
-      | inr (inr (inr p)) ↦ rw (p.2) (p.1, tt)
+      | inr (inr (inr p)) ↦ rw (p.3) (other p.0 p.1 p.2, tt)
     ]
 
 pub escaped_lacks_line_feed : (name : List ℕ) → Lacks 10 (escaped name)
 escaped_lacks_line_feed [] = tt
-escaped_lacks_line_feed (c ∷ name) = lacks_both 10 (escape c) (escaped name) (escape_lacks_line_feed c) (escaped_lacks_line_feed name)
+escaped_lacks_line_feed (c ∷ name) =
+    lacks_both 10 (escape c) (escaped name) (escape_lacks 10 c (omega arith) (λ m n r. n)) (escaped_lacks_line_feed name)
 
-escape_lacks_nul : (c : ℕ) → c ≢ 0 → Lacks 0 (escape c)
-escape_lacks_nul c h =
-    let backslash : ◌≢◌ {A = ℕ} 92 0 = λ (e : ◌≡◌ {A = ℕ} 92 0). omega arith in
-    let n : ◌≢◌ {A = ℕ} 110 0 = λ (e : ◌≡◌ {A = ℕ} 110 0). omega arith in
-    let r : ◌≢◌ {A = ℕ} 114 0 = λ (e : ◌≡◌ {A = ℕ} 114 0). omega arith in
-    elim (cases c) [
-      | inl e ↦ rw e (backslash, (backslash, tt))
-      | inr (inl e) ↦ rw e (backslash, (n, tt))
-      | inr (inr (inl e)) ↦ rw e (backslash, (r, tt))
-      | inr (inr (inr p)) ↦ rw (p.2) (h, tt)
-    ]
+pub escaped_lacks_return : (name : List ℕ) → Lacks 13 (escaped name)
+escaped_lacks_return [] = tt
+escaped_lacks_return (c ∷ name) =
+    lacks_both 13 (escape c) (escaped name) (escape_lacks 13 c (omega arith) (λ m n r. r)) (escaped_lacks_return name)
 
 pub escaped_lacks_nul : (name : List ℕ) → Lacks 0 name → Lacks 0 (escaped name)
 escaped_lacks_nul [] h = tt
-escaped_lacks_nul (c ∷ name) h = lacks_both 0 (escape c) (escaped name) (escape_lacks_nul c h.0) (escaped_lacks_nul name h.1)
+escaped_lacks_nul (c ∷ name) h =
+    lacks_both 0 (escape c) (escaped name) (escape_lacks 0 c (omega arith) (λ m n r. h.0)) (escaped_lacks_nul name h.1)
 
 -- ---- how long a name becomes
 
@@ -132,7 +127,7 @@ escape_length c =
       | inl e ↦ rw e (omega arith)
       | inr (inl e) ↦ rw e (omega arith)
       | inr (inr (inl e)) ↦ rw e (omega arith)
-      | inr (inr (inr p)) ↦ rw (p.2) (omega arith)
+      | inr (inr (inr p)) ↦ rw (p.3) (omega arith)
     ]
 
 pub escaped_length : (name : List ℕ) → length (escaped name) ≤ 2 * length name

@@ -1,8 +1,8 @@
 -- Lists that lack a byte, and where a byte stands first or last.
-use Rattle.std.proofs.Common.{◌≡◌, ℕ, suc, ◌+◌, ◌-◌, ◌<◌, ◌≤◌, List, [], ◌∷◌, ◌++◌, length, take, drop, get_or, refl, sym, ap, subst, ◌∙◌, inl, inr, arith}
+use Rattle.std.proofs.Common.{◌≡◌, ◌≢◌, ℕ, suc, ◌+◌, ◌-◌, ◌<◌, ◌≤◌, List, [], ◌∷◌, ◌++◌, length, take, drop, get_or, refl, sym, ap, subst, ◌∙◌, inl, inr, arith}
 use Rattle.std.proofs.lemmas.List.{drop_more, take-append-drop, length-take-le, length-drop, get_or-take, get_or-drop}
 use Rattle.std.proofs.lemmas.Bool.Decides.{eqb_tells}
-use Rattle.xxhsum_line.specs.Parts.{Lacks, up_to_nul}
+use Rattle.xxhsum_line.specs.Parts.{Lacks, up_to_nul, without_return}
 
 pub lacks_left : (b : ℕ) (x y : List ℕ) → Lacks b (x ++ y) → Lacks b x
 lacks_left b [] y h = tt
@@ -87,3 +87,30 @@ up_to_nul_cut (c ∷ p) r h =
       | inl w ↦ absurd (h.0 w.1)
       | inr w ↦ rw (w.0) (ap (λ x. c ∷ x) (up_to_nul_cut p r h.1))
     ]
+
+-- ---- a carriage return at the end
+
+pub without_return_whole : (l : List ℕ) → Lacks 13 l → without_return l ≡ l
+without_return_whole [] h = refl
+without_return_whole (c ∷ []) h =
+    elim (eqb_tells c 13) [
+      | inl w ↦ absurd (h.0 w.1)
+      | inr w ↦ rw (w.0) refl
+    ]
+without_return_whole (c ∷ d ∷ l) h = ap (λ r. c ∷ r) (without_return_whole (d ∷ l) h.1)
+
+pub without_return_cut : (l : List ℕ) → without_return (l ++ 13 ∷ []) ≡ l
+without_return_cut [] = refl
+without_return_cut (c ∷ []) = refl
+without_return_cut (c ∷ d ∷ l) = ap (λ r. c ∷ r) (without_return_cut (d ∷ l))
+
+-- a line that ends otherwise stays
+pub without_return_none : (l : List ℕ) → ((front : List ℕ) → l ≢ front ++ 13 ∷ []) → without_return l ≡ l
+without_return_none [] h = refl
+without_return_none (c ∷ []) h =
+    elim (eqb_tells c 13) [
+      | inl w ↦ absurd (h [] (ap (λ b. b ∷ []) w.1))
+      | inr w ↦ rw (w.0) refl
+    ]
+without_return_none (c ∷ d ∷ l) h =
+    ap (λ r. c ∷ r) (without_return_none (d ∷ l) (λ front e. h (c ∷ front) (ap (λ r. c ∷ r) e)))

@@ -10,12 +10,12 @@ use Rattle.xxhsum_line.specs.Digits.{value_shown}
 use Rattle.xxhsum_line.specs.Entry.{Says, SaysPlain, TextSays, is_comment, value_meant}
 use Rattle.xxhsum_line.specs.Escapes.{body_of, escaped, is_escaped, mark_of, name_meant, needs_escape, unescaped}
 use Rattle.xxhsum_line.specs.Laws.{PlainTextsStay, PrintedIsAccepted, PrintedIsNoComment, PrintedIsOneLine, ToldIsOneLine}
-use Rattle.xxhsum_line.specs.Parts.{Lacks, up_to_nul}
+use Rattle.xxhsum_line.specs.Parts.{Lacks, up_to_nul, without_return}
 use Rattle.xxhsum_line.specs.Printed.{formed, full_tag, line_of, plain_text, prefix_of, shown, tagged_text, text_of}
 use Rattle.xxhsum_line.specs.declared.printed.Shape.{Shape}
 use Rattle.xxhsum_line.specs.Tags.{bare, has_prefix, is_little_tag, kind_of_count, kind_of_digits, kind_of_tag}
-use Rattle.xxhsum_line.proofs.EscapeFacts.{escape_is_undone, escaped_lacks_line_feed, escaped_length, escaped_lacks_nul, plain_names_stay}
-use Rattle.xxhsum_line.proofs.LackFacts.{lacks_both, up_to_nul_whole}
+use Rattle.xxhsum_line.proofs.EscapeFacts.{escape_is_undone, escaped_lacks_line_feed, escaped_length, escaped_lacks_nul, escaped_lacks_return, plain_names_stay}
+use Rattle.xxhsum_line.proofs.LackFacts.{lacks_both, up_to_nul_whole, without_return_whole}
 use Rattle.xxhsum_line.proofs.ShownFacts.{lacks_shown, length-shown, value_shown-shown}
 
 -- a test of literals: each byte is above the space
@@ -241,10 +241,14 @@ formed_says kind shape value name fits = either_says kind shape.is_little shape.
 
 -- ---- what a printed line says
 
-ordinary_says : (is_little : Bool) (text : List ℕ) (kind : Kind) (value : ℕ) (name : List ℕ) → IsOrdinary text → Lacks 0 text
+-- a text without NUL and carriage return is read whole
+all_stays : (text : List ℕ) → Lacks 0 text → Lacks 13 text → up_to_nul (without_return text) ≡ text
+all_stays text lacks lacks_return = ap up_to_nul (without_return_whole text lacks_return) ∙ up_to_nul_whole text lacks
+
+ordinary_says : (is_little : Bool) (text : List ℕ) (kind : Kind) (value : ℕ) (name : List ℕ) → IsOrdinary text → Lacks 0 text → Lacks 13 text
     → TextSays is_little text kind value name → Says is_little text kind value name
-ordinary_says is_little text kind value name ordinary lacks says =
-    let whole : up_to_nul text ≡ text = up_to_nul_whole text lacks in
+ordinary_says is_little text kind value name ordinary lacks lacks_return says =
+    let whole = all_stays text lacks lacks_return in
     let body : body_of text ≡ text = cond-false (is_escaped text) (drop 1 text) text ordinary.1 in
     let means : name_meant (is_escaped text) name ≡ Some name = cond-false (is_escaped text) (unescaped name) (Some name) ordinary.1 in (
       ordinary.0,
@@ -253,30 +257,33 @@ ordinary_says is_little text kind value name ordinary lacks says =
       subst (λ t. name_meant (is_escaped t) name ≡ Some name) (sym whole) means,
     )
 
-escaped_says : (is_little : Bool) (text : List ℕ) (kind : Kind) (value : ℕ) (shown_name name : List ℕ) → Lacks 0 (92 ∷ text)
+escaped_says : (is_little : Bool) (text : List ℕ) (kind : Kind) (value : ℕ) (shown_name name : List ℕ) → Lacks 0 (92 ∷ text) → Lacks 13 (92 ∷ text)
     → TextSays is_little text kind value shown_name → unescaped shown_name ≡ Some name → Says is_little (92 ∷ text) kind value name
-escaped_says is_little text kind value shown_name name lacks says means =
-    let whole : up_to_nul (92 ∷ text) ≡ 92 ∷ text = up_to_nul_whole (92 ∷ text) lacks in (
+escaped_says is_little text kind value shown_name name lacks lacks_return says means =
+    let whole = all_stays (92 ∷ text) lacks lacks_return in (
       refl,
       shown_name,
       subst (λ t. TextSays is_little (body_of t) kind value shown_name) (sym whole) says,
       subst (λ t. name_meant (is_escaped t) shown_name ≡ Some name) (sym whole) means,
     )
 
-marked_says : (is_marked : Bool) (is_little : Bool) (text : List ℕ) (kind : Kind) (value : ℕ) (name : List ℕ) → IsOrdinary text → Lacks 0 text
+marked_says : (is_marked : Bool) (is_little : Bool) (text : List ℕ) (kind : Kind) (value : ℕ) (name : List ℕ) → IsOrdinary text → Lacks 0 text → Lacks 13 text
     → (is_marked ≡ false → escaped name ≡ name) → TextSays is_little text kind value (escaped name)
     → Says is_little ((if is_marked then 92 ∷ [] else []) ++ text) kind value name
-marked_says true is_little text kind value name ordinary lacks stays says =
+marked_says true is_little text kind value name ordinary lacks lacks_return stays says =
     let backslash : ◌≢◌ {A = ℕ} 92 0 = λ (e : ◌≡◌ {A = ℕ} 92 0). omega arith in
-    escaped_says is_little text kind value (escaped name) name (backslash, lacks) says (escape_is_undone name)
-marked_says false is_little text kind value name ordinary lacks stays says =
-    ordinary_says is_little text kind value name ordinary lacks (subst (TextSays is_little text kind value) (stays refl) says)
+    let no_return : ◌≢◌ {A = ℕ} 92 13 = λ (e : ◌≡◌ {A = ℕ} 92 13). omega arith in
+    escaped_says is_little text kind value (escaped name) name (backslash, lacks) (no_return, lacks_return) says (escape_is_undone name)
+marked_says false is_little text kind value name ordinary lacks lacks_return stays says =
+    ordinary_says is_little text kind value name ordinary lacks lacks_return (subst (TextSays is_little text kind value) (stays refl) says)
 
 pub printed_is_accepted : PrintedIsAccepted
 printed_is_accepted kind shape value name fits h =
     let low : 0 < 32 = omega arith in
+    let low' : 13 < 32 = omega arith in
     marked_says (needs_escape name) shape.is_little (formed kind shape value (escaped name)) kind value name (formed_ordinary kind shape value (escaped name))
-    (lacks_formed 0 kind shape value (escaped name) low (escaped_lacks_nul name h)) (plain_names_stay name) (formed_says kind shape value (escaped name) fits)
+    (lacks_formed 0 kind shape value (escaped name) low (escaped_lacks_nul name h))
+    (lacks_formed 13 kind shape value (escaped name) low' (escaped_lacks_return name)) (plain_names_stay name) (formed_says kind shape value (escaped name) fits)
 
 -- what is left of a printed line without its line feed
 pub text_is_accepted : (kind : Kind) (shape : Shape) (value : ℕ) (name text : List ℕ) → line_of kind shape value name ≡ text ++ 10 ∷ []

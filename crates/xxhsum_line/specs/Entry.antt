@@ -3,7 +3,7 @@ use Rattle.std.specs.Prelude.{ℕ, ◌≡◌, ◌⊎◌, Bool, false, List, [], 
 use Rattle.xxh_io.specs.declared.kind.Kind.{Kind}
 use Rattle.xxhsum_line.specs.Digits.{value_shown}
 use Rattle.xxhsum_line.specs.Escapes.{body_of, is_escaped, name_meant}
-use Rattle.xxhsum_line.specs.Parts.{IsPlain, IsTagged, up_to_nul}
+use Rattle.xxhsum_line.specs.Parts.{IsPlain, IsTagged, up_to_nul, without_return}
 use Rattle.xxhsum_line.specs.Tags.{bare, kind_of_digits, kind_of_tag, is_little_tag}
 
 -- the value that digits of this kind show, with or without their prefix
@@ -36,10 +36,10 @@ abbrev pub is_comment : List ℕ → Bool
 is_comment [] = false
 is_comment (c ∷ cs) = nat_eq c 35
 
--- the line, up to a NUL, is of one of the two forms, and its name means this one
+-- the line, without a carriage return at its end and up to a NUL, is of one of the two forms, and its name means this one
 abbrev pub Says : Bool → List ℕ → Kind → ℕ → List ℕ → Type 0
 Says is_little line kind value name =
-    let text = up_to_nul line in
+    let text = up_to_nul (without_return line) in
     (is_comment line ≡ false)
     × (shown : List ℕ) × TextSays is_little (body_of text) kind value shown
     × (name_meant (is_escaped text) shown ≡ Some name)

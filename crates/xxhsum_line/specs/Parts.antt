@@ -13,6 +13,12 @@ abbrev pub up_to_nul : List ℕ → List ℕ
 up_to_nul [] = []
 up_to_nul (c ∷ cs) = if c == 0 then [] else c ∷ up_to_nul cs
 
+-- the line without the carriage return at its end, where it has one
+abbrev pub without_return : List ℕ → List ℕ
+without_return [] = []
+without_return (c ∷ []) = if c == 13 then [] else c ∷ []
+without_return (c ∷ d ∷ cs) = c ∷ without_return (d ∷ cs)
+
 -- digits, a space, any byte but '(', and the name: no space is among the digits
 abbrev pub IsPlain : List ℕ → List ℕ → List ℕ → Type 0
 IsPlain line digits name = (mark : ℕ) × (line ≡ digits ++ 32 ∷ mark ∷ name) × Lacks 32 digits × (mark ≢ 40)

@@ -7,7 +7,7 @@ ghost use Rattle.xxhsum_line.specs.Meaning.{FitsKind, Means};
 
 use crate::digits::value_shown;
 use crate::escapes::{body_of, is_escaped, name_meant};
-use crate::parts::{Parts, parts_of, up_to_nul};
+use crate::parts::{Parts, parts_of, up_to_nul, without_return};
 use crate::tags::{bare, is_little_tag, kind_of_digits, kind_of_tag};
 use std::alloc::{AllocError, Global};
 use xxh_io::kind::Kind;
@@ -34,8 +34,8 @@ pub enum Meaning {
     Malformed,
 }
 
-/// What a line is, without its line feed. One that begins with `#` is a comment. Of any other the bytes from a NUL on
-/// are no part. The digits of a plain line are little-endian where `is_little` says so, and those of a tagged line
+/// What a line is, without its line feed. One that begins with `#` is a comment. Of any other a carriage return at its
+/// end is no part, as in lists that were written on Windows, nor are the bytes from a NUL on. The digits of a plain line are little-endian where `is_little` says so, and those of a tagged line
 /// where its tag does. It is malformed where it has neither form, or too few or too many digits for its kind, or a
 /// byte that is no digit, or where it is escaped and a backslash in its name has no meaning. `AllocError` where memory
 /// runs out.
@@ -46,7 +46,7 @@ pub fn meaning_of(alloc: Global, line: &[u8], is_little: bool) -> Result<Meaning
     if is_comment(line) {
         return Ok(Meaning::Comment);
     }
-    let text = up_to_nul(line);
+    let text = up_to_nul(without_return(line));
     let Some(shown) = shown_in(body_of(text), is_little) else {
         return Ok(Meaning::Malformed);
     };

@@ -1,7 +1,7 @@
 //! The parts of a line.
 
 ghost use Rattle.std.specs.Prelude.{◌≡◌, ◌++◌, ◌∷◌, MatchOption};
-ghost use Rattle.xxhsum_line.specs.Parts.{up_to_nul, Lacks, HasParts, HasNoParts, HasNoTaggedParts, IsTagged, IsTaggedWith};
+ghost use Rattle.xxhsum_line.specs.Parts.{up_to_nul, without_return, Lacks, HasParts, HasNoParts, HasNoTaggedParts, IsTagged, IsTaggedWith};
 
 use memchr::{memchr, memrchr};
 
@@ -27,6 +27,16 @@ pub fn up_to_nul(line: &[u8]) -> &[u8]
 {
     match memchr(0, line) {
         Some(place) => &line[..place],
+        None => line,
+    }
+}
+
+/// The line without the carriage return at its end, where it has one.
+pub fn without_return(line: &[u8]) -> &[u8]
+    ensures { result.now ≡ without_return line.now }
+{
+    match line.strip_suffix(b"\r") {
+        Some(front) => front,
         None => line,
     }
 }

@@ -12,7 +12,7 @@ use Rattle.xxhsum_program.specs.declared.stop.Stop.{Stop}
 use Rattle.xxhsum_program.specs.declared.stop.Stop.TheVariants.{WriteFailed, OutOfMemory}
 use Rattle.xxhsum_program.specs.Lines.{PrintsLine}
 use Rattle.xxhsum_program.specs.ListEnd.{FailedRead}
-use Rattle.xxhsum_program.specs.Said.{count_text, printed_summary, told_break, told_of_line, told_summary, unverified_text}
+use Rattle.xxhsum_program.specs.Said.{count_text, printed_summary, told_break, told_of_line, told_summary, unverified_line, unverified_text}
 use Rattle.xxhsum_program.specs.Report.{is_unverified}
 
 -- the first part was refused
@@ -53,5 +53,5 @@ else-of count text some = grind arith
 pub break-some : (list : List ℕ) (number : ℕ) (report : Report) → report.proper ≢ 0 → told_break list number report FailedRead ≡ told_of_line list number (codes "A failure occurred reading the list")
 break-some list number report some = else-of report.proper _ some
 
-pub unverified-is : (options : Options) (list : List ℕ) (report : Report) → is_unverified options.ignores_missing report ≡ true → unverified_text options list report ≡ one_line (concat (list ∷ codes ": no file was verified" ∷ []))
+pub unverified-is : (options : Options) (list : List ℕ) (report : Report) → is_unverified options.ignores_missing report ≡ true → unverified_text options list report ≡ unverified_line list
 unverified-is options list report is = rw is refl

@@ -1,5 +1,5 @@
 -- Names and their outcomes, where one more comes.
-use Rattle.std.proofs.Common.{◌≡◌, ◌&&◌, ℕ, List, [], ◌∷◌, ◌++◌, sym, ap, ◌∙◌, append-nil, append_assoc, Ok, Err}
+use Rattle.std.proofs.Common.{◌≡◌, ◌&&◌, ℕ, List, [], ◌∷◌, ◌++◌, sym, ap, subst, ◌∙◌, append-nil, append_assoc, Ok, Err}
 use Rattle.std.specs.declared.result.Result.{Result}
 use Rattle.xxh_io.specs.Digest.{Took}
 use Rattle.xxh_io.proofs.WriteFacts.{Refused-join, Took-join}
@@ -26,6 +26,10 @@ are_digested-push [] outcome = and-true (is_digested outcome)
 are_digested-push (o ∷ os) outcome = ap (λ b. is_digested o && b) (are_digested-push os outcome) ∙ and-assoc (is_digested o) (are_digested os) (is_digested outcome)
 
 -- ---- what is printed of them
+
+pub took-nothing-more : {W : Type 0} (writing : SinkRules W) (a : List ℕ) (old mid new : W) → Took writing a old mid → Took writing [] mid new → Took writing a old new
+took-nothing-more writing a old mid new first second =
+    subst (λ bytes. Took writing bytes old new) (append-nil a) (Took-join writing a [] old mid new first second)
 
 pub prints-join : {W T : Type 0} (writing : SinkRules W) (a b : List ℕ) (old mid new : W) (result : Result T Stop) → Took writing a old mid → PrintsLines writing b mid new result → PrintsLines writing (a ++ b) old new result
 prints-join writing a b old mid new (Ok x) took prints = Took-join writing a b old mid new took prints

@@ -1,5 +1,5 @@
 -- The check of a list, at the lines where it stops and at its end.
-use Rattle.std.proofs.Common.{◌≡◌, ℕ, ◌+◌, Bool, true, false, List, [], ◌∷◌, ◌++◌, length, Option, Some, None, Ok, Err, refl, sym, subst, append-nil}
+use Rattle.std.proofs.Common.{◌≡◌, ℕ, ◌+◌, Bool, true, false, List, [], ◌∷◌, ◌++◌, length, Option, Some, None, Ok, Err, refl, sym, subst, append-nil, inl}
 use Rattle.std.specs.declared.result.Result.{Result}
 use Rattle.xxh_io.specs.Digest.{Took, Refused}
 use Rattle.xxh_io.specs.Rules.{SourceRules, SinkRules}
@@ -94,6 +94,12 @@ prints-nothing-more writing lines old new WriteFailed prints =
     subst (λ bytes. Refused writing bytes old new) (sym (append-nil lines)) prints
 prints-nothing-more writing lines old new OutOfMemory prints =
     subst (λ bytes. Took writing bytes old new) (sym (append-nil lines)) prints
+
+-- there was no memory before the first line
+pub check-begins-not : {R W E : Type 0} (is_finding : List ℕ → Finding → Type 0) (reading : SourceRules R) (writing : SinkRules W) (telling : SinkRules E) (options : Options) (list : List ℕ) (source : R) (out : W) (err : E)
+    → ListChecked is_finding reading writing telling options list source out out err err (Err OutOfMemory)
+check-begins-not is_finding reading writing telling options list source out err =
+    ([], None, ([], tt, (false, [], ([], source, tt, refl, inl (tt, refl)))), tt, ([], refl, refl), tells-nothing telling err)
 
 -- the lines were not all checked
 pub check-stops : {R W E : Type 0} (is_finding : List ℕ → Finding → Type 0) (reading : SourceRules R) (writing : SinkRules W) (telling : SinkRules E) (options : Options) (list : List ℕ) (source : R) (w_old w_new : W) (e_old e_new : E) (stop : Stop)

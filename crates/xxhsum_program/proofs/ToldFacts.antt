@@ -3,7 +3,7 @@ use Rattle.std.proofs.Common.{◌≡◌, ◌↔◌, ℕ, Bool, true, false, List
 use Rattle.std.specs.declared.result.Result.{Result}
 use Rattle.xxh_io.specs.declared.error.DigestError.{DigestError}
 use Rattle.xxh_io.specs.declared.error.DigestError.TheVariants.{ReadFailed, WriteFailed, TooLong}
-use Rattle.xxh_io.specs.Digest.{Refused, Took, Writes}
+use Rattle.xxh_io.specs.Digest.{Writes}
 use Rattle.xxh_io.specs.Rules.{SinkRules}
 use Rattle.xxh_io.specs.Tells.{Told}
 use Rattle.xxh_io.proofs.WriteFacts.{Writes-join, Refused-more}
@@ -36,18 +36,3 @@ tells-nothing telling old = λ initial before told.
 pub tells-more : {E : Type 0} (telling : SinkRules E) (a b : List ℕ) (old mid new : E) → TellsOn telling a old mid → TellsOn telling b mid new → TellsOn telling (a ++ b) old new
 tells-more telling a b old mid new first second = λ initial before told.
     subst (λ bytes. Told telling bytes initial new) (append_assoc before a b) (second initial (before ++ a) (first initial before told))
-
--- ---- what is told where no write has failed before
-
-pub told-alone : {E : Type 0} (telling : SinkRules E) (bytes : List ℕ) (old new : E) → telling.has_failed old ≡ false → TellsOn telling bytes old new → Told telling bytes old new
-told-alone telling bytes old new works tells = tells old [] (Ok tt, ([], refl, refl), tt, works)
-
-pub took-told : {E : Type 0} (telling : SinkRules E) (bytes : List ℕ) (old new : E) → Told telling bytes old new → telling.has_failed new ≡ false → Took telling bytes old new
-took-told telling bytes old new (Ok x, done, only, is) works = done
-took-told telling bytes old new (Err e, done, only, is) works = cc
-
-pub refused-told : {E : Type 0} (telling : SinkRules E) (bytes : List ℕ) (old new : E) → Told telling bytes old new → telling.has_failed new ≡ true → Refused telling bytes old new
-refused-told telling bytes old new (Ok x, done, only, is) failed = cc
-refused-told telling bytes old new (Err WriteFailed, done, only, is) failed = done
-refused-told telling bytes old new (Err ReadFailed, done, only, is) failed = cc
-refused-told telling bytes old new (Err TooLong, done, only, is) failed = cc

@@ -2,6 +2,7 @@ pub mod Arguments
 pub mod CheckList
 pub mod EachHas
 pub mod Findings
+pub mod Finish
 pub mod Found
 pub mod GoodList
 pub mod HashNames

@@ -78,12 +78,14 @@ printed_summary options report =
     (codes " computed checksums did NOT match\n")
     ∷ [])
 
--- that no file of the list was verified, where those that aren't there are passed over: whatever else is asked for
+-- that no file of the list was verified
+abbrev pub unverified_line : List ℕ → List ℕ
+unverified_line list = one_line (concat (list ∷ codes ": no file was verified" ∷ []))
+
+-- it is said where files that aren't there are passed over: whatever else is asked for
 abbrev pub unverified_text : Options → List ℕ → Report → List ℕ
 unverified_text options list report =
-    if is_unverified options.ignores_missing report
-    then one_line (concat (list ∷ codes ": no file was verified" ∷ []))
-    else []
+    if is_unverified options.ignores_missing report then unverified_line list else []
 
 -- all that is printed behind the lines
 abbrev pub summary_text : Options → List ℕ → Report → List ℕ

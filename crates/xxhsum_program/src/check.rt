@@ -1,25 +1,29 @@
 //! Lists of checksum lines, and whether their files are as the lines say.
 
-ghost use Rattle.std.specs.Prelude.{◌≡◌, ◌<◌, List, Option, false, length, map, nat_eq, IfErr, IfOk, if◌then◌else◌};
+ghost use Rattle.std.specs.Prelude.{◌≡◌, ◌<◌, ◌≤◌, [], true, List, Option, false, length, map, nat_eq, IfErr, IfOk, if◌then◌else◌};
+ghost use Rattle.xxh_io.specs.Digest.{Took};
 ghost use Rattle.xxhsum_program.specs.CheckList.{AnswersList, AnswersOutcome, ChecksLine, FindsLines, IsListOutcome, ListOutcome, ReportsLines, SaysList, SaysLists, printed_outcome, told_outcome};
+ghost use Rattle.xxhsum_program.specs.Finish.{IsWritten};
 ghost use Rattle.xxhsum_program.specs.Findings.{Finding, Improper, IsFinding, count_one, count_proper, no_findings, with_broken_end};
 ghost use Rattle.xxhsum_program.specs.Lines.{PrintsLine, PrintsLines};
 ghost use Rattle.xxhsum_program.specs.ListEnd.{FailedRead, ListEnd};
 ghost use Rattle.xxhsum_program.specs.Report.{is_good, is_unverified, passes};
-ghost use Rattle.xxhsum_program.specs.Said.{count_text, found_text, is_silent, numbered, printed_finding, printed_list, printed_summary, summary_text, told_break, told_finding, told_lines, told_list, told_of_line, told_summary, unread_text, unverified_text};
+ghost use Rattle.xxhsum_program.specs.Said.{count_text, found_text, is_silent, numbered, printed_finding, printed_list, printed_summary, summary_text, told_break, told_finding, told_lines, told_list, told_of_line, told_summary, unread_text, unverified_line, unverified_text};
 ghost use Rattle.xxhsum_program.specs.Told.{TellsOn};
 
 use crate::entry::{Found, compare};
 use crate::lines::{Lines, Next};
 use crate::outcome::OFFERED;
-use crate::say::{print, print_line, say_line};
+use crate::say::{line_of, print, release, say_line};
 use crate::stop::Stop;
 use crate::tell::tell_line;
 use itoa::Buffer;
-use std::alloc::Global;
+use std::alloc::{AllocError, Global};
 use xxh_io::ends::{Sink, Source};
 use xxhsum_files::store::Store;
 use xxhsum_line::entry::{Meaning, meaning_of};
+use xxhsum_output::output::Output;
+use xxhsum_output::waiting::Waiting;
 use xxhsum_words::options::Options;
 
 /// What was found in a list: how many of its lines are of each kind.
@@ -119,7 +123,7 @@ struct ListCheck<'a, S> {
 
 impl<S: Store> ListCheck<'_, S> {
     // Checks the lines of a source, and says what was found of them.
-    fn check<R: Source + Drop, W: Sink, E: Sink>(
+    fn check<R: Source + Drop, W: Output, E: Sink>(
         &self,
         source: R,
         out: &mut W,
@@ -136,13 +140,14 @@ impl<S: Store> ListCheck<'_, S> {
             err.old err.new }
         ensures works { IfOk result (λ _. W.has_failed out.new ≡ false) }
     {
+        let unverified = self.unverified_line()?;
         let report = self.check_lines(source, out, err)?;
-        self.sum_up(&report, out, err)?;
+        self.sum_up(&report, &unverified, out, err)?;
         Ok(report.passes(self.options))
     }
 
     // Checks the lines of a source, up to its end or the first that is too long, or as many as a number can count.
-    fn check_lines<R: Source + Drop, W: Sink, E: Sink>(
+    fn check_lines<R: Source + Drop, W: Output, E: Sink>(
         &self,
         source: R,
         out: &mut W,
@@ -167,10 +172,12 @@ impl<S: Store> ListCheck<'_, S> {
             match lines.next() {
                 Next::End => return Ok(report),
                 Next::Failed => {
+                    release(out);
                     self.tell_of_failure(number, &report, err);
                     return Ok(report.with_broken_end());
                 }
                 Next::TooLong => {
+                    release(out);
                     tell_of_line(self.name, number, b"Line too long", err);
                     return Ok(report.with_broken_end());
                 }
@@ -183,7 +190,7 @@ impl<S: Store> ListCheck<'_, S> {
     }
 
     // Compares what the line says with its file, counts it, and says how it is. A comment is counted as nothing.
-    fn check_line<W: Sink, E: Sink>(
+    fn check_line<W: Output, E: Sink>(
         &self,
         line: &[u8],
         number: u64,
@@ -204,7 +211,7 @@ impl<S: Store> ListCheck<'_, S> {
             Meaning::Entry(entry) => entry,
             Meaning::Comment => return Ok(()),
             Meaning::Malformed => {
-                self.count_improper(number, report, err);
+                self.count_improper(number, report, out, err);
                 return Ok(());
             }
         };
@@ -217,7 +224,17 @@ impl<S: Store> ListCheck<'_, S> {
     }
 
     // Counts a line that is malformed, and tells it where that is asked for.
-    fn count_improper<E: Sink>(&self, number: u64, report: &mut Report, err: &mut E)
+    fn count_improper<W: Output, E: Sink>(
+        &self,
+        number: u64,
+        report: &mut Report,
+        out: &mut W,
+        err: &mut E,
+    )
+        requires { W.has_failed out.old ≡ false }
+        ensures prints { Took W.Sink [] out.old out.new }
+        ensures written { self.now.options.warns ≡ true → IsWritten W.held W.has_lost out.new }
+        ensures works { W.has_failed out.new ≡ false }
         ensures counts { report.new
             ≡ count_one self.now.options.ignores_missing report.old Improper }
         ensures tells { TellsOn E.Sink
@@ -225,6 +242,7 @@ impl<S: Store> ListCheck<'_, S> {
     {
         report.improper = report.improper.saturating_add(1);
         if self.options.warns {
+            release(out);
             tell_of_line(
                 self.name,
                 number,
@@ -235,7 +253,7 @@ impl<S: Store> ListCheck<'_, S> {
     }
 
     // Says how the file of the line of this number is.
-    fn say_found<W: Sink>(
+    fn say_found<W: Output>(
         &self,
         number: u64,
         name: &[u8],
@@ -274,14 +292,23 @@ impl<S: Store> ListCheck<'_, S> {
         );
     }
 
+    // The line that says that no file of the list has its value.
+    fn unverified_line(&self) -> Result<Vec<u8>, AllocError>
+        ensures { IfOk result (λ line. line.items ≡ unverified_line self.now.name.now) }
+    {
+        line_of(self.alloc, &[self.name, b": no file was verified"])
+    }
+
     // Says what is to be said at a list's end.
-    fn sum_up<W: Sink, E: Sink>(
+    fn sum_up<W: Output, E: Sink>(
         &self,
         report: &Report,
+        unverified: &[u8],
         out: &mut W,
         err: &mut E,
     ) -> Result<(), Stop>
-        requires { W.has_failed out.old ≡ false }
+        requires line { unverified.now ≡ unverified_line self.now.name.now }
+        requires writer { W.has_failed out.old ≡ false }
         ensures prints { PrintsLine W.Sink
             (summary_text self.now.options self.now.name.now report.now) out.old out.new result }
         ensures works { IfOk result (λ _. W.has_failed out.new ≡ false) }
@@ -289,25 +316,31 @@ impl<S: Store> ListCheck<'_, S> {
         ensures tells { TellsOn E.Sink (told_summary self.now.name.now report.now) err.old err.new }
     {
         self.say_counts(report, out, err)?;
-        self.say_unverified(report, out)
+        self.say_unverified(report, unverified, out)
     }
 
     // Says that no file of the list has its value, where those that aren't there are passed over.
-    fn say_unverified<W: Sink>(&self, report: &Report, out: &mut W) -> Result<(), Stop>
-        requires { W.has_failed out.old ≡ false }
+    fn say_unverified<W: Output>(
+        &self,
+        report: &Report,
+        unverified: &[u8],
+        out: &mut W,
+    ) -> Result<(), Stop>
+        requires line { unverified.now ≡ unverified_line self.now.name.now }
+        requires writer { W.has_failed out.old ≡ false }
         ensures prints { PrintsLine W.Sink
             (unverified_text self.now.options self.now.name.now report.now) out.old out.new result }
         ensures works { IfOk result (λ _. W.has_failed out.new ≡ false) }
         ensures only { IfErr result (λ stop. stop ≡ Stop.WriteFailed) }
     {
         if report.is_unverified(self.options.ignores_missing) {
-            return print_line(&[self.name, b": no file was verified"], out);
+            return print(unverified, out);
         }
         Ok(())
     }
 
     // Says how many lines are not as they should be, or that there is no list.
-    fn say_counts<W: Sink, E: Sink>(
+    fn say_counts<W: Output, E: Sink>(
         &self,
         report: &Report,
         out: &mut W,
@@ -316,11 +349,13 @@ impl<S: Store> ListCheck<'_, S> {
         requires { W.has_failed out.old ≡ false }
         ensures prints { PrintsLine W.Sink (printed_summary self.now.options report.now)
             out.old out.new result }
+        ensures written { report.now.proper ≡ 0 → IsWritten W.held W.has_lost out.new }
         ensures works { IfOk result (λ _. W.has_failed out.new ≡ false) }
         ensures only { IfErr result (λ stop. stop ≡ Stop.WriteFailed) }
         ensures tells { TellsOn E.Sink (told_summary self.now.name.now report.now) err.old err.new }
     {
         if report.proper == 0 {
+            release(out);
             tell_line(
                 &[
                     self.name,
@@ -362,7 +397,7 @@ fn is_silent(options: Options, found: &Found) -> bool
 }
 
 // Says why the file of the line of this number in this list could not be read.
-fn say_unread<'a, W: Sink>(
+fn say_unread<'a, W: Output>(
     alloc: Global,
     list: &'a [u8],
     number: u64,
@@ -400,9 +435,14 @@ fn tell_of_line<'a, E: Sink>(list: &'a [u8], number: u64, what: &'a [u8], err: &
     tell_line(&parts, err);
 }
 
+// The most bytes that a line with a count has.
+const MOST_COUNT_LINE: usize = 80;
+
 // Says how many there are, in the singular or the plural, where there are any.
-fn say_count<W: Sink>(count: u64, one: &[u8], more: &[u8], out: &mut W) -> Result<(), Stop>
-    requires { W.has_failed out.old ≡ false }
+fn say_count<W: Output>(count: u64, one: &[u8], more: &[u8], out: &mut W) -> Result<(), Stop>
+    requires one { length one.now ≤ 40 }
+    requires more { length more.now ≤ 40 }
+    requires writer { W.has_failed out.old ≡ false }
     ensures prints { PrintsLine W.Sink (count_text count one.now more.now) out.old out.new result }
     ensures works { IfOk result (λ _. W.has_failed out.new ≡ false) }
     ensures only { IfErr result (λ stop. stop ≡ Stop.WriteFailed) }
@@ -410,12 +450,20 @@ fn say_count<W: Sink>(count: u64, one: &[u8], more: &[u8], out: &mut W) -> Resul
     if count == 0 {
         return Ok(());
     }
-    print(Buffer::new().format(count).as_bytes(), out)?;
-    print(word_for(count, one, more), out)
+    let mut line = Waiting::<MOST_COUNT_LINE>::new();
+    line.append(Buffer::new().format(count).as_bytes());
+    line.append(word_for(count, one, more));
+    match line.flush(out) {
+        Ok(()) => Ok(()),
+        Err(_) => Err(Stop::WriteFailed),
+    }
 }
 
 fn word_for<'a>(count: u64, one: &'a [u8], more: &'a [u8]) -> &'a [u8]
-    ensures { result.now ≡ (if nat_eq count 1 then one.now else more.now) }
+    requires one { length one.now ≤ 40 }
+    requires more { length more.now ≤ 40 }
+    ensures word { result.now ≡ (if nat_eq count 1 then one.now else more.now) }
+    ensures short { length result.now ≤ 40 }
 {
     if count == 1 { one } else { more }
 }
@@ -430,7 +478,7 @@ fn word_for<'a>(count: u64, one: &'a [u8], more: &'a [u8]) -> &'a [u8]
 ///
 /// [`Stop::WriteFailed`] where a write to standard output fails, or one had failed before; [`Stop::OutOfMemory`] where
 /// there is no memory for a line: at once. What was found before it is said.
-pub fn check_list<S: Store, R: Source + Drop, W: Sink, E: Sink>(
+pub fn check_list<S: Store, R: Source + Drop, W: Output, E: Sink>(
     alloc: Global,
     store: &S,
     options: Options,
@@ -455,7 +503,7 @@ pub fn check_list<S: Store, R: Source + Drop, W: Sink, E: Sink>(
 }
 
 // Checks the list of this name. One that can't be opened is told, and isn't good.
-fn check_named<S: Store, W: Sink, E: Sink>(
+fn check_named<S: Store, W: Output, E: Sink>(
     alloc: Global,
     store: &S,
     options: Options,
@@ -482,6 +530,7 @@ fn check_named<S: Store, W: Sink, E: Sink>(
             list.check(file, out, err)
         }
         Err(refusal) => {
+            release(out);
             tell_line(
                 &[b"Error: Could not open '", name, b"': ", refusal.text()],
                 err,
@@ -496,7 +545,7 @@ fn check_named<S: Store, W: Sink, E: Sink>(
 /// # Errors
 ///
 /// As [`check_list`], at once: the lists before have their answers, and those after are not opened.
-pub fn check_lists<S: Store, W: Sink, E: Sink>(
+pub fn check_lists<S: Store, W: Output, E: Sink>(
     alloc: Global,
     store: &S,
     options: Options,

@@ -1,12 +1,14 @@
 //! Digest lines of named files.
 
 ghost use Rattle.std.specs.Prelude.{◌≡◌, false, map, IfOk};
+ghost use Rattle.xxhsum_program.specs.Finish.{IsWritten};
 ghost use Rattle.xxhsum_program.specs.HashNames.{SaysInput, SaysNames};
 ghost use Rattle.xxhsum_program.specs.Lines.{PrintsLine, told_line, written_line};
+ghost use Rattle.xxhsum_program.specs.Outcomes.{is_digested};
 ghost use Rattle.xxhsum_program.specs.Told.{TellsOn};
 
 use crate::outcome::{MAX_READS, OFFERED, Outcome, Reason, outcome_of};
-use crate::say::print;
+use crate::say::{print, release};
 use crate::stop::Stop;
 use crate::tell::tell_line;
 use std::alloc::Global;
@@ -15,6 +17,7 @@ use xxh_io::kind::Kind;
 use xxh_program::program::value_of_source;
 use xxhsum_files::store::Store;
 use xxhsum_line::printed::{Style, styled_line};
+use xxhsum_output::output::Output;
 
 /// Writes the digest line of each named file, in order, and tells of the names that have none, because they are
 /// directories, can't be opened or can't be read to their end. Answers whether all have one.
@@ -25,7 +28,7 @@ use xxhsum_line::printed::{Style, styled_line};
 ///
 /// [`Stop::WriteFailed`] where a write of a line fails, and [`Stop::OutOfMemory`] where there is no memory for a line:
 /// at once, and the names after it are not opened. The lines before it are written. Nothing else stops it.
-pub fn hash_names<S: Store, W: Sink, E: Sink>(
+pub fn hash_names<S: Store, W: Output, E: Sink>(
     alloc: Global,
     store: &S,
     kind: Kind,
@@ -60,7 +63,7 @@ pub fn hash_names<S: Store, W: Sink, E: Sink>(
 /// # Errors
 ///
 /// [`Stop::WriteFailed`] where a write of the line fails, and [`Stop::OutOfMemory`] where there is no memory for it.
-pub fn hash_input<R: Source, W: Sink, E: Sink>(
+pub fn hash_input<R: Source, W: Output, E: Sink>(
     alloc: Global,
     kind: Kind,
     style: Style,
@@ -81,14 +84,15 @@ pub fn hash_input<R: Source, W: Sink, E: Sink>(
             Ok(true)
         }
         Err(error) => {
+            release(out);
             tell_line(&[b"Error: ", Reason::from(error).text(), b"."], err);
             Ok(false)
         }
     }
 }
 
-// Writes the digest line of a name that has a value.
-fn print_outcome<W: Sink>(
+// Writes the digest line of a name that has a value. Of one that has none a message follows.
+fn print_outcome<W: Output>(
     alloc: Global,
     kind: Kind,
     style: Style,
@@ -99,6 +103,7 @@ fn print_outcome<W: Sink>(
     requires { W.has_failed out.old ≡ false }
     ensures prints { PrintsLine W.Sink (written_line kind style name.now outcome.now)
         out.old out.new result }
+    ensures written { is_digested outcome.now ≡ false → IsWritten W.held W.has_lost out.new }
     ensures works { IfOk result (λ _. W.has_failed out.new ≡ false) }
 {
     match outcome {
@@ -106,7 +111,10 @@ fn print_outcome<W: Sink>(
             let line = styled_line(alloc, kind, style, *value, name)?;
             print(&line, out)
         }
-        Outcome::IsDirectory | Outcome::Unread { .. } => Ok(()),
+        Outcome::IsDirectory | Outcome::Unread { .. } => {
+            release(out);
+            Ok(())
+        }
     }
 }
 

@@ -20,6 +20,7 @@ use std::alloc::Global;
 use xxh_io::ends::{Sink, Source};
 use xxhsum_files::store::Store;
 use xxhsum_line::printed::{Shape, Style};
+use xxhsum_output::output::Output;
 use xxhsum_words::name::default_kind;
 use xxhsum_words::options::{Asked, Options, asked_by, words_behind};
 
@@ -60,7 +61,7 @@ pub fn run_words<S, R, W, E, T>(
 where
     S: Store,
     R: Source + Drop,
-    W: Sink,
+    W: Output,
     E: Sink,
     T: Sink + Ticks + Copy + Drop,
     requires reader { R.has_failed input ≡ false }
@@ -238,7 +239,7 @@ fn perform_watched<S, R, W, E, T>(
 where
     S: Store,
     R: Source + Drop,
-    W: Sink,
+    W: Output,
     E: Sink,
     T: Sink + Ticks + Copy + Drop,
     requires reader { R.has_failed input ≡ false }
@@ -266,7 +267,7 @@ fn perform<S, R, W, E>(
 where
     S: Store,
     R: Source + Drop,
-    W: Sink,
+    W: Output,
     E: Sink,
     requires reader { R.has_failed input ≡ false }
     requires writer { W.has_failed out.old ≡ false }

@@ -1,16 +1,18 @@
 //! Lines for the standard output, of which none may be lost.
 
-ghost use Rattle.std.specs.Prelude.{◌≡◌, ◌++◌, false, IfOk, IfErr};
+ghost use Rattle.std.specs.Prelude.{◌≡◌, ◌++◌, [], false, Bool, Result, IfOk, IfErr};
+ghost use Rattle.xxh_io.specs.Digest.{Took};
+ghost use Rattle.xxhsum_program.specs.Finish.{Finishes, IsWritten};
 ghost use Rattle.xxhsum_line.specs.Escapes.{one_line};
 ghost use Rattle.xxhsum_program.specs.Joined.{joined};
 ghost use Rattle.xxhsum_program.specs.Lines.{PrintsLine};
 
 use crate::stop::Stop;
-use crate::tell::tell_line;
 use std::alloc::{AllocError, Global};
 use xxh_io::ends::Sink;
 use xxh_io::write::write_all;
 use xxhsum_line::escapes::put_line;
+use xxhsum_output::output::Output;
 
 // Puts the parts behind the text, one after another.
 fn put_parts(text: &mut Vec<u8>, parts: &[&[u8]]) -> Result<(), AllocError>
@@ -25,31 +27,25 @@ fn put_parts(text: &mut Vec<u8>, parts: &[&[u8]]) -> Result<(), AllocError>
     }
 }
 
-// Writes the parts as one line, whatever names are among them, at once.
-pub(crate) fn say_line<W: Sink>(alloc: Global, parts: &[&[u8]], out: &mut W) -> Result<(), Stop>
-    requires { W.has_failed out.old ≡ false }
-    ensures prints { PrintsLine W.Sink (one_line (joined parts.now)) out.old out.new result }
-    ensures works { IfOk result (λ _. W.has_failed out.new ≡ false) }
+// The parts as one line, whatever names are among them.
+pub(crate) fn line_of(alloc: Global, parts: &[&[u8]]) -> Result<Vec<u8>, AllocError>
+    ensures { IfOk result (λ line. line.items ≡ one_line (joined parts.now)) }
 {
     let mut text = Vec::new(alloc);
     put_parts(&mut text, parts)?;
     let mut line = Vec::new(alloc);
     put_line(&mut line, &text)?;
-    print(&line, out)
+    Ok(line)
 }
 
-// Writes the parts as one line, without memory.
-pub(crate) fn print_line<W: Sink>(parts: &[&[u8]], out: &mut W) -> Result<(), Stop>
+// Writes the parts as one line.
+pub(crate) fn say_line<W: Sink>(alloc: Global, parts: &[&[u8]], out: &mut W) -> Result<(), Stop>
     requires { W.has_failed out.old ≡ false }
     ensures prints { PrintsLine W.Sink (one_line (joined parts.now)) out.old out.new result }
     ensures works { IfOk result (λ _. W.has_failed out.new ≡ false) }
-    ensures only { IfErr result (λ stop. stop ≡ Stop.WriteFailed) }
 {
-    tell_line(parts, out);
-    if out.failed() {
-        return Err(Stop::WriteFailed);
-    }
-    Ok(())
+    let line = line_of(alloc, parts)?;
+    print(&line, out)
 }
 
 /// Writes the bytes. `Stop::WriteFailed` where a write fails.
@@ -62,5 +58,27 @@ pub fn print<W: Sink>(bytes: &[u8], out: &mut W) -> Result<(), Stop>
     match write_all(bytes, out) {
         Ok(()) => Ok(()),
         Err(_) => Err(Stop::WriteFailed),
+    }
+}
+
+// Writes what the output holds, so that it comes before a message.
+pub(crate) fn release<W: Output>(out: &mut W)
+    requires { W.has_failed out.old ≡ false }
+    ensures prints { Took W.Sink [] out.old out.new }
+    ensures written { IsWritten W.held W.has_lost out.new }
+    ensures works { W.has_failed out.new ≡ false }
+{
+    out.release();
+}
+
+/// Writes what the output holds at the end of a run. Where that fails the run has failed too: it ends with
+/// [`Stop::WriteFailed`], unless it stopped before.
+pub fn finish<W: Output>(done: Result<bool, Stop>, out: &mut W) -> Result<bool, Stop>
+    ensures { Finishes W.Sink W.held W.has_lost done out.old out.new result }
+{
+    out.release();
+    match done {
+        Ok(_) if out.has_lost() => Err(Stop::WriteFailed),
+        _ => done,
     }
 }

@@ -15,4 +15,6 @@ mod program;
 #[cfg(test)]
 mod progress;
 #[cfg(test)]
+mod whole_lines;
+#[cfg(test)]
 mod words;

@@ -2,6 +2,7 @@
 
 ghost use Rattle.std.specs.Prelude.{◌≡◌, false, Bool, List, ℕ, Option, Some, Result, drop, map, IfSome};
 ghost use Rattle.xxhsum_program.specs.Arguments.{AreArguments};
+ghost use Rattle.xxhsum_program.specs.Finish.{Finishes};
 ghost use Rattle.xxhsum_program.specs.Run.{PerformsWatched, end_text, status_of};
 ghost use Rattle.xxhsum_program.specs.Task.{IsProgram};
 ghost use Rattle.xxhsum_program.specs.Told.{TellsOn};
@@ -15,10 +16,12 @@ use crate::names::names_listed;
 use std::alloc::{AllocError, Global};
 use xxh_io::ends::{Sink, Source};
 use xxhsum_files::store::Store;
+use xxhsum_output::output::Output;
 use xxhsum_program::arguments::{Arguments, all_arguments};
 use xxhsum_program::check::check_lists;
 use xxhsum_program::hash::hash_names;
 use xxhsum_program::process::{Terminals, conclude, program_of, run_words, style_of, words_of};
+use xxhsum_program::say::finish;
 use xxhsum_program::screen::Ticks;
 use xxhsum_program::stop::Stop;
 use xxhsum_program::tell::tell;
@@ -26,7 +29,8 @@ use xxhsum_words::name::default_kind;
 use xxhsum_words::options::{Asked, Options, asked_by, words_behind};
 
 /// Does what the arguments ask for, over a store of files and these ends. Progress is shown on the screen, which is
-/// standard error too. Answers the exit status: 0 where every file was digested, or is as its line says, and else 1.
+/// standard error too. Answers the exit status: 0 where every file was digested, or is as its line says, and all that was
+/// printed is written, and else 1.
 ///
 /// The caller shows that neither the input nor the output has failed.
 pub fn run<A, S, R, W, E, T>(
@@ -43,27 +47,28 @@ where
     A: Arguments,
     S: Store,
     R: Source + Drop,
-    W: Sink,
+    W: Output,
     E: Sink,
     T: Sink + Ticks + Copy + Drop,
     requires reader { R.has_failed input ≡ false }
     requires writer { W.has_failed out.old ≡ false }
-    ensures { (args : Option (List (List ℕ))) × (done : Result Bool Stop) × (told : E)
+    ensures { (args : Option (List (List ℕ))) × (done ended : Result Bool Stop) × (met : W) × (told : E)
         × IfSome args (AreArguments A.holds A.ends arguments.now)
         × DoesArguments (PerformsWatched T S.Store S.File.Source R.Source W.Sink E.Sink store.now
-        input out.old out.new err.old told done)
-        (Walks S.Store S.File.Source R.Source W.Sink E.Sink store.now input out.old out.new
+        input out.old met err.old told done)
+        (Walks S.Store S.File.Source R.Source W.Sink E.Sink store.now input out.old met
         err.old told done)
-        E.Sink terminals args out.old out.new err.old told done
-        × TellsOn E.Sink (end_text done) told err.new
-        × (result ≡ status_of done) }
+        E.Sink terminals args out.old met err.old told done
+        × Finishes W.Sink W.held W.has_lost done met out.new ended
+        × TellsOn E.Sink (end_text ended) told err.new
+        × (result ≡ status_of ended) }
 {
     match all_arguments(alloc, arguments) {
         Ok(args) => {
             let done = run_arguments(alloc, &args, store, terminals, input, out, err, screen);
-            conclude(done, err)
+            conclude(finish(done, out), err)
         }
-        Err(AllocError) => conclude(Err(Stop::OutOfMemory), err),
+        Err(AllocError) => conclude(finish(Err(Stop::OutOfMemory), out), err),
     }
 }
 
@@ -81,7 +86,7 @@ fn run_arguments<S, R, W, E, T>(
 where
     S: Store,
     R: Source + Drop,
-    W: Sink,
+    W: Output,
     E: Sink,
     T: Sink + Ticks + Copy + Drop,
     requires reader { R.has_failed input ≡ false }
@@ -146,7 +151,7 @@ fn is_tree(options: Options) -> bool
 }
 
 // Audits the names, or digests or checks those that stand in lists of names.
-fn walk<S: Store, R: Source + Drop, W: Sink, E: Sink>(
+fn walk<S: Store, R: Source + Drop, W: Output, E: Sink>(
     alloc: Global,
     store: &S,
     options: Options,
@@ -167,7 +172,7 @@ fn walk<S: Store, R: Source + Drop, W: Sink, E: Sink>(
 }
 
 // Audits names against the list that the first word names.
-fn walk_audit<S: Store, R: Source + Drop, W: Sink, E: Sink>(
+fn walk_audit<S: Store, R: Source + Drop, W: Output, E: Sink>(
     alloc: Global,
     store: &S,
     options: Options,
@@ -197,7 +202,7 @@ fn walk_audit<S: Store, R: Source + Drop, W: Sink, E: Sink>(
 
 // Digests or checks the names that stand in lists of names.
 #[tactic(auto, unfolding(xxhsum_program::specs::Run::PerformsAs))]
-fn walk_names<S: Store, R: Source + Drop, W: Sink, E: Sink>(
+fn walk_names<S: Store, R: Source + Drop, W: Output, E: Sink>(
     alloc: Global,
     store: &S,
     options: Options,

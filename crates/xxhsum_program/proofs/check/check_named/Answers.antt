@@ -1,4 +1,4 @@
-use Rattle.std.proofs.Common.{[], refl}
+use Rattle.std.proofs.Common.{refl}
 use Rattle.xxhsum_program.specs.CheckList.{Checked, Unopened}
 use Rattle.xxhsum_program.proofs.StopFacts.{answers-outcome}
 use Rattle.xxhsum_program.proofs.check.check_named.Goals as goal
@@ -10,4 +10,4 @@ returns-in-Ok-clause-checks g c =
 
 pub returns-in-Err-clause-checks : goal.returns-in-Err-clause-checks
 returns-in-Err-clause-checks g c =
-    (Unopened c.in-Err.refusal, c.in-Err.ensures.refuses, (tt, refl), ([], refl, refl), rw c.text.ensures at c.tell_line.ensures)
+    (Unopened c.in-Err.refusal, c.in-Err.ensures.refuses, (tt, refl), c.release.ensures.prints, rw c.text.ensures at c.tell_line.ensures)

@@ -4,4 +4,4 @@ use Rattle.xxhsum_tree.proofs.run.run.Goals as goal
 pub returns-in-Ok : goal.returns-in-Ok
 returns-in-Ok g c =
     let does = rw c.deref.ensures.value at c.run_arguments-done.ensures in
-    (Some (map (λ argument. argument.items) c.in-Ok.args.items), c.run_arguments-done.result, c.run_arguments-done.new.err, c.in-Ok.ensures, does, c.conclude.ensures.tells, c.conclude.ensures.status)
+    (Some (map (λ argument. argument.items) c.in-Ok.args.items), c.run_arguments-done.result, c.finish.result, c.run_arguments-done.new.out, c.run_arguments-done.new.err, c.in-Ok.ensures, does, c.finish.ensures, c.conclude.ensures.tells, c.conclude.ensures.status)

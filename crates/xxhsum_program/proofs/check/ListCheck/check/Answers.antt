@@ -1,13 +1,20 @@
+use Rattle.xxhsum_program.specs.declared.stop.Stop.TheVariants.{OutOfMemory}
 use Rattle.xxhsum_program.specs.Findings.{IsFinding}
 use Rattle.xxhsum_program.proofs.HashFacts.{is-err}
-use Rattle.xxhsum_program.proofs.StopFacts.{check-ends, check-stops, check-summary-stops}
+use Rattle.xxhsum_program.proofs.StopFacts.{check-begins-not, check-ends, check-stops, check-summary-stops}
 use Rattle.xxhsum_program.proofs.check.ListCheck.check.Goals as goal
+
+pub returns-in_err-unverified-clause-checks : goal.returns-in_err-unverified-clause-checks
+returns-in_err-unverified-clause-checks g c =
+    let is_finding = IsFinding g.S.Store g.S.File.Source c.args.self.now.store.now c.args.self.now.options.is_little_endian in
+    rw (is-err c.from_residual.result OutOfMemory c.from_residual.ensures.1)
+    (check-begins-not is_finding g.R.Source g.W.Sink g.E.Sink c.args.self.now.options c.args.self.now.name.now c.args.source c.args.out.now c.args.err.now)
 
 pub returns-in_err-report-clause-checks : goal.returns-in_err-report-clause-checks
 returns-in_err-report-clause-checks g c =
     let stop = c.in_err-report.field-0.0 in
     let is_finding = IsFinding g.S.Store g.S.File.Source c.args.self.now.store.now c.args.self.now.options.is_little_endian in
-    rw (is-err c.from_residual.result stop c.from_residual.ensures.1)
+    rw (is-err c.from_residual-in_err-report.result stop c.from_residual-in_err-report.ensures.1)
     (check-stops is_finding g.R.Source g.W.Sink g.E.Sink c.args.self.now.options c.args.self.now.name.now c.args.source c.args.out.now c.check_lines.new.out c.args.err.now c.check_lines.new.err stop c.in_err-report.ensures.checks)
 
 pub returns-in_err-sum_up-clause-checks : goal.returns-in_err-sum_up-clause-checks

@@ -13,7 +13,7 @@ returns-in-Comment-clause-checks g c =
 pub returns-in-Malformed-clause-checks : goal.returns-in-Malformed-clause-checks
 returns-in-Malformed-clause-checks g c =
     let means = subst (Means c.args.self.now.options.is_little_endian c.args.line.now) c.in-Malformed.is c.in_ok-entry.ensures.meaning in
-    (Improper, means, c.count_improper.ensures.counts, ([], refl, refl), c.count_improper.ensures.tells)
+    (Improper, means, c.count_improper.ensures.counts, c.count_improper.ensures.prints, c.count_improper.ensures.tells)
 
 pub returns-then-is_silent-clause-checks : goal.returns-then-is_silent-clause-checks
 returns-then-is_silent-clause-checks g c =

@@ -9,6 +9,7 @@ use Rattle.xxhsum_program.specs.Said.{numbered, printed_finding, told_finding}
 use Rattle.xxhsum_program.proofs.CheckFacts.{add_up-push, breaks-failed, breaks-too-long, ends-well, some-read, stands-line, stands-new}
 use Rattle.xxhsum_program.proofs.EachFacts.{EachHas-push}
 use Rattle.xxhsum_program.proofs.HashFacts.{is-err}
+use Rattle.xxhsum_program.proofs.OutcomeFacts.{took-nothing-more}
 use Rattle.xxhsum_program.proofs.SaidFacts.{numbered-push}
 use Rattle.xxhsum_program.proofs.StopFacts.{lines-stop, tells-as, tells-break}
 use Rattle.xxhsum_program.proofs.ToldFacts.{tells-more, tells-nothing}
@@ -70,7 +71,7 @@ returns-in-Failed-clause-checks g c =
       Some FailedRead,
       (so_far.read, so_far.each, breaks-failed g.R.Source c.args.source c.loop-number.lines c.next.new.self so_far.read so_far.stands c.in-Failed.ensures.next c.in-Failed.ensures.ended),
       c.with_broken_end.ensures ∙ ap with_broken_end so_far.report,
-      so_far.prints,
+      took-nothing-more g.W.Sink _ _ _ _ so_far.prints c.release.ensures.prints,
       tells-more g.E.Sink _ _ c.args.err.now c.loop-number.err c.tell_of_failure.new.err so_far.tells (tells-break g.E.Sink c.args.self.now.name.now FailedRead c.loop-number.number (length so_far.findings + 1) c.loop-number.report (report_of c.args.self.now.options.ignores_missing so_far.findings) c.loop-number.err c.tell_of_failure.new.err count so_far.report c.tell_of_failure.ensures),
     )
 
@@ -82,7 +83,7 @@ returns-in-TooLong-clause-checks g c =
       Some LongLine,
       (so_far.read, so_far.each, breaks-too-long g.R.Source c.args.source c.loop-number.lines c.next.new.self so_far.read so_far.stands c.in-TooLong.ensures.next c.in-TooLong.ensures.ended),
       c.with_broken_end-in-TooLong.ensures ∙ ap with_broken_end so_far.report,
-      so_far.prints,
+      took-nothing-more g.W.Sink _ _ _ _ so_far.prints c.release-in-TooLong.ensures.prints,
       tells-more g.E.Sink _ _ c.args.err.now c.loop-number.err c.tell_of_line.new.err so_far.tells (tells-break g.E.Sink c.args.self.now.name.now LongLine c.loop-number.number (length so_far.findings + 1) c.loop-number.report (report_of c.args.self.now.options.ignores_missing so_far.findings) c.loop-number.err c.tell_of_line.new.err count so_far.report c.tell_of_line.ensures),
     )
 

@@ -1,0 +1,6 @@
+//! What `xxhsum` writes to: a sink that gathers lines and writes them whole.
+#![tactic(auto)]
+
+pub mod output;
+pub mod waiting;
+pub mod whole_lines;

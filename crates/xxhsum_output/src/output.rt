@@ -1,0 +1,44 @@
+//! Sinks that may write later.
+
+ghost use Rattle.std.specs.Prelude.{◌≡◌, [], false, List, ℕ, Bool};
+ghost use Rattle.std.specs.List.{concat};
+ghost use Rattle.xxh_io.specs.Pieces.{Pieces};
+
+use xxh_io::ends::Sink;
+use xxh_io::script_sink::ScriptSink;
+
+/// A sink that may hold bytes for a while, to write many at once.
+///
+/// Bytes that it holds count as taken. Where the write of them fails later, they are lost, and so is what follows: its
+/// next write fails.
+pub trait Output: Sink {
+    // The bytes that were taken and are not written yet.
+    ghost held: { Self → List ℕ };
+
+    // A write of bytes that were taken has failed.
+    ghost has_lost: { Self → Bool };
+
+    /// Whether a write of bytes that were taken has failed.
+    fn has_lost(&self) -> bool
+        ensures { result ≡ has_lost self.now };
+
+    /// Writes the bytes that it holds.
+    fn release(&mut self)
+        ensures takes_nothing { (pieces : List (List ℕ))
+            × Pieces Self.takes self.old pieces self.new × (concat pieces ≡ []) }
+        ensures failed { Self.has_failed self.new ≡ Self.has_failed self.old }
+        ensures released { has_lost self.new ≡ false → held self.new ≡ [] };
+}
+
+// A sink in memory holds nothing.
+impl<const N: usize> Output for ScriptSink<N> {
+    ghost held = { λ _. [] };
+
+    ghost has_lost = { λ _. false };
+
+    fn has_lost(&self) -> bool {
+        false
+    }
+
+    fn release(&mut self) {}
+}

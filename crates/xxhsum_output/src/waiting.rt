@@ -1,0 +1,64 @@
+//! Bytes that wait before they are written.
+
+ghost use Rattle.std.specs.Prelude.{◌≡◌, ◌↔◌, ◌+◌, ◌≤◌, ◌++◌, [], true, false, length, Err, IfErr, IfOk, OnErr};
+ghost use Rattle.xxh_io.specs.Digest.{Writes};
+
+use xxh_io::ends::Sink;
+use xxh_io::error::DigestError;
+use xxh_io::write::write_all;
+
+/// Bytes that wait to be written, at most `N` of them.
+#[derive(Drop)]
+pub struct Waiting<const N: usize> {
+    bytes: [u8; N],
+    len: usize,
+    ghost within: { len ≤ N },
+}
+
+impl<const N: usize> Waiting<N> {
+    ghost use Rattle.xxhsum_output.specs.Waiting.{waiting_bytes, waiting_count};
+
+    /// None wait.
+    pub fn new() -> Waiting<N>
+        ensures bytes { waiting_bytes result ≡ [] }
+        ensures count { waiting_count result ≡ 0 }
+    {
+        Waiting {
+            bytes: [0; N],
+            len: 0,
+        }
+    }
+
+    /// How many wait.
+    pub fn len(&self) -> usize
+        ensures { result ≡ waiting_count self.now }
+    {
+        self.len
+    }
+
+    /// Puts bytes for which there is capacity behind those that wait.
+    pub fn append(&mut self, bytes: &[u8])
+        requires { waiting_count self.old + length bytes.now ≤ N }
+        ensures bytes { waiting_bytes self.new ≡ waiting_bytes self.old ++ bytes.now }
+        ensures count { waiting_count self.new ≡ waiting_count self.old + length bytes.now }
+    {
+        let all = &mut self.bytes[..];
+        all[self.len..self.len + bytes.len()].copy_from_slice(bytes);
+        self.len += bytes.len();
+    }
+
+    /// Writes the bytes that wait. After an error they still wait.
+    pub fn flush<W: Sink>(&mut self, w: &mut W) -> Result<(), DigestError>
+        requires { W.has_failed w.old ≡ false }
+        ensures writes { Writes W.Sink (waiting_bytes self.old) w.old w.new result }
+        ensures empty { IfOk result (λ _. waiting_count self.new ≡ 0) }
+        ensures kept { OnErr result (waiting_bytes self.new ≡ waiting_bytes self.old) }
+        ensures write_failed { (result ≡ Err DigestError.WriteFailed)
+            ↔ (W.has_failed w.new ≡ true) }
+        ensures only { IfErr result (λ e. e ≡ DigestError.WriteFailed) }
+    {
+        write_all(&self.bytes[..self.len], w)?;
+        self.len = 0;
+        Ok(())
+    }
+}

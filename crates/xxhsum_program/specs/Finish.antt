@@ -1,0 +1,24 @@
+-- The end of a run, at which all that was printed is written.
+use Rattle.std.specs.Prelude.{◌≡◌, ℕ, Bool, true, false, List, []}
+use Rattle.std.specs.declared.result.Result.{Result}
+use Rattle.std.specs.declared.result.Result.TheVariants.{Ok, Err}
+use Rattle.xxh_io.specs.Digest.{Took}
+use Rattle.xxh_io.specs.Rules.{SinkRules}
+use Rattle.xxhsum_program.specs.declared.stop.Stop.{Stop}
+use Rattle.xxhsum_program.specs.declared.stop.Stop.TheVariants.{WriteFailed}
+
+-- what a run comes to by whether some of its output was lost
+abbrev pub end_after : Bool → Result Bool Stop → Result Bool Stop
+end_after false done = done
+end_after true (Ok all) = Err WriteFailed
+end_after true (Err stop) = Err stop
+
+-- all that was printed is written, unless some of it was lost
+abbrev pub IsWritten : {W : Type 0} → (W → List ℕ) → (W → Bool) → W → Type 0
+IsWritten held has_lost out = has_lost out ≡ false → held out ≡ []
+
+-- nothing more is printed, and what the output held is written; or that was lost, and the run has failed
+abbrev pub Finishes : {W : Type 0} → SinkRules W → (W → List ℕ) → (W → Bool) → Result Bool Stop → W → W
+    → Result Bool Stop → Type 0
+Finishes writing held has_lost done old new result =
+    Took writing [] old new × IsWritten held has_lost new × (result ≡ end_after (has_lost new) done)
