@@ -536,6 +536,60 @@ def trees():
     ]
 
 
+def folders():
+    """The files below folders, which neither original reads."""
+    tree = ('mkdir -p t/b/deep t/b.x t/none; cp a t/a; cp e t/B; cp a t/b/z; cp e t/b/deep/q; cp a t/b.x/c; ln -s ../a t/b/file; '
+            'ln -s ../../d t/b/folder; ln -s .. t/b/up; mkfifo t/pipe; ')
+    # A root of the tests reads all folders, unless it has given that up.
+    bound = '[ "$(id -u)" = 0 ] && run="setpriv --bounding-set=-dac_override,-dac_read_search"; chmod 0 t/b; '
+    rows = [(EMPTY, b'B'), (X64, b'a'), (EMPTY, b'b/deep/q'), (X64, b'b/z'), (X64, b'b.x/c')]
+    found = b''.join(digits + b'  t/' + name + b'\n' for digits, name in rows)
+    same = b''.join(b't/' + name + b': same\n' for name in sorted(name for _, name in rows))
+    closed = b"Error: Could not open 't/b': Permission denied. "
+    beside = fails([b"Wrong parameters: '-r' beside '-c' or lists of names"])
+    alone = fails([b"Wrong parameters: '-r' without a FILE"])
+
+    def well(text):
+        return {'out': text, 'err': b'', 'status': 0}
+
+    return [
+        Case('-r of a tree', shell=tree + '"$X" -r t', wanted=well(found)),
+        Case('-r as find and sort have it', shell=tree + 'rm t/b.x/c; "$X" -r t >ours; find t -type f -print0 | LC_ALL=C sort -z | '
+             '"$X" --files0-from >theirs; cmp ours theirs', wanted=well(b'')),
+        Case('-r of a name that ends with a slash', ('-r', 'd/'), wanted=well(X64 + b'  d/inner\n')),
+        Case('--recursive of names in the order in which they came', ('--recursive', 'e', 'd', 'a'), wanted=well(
+            EMPTY + b'  e\n' + X64 + b'  d/inner\n' + X64 + b'  a\n')),
+        Case('-r among other letters', ('-rzH0', 'd'), wanted=well(X32 + b'  d/inner\0')),
+        Case('-r of links that are named', ('-r', 'linked-folder', 'link'), wanted=well(
+            X64 + b'  linked-folder/inner\n' + X64 + b'  link\n')),
+        Case('-r of links that lead nowhere', ('-r', 'broken', 'd'), wanted=fails([
+            b"Error: Could not open 'broken': No such file or directory. "], X64 + b'  d/inner\n')),
+        Case('-r of an empty folder', shell='mkdir t; "$X" -r t', wanted=well(b'')),
+        Case('-r of a name that is not UTF-8', shell='mkdir t; cp a t; cp a "$(printf "t/\\377")"; "$X" -r t', wanted=fails([
+            b"Error: Could not open 't/\xff': The name is not UTF-8. "], X64 + b'  t/a\n')),
+        Case('-r of many names', shell='mkdir t; seq 3000 | sed "s#^#t/#" | xargs touch; "$X" -r t | wc -l', wanted=well(b'3000\n')),
+        Case('-r of deep folders', shell='mkdir -p "$(printf "t%.0s/" $(seq 900))"; cp a "$(printf "t%.0s/" $(seq 900))"; '
+             '"$X" -r t | cut -c1-16', wanted=well(X64 + b'\n')),
+        Case('-r of a folder that can not be read', shell=tree + bound + '$run "$X" -r t; status=$?; chmod 700 t/b; exit $status',
+             wanted=fails([closed], b''.join(line for line in found.splitlines(keepends=True) if b't/b/' not in line))),
+        Case('-r to a full disk', shell='"$X" -r d >/dev/full', wanted=refused()),
+        Case('an audit of a folder', shell=tree + '"$X" -r t >list; "$X" --audit -r list t', wanted=well(
+            same + b'5 same, 0 changed, 0 moved, 0 new, 0 missing\n')),
+        Case('an audit of a folder that has changed', shell=tree + '"$X" -rH3 t >list; mv t/b/deep/q t/q; rm t/B; echo >>t/a; '
+             '"$X" --audit -qr list t', wanted={
+                 'out': b't/a: changed\nt/q: moved from t/B\nt/b/deep/q: missing\n2 same, 1 changed, 1 moved, 0 new, 1 missing\n',
+                 'err': b'', 'status': 1}),
+        Case('an audit of a folder that can not be read', shell=tree + bound + '"$X" -r t/a >list; $run "$X" --audit -r list t; '
+             'status=$?; chmod 700 t/b; exit $status', wanted=fails([closed])),
+        Case('-r without a name', ('-r',), wanted=alone),
+        Case('-r of the input', ('-r', '-'), wanted=alone),
+        Case('an audit of no folder', ('-r', '--audit', 'good'), wanted=alone),
+        Case('-r with -c', ('-r', '-c', 'good'), wanted=beside),
+        Case('-r with names of a file', ('--files-from', '-r', 'good'), wanted=beside),
+        Case('-r with names that NULs end', ('--files0-from', '-r', 'good'), wanted=beside),
+    ]
+
+
 def told_names():
     """Names that would end a line, where something else than a digest is told of them: one line, as lists have names. The
     originals print them as they are, so that whoever writes a list or names a file can forge a line."""
@@ -578,7 +632,7 @@ def told_names():
 
 
 CASES = (names() + kinds() + lines() + options() + input_alone() + program_names() + verdicts() + plain_lines()
-         + tagged_lines() + missing_files() + lines_with_nuls() + several_lists() + ends() + trees() + told_names())
+         + tagged_lines() + missing_files() + lines_with_nuls() + several_lists() + ends() + trees() + folders() + told_names())
 
 # The cases in which one of the originals does something else than ours, for the reasons that docs/XXHSUM.md gives: 0.8.1
 # knows no escapes, comments and XXH3 without a tag, and has fewer options.

@@ -1,3 +1,4 @@
+pub mod Folders
 pub mod Memory
 pub mod Refusal
 pub mod Rules

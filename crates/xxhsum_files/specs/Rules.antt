@@ -1,6 +1,12 @@
--- The rules of a store, as one record: which file a name leads to, why to none, and whether it is a directory's.
+-- The rules of a store, as one record: which file a name leads to, why to none, and whether it is a directory's; and
+-- those of folders.
+use Rattle.xxhsum_files.specs.declared.folders.Folders as folders
 use Rattle.xxhsum_files.specs.declared.store.Store as store
 
 -- `opens`, `refuses` and `holds_directory` of a store S, whose files are F
 abbrev pub StoreRules : Type 0 → Type 0 → Type 1
 StoreRules S F = store.Ghosts S F
+
+-- `holds`, `closes` and `leads` of what has folders
+abbrev pub FolderRules : Type 0 → Type 1
+FolderRules S = folders.Ghosts S

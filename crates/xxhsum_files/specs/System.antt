@@ -3,6 +3,7 @@ use Rattle.std.specs.Prelude.{◌≡◌, Bool, ℕ, List, Option, pos}
 use Rattle.std.specs.Str.{IsUtf8}
 use Rattle.xxhsum_files.specs.Refusal.{refusal_code}
 use Rattle.xxh_io.specs.declared.from_read.FromRead.{FromRead}
+use Rattle.xxhsum_files.specs.declared.folders.PathKind.{PathKind}
 use Rattle.xxhsum_files.specs.declared.refusal.Refusal.{Refusal}
 use Rattle.xxhsum_files.specs.declared.system.SystemFiles.{SystemFiles}
 
@@ -21,3 +22,11 @@ AnySize files name size = Unit {0}
 -- a name may be a directory's or not
 abbrev pub AnyAnswer : {P : Type 0} → SystemFiles P → List ℕ → Bool → Type 0
 AnyAnswer files name answer = Unit {0}
+
+-- a folder may hold any names
+abbrev pub AnyNames : {P : Type 0} → SystemFiles P → List ℕ → List (List ℕ) → Type 0
+AnyNames files folder names = Unit {0}
+
+-- a name may lead to anything
+abbrev pub AnyKind : {P : Type 0} → SystemFiles P → List ℕ → PathKind → Type 0
+AnyKind files name kind = Unit {0}

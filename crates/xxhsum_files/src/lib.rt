@@ -1,6 +1,7 @@
-//! Files by names that are bytes: what `xxhsum` opens, from the system or from a table in memory.
+//! Files and folders by names that are bytes: what `xxhsum` opens, from the system or from a table in memory.
 #![tactic(auto)]
 
+pub mod folders;
 pub mod memory;
 pub mod refusal;
 pub mod store;

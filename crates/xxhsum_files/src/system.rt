@@ -1,17 +1,23 @@
 //! The system's files, by the names that std opens. Which bytes they give no clause can say, but what becomes of a name
 //! that is not UTF-8.
 
-ghost use Rattle.xxhsum_files.specs.System.{AnyAnswer, AnyFile, AnySize, RefusesNoText};
+ghost use Rattle.xxhsum_files.specs.System.{AnyAnswer, AnyFile, AnyKind, AnyNames, AnySize, RefusesNoText};
 
+use crate::folders::{FolderError, Folders, PathKind};
 use crate::refusal::Refusal;
 use crate::store::Store;
 use crate::words::words_of;
+use std::alloc::{AllocError, Global};
 use std::fs;
 use std::fs::Files;
+use std::io::Read;
 use xxh_io::from_read::FromRead;
 
 // `EILSEQ`, the system's number for a text that is none.
 const NOT_A_TEXT: i32 = 84;
+
+// How many bytes of names each read of a folder is offered.
+const OFFERED: usize = 32768;
 
 /// The files that a process may open. A name that is not UTF-8 is refused, since std opens no such name.
 #[derive(Clone, Copy)]
@@ -66,4 +72,60 @@ impl<P: Files> Store for SystemFiles<'_, P> {
             Err(error) => Err(words_of(error)),
         }
     }
+}
+
+impl<P: Files> Folders for SystemFiles<'_, P> {
+    ghost holds = { AnyNames };
+
+    ghost closes = { RefusesNoText };
+
+    ghost leads = { AnyKind };
+
+    fn kind_of(&self, name: &[u8]) -> PathKind {
+        let Ok(path) = str::from_utf8(name) else {
+            return PathKind::File;
+        };
+        match fs::symlink_metadata(self.process, path) {
+            Ok(found) if found.is_dir() => PathKind::Folder,
+            Ok(found) if !found.is_file() => PathKind::Other,
+            _ => PathKind::File,
+        }
+    }
+
+    fn names_in(&self, alloc: Global, folder: &[u8]) -> Result<Vec<Vec<u8>>, FolderError> {
+        let Ok(path) = str::from_utf8(folder) else {
+            return Err(FolderError::Refused(Refusal::new(NOT_A_TEXT, b"The name is not UTF-8")));
+        };
+        match self.process.open_dir(path) {
+            Ok(dir) => names_of(alloc, dir),
+            Err(error) => Err(FolderError::Refused(words_of(error))),
+        }
+    }
+}
+
+// The names that reads of an open folder give, each ended by a NUL. No read ends within a name.
+fn names_of<D: Read + Drop>(alloc: Global, dir: D) -> Result<Vec<Vec<u8>>, FolderError> {
+    let mut dir = dir;
+    let mut names = Vec::new(alloc);
+    let mut buf = [0; OFFERED];
+    for _ in 0..u64::MAX {
+        match dir.read(&mut buf) {
+            Ok(0) => return Ok(names),
+            Ok(count) => add_names(alloc, &buf[..count], &mut names)?,
+            Err(error) => return Err(FolderError::Refused(words_of(error))),
+        }
+    }
+    Err(FolderError::OutOfMemory)
+}
+
+// Puts the names behind these, each of which a NUL ends, but for the folder itself and the one above it.
+fn add_names(alloc: Global, text: &[u8], names: &mut Vec<Vec<u8>>) -> Result<(), AllocError> {
+    for name in text.split(|byte| *byte == 0) {
+        if !name.is_empty() && name != b".".as_slice() && name != b"..".as_slice() {
+            let mut owned = Vec::new(alloc);
+            owned.extend_from_slice(name)?;
+            names.push(owned)?;
+        }
+    }
+    Ok(())
 }

@@ -10,7 +10,7 @@ use Rattle.xxhsum_words.specs.Options.{asked_of}
 use Rattle.xxhsum_words.specs.Table.{rows_text}
 use Rattle.xxhsum_words.specs.declared.table.TheConstants.{ROWS}
 use Rattle.xxhsum_words.specs.declared.options.Asked.{Asked}
-use Rattle.xxhsum_words.specs.declared.options.Asked.TheVariants.{Run, Benchmark, Version, Help, WrongOption, NulsInList, InputBesideNames, NumberTooLarge}
+use Rattle.xxhsum_words.specs.declared.options.Asked.TheVariants.{Run, Benchmark, Version, Help, WrongOption, NulsInList, WalkBesideLists, WalkOfNothing, InputBesideNames, NumberTooLarge}
 use Rattle.xxhsum_words.specs.declared.options.Options.{Options}
 
 -- a text is told, and the answer is this; or files are digested, or lists checked, and their reads are shown or not
@@ -55,6 +55,9 @@ answer_text program words (WrongOption at) =
     wrong_text (concat (codes "Wrong parameters: '" ∷ get_or words at [] ∷ codes "'" ∷ [])) program
 answer_text program words NulsInList =
     wrong_text (codes "Wrong parameters: '-z' beside '-c' or '--audit'") program
+answer_text program words WalkBesideLists =
+    wrong_text (codes "Wrong parameters: '-r' beside '-c' or lists of names") program
+answer_text program words WalkOfNothing = wrong_text (codes "Wrong parameters: '-r' without a FILE") program
 answer_text program words InputBesideNames =
     codes "Error: '-' is standard input, which is read alone; a file of that name is './-'.\n"
 answer_text program words (Run options place) = []
@@ -66,6 +69,8 @@ is_well Help = true
 is_well Benchmark = false
 is_well (WrongOption at) = false
 is_well NulsInList = false
+is_well WalkBesideLists = false
+is_well WalkOfNothing = false
 is_well InputBesideNames = false
 is_well (Run options place) = false
 is_well NumberTooLarge = false
@@ -78,6 +83,8 @@ run_asked Help = None
 run_asked Benchmark = None
 run_asked (WrongOption at) = None
 run_asked NulsInList = None
+run_asked WalkBesideLists = None
+run_asked WalkOfNothing = None
 run_asked InputBesideNames = None
 run_asked NumberTooLarge = None
 

@@ -105,6 +105,8 @@ fn run_asked(asked: Asked) -> Option<(Options, usize)>
         | Asked::Help
         | Asked::WrongOption { .. }
         | Asked::NulsInList
+        | Asked::WalkBesideLists
+        | Asked::WalkOfNothing
         | Asked::InputBesideNames
         | Asked::NumberTooLarge => None,
     }
@@ -178,6 +180,18 @@ fn tell_answer<E: Sink>(program: &[u8], words: &[Vec<u8>], asked: Asked, err: &m
                 program,
                 err,
             );
+            false
+        }
+        Asked::WalkBesideLists => {
+            tell_wrong(
+                &[b"Wrong parameters: '-r' beside '-c' or lists of names"],
+                program,
+                err,
+            );
+            false
+        }
+        Asked::WalkOfNothing => {
+            tell_wrong(&[b"Wrong parameters: '-r' without a FILE"], program, err);
             false
         }
         Asked::InputBesideNames => {

@@ -36,6 +36,15 @@ const TABLE: &[(&str, &str)] = &[
     ("--audit --files-from - a", "64 terminal 3"),
     ("--audit --files-from - a b", "beside"),
     ("--audit --files-from a -", "beside"),
+    ("-r a", "64 walks 1"),
+    ("-rH3 a", "3-64 walks 1"),
+    ("--recursive --audit a b", "64 walks 2"),
+    ("-r --audit a", "nothing"),
+    ("-r", "nothing"),
+    ("-r -", "nothing"),
+    ("-r - a", "beside"),
+    ("-r -c a", "lists"),
+    ("--files-from -r a", "lists"),
     ("-z -c a", "nuls"),
     ("-z --audit a", "nuls"),
     ("-- -q", "64 1"),
@@ -78,6 +87,8 @@ fn told(alloc: Global, asked: Asked) -> Result<String, Fail> {
             return Ok(text);
         }
         Asked::NulsInList => return Ok(String::from_str(alloc, "nuls")?),
+        Asked::WalkBesideLists => return Ok(String::from_str(alloc, "lists")?),
+        Asked::WalkOfNothing => return Ok(String::from_str(alloc, "nothing")?),
         Asked::InputBesideNames => return Ok(String::from_str(alloc, "beside")?),
         Asked::NumberTooLarge => return Ok(String::from_str(alloc, "large")?),
     };
@@ -98,6 +109,7 @@ fn told(alloc: Global, asked: Asked) -> Result<String, Fail> {
         (options.warns, "warns "),
         (options.is_tagged, "tagged "),
         (options.is_little_endian, "little "),
+        (options.walks, "walks "),
         (options.takes_terminal, "terminal "),
     ] {
         if is_on {

@@ -2,3 +2,4 @@ mod FindFacts
 mod ReportFacts
 mod RowFacts
 mod WalkFacts
+mod VisitFacts

@@ -41,9 +41,9 @@ pub read-more : (rows : List Row) (row : Row) → are_read (rows ++ row ∷ []) 
 read-more [] row = and-true (is_read row)
 read-more (r ∷ rows) row = ap (λ x. is_read r && x) (read-more rows row) ∙ and-assoc (is_read r) (are_read rows) (is_read row)
 
--- what one more row comes to stands behind
-pub flat-push : {A : Type 0} (f : Row → List A) (rows : List Row) (row : Row) → flat_map f (rows ++ row ∷ []) ≡ flat_map f rows ++ f row
-flat-push f rows row = flat_map-append f rows (row ∷ []) ∙ ap (λ x. flat_map f rows ++ x) (append-nil (f row))
+-- what one more comes to stands behind
+pub flat-push : {X A : Type 0} (f : X → List A) (xs : List X) (x : X) → flat_map f (xs ++ x ∷ []) ≡ flat_map f xs ++ f x
+flat-push f xs x = flat_map-append f xs (x ∷ []) ∙ ap (λ more. flat_map f xs ++ more) (append-nil (f x))
 
 -- ---- a name and its line
 

@@ -8,3 +8,5 @@ pub mod Run
 pub mod Said
 pub mod Texts
 pub mod ToldLines
+pub mod Walk
+pub mod WalkLaws

@@ -1,26 +1,28 @@
 -- What the program does with its arguments, which may ask for a tree.
-use Rattle.std.specs.Prelude.{◌≡◌, ℕ, Bool, true, false, ◌||◌, List, [], ◌∷◌, Option, Some, None, codes, drop, if◌then◌else◌, MatchBool}
+use Rattle.std.specs.Prelude.{◌≡◌, ℕ, Bool, true, false, ◌&&◌, ◌||◌, ◌⊎◌, List, [], ◌∷◌, Option, Some, None, codes, drop, if◌then◌else◌, MatchBool}
 use Rattle.std.specs.declared.result.Result.{Result}
-use Rattle.std.specs.declared.result.Result.TheVariants.{Err}
+use Rattle.std.specs.declared.result.Result.TheVariants.{Ok, Err}
 use Rattle.xxh_io.specs.Rules.{SinkRules, SourceRules}
-use Rattle.xxhsum_files.specs.Rules.{StoreRules}
+use Rattle.xxhsum_files.specs.Rules.{FolderRules, StoreRules}
 use Rattle.xxhsum_program.specs.declared.process.Terminals.{Terminals}
 use Rattle.xxhsum_program.specs.declared.stop.Stop.{Stop}
 use Rattle.xxhsum_program.specs.declared.stop.Stop.TheVariants.{OutOfMemory}
-use Rattle.xxhsum_program.specs.Run.{DoesTask, PerformsAs}
+use Rattle.xxhsum_program.specs.HashNames.{SaysNames}
+use Rattle.xxhsum_program.specs.Run.{DoesTask, PerformsAs, style_of}
 use Rattle.xxhsum_program.specs.Task.{IsProgram, task_of}
 use Rattle.xxhsum_tree.specs.Audits.{Audits}
 use Rattle.xxhsum_tree.specs.Finds.{GoesOn, OnlyTells}
 use Rattle.xxhsum_tree.specs.Names.{ListNames, ListNone, end_of}
+use Rattle.xxhsum_tree.specs.Walk.{WalksAll, WalksSome}
 use Rattle.xxhsum_words.specs.Name.{kind_of_program}
 use Rattle.xxhsum_words.specs.Options.{are_listed, asked_of}
 use Rattle.xxhsum_words.specs.declared.options.Asked.{Asked}
-use Rattle.xxhsum_words.specs.declared.options.Asked.TheVariants.{Run, Benchmark, Version, Help, WrongOption, NulsInList, InputBesideNames, NumberTooLarge}
+use Rattle.xxhsum_words.specs.declared.options.Asked.TheVariants.{Run, Benchmark, Version, Help, WrongOption, NulsInList, WalkBesideLists, WalkOfNothing, InputBesideNames, NumberTooLarge}
 use Rattle.xxhsum_words.specs.declared.options.Options.{Options}
 
--- a tree is asked for: an audit, or names that stand in lists of names
+-- a tree is asked for: an audit, the files below folders, or names that stand in lists of names
 abbrev pub is_tree : Options → Bool
-is_tree options = options.audits || are_listed options.names_from
+is_tree options = options.audits || options.walks || are_listed options.names_from
 
 -- the options of a run over a tree, and which of the words its names begin at
 abbrev pub tree_asked : Asked → Option (Options × ℕ)
@@ -30,6 +32,8 @@ tree_asked Version = None
 tree_asked Help = None
 tree_asked (WrongOption at) = None
 tree_asked NulsInList = None
+tree_asked WalkBesideLists = None
+tree_asked WalkOfNothing = None
 tree_asked InputBesideNames = None
 tree_asked NumberTooLarge = None
 
@@ -43,29 +47,61 @@ WalksNames opening reading input_reading writing telling store input w_old w_new
     result options.checks false)
     w_old w_new e_old e_new result
 
+-- The names in each folder were read, and all went well with the files.
+abbrev pub all_well : Bool → Result Bool Stop → Result Bool Stop
+all_well are_all (Ok all) = Ok (are_all && all)
+all_well are_all (Err stop) = Err stop
+
+-- Below folders, the files are digested once all folders were read; or there was no memory for their names.
+abbrev pub WalksFolders : {S F W E : Type 0} → StoreRules S F → FolderRules S → SourceRules F → SinkRules W → SinkRules E
+    → S → Options → List (List ℕ) → W → W → E → E → Result Bool Stop → Type 0
+WalksFolders {S} {F} {W} {E} opening folders reading writing telling store options names w_old w_new e_old e_new result =
+    ((files : List (List ℕ)) × (are_all : Bool) × (e_met : E) × (done : Result Bool Stop)
+    × WalksAll opening folders telling store names files are_all e_old e_met
+    × SaysNames opening reading writing telling store options.kind (style_of options) files w_old w_new e_met e_new done
+    × (result ≡ all_well are_all done))
+    ⊎ ((stop : Stop) × WalksSome opening folders telling store names e_old e_new stop × (w_new ≡ w_old)
+    × (result ≡ Err stop))
+
+-- With an audit, its names are those of the files. Where the names in a folder can't be read, there is none.
+abbrev pub AuditsBelow : {S F W E : Type 0} → StoreRules S F → FolderRules S → SourceRules F → SinkRules W → SinkRules E
+    → S → Options → List ℕ → List (List ℕ) → W → W → E → E → Result Bool Stop → Type 0
+AuditsBelow {S} {F} {W} {E} opening folders reading writing telling store options list names w_old w_new e_old e_new result =
+    ((files : List (List ℕ)) × (e_met : E) × WalksAll opening folders telling store names files true e_old e_met
+    × Audits opening reading writing telling store options list files w_old w_new e_met e_new result)
+    ⊎ (((files : List (List ℕ)) × WalksAll opening folders telling store names files false e_old e_new
+    × (w_new ≡ w_old) × (result ≡ Ok false))
+    ⊎ ((stop : Stop) × WalksSome opening folders telling store names e_old e_new stop × (w_new ≡ w_old)
+    × (result ≡ Err stop)))
+
 -- With one, the first word is the list, and those behind it are the names, or lists of them.
-abbrev pub AuditsWords : {S F R W E : Type 0} → StoreRules S F → SourceRules F → SourceRules R → SinkRules W → SinkRules E
-    → S → R → W → W → E → E → Result Bool Stop → Options → List (List ℕ) → Bool → Type 0
-AuditsWords opening reading input_reading writing telling store input w_old w_new e_old e_new result options [] listed =
+abbrev pub AuditsWords : {S F R W E : Type 0} → StoreRules S F → FolderRules S → SourceRules F → SourceRules R → SinkRules W → SinkRules E
+    → S → R → W → W → E → E → Result Bool Stop → Options → List (List ℕ) → Bool → Bool → Type 0
+AuditsWords opening folders reading input_reading writing telling store input w_old w_new e_old e_new result options [] walks listed =
     OnlyTells telling (codes "Error: --audit needs a list.\n") w_old w_new e_old e_new result
-AuditsWords opening reading input_reading writing telling store input w_old w_new e_old e_new result options (list ∷ names)
-    false =
+AuditsWords opening folders reading input_reading writing telling store input w_old w_new e_old e_new result options
+    (list ∷ names) true listed =
+    AuditsBelow opening folders reading writing telling store options list names w_old w_new e_old e_new result
+AuditsWords opening folders reading input_reading writing telling store input w_old w_new e_old e_new result options
+    (list ∷ names) false false =
     Audits opening reading writing telling store options list names w_old w_new e_old e_new result
-AuditsWords opening reading input_reading writing telling store input w_old w_new e_old e_new result options (list ∷ lists)
-    true =
+AuditsWords opening folders reading input_reading writing telling store input w_old w_new e_old e_new result options
+    (list ∷ lists) false true =
     GoesOn telling (ListNames opening reading input_reading store input (end_of options.names_from) lists)
     (ListNone opening reading input_reading store input lists)
     (λ names. Audits opening reading writing telling store options list names w_old w_new e_old e_new result)
     w_old w_new e_old e_new result
 
 -- what a run over a tree does with its options and the words behind them
-unfoldable pub Walks : {S F R W E : Type 0} → StoreRules S F → SourceRules F → SourceRules R → SinkRules W → SinkRules E
+unfoldable pub Walks : {S F R W E : Type 0} → StoreRules S F → FolderRules S → SourceRules F → SourceRules R → SinkRules W → SinkRules E
     → S → R → W → W → E → E → Result Bool Stop → Options → List (List ℕ) → Type 0
-Walks opening reading input_reading writing telling store input w_old w_new e_old e_new result options words =
+Walks opening folders reading input_reading writing telling store input w_old w_new e_old e_new result options words =
     MatchBool options.audits
-    (AuditsWords opening reading input_reading writing telling store input w_old w_new e_old e_new result options words
-    (are_listed options.names_from))
-    (WalksNames opening reading input_reading writing telling store input w_old w_new e_old e_new result options words)
+    (AuditsWords opening folders reading input_reading writing telling store input w_old w_new e_old e_new result options words
+    options.walks (are_listed options.names_from))
+    (MatchBool options.walks
+    (WalksFolders opening folders reading writing telling store options words w_old w_new e_old e_new result)
+    (WalksNames opening reading input_reading writing telling store input w_old w_new e_old e_new result options words))
 
 -- a run over a tree, of these words; or another
 abbrev pub DoesAsked : Option (Options × ℕ) → List (List ℕ) → (Options → List (List ℕ) → Type 0) → Type 0 → Type 0

@@ -10,3 +10,4 @@ pub mod run;
 mod said;
 pub mod texts;
 pub mod told_lines;
+pub mod walk;

@@ -7,14 +7,16 @@ ghost use Rattle.xxhsum_program.specs.Run.{PerformsWatched, end_text, status_of}
 ghost use Rattle.xxhsum_program.specs.Task.{IsProgram};
 ghost use Rattle.xxhsum_program.specs.Told.{TellsOn};
 ghost use Rattle.xxhsum_program.specs.declared.stop.Stop.{Stop};
-ghost use Rattle.xxhsum_tree.specs.Run.{AuditsWords, DoesArguments, Walks, WalksNames, is_tree, tree_asked};
+ghost use Rattle.xxhsum_tree.specs.Run.{AuditsBelow, AuditsWords, DoesArguments, Walks, WalksFolders, WalksNames, all_well, is_tree, tree_asked};
 ghost use Rattle.xxhsum_words.specs.Name.{kind_of_program};
 ghost use Rattle.xxhsum_words.specs.Options.{are_listed, asked_of};
 
 use crate::audit::audit_names;
 use crate::names::names_listed;
+use crate::walk::files_below;
 use std::alloc::{AllocError, Global};
 use xxh_io::ends::{Sink, Source};
+use xxhsum_files::folders::Folders;
 use xxhsum_files::store::Store;
 use xxhsum_output::output::Output;
 use xxhsum_program::arguments::{Arguments, all_arguments};
@@ -45,7 +47,7 @@ pub fn run<A, S, R, W, E, T>(
 ) -> u8
 where
     A: Arguments,
-    S: Store,
+    S: Store + Folders,
     R: Source + Drop,
     W: Output,
     E: Sink,
@@ -56,8 +58,8 @@ where
         × IfSome args (AreArguments A.holds A.ends arguments.now)
         × DoesArguments (PerformsWatched T S.Store S.File.Source R.Source W.Sink E.Sink store.now
         input out.old met err.old told done)
-        (Walks S.Store S.File.Source R.Source W.Sink E.Sink store.now input out.old met
-        err.old told done)
+        (Walks S.Store S.Folders S.File.Source R.Source W.Sink E.Sink store.now input
+        out.old met err.old told done)
         E.Sink terminals args out.old met err.old told done
         × Finishes W.Sink W.held W.has_lost done met out.new ended
         × TellsOn E.Sink (end_text ended) told err.new
@@ -84,7 +86,7 @@ fn run_arguments<S, R, W, E, T>(
     screen: T,
 ) -> Result<bool, Stop>
 where
-    S: Store,
+    S: Store + Folders,
     R: Source + Drop,
     W: Output,
     E: Sink,
@@ -93,8 +95,8 @@ where
     requires writer { W.has_failed out.old ≡ false }
     ensures { DoesArguments (PerformsWatched T S.Store S.File.Source R.Source W.Sink E.Sink
         store.now input out.old out.new err.old err.new result)
-        (Walks S.Store S.File.Source R.Source W.Sink E.Sink store.now input out.old out.new
-        err.old err.new result)
+        (Walks S.Store S.Folders S.File.Source R.Source W.Sink E.Sink store.now input
+        out.old out.new err.old err.new result)
         E.Sink terminals (Some (map (λ argument. argument.items) args.now))
         out.old out.new err.old err.new result }
 {
@@ -139,6 +141,8 @@ fn tree_asked(asked: Asked) -> Option<(Options, usize)>
         | Asked::Help
         | Asked::WrongOption { .. }
         | Asked::NulsInList
+        | Asked::WalkBesideLists
+        | Asked::WalkOfNothing
         | Asked::InputBesideNames
         | Asked::NumberTooLarge => None,
     }
@@ -147,11 +151,11 @@ fn tree_asked(asked: Asked) -> Option<(Options, usize)>
 fn is_tree(options: Options) -> bool
     ensures { result ≡ is_tree options }
 {
-    options.audits || options.names_from.are_listed()
+    options.audits || options.walks || options.names_from.are_listed()
 }
 
-// Audits the names, or digests or checks those that stand in lists of names.
-fn walk<S: Store, R: Source + Drop, W: Output, E: Sink>(
+// Audits the names, digests the files below folders, or digests or checks the names that stand in lists of names.
+fn walk<S: Store + Folders, R: Source + Drop, W: Output, E: Sink>(
     alloc: Global,
     store: &S,
     options: Options,
@@ -162,17 +166,20 @@ fn walk<S: Store, R: Source + Drop, W: Output, E: Sink>(
 ) -> Result<bool, Stop>
     requires reader { R.has_failed input ≡ false }
     requires writer { W.has_failed out.old ≡ false }
-    ensures { Walks S.Store S.File.Source R.Source W.Sink E.Sink store.now input out.old out.new
-        err.old err.new result options (map (λ word. word.items) words.now) }
+    ensures { Walks S.Store S.Folders S.File.Source R.Source W.Sink E.Sink store.now input
+        out.old out.new err.old err.new result options (map (λ word. word.items) words.now) }
 {
     if options.audits {
         return walk_audit(alloc, store, options, words, input, out, err);
+    }
+    if options.walks {
+        return walk_folders(alloc, store, options, words, out, err);
     }
     walk_names(alloc, store, options, words, input, out, err)
 }
 
 // Audits names against the list that the first word names.
-fn walk_audit<S: Store, R: Source + Drop, W: Output, E: Sink>(
+fn walk_audit<S: Store + Folders, R: Source + Drop, W: Output, E: Sink>(
     alloc: Global,
     store: &S,
     options: Options,
@@ -183,14 +190,17 @@ fn walk_audit<S: Store, R: Source + Drop, W: Output, E: Sink>(
 ) -> Result<bool, Stop>
     requires reader { R.has_failed input ≡ false }
     requires writer { W.has_failed out.old ≡ false }
-    ensures { AuditsWords S.Store S.File.Source R.Source W.Sink E.Sink store.now input
+    ensures { AuditsWords S.Store S.Folders S.File.Source R.Source W.Sink E.Sink store.now input
         out.old out.new err.old err.new result options (map (λ word. word.items) words.now)
-        (are_listed options.names_from) }
+        options.walks (are_listed options.names_from) }
 {
     let Some((list, rest)) = words.split_first() else {
         tell(b"Error: --audit needs a list.\n", err);
         return Ok(false);
     };
+    if options.walks {
+        return audit_below(alloc, store, options, list, rest, out, err);
+    }
     if !options.names_from.are_listed() {
         return audit_names(alloc, store, options, list, rest, out, err);
     }
@@ -198,6 +208,65 @@ fn walk_audit<S: Store, R: Source + Drop, W: Output, E: Sink>(
         return Ok(false);
     };
     audit_names(alloc, store, options, list, &names, out, err)
+}
+
+// Audits the files of the names and of the folders below them against the list of this name. Where a folder can't be
+// read, there is no audit: nobody knows whether a line of it is missing.
+fn audit_below<S: Store + Folders, W: Output, E: Sink>(
+    alloc: Global,
+    store: &S,
+    options: Options,
+    list: &[u8],
+    names: &[Vec<u8>],
+    out: &mut W,
+    err: &mut E,
+) -> Result<bool, Stop>
+    requires { W.has_failed out.old ≡ false }
+    ensures { AuditsBelow S.Store S.Folders S.File.Source W.Sink E.Sink store.now options list.now
+        (map (λ name. name.items) names.now) out.old out.new err.old err.new result }
+{
+    match files_below(alloc, store, names, err) {
+        Ok(walked) => {
+            if !walked.are_all {
+                return Ok(false);
+            }
+            audit_names(alloc, store, options, list, &walked.files, out, err)
+        }
+        Err(stop) => Err(stop),
+    }
+}
+
+// Digests the files of the names and of the folders below them.
+fn walk_folders<S: Store + Folders, W: Output, E: Sink>(
+    alloc: Global,
+    store: &S,
+    options: Options,
+    names: &[Vec<u8>],
+    out: &mut W,
+    err: &mut E,
+) -> Result<bool, Stop>
+    requires { W.has_failed out.old ≡ false }
+    ensures { WalksFolders S.Store S.Folders S.File.Source W.Sink E.Sink store.now options
+        (map (λ name. name.items) names.now) out.old out.new err.old err.new result }
+{
+    match files_below(alloc, store, names, err) {
+        Ok(walked) => {
+            let style = style_of(options);
+            let done = hash_names(alloc, store, options.kind, style, &walked.files, out, err);
+            all_well(walked.are_all, done)
+        }
+        Err(stop) => Err(stop),
+    }
+}
+
+// Whether the names in each folder were read, and all went well with the files.
+fn all_well(are_all: bool, done: Result<bool, Stop>) -> Result<bool, Stop>
+    ensures { result ≡ all_well are_all done }
+{
+    match done {
+        Ok(all) => Ok(are_all && all),
+        Err(stop) => Err(stop),
+    }
 }
 
 // Digests or checks the names that stand in lists of names.

@@ -1,8 +1,8 @@
 -- What the words of the command line ask for.
-use Rattle.std.specs.Prelude.{ℕ, ◌+◌, Bool, List, [], ◌∷◌, drop, length, true, false, bytes_eq, nat_lt, ◌&&◌, ◌||◌, codes, if◌then◌else◌}
+use Rattle.std.specs.Prelude.{ℕ, ◌+◌, Bool, List, [], ◌∷◌, drop, length, true, false, bytes_eq, nat_le, nat_lt, ◌&&◌, ◌||◌, codes, if◌then◌else◌}
 use Rattle.xxh_io.specs.declared.kind.Kind.{Kind}
 use Rattle.xxhsum_words.specs.declared.options.Asked.{Asked}
-use Rattle.xxhsum_words.specs.declared.options.Asked.TheVariants.{Run, WrongOption, NulsInList, InputBesideNames}
+use Rattle.xxhsum_words.specs.declared.options.Asked.TheVariants.{Run, WrongOption, NulsInList, InputBesideNames, WalkBesideLists, WalkOfNothing}
 use Rattle.xxhsum_words.specs.declared.options.NamesFrom.{NamesFrom}
 use Rattle.xxhsum_words.specs.declared.options.NamesFrom.TheVariants.{Words, Lines, Nuls}
 use Rattle.xxhsum_words.specs.declared.options.Options.{Options}
@@ -27,6 +27,7 @@ no_options kind = record {
   is_little_endian = false;
   ends_in_nul = false;
   audits = false;
+  walks = false;
   names_from = Words;
   takes_terminal = false;
 }
@@ -50,6 +51,10 @@ abbrev pub have_input : List (List ℕ) → Bool
 have_input [] = false
 have_input (name ∷ names) = bytes_eq name (codes "-") || have_input names
 
+-- how many lists of digests stand before the names: that of an audit
+abbrev pub lists_audited : Options → ℕ
+lists_audited options = if options.audits then 1 else 0
+
 -- how many lists stand before the names: that of an audit whose names are listed
 abbrev pub lists_before : Options → ℕ
 lists_before options = if options.audits && are_listed options.names_from then 1 else 0
@@ -60,10 +65,12 @@ leaves_input options names =
     have_input names || (options.takes_terminal && nat_lt (lists_before options) (length names))
 
 -- the run by these options, of these names, which are the words from this one on; `-z` is refused beside `-c` and
--- `--audit`, and `-` beside names
+-- `--audit`, `-r` beside `-c`, beside lists of names and without a name, and `-` beside names
 abbrev pub run_from : Options → ℕ → List (List ℕ) → Asked
 run_from options at names =
     if options.ends_in_nul && (options.checks || options.audits) then NulsInList
+    else if options.walks && (options.checks || are_listed options.names_from) then WalkBesideLists
+    else if options.walks && nat_le (length names) (lists_audited options) then WalkOfNothing
     else if leaves_input options names then InputBesideNames
     else Run options at
 

@@ -6,12 +6,13 @@ use Rattle.xxhsum_words.specs.declared.options.Options.{Options}
 use Rattle.xxhsum_words.specs.declared.options.Step.{Step}
 use Rattle.xxhsum_words.specs.declared.options.Step.TheVariants.{EndsAfter, IsWrong, Settles, Takes}
 use Rattle.xxhsum_words.specs.declared.table.Does.{Does}
-use Rattle.xxhsum_words.specs.declared.table.Does.TheVariants.{Checks, Audits, Lists, Tags, TurnsRound, EndsInNul, Nothing, Quiets, Silences, IgnoresMissing, IsStrict, Warns, EndsOptions, Asks}
+use Rattle.xxhsum_words.specs.declared.table.Does.TheVariants.{Checks, Audits, Walks, Lists, Tags, TurnsRound, EndsInNul, Nothing, Quiets, Silences, IgnoresMissing, IsStrict, Warns, EndsOptions, Asks}
 
 -- what an option does, after words that made these options
 abbrev pub does_step : Does → Options → Step
 does_step Checks options = Takes (record options { checks = true })
 does_step Audits options = Takes (record options { audits = true })
+does_step Walks options = Takes (record options { walks = true })
 does_step (Lists from) options = Takes (record options { names_from = from })
 does_step Tags options = Takes (record options { is_tagged = true })
 does_step TurnsRound options = Takes (record options { is_little_endian = true })

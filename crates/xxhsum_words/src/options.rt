@@ -1,7 +1,7 @@
 //! The words of the command line.
 
 ghost use Rattle.std.specs.Prelude.{◌≡◌, drop, map};
-ghost use Rattle.xxhsum_words.specs.Options.{asked_of, have_input, leaves_input, lists_before, run_from, word_step};
+ghost use Rattle.xxhsum_words.specs.Options.{asked_of, have_input, leaves_input, lists_audited, lists_before, run_from, word_step};
 
 use crate::letters::letters;
 use crate::table::name_step;
@@ -57,6 +57,8 @@ pub struct Options {
     pub ends_in_nul: bool,
     /// `--audit`: the first word is a list, whose lines are put beside the names.
     pub audits: bool,
+    /// `-r`, `--recursive`: a folder's name stands for the files below it.
+    pub walks: bool,
     /// Where the names come from.
     pub names_from: NamesFrom,
     /// `-`: standard input is taken even where it is a terminal.
@@ -78,6 +80,10 @@ pub enum Asked {
     WrongOption { at: usize },
     /// Nothing: `-z` stands beside `-c` or `--audit`.
     NulsInList,
+    /// Nothing: `-r` stands beside `-c` or lists of names.
+    WalkBesideLists,
+    /// Nothing: `-r` stands without a name.
+    WalkOfNothing,
     /// Nothing: `-` stands beside names, or behind `--`, where standard input is not read.
     InputBesideNames,
     /// Words in which an option has a number that is too large.
@@ -115,6 +121,7 @@ pub fn asked_by(kind: Kind, words: &[Vec<u8>]) -> Asked
         is_little_endian: false,
         ends_in_nul: false,
         audits: false,
+        walks: false,
         names_from: NamesFrom::Words,
         takes_terminal: false,
     };
@@ -131,13 +138,20 @@ pub fn asked_by(kind: Kind, words: &[Vec<u8>]) -> Asked
 }
 
 // The run by these options, of the names from this word on. What is compared or audited is no list, so its lines end with
-// no NUL; and standard input is never left unread where it is asked for.
+// no NUL; folders are walked below names alone, of which there is one; and standard input is never left unread where it is
+// asked for.
 fn run_from(options: Options, names_from: usize, words: &[Vec<u8>]) -> Asked
     ensures { result ≡ run_from options names_from
         (drop names_from (map (λ word. word.items) words.now)) }
 {
     if options.ends_in_nul && (options.checks || options.audits) {
         return Asked::NulsInList;
+    }
+    if options.walks && (options.checks || options.names_from.are_listed()) {
+        return Asked::WalkBesideLists;
+    }
+    if options.walks && words_behind(words, names_from).len() <= lists_audited(options) {
+        return Asked::WalkOfNothing;
     }
     if leaves_input(options, words_behind(words, names_from)) {
         return Asked::InputBesideNames;
@@ -165,6 +179,13 @@ fn leaves_input(options: Options, names: &[Vec<u8>]) -> bool
     ensures { result ≡ leaves_input options (map (λ name. name.items) names.now) }
 {
     have_input(names) || (options.takes_terminal && names.len() > lists_before(options))
+}
+
+// How many lists of digests stand before the names: that of an audit.
+fn lists_audited(options: Options) -> usize
+    ensures { result ≡ lists_audited options }
+{
+    if options.audits { 1 } else { 0 }
 }
 
 // How many lists stand before the names: that of an audit whose names are listed.

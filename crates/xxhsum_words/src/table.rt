@@ -12,6 +12,8 @@ pub enum Does {
     Checks,
     /// The first name is a list, whose lines are put beside the other names.
     Audits,
+    /// Folders are walked: the names stand for the files below them.
+    Walks,
     /// The names stand in lists of this form.
     Lists(NamesFrom),
     /// Lines are printed as BSD has them.
@@ -43,7 +45,7 @@ pub const NO_LETTER: u8 = b'-';
 
 /// All options but those whose letter has a number: the letter behind `-`, the name behind `--`, what it does, and what
 /// the help has behind the name, which is nothing where the help has no line for it.
-pub const ROWS: [(u8, &str, Does, &str); 18] = [
+pub const ROWS: [(u8, &str, Does, &str); 19] = [
     (
         b'c',
         "check",
@@ -55,6 +57,12 @@ pub const ROWS: [(u8, &str, Does, &str); 18] = [
         "audit",
         Does::Audits,
         "             compare FILES with the checksum list that is the first FILE",
+    ),
+    (
+        b'r',
+        "recursive",
+        Does::Walks,
+        "     read the files below each folder, in the order of their names;\n                      not with -c or lists of names",
     ),
     (
         b'-',
@@ -190,6 +198,7 @@ fn does_step(does: Does, mut options: Options) -> Step
     match does {
         Does::Checks => options.checks = true,
         Does::Audits => options.audits = true,
+        Does::Walks => options.walks = true,
         Does::Lists(from) => options.names_from = from,
         Does::Tags => options.is_tagged = true,
         Does::TurnsRound => options.is_little_endian = true,

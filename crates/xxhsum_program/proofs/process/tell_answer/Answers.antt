@@ -23,6 +23,14 @@ pub returns-in-NulsInList-clause-tells : goal.returns-in-NulsInList-clause-tells
 returns-in-NulsInList-clause-tells g c =
     subst (λ asked. TellsOn g.E.Sink (answer_text c.args.program.now (map (λ word. word.items) c.args.words.now) asked) c.args.err.now c.tell_wrong-in-NulsInList.new.err) (sym c.in-NulsInList.is) c.tell_wrong-in-NulsInList.ensures
 
+pub returns-in-WalkBesideLists-clause-tells : goal.returns-in-WalkBesideLists-clause-tells
+returns-in-WalkBesideLists-clause-tells g c =
+    subst (λ asked. TellsOn g.E.Sink (answer_text c.args.program.now (map (λ word. word.items) c.args.words.now) asked) c.args.err.now c.tell_wrong-in-WalkBesideLists.new.err) (sym c.in-WalkBesideLists.is) c.tell_wrong-in-WalkBesideLists.ensures
+
+pub returns-in-WalkOfNothing-clause-tells : goal.returns-in-WalkOfNothing-clause-tells
+returns-in-WalkOfNothing-clause-tells g c =
+    subst (λ asked. TellsOn g.E.Sink (answer_text c.args.program.now (map (λ word. word.items) c.args.words.now) asked) c.args.err.now c.tell_wrong-in-WalkOfNothing.new.err) (sym c.in-WalkOfNothing.is) c.tell_wrong-in-WalkOfNothing.ensures
+
 pub returns-in-InputBesideNames-clause-tells : goal.returns-in-InputBesideNames-clause-tells
 returns-in-InputBesideNames-clause-tells g c =
     subst (λ asked. TellsOn g.E.Sink (answer_text c.args.program.now (map (λ word. word.items) c.args.words.now) asked) c.args.err.now c.tell.new.err) (sym c.in-InputBesideNames.is) c.tell.ensures

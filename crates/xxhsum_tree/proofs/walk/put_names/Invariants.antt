@@ -1,0 +1,9 @@
+use Rattle.std.proofs.Common.{◌≡◌, ◌-◌, ◌++◌, drop, length, map}
+use Rattle.xxhsum_tree.specs.Walk.{below, waiting_in}
+use Rattle.xxhsum_tree.proofs.walk.put_names.Given as goal
+
+-- the last of the names are on top of what waited before
+abbrev pub invariant-loop-at : goal.invariant-loop-at
+invariant-loop-at l =
+    waiting_in l.waiting.items
+    ≡ map (below l.folder l.fn.is_given) (map (λ name. name.items) (drop (length l.names - l.at) l.names)) ++ waiting_in l.initial.waiting.items

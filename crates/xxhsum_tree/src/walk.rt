@@ -1,0 +1,223 @@
+//! The files below folders.
+
+ghost use Rattle.std.specs.Prelude.{◌≡◌, ◌++◌, ◌∷◌, [], IfOk, MatchResult, map};
+ghost use Rattle.xxhsum_program.specs.Told.{TellsOn};
+ghost use Rattle.xxhsum_tree.specs.WalkLaws.{FindsEachFile, FindsNoOther};
+ghost use Rattle.xxhsum_tree.specs.Walk.{HasKind, IsInOrder, IsSeen, SeesFolder, SeesOne, WalksAll, WalksSome, below, closed_text, place_of, waiting_in, with_slash};
+
+use std::alloc::{AllocError, Global};
+use xxh_io::ends::Sink;
+use xxhsum_files::folders::{FolderError, Folders, PathKind};
+use xxhsum_files::refusal::Refusal;
+use xxhsum_files::store::Store;
+use xxhsum_program::hash::tell_outcome;
+use xxhsum_program::outcome::{Outcome, Reason};
+use xxhsum_program::stop::Stop;
+
+/// The files of names and of the folders below them.
+#[derive(Drop)]
+pub struct Walked {
+    /// Their names, in order.
+    pub files: Vec<Vec<u8>>,
+    /// Whether the names in each folder could be read.
+    pub are_all: bool,
+}
+
+// A name that is still to be looked at: one that was given, or one in a folder.
+#[derive(Drop)]
+pub(crate) struct Waiting {
+    pub(crate) name: Vec<u8>,
+    pub(crate) is_given: bool,
+}
+
+/// The files of these names, and in place of a folder those below it, in the order of their names' bytes. A name that
+/// was given is followed where it is a link. A link in a folder is passed over, and so is what is neither a file nor a
+/// folder. A folder whose names can't be read is reported.
+///
+/// # Errors
+///
+/// [`Stop::OutOfMemory`] where there is no memory for their names.
+pub fn files_below<S: Store + Folders, E: Sink>(
+    alloc: Global,
+    store: &S,
+    names: &[Vec<u8>],
+    err: &mut E,
+) -> Result<Walked, Stop>
+    ensures { let given = map (λ name. name.items) names.now in MatchResult result
+        (λ walked. WalksAll S.Store S.Folders E.Sink store.now given
+        (map (λ file. file.items) walked.files.items) walked.are_all err.old err.new)
+        (WalksSome S.Store S.Folders E.Sink store.now given err.old err.new) }
+{
+    let mut walked = Walked {
+        files: Vec::new(alloc),
+        are_all: true,
+    };
+    let mut waiting = Vec::new(alloc);
+    put_names(alloc, b"", true, names, &mut waiting)?;
+    for _ in 0..u64::MAX {
+        let Some(place) = waiting.pop() else {
+            return Ok(walked);
+        };
+        see(alloc, store, place, &mut waiting, &mut walked, err)?;
+    }
+    Err(Stop::OutOfMemory)
+}
+
+// Puts the names in a folder on top of those that wait, the first of them on top.
+fn put_names(
+    alloc: Global,
+    folder: &[u8],
+    is_given: bool,
+    names: &[Vec<u8>],
+    waiting: &mut Vec<Waiting>,
+) -> Result<(), AllocError>
+    ensures { IfOk result (λ _. waiting_in waiting.new.items
+        ≡ map (below folder.now is_given) (map (λ name. name.items) names.now)
+        ++ waiting_in waiting.old.items) }
+{
+    for at in 0..names.len() {
+        put_name(
+            alloc,
+            folder,
+            is_given,
+            &names[names.len() - 1 - at],
+            waiting,
+        )?;
+    }
+    Ok(())
+}
+
+fn put_name(
+    alloc: Global,
+    folder: &[u8],
+    is_given: bool,
+    name: &[u8],
+    waiting: &mut Vec<Waiting>,
+) -> Result<(), AllocError>
+    ensures { IfOk result (λ _. map place_of waiting.new.items
+        ≡ map place_of waiting.old.items ++ below folder.now is_given name.now ∷ []) }
+{
+    let mut path = Vec::new(alloc);
+    path.extend_from_slice(folder)?;
+    path.extend_from_slice(name)?;
+    waiting.push(Waiting {
+        name: path,
+        is_given,
+    })?;
+    Ok(())
+}
+
+// Looks at a name: takes it for a file, or puts the names in its folder before those that wait.
+fn see<S: Store + Folders, E: Sink>(
+    alloc: Global,
+    store: &S,
+    place: Waiting,
+    waiting: &mut Vec<Waiting>,
+    walked: &mut Walked,
+    err: &mut E,
+) -> Result<(), Stop>
+    ensures { SeesOne (IsSeen S.Store S.Folders store.now (place_of place)) E.Sink
+        (waiting_in waiting.old.items) (waiting_in waiting.new.items) walked.old walked.new
+        err.old err.new result }
+{
+    let Waiting { name, is_given } = place;
+    match kind_at(store, &name, is_given) {
+        PathKind::File => {
+            add_file(name, &mut walked.files)?;
+            Ok(())
+        }
+        PathKind::Folder => open_folder(alloc, store, &name, waiting, walked, err),
+        PathKind::Other => Ok(()),
+    }
+}
+
+// What a name leads to: a link is followed where its name was given.
+fn kind_at<S: Store + Folders>(store: &S, name: &[u8], is_given: bool) -> PathKind
+    ensures { HasKind S.Store S.Folders store.now name.now is_given result }
+{
+    if !is_given {
+        return store.kind_of(name);
+    }
+    if store.is_directory(name) {
+        PathKind::Folder
+    } else {
+        PathKind::File
+    }
+}
+
+fn add_file(name: Vec<u8>, files: &mut Vec<Vec<u8>>) -> Result<(), AllocError>
+    ensures { IfOk result (λ _. map (λ file. file.items) files.new.items
+        ≡ map (λ file. file.items) files.old.items ++ name.items ∷ []) }
+{
+    files.push(name)?;
+    Ok(())
+}
+
+// Puts the names in a folder before those that wait, in order. Where they can't be read, that is reported.
+fn open_folder<S: Store + Folders, E: Sink>(
+    alloc: Global,
+    store: &S,
+    name: &[u8],
+    waiting: &mut Vec<Waiting>,
+    walked: &mut Walked,
+    err: &mut E,
+) -> Result<(), Stop>
+    ensures { SeesFolder S.Folders store.now name.now E.Sink
+        (waiting_in waiting.old.items) (waiting_in waiting.new.items) walked.old walked.new
+        err.old err.new result }
+{
+    let folder = with_slash(alloc, name)?;
+    match store.names_in(alloc, &folder) {
+        Ok(names) => {
+            let ordered = in_order(names);
+            put_names(alloc, &folder, false, &ordered, waiting)?;
+            Ok(())
+        }
+        Err(FolderError::OutOfMemory) => Err(Stop::OutOfMemory),
+        Err(FolderError::Refused(refusal)) => {
+            tell_closed(name, refusal, err);
+            walked.are_all = false;
+            Ok(())
+        }
+    }
+}
+
+// The name of a folder with a slash behind it, unless it ends with one.
+fn with_slash(alloc: Global, name: &[u8]) -> Result<Vec<u8>, AllocError>
+    ensures { IfOk result (λ folder. folder.items ≡ with_slash name.now) }
+{
+    let mut folder = Vec::new(alloc);
+    folder.extend_from_slice(name)?;
+    if !name.ends_with(b"/") {
+        folder.push(b'/')?;
+    }
+    Ok(folder)
+}
+
+// The names in the order of their bytes.
+fn in_order(names: Vec<Vec<u8>>) -> Vec<Vec<u8>>
+    ensures { IsInOrder (map (λ name. name.items) names.items)
+        (map (λ name. name.items) result.items) }
+{
+    let mut names = names;
+    names.sort_unstable();
+    names
+}
+
+// Reports a folder whose names can't be read.
+fn tell_closed<'a, E: Sink>(name: &'a [u8], refusal: Refusal, err: &mut E)
+    ensures { TellsOn E.Sink (closed_text name.now refusal) err.old err.new }
+{
+    let outcome = Outcome::Unread {
+        reason: Reason::Unopened { refusal },
+    };
+    tell_outcome(name, &outcome, err);
+}
+
+/// A law, with nothing to run. The files of a walk are those that names in folders lead to from the names that were
+/// given, and no other; and each of those is found, where the names in each folder could be read and the store says one
+/// thing of each name. `hash_names` then has one outcome for each.
+pub fn laws_of_walks<S: Store + Folders>()
+    ensures each { FindsEachFile S.Store S.Folders }
+    ensures no_other { FindsNoOther S.Store S.Folders }
+{}
