@@ -27,6 +27,7 @@ HEAD = re.compile(r'^(define [^@\n]*@(?:"([^"]*)"|([\w.]+))\(.*) #(\d+) \{$', re
 # The body that answers a constant, the one number in it that may change.
 BODY = re.compile(rf'^(define [^\n]*@"{ANSWER}"\([^\n]*\{{\n(?:(?!\}}).*\n)*?  %\w+ = zext i1 )(true|false)'
                   r'( to i8\n(?:(?!\}|.* i1 (?:true|false)).*\n)*\})$', re.M)
+TAG = re.compile(r'\.i\d+(_v\d)?$')       # behind a local name of the cargo crate's text
 NEW = 90_000       # numbers from here on are of no group of attributes
 # What x86-64-v3 lacks, in an instruction as objdump says it.
 LACKED = re.compile(r'%zmm|%[xy]mm(1[6-9]|2\d|3[01])|%k[0-7]\b|\{')
@@ -82,8 +83,9 @@ def faults(path, allowed):
     out = subprocess.run(['objdump', '-d', '-w', '--no-show-raw-insn', path], check=True, capture_output=True, text=True).stdout
     wide, found = {plain(name) for name in WIDE}, set()
     for name, lines in re.findall(r'^[0-9a-f]+ <(.*)>:\n((?: .*\n)*)', out, re.M):
-        is_one = plain(name) in wide
-        found |= {plain(name)} & wide
+        own = TAG.sub('', plain(name))
+        is_one = own in wide
+        found |= {own} & wide
         for text in re.findall(r'^ *[0-9a-f]+:\t(.*)', lines, re.M):
             if is_one and text.split()[0] not in allowed:
                 yield f'{name} has {text}, which is not in mnemonics.txt'
