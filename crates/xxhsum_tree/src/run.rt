@@ -54,8 +54,8 @@ where
     T: Sink + Ticks + Copy + Drop,
     requires reader { R.has_failed input ≡ false }
     requires writer { W.has_failed out.old ≡ false }
-    ensures { (args : Option (List (List ℕ))) × (done ended : Result Bool Stop) × (met : W) × (told : E)
-        × IfSome args (AreArguments A.holds A.ends arguments.now)
+    ensures { (args : Option (List (List ℕ))) × (done ended : Result Bool Stop) × (met : W)
+        × (told : E) × IfSome args (AreArguments A.holds A.ends arguments.now)
         × DoesArguments (PerformsWatched T S.Store S.File.Source R.Source W.Sink E.Sink store.now
         input out.old met err.old told done)
         (Walks S.Store S.Folders S.File.Source R.Source W.Sink E.Sink store.now input
