@@ -51,6 +51,7 @@ fn each_line_is_passed_at_once(rt: HostRuntime) {
 #[test]
 fn lines_that_could_not_be_written_are_lost(rt: HostRuntime) {
     let mut lines = failing_at(1, true);
+    assert!(rt; !lines.failed());
     assert!(rt; write_all(b"line\n", &mut lines) == Ok(()));
     assert!(rt; !lines.has_lost());
     lines.release();
