@@ -26,8 +26,8 @@ from .validator import Validator
 EQUAL = os.path.join(os.path.dirname(os.path.abspath(__file__)), "equal_changes.txt")
 LENGTHS = [*range(10), *range(14, 36, 3), 63, 64, 65, 96, 97, 120, 128, 129, 145, 200, 240, 241, 256, 257, 300, 1030]
 # Where those notice nothing: edges first, then each length, or of streams each ninth
-EDGES = [16, 17, 8, 9, 3, 4, 128, 129, 240, 241, 31, 32, 33, 64, 65, 96, 97, 256, 257, 0, 1, 512, 513, 576, 1024, 1025,
-         1088, 1089]
+EDGES = [16, 17, 8, 9, 3, 4, 5, 128, 129, 240, 241, 31, 32, 33, 64, 65, 96, 97, 256, 257, 0, 1, 512, 513, 576, 1024,
+         1025, 1088, 1089]
 EACH_STREAM = 9
 KEPT = 2
 MORE_CUTS = 1, 31, 500, 33, 65, 256, 257
@@ -191,7 +191,9 @@ def differs(request, a, b):
 
 def more(questions):
     """The edges by the same kinds of call, and by one of one-shots and one of streams each length or each ninth."""
-    kinds = [kind[:4] for kind in dict.fromkeys(map(kind_of, questions)) if kind[3] not in REFUSING]
+    found = dict.fromkeys(kind_of(question)[:4] for question in questions)
+    # What only refused calls run is asked by streams too.
+    kinds = [kind for kind in found if kind[3] not in REFUSING] or [(*kind[:3], calls.stream) for kind in found][:1]
     for kind in kinds:
         yield from of_lengths(kind, EDGES)
     for answer, each in ((calls.one_shot, 1), (calls.stream, EACH_STREAM)):
