@@ -81,10 +81,8 @@ def lowest(parts):
     rows = [(best(it), s, it) for s in SETS for it in parts[s] if it.form in FORMS]
     lines = []
     for value, part, row in sorted(rows, key=lambda it: it[0])[:LOWEST]:
-        peer, ratio = row.best_peer(PEERS)
-        told = ["", ""] if ratio.best is None else [f"{ratio.best:.2f}", f"{ratio.spread:.0f} %"]
-        lines.append([part, FORMS[row.form], row.name, figures.size(row.size), f"{value:.2f}", peer, *told])
-    return markdown(["set", "form", "hash", "size", "ratio", "peer", "by best times", "spread"], lines)
+        lines.append([part, FORMS[row.form], row.name, figures.size(row.size), f"{value:.2f}", row.best_peer(PEERS)[0]])
+    return markdown(["set", "form", "hash", "size", "ratio", "peer"], lines)
 
 
 def shared(rows):
@@ -165,7 +163,7 @@ def picture(rows, names):
 def page(said, parts):
     text = f"""# Speed beside the peers
 
-A peer's time over ours: 1 is level, more is faster. A cell is the median over hashes and sizes, and the range. Each row stands beside its **best peer**: the reference library's header by gcc (`c_gcc`) or by clang (`c_clang`), Debian's shared library (`c_shared`), or the Rust crate `xxhash-rust`. All {sum(map(len, parts.values()))} rows stand in [bench/data/measured.tsv](../bench/data/measured.tsv). The modules for browsers and Node have a table of their own, in [web/README.md](../web/README.md#speed).
+A peer's time over ours: 1 is level, more is faster. A cell is the median over hashes and sizes, and the range. Each row stands beside its **best peer**: the reference library's header by gcc (`c_gcc`) or by clang (`c_clang`), Debian's shared library (`c_shared`), or the Rust crate `xxhash-rust`. [bench/data/measured.tsv](../bench/data/measured.tsv) has all {sum(map(len, parts.values()))} rows, [web/README.md](../web/README.md#speed) the modules for browsers and Node.
 
 #SUMMARY
 ![throughput over the length](speed.svg)
@@ -173,7 +171,7 @@ A peer's time over ours: 1 is level, more is faster. A cell is the median over h
 ## The lowest rows
 
 #LOWEST
-What is known of them, and what the code has gained since, stands in [history/TUNING.md](history/TUNING.md#rows-that-stay-below-what-we-want).
+[history/TUNING.md](history/TUNING.md#rows-that-stay-below-what-we-want) has their causes, the ratios by best times, and what the code has gained since.
 
 #TWOX_HASH
 ## The library for C, by C's names
@@ -184,23 +182,22 @@ The time of Debian's `libxxhash.so.0` over that of ours at x86-64-v3, both in on
 #DISPATCH
 ## Programs
 
-`xxh` beside Debian's `xxhsum`, which takes AVX-512 where the processor has it: wall time of the whole program, 1 GiB in the page cache.
+`xxh` beside Debian's `xxhsum`, which takes AVX-512 where the processor has it: wall time, 1 GiB in the page cache.
 
 #PROGRAMS
-`xxhsum` beside the same program, both on files in the page cache: the original's best time over ours, measured by `bench/xxhsum`.
+`xxhsum` beside the same program, on files in the page cache: the original's best time over ours, by `bench/xxhsum`.
 
 #XXHSUM
 ## 64-bit ARM, in instructions
 
-Instructions of the reference's header, by gcc 12 -O3, over ours for one call, counted under qemu by `c/count`. They are counts and not times.
+Instructions of the reference's header, by gcc 12 -O3, over ours for one call, counted under qemu by `c/count`: no times.
 
 #ARM
 ## How it was measured
 
 #SAID
-- One process measures all peers in turns. A figure is the median of eight rounds apart in time, and a round the best of many turns of 0.025 ms or of one call, in three passes over all rows.
-- *By best times* is a peer's best of all rounds over our best: a virtual machine slows for minutes, and a median mixes both. *Spread* is how far the rounds of a ratio lie apart.
-- Each peer is called through a pointer to one function of the same signature, and compares the length with the buffer of 64 MiB, as ours does. Debian's library is one call further away, and built for plain x86-64.
+- One process measures all peers in turns. A figure is the median of eight rounds apart in time, a round the best of many turns of 0.025 ms or of one call, in three passes over all rows.
+- Each peer is called through a pointer to a function of the same signature, and compares the length with the buffer of 64 MiB, as ours does. Debian's library is one call further away, and built for plain x86-64.
 """
     drawn = {"SUMMARY": summary(parts, best), "TWOX_HASH": twox_hash(parts), "LOWEST": lowest(parts), "SHARED": shared(parts["c"]),
              "DISPATCH": dispatch(), "PROGRAMS": programs(parts["program"]), "XXHSUM": xxhsum(),
