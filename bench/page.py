@@ -197,7 +197,7 @@ Instructions of the reference's header, by gcc 12 -O3, over ours for one call, c
 
 #SAID
 - One process measures all peers in turns. A figure is the median of eight rounds apart in time, a round the best of many turns of 0.025 ms or of one call, in three passes over all rows.
-- Each peer is called through a pointer to a function of the same signature, and compares the length with the buffer of 64 MiB, as ours does. Debian's library is one call further away, and built for plain x86-64.
+- Each peer is called through a pointer to a function, and compares the length with the buffer of 64 MiB, as ours does. Debian's library is one call further away, and built for plain x86-64.
 """
     drawn = {"SUMMARY": summary(parts, best), "TWOX_HASH": twox_hash(parts), "LOWEST": lowest(parts), "SHARED": shared(parts["c"]),
              "DISPATCH": dispatch(), "PROGRAMS": programs(parts["program"]), "XXHSUM": xxhsum(),
