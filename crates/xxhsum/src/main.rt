@@ -12,13 +12,13 @@ use xxhsum_program::process::Terminals;
 use xxhsum_program::screen::Screen;
 use xxhsum_tree::run::run;
 
-// Hands over what the process has: its arguments, files and streams.
+// Passes the process's arguments, files and streams to the program.
 fn main(rt: HostRuntime) -> ExitCode {
     let terminals = Terminals {
         input: rt.stdin().is_terminal(),
         errors: rt.stderr().is_terminal(),
     };
-    // On a terminal each line is to be seen at once.
+    // On a terminal each line is written at once.
     let gathers = !rt.stdout().is_terminal();
     ExitCode::from(run(
         rt.alloc(),

@@ -1,4 +1,4 @@
-//! What folders hold.
+//! The names in folders.
 
 ghost use Rattle.std.specs.Prelude.{◌≡◌, List, ℕ, map, MatchResult};
 ghost use Rattle.xxhsum_files.specs.Folders.{ClosesFor};
@@ -13,7 +13,7 @@ use std::alloc::{AllocError, Global};
 pub enum PathKind {
     /// A folder.
     Folder,
-    /// A file; also where the store can't say, since opening it says why.
+    /// A file; also where the store can't tell: opening it gives the reason.
     File,
     /// A link, a device, a pipe or a socket.
     Other,
@@ -24,7 +24,7 @@ pub enum PathKind {
 pub enum FolderError {
     /// The folder can't be opened or read.
     Refused(Refusal),
-    /// There was no memory for the names.
+    /// Memory ran out.
     OutOfMemory,
 }
 
@@ -38,7 +38,7 @@ impl From<AllocError> for FolderError {
     }
 }
 
-/// Folders by name, in bytes as those of files.
+/// Folders by name, in bytes as for files.
 pub trait Folders {
     // The folder of this name has these names in it, in some order.
     ghost holds: { Self → List ℕ → List (List ℕ) → Type 0 };

@@ -13,13 +13,13 @@ use xxh_io::ends::Source;
 pub struct MemoryEntry<'a, S> {
     /// The name, byte for byte as `open` is given it.
     pub name: &'a [u8],
-    /// What each file that is opened by this name gives, from its start.
+    /// What each open of this name reads, from its start.
     pub source: S,
     /// Whether the name is a directory's.
     pub is_directory: bool,
 }
 
-/// A table of names as a store. Where a name stands twice, the first entry counts.
+/// A table of names as a store. Of two entries with one name the first counts.
 ///
 /// Over `SliceSource` a name gives just the bytes of the slice; over `ScriptSource` a read may fail too.
 #[derive(Clone, Copy)]

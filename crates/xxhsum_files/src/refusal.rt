@@ -1,14 +1,14 @@
-//! Why a name gives no file.
+//! Why a file can't be opened.
 
 ghost use Rattle.std.specs.Prelude.{◌≡◌, ◌≤◌, take};
 
-// Room for the system's words for an error, which are shorter.
+// Capacity for the system's message, which is shorter.
 const TEXT_ROOM: usize = 256;
 
-/// `ENOENT`, the system's number for a name of no file.
+/// `ENOENT`, the system's error number for a missing file.
 pub const MISSING: i32 = 2;
 
-/// Why a name gave no file: the system's number of the error, and its words for it.
+/// Why a file couldn't be opened: the system's error number and message.
 #[derive(Clone, Copy, Debug, PartialEq, Eq)]
 pub struct Refusal {
     code: i32,
@@ -20,7 +20,7 @@ pub struct Refusal {
 impl Refusal {
     ghost use Rattle.xxhsum_files.specs.Refusal.{is_missing, refusal_code, refusal_text};
 
-    /// The refusal of this number, as 2, and these words, of which it takes 256 bytes at most.
+    /// The refusal of this error number, as 2, and this message, of which it takes 256 bytes at most.
     pub fn new(code: i32, words: &[u8]) -> Refusal
         ensures code { refusal_code result ≡ code }
         ensures words { refusal_text result ≡ take 256 words.now }
@@ -31,14 +31,14 @@ impl Refusal {
         Refusal { code, text, len }
     }
 
-    /// Whether there is no file of the name: the number is `ENOENT`. A file that is there and can't be opened has another.
+    /// Whether the file is missing: the number is `ENOENT`. A file that exists and can't be opened has another.
     pub fn is_missing(&self) -> bool
         ensures { result ≡ is_missing self.now }
     {
         self.code == MISSING
     }
 
-    /// The system's words, as `No such file or directory`.
+    /// The system's message, as `No such file or directory`.
     pub fn text(&self) -> &[u8]
         ensures { result.now ≡ refusal_text self.now }
     {

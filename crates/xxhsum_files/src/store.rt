@@ -1,4 +1,4 @@
-//! What files are opened from.
+//! Where files are opened.
 
 ghost use Rattle.std.specs.Prelude.{◌≡◌, false, List, ℕ, Bool, Option, IfOk, IfErr};
 ghost use Rattle.xxhsum_files.specs.declared.refusal.Refusal.{Refusal};
@@ -6,33 +6,34 @@ ghost use Rattle.xxhsum_files.specs.declared.refusal.Refusal.{Refusal};
 use crate::refusal::Refusal;
 use xxh_io::ends::Source;
 
-/// Files by name. A name is bytes, as the system has it: no UTF-8 is asked for.
+/// Files by name. A name is bytes, as for the system, and needn't be UTF-8.
 pub trait Store {
     /// An open file. It is closed where it is dropped.
     type File: Source + Drop;
 
-    // The name leads to this file, as it is before anything is read.
+    // The name opens this file, as it is before the first read.
     ghost opens: { Self → List ℕ → Self.File → Type 0 };
 
-    // The name leads to no file, for this reason.
+    // The name opens no file, for this reason.
     ghost refuses: { Self → List ℕ → Refusal → Type 0 };
 
-    // Whether the name is a directory's, as far as the store can say.
+    // Whether the name is a directory's, as far as the store can tell.
     ghost holds_directory: { Self → List ℕ → Bool → Type 0 };
 
-    // How many bytes the file of the name has, as far as the store can say beforehand.
+    // The size of the file of this name, as far as the store can tell before it is read.
     ghost sizes: { Self → List ℕ → Option ℕ → Type 0 };
 
     /// Whether the name is a directory's.
     fn is_directory(&self, name: &[u8]) -> bool
         ensures { holds_directory self.now name.now result };
 
-    /// How many bytes the file of this name has, as far as the store can say beforehand. Progress goes by it alone.
+    /// The size in bytes of the file of this name, as far as the store can tell before it is read. Only progress uses
+    /// it.
     fn size(&self, name: &[u8]) -> Option<u64>
         ensures { sizes self.now name.now result };
 
-    /// Opens the file of this name for reading. Its first read may still fail, as a directory's does. An error
-    /// says why there is none.
+    /// Opens the file of this name for reading. Its first read may still fail, as a directory's does. An error has the
+    /// reason.
     fn open(&self, name: &[u8]) -> Result<Self::File, Refusal>
         ensures opens { IfOk result (λ file. opens self.now name.now file) }
         ensures works { IfOk result (λ file. Self.File.has_failed file ≡ false) }

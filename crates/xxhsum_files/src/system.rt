@@ -1,5 +1,5 @@
-//! The system's files, by the names that std opens. Which bytes they give no clause can say, but what becomes of a name
-//! that is not UTF-8.
+//! The system's files, by names that std opens. No clause can say which bytes they have; it says that a name that is
+//! not UTF-8 is refused.
 
 ghost use Rattle.xxhsum_files.specs.System.{AnyAnswer, AnyFile, AnyKind, AnyNames, AnySize, RefusesNoText};
 
@@ -13,10 +13,10 @@ use std::fs::Files;
 use std::io::Read;
 use xxh_io::from_read::FromRead;
 
-// `EILSEQ`, the system's number for a text that is none.
+// `EILSEQ`, the system's error number for an illegal byte sequence.
 const NOT_A_TEXT: i32 = 84;
 
-// How many bytes of names each read of a folder is offered.
+// The capacity of each read of a folder, in bytes.
 const OFFERED: usize = 32768;
 
 /// The files that a process may open. A name that is not UTF-8 is refused, since std opens no such name.
@@ -103,7 +103,7 @@ impl<P: Files> Folders for SystemFiles<'_, P> {
     }
 }
 
-// The names that reads of an open folder give, each ended by a NUL. No read ends within a name.
+// The names in an open folder, whose reads give them each with a NUL at its end. No read ends within a name.
 fn names_of<D: Read + Drop>(alloc: Global, dir: D) -> Result<Vec<Vec<u8>>, FolderError> {
     let mut dir = dir;
     let mut names = Vec::new(alloc);
@@ -118,7 +118,7 @@ fn names_of<D: Read + Drop>(alloc: Global, dir: D) -> Result<Vec<Vec<u8>>, Folde
     Err(FolderError::OutOfMemory)
 }
 
-// Puts the names behind these, each of which a NUL ends, but for the folder itself and the one above it.
+// Appends the names, each with a NUL at its end in the text, but for `.` and `..`.
 fn add_names(alloc: Global, text: &[u8], names: &mut Vec<Vec<u8>>) -> Result<(), AllocError> {
     for name in text.split(|byte| *byte == 0) {
         if !name.is_empty() && name != b".".as_slice() && name != b"..".as_slice() {

@@ -1,4 +1,4 @@
-//! The system's words for an error.
+//! The system's message for an error.
 
 ghost use Rattle.std.specs.Prelude.{◌≡◌, ◌≤◌, pos, unwrap_or};
 ghost use Rattle.std.specs.IoError.{raw_os_error};
@@ -8,13 +8,13 @@ use crate::refusal::Refusal;
 use std::fmt::Write;
 use std::{fmt, io};
 
-// Room for them, which are shorter.
+// Capacity for the message, which is shorter.
 const ROOM: usize = 256;
 
-// How std ends the text of a system's error, after the system's own words.
+// What std appends to the system's message.
 const SUFFIX: &[u8] = b" (os error ";
 
-// A text that is written into a fixed room, as far as it goes.
+// A text in a buffer of fixed capacity, which drops the rest.
 #[derive(Drop)]
 struct Words {
     text: [u8; ROOM],
@@ -32,7 +32,7 @@ impl Write for Words {
     }
 }
 
-// The refusal by this error, of the system's number; 0 where the error is not the system's.
+// The refusal of this error, with the system's error number; 0 where the error is not the system's.
 pub(crate) fn words_of(error: io::Error) -> Refusal
     ensures { refusal_code result ≡ unwrap_or (raw_os_error error) (pos 0) }
 {

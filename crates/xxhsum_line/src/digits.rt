@@ -1,4 +1,4 @@
-//! Hexadecimal digits of either case, and the numbers that they write.
+//! Hexadecimal digits of either case, and their values.
 
 ghost use Rattle.std.specs.Prelude.{◌≡◌, ◌<◌, ◌≤◌, ◌^◌, length, IfSome};
 ghost use Rattle.xxh_io.specs.Kind.{digits_of};
@@ -6,10 +6,10 @@ ghost use Rattle.xxhsum_line.specs.Digits.{digit_of, number_of, turned, value_sh
 
 use xxh_io::kind::Kind;
 
-/// The most digits that a value has.
+/// The most digits that a digest has.
 pub const MOST_DIGITS: usize = 32;
 
-/// The number that a digit of either case stands for. `None` where the byte is no digit.
+/// The value of a digit of either case. `None` where the byte is no digit.
 pub fn digit_of(byte: u8) -> Option<u8>
     ensures value { result ≡ digit_of byte }
     ensures small { IfSome result (λ digit. digit < 16) }
@@ -22,7 +22,7 @@ pub fn digit_of(byte: u8) -> Option<u8>
     }
 }
 
-/// The number that at most 32 digits write, the highest of them first. `None` where a byte is no digit.
+/// The value of at most 32 digits, the most significant first. `None` where a byte is no digit.
 pub fn number_of(digits: &[u8]) -> Option<u128>
     requires { length digits.now ≤ 32 }
     ensures value { result ≡ number_of digits.now }
@@ -36,7 +36,7 @@ pub fn number_of(digits: &[u8]) -> Option<u128>
     Some(number)
 }
 
-/// Puts the bytes that the digits show, two digits each, in the opposite order.
+/// Reverses the order of the bytes, two digits each.
 pub fn turn(digits: &mut [u8])
     ensures { digits.new ≡ turned digits.old }
 {
@@ -46,8 +46,8 @@ pub fn turn(digits: &mut [u8])
     }
 }
 
-/// The value of this kind that the digits show, their bytes turned round where it is little-endian. `None` where
-/// they are too few or too many for the kind, or a byte is no digit.
+/// The digest by this algorithm that the digits write, with its least significant byte first where `is_little` says so.
+/// `None` where the algorithm has another number of digits, or a byte is no digit.
 pub fn value_shown(kind: Kind, digits: &[u8], is_little: bool) -> Option<u128>
     ensures value { result ≡ value_shown kind is_little digits.now }
     ensures in_range { IfSome result (λ value. value < 16 ^ digits_of kind) }

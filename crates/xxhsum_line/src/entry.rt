@@ -1,4 +1,4 @@
-//! What a line says.
+//! What a line means.
 
 ghost use Rattle.std.specs.Prelude.{◌≡◌, ◌<◌, ◌^◌, IfOk, IfSome, MatchOption};
 ghost use Rattle.xxh_io.specs.Kind.{digits_of};
@@ -12,33 +12,33 @@ use crate::tags::{bare, is_little_tag, kind_of_digits, kind_of_tag};
 use std::alloc::{AllocError, Global};
 use xxh_io::kind::Kind;
 
-/// The file of this name has this value of this kind.
+/// The file of this name has this digest by this algorithm.
 #[derive(Debug, Drop, PartialEq, Eq)]
 pub struct Entry {
-    /// Which hash it is.
+    /// The algorithm.
     pub kind: Kind,
-    /// The value, of no more bits than the kind has.
+    /// The digest, of no more bits than the algorithm has.
     pub value: u128,
     /// The name of the file, in bytes.
     pub name: Vec<u8>,
 }
 
-/// What a line is.
+/// What a line means.
 #[derive(Debug, Drop, PartialEq, Eq)]
 pub enum Meaning {
-    /// It says which value a file has.
+    /// It gives a file's digest.
     Entry(Entry),
-    /// It says nothing, and isn't meant to.
+    /// It begins with `#`.
     Comment,
-    /// It is neither.
+    /// It is neither of these.
     Malformed,
 }
 
-/// What a line is, without its line feed. One that begins with `#` is a comment. Of any other a carriage return at its
-/// end is no part, as in lists that were written on Windows, nor are the bytes from a NUL on. The digits of a plain line are little-endian where `is_little` says so, and those of a tagged line
-/// where its tag does. It is malformed where it has neither form, or too few or too many digits for its kind, or a
-/// byte that is no digit, or where it is escaped and a backslash in its name has no meaning. `AllocError` where memory
-/// runs out.
+/// Parses a line, which is given without its line feed. One that begins with `#` is a comment. Any other loses a
+/// carriage return at its end, as lists written on Windows have it, and all from its first NUL on. The digits of a
+/// plain line are little-endian where `is_little` says so, those of a tagged line where its tag does. A line is
+/// malformed where it has neither form, where its digits are too few or too many for its algorithm or one is no digit,
+/// and where it is escaped and a backslash in its name begins no escape. `AllocError` where memory runs out.
 pub fn meaning_of(alloc: Global, line: &[u8], is_little: bool) -> Result<Meaning, AllocError>
     ensures meaning { IfOk result (Means is_little line.now) }
     ensures in_range { IfOk result FitsKind }
@@ -67,7 +67,7 @@ pub fn is_comment(line: &[u8]) -> bool
     matches!(line, [b'#', ..])
 }
 
-// What a text shows, with the name as it stands there.
+// An entry whose name isn't unescaped yet.
 #[derive(Clone, Copy)]
 struct Shown<'a> {
     kind: Kind,
@@ -75,7 +75,7 @@ struct Shown<'a> {
     name: &'a [u8],
 }
 
-// What a line of one of the two forms shows.
+// Parses a line of either form.
 fn shown_in(text: &[u8], is_little: bool) -> Option<Shown<'_>>
     ensures shown { MatchOption result (TextSaysNothing is_little text.now)
         (λ shown. TextSays is_little text.now shown.kind shown.value shown.name.now) }
@@ -95,7 +95,7 @@ fn shown_in(text: &[u8], is_little: bool) -> Option<Shown<'_>>
     }
 }
 
-// The value that digits of this kind show, with or without their prefix.
+// The digest that digits of this algorithm write, with or without their prefix.
 fn value_meant(kind: Kind, digits: &[u8], is_little: bool) -> Option<u128>
     ensures value { result ≡ value_meant kind is_little digits.now }
     ensures in_range { IfSome result (λ value. value < 16 ^ digits_of kind) }

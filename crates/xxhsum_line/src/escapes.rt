@@ -1,4 +1,4 @@
-//! Names in lines. A backslash, a line feed and a carriage return are written as `\\`, `\n` and `\r`, and a line
+//! Escaped names. A backslash, a line feed and a carriage return are written as `\\`, `\n` and `\r`, and a line
 //! with such a name begins with a backslash.
 
 ghost use Rattle.std.specs.Prelude.{◌≡◌, ◌++◌, IfOk, MatchOption, None, Some};
@@ -19,15 +19,15 @@ pub fn needs_escape(name: &[u8]) -> bool
     false
 }
 
-// A byte that stands otherwise in an escaped line.
+// Whether a byte is escaped.
 fn is_special(byte: u8) -> bool
     ensures { result ≡ is_special byte }
 {
     matches!(byte, b'\\' | b'\n' | b'\r')
 }
 
-/// Puts what the line of this name begins with behind the line: a backslash where the name needs one. `AllocError`
-/// where memory runs out.
+/// Appends what the line of this name begins with: a backslash where the name needs escapes. `AllocError` where memory
+/// runs out.
 pub fn put_mark(line: &mut Vec<u8>, name: &[u8]) -> Result<(), AllocError>
     ensures { IfOk result (λ _. line.new.items ≡ line.old.items ++ mark_of name.now) }
 {
@@ -37,7 +37,7 @@ pub fn put_mark(line: &mut Vec<u8>, name: &[u8]) -> Result<(), AllocError>
     Ok(())
 }
 
-/// Puts the name behind the line, each of its bytes as an escaped line has it. `AllocError` where memory runs out.
+/// Appends the name, escaped. `AllocError` where memory runs out.
 pub fn put_escaped(line: &mut Vec<u8>, name: &[u8]) -> Result<(), AllocError>
     ensures { IfOk result (λ _. line.new.items ≡ line.old.items ++ escaped name.now) }
 {
@@ -47,8 +47,8 @@ pub fn put_escaped(line: &mut Vec<u8>, name: &[u8]) -> Result<(), AllocError>
     Ok(())
 }
 
-/// Puts the text behind the line as one line: escaped, with a backslash before it where it needs one, and with a line
-/// feed. `AllocError` where memory runs out.
+/// Appends the text as one line: escaped, after a backslash where it needs escapes, and with a line feed. `AllocError`
+/// where memory runs out.
 pub fn put_line(line: &mut Vec<u8>, text: &[u8]) -> Result<(), AllocError>
     ensures { IfOk result (λ _. line.new.items ≡ line.old.items ++ one_line text.now) }
 {
@@ -57,7 +57,7 @@ pub fn put_line(line: &mut Vec<u8>, text: &[u8]) -> Result<(), AllocError>
     line.extend_from_slice(b"\n")
 }
 
-/// A byte of a name as it stands in an escaped line.
+/// A byte of a name, escaped where it needs to be.
 pub fn escape(byte: &u8) -> &[u8]
     ensures { result.now ≡ escape byte.now }
 {
@@ -87,15 +87,15 @@ fn is_blank(byte: u8) -> bool
     matches!(byte, b' ' | b'\t')
 }
 
-/// What is left of a line where the first byte of an escaped one is taken away.
+/// The line, of an escaped one without its first byte.
 pub fn body_of(line: &[u8]) -> &[u8]
     ensures { result.now ≡ body_of line.now }
 {
     if is_escaped(line) { &line[1..] } else { line }
 }
 
-/// The name that is meant by what stands in a line, which is escaped or not. `None` where a backslash in an escaped
-/// line has none of its meanings. `AllocError` where memory runs out.
+/// The name, unescaped where the line is escaped. `None` where a backslash in an escaped line begins no escape.
+/// `AllocError` where memory runs out.
 pub fn name_meant(
     alloc: Global,
     text: &[u8],
@@ -113,8 +113,7 @@ pub fn name_meant(
     Ok(Some(name))
 }
 
-/// The name that is meant by what stands in an escaped line. `None` where a backslash has none of its meanings.
-/// `AllocError` where memory runs out.
+/// Unescapes a name. `None` where a backslash begins no escape. `AllocError` where memory runs out.
 pub fn unescaped(alloc: Global, text: &[u8]) -> Result<Option<Vec<u8>>, AllocError>
     ensures { IfOk result (λ name. MatchOption name
         (unescaped text.now ≡ None) (λ v. unescaped text.now ≡ Some v.items)) }
@@ -141,7 +140,7 @@ pub fn unescaped(alloc: Global, text: &[u8]) -> Result<Option<Vec<u8>>, AllocErr
     })
 }
 
-// The byte that another one behind a backslash stands for.
+// The byte that a backslash and this byte represent.
 fn meant_by(byte: u8) -> Option<u8>
     ensures { result ≡ meant_by byte }
 {

@@ -11,9 +11,9 @@ use crate::printed::{Shape, digest_line};
 use std::alloc::{AllocError, Global};
 use xxh_io::kind::Kind;
 
-/// The laws of lines: what is printed is accepted, a printed line is one line and no comment, a text that is told as one
-/// line is one, whatever names stand in it, an escape is undone, and a line has at most one choice of parts and says at
-/// most one thing. It does nothing.
+/// The laws of lines: what is printed is accepted; a printed line is one line and no comment; a text that is reported
+/// as one line is one, whatever names it has; an escape is undone; a line has at most one choice of parts, and at most
+/// one meaning. It does nothing.
 pub fn laws_of_lines()
     ensures printed_is_accepted { PrintedIsAccepted }
     ensures printed_is_one_line { PrintedIsOneLine }
@@ -28,8 +28,8 @@ pub fn laws_of_lines()
     ensures not_both_forms { NotBothForms }
 {}
 
-/// Whether the line that is printed, without its line feed, is read as the very kind, value and name. It is, for
-/// each name with no NUL and each value of the kind. `AllocError` where memory runs out.
+/// Whether the printed line, without its line feed, is parsed as the same algorithm, digest and name. It is, for each
+/// name with no NUL and each digest of the algorithm. `AllocError` where memory runs out.
 pub fn is_read_back(
     alloc: Global,
     kind: Kind,
@@ -49,7 +49,7 @@ pub fn is_read_back(
     }
 }
 
-// Whether the line is read as this kind, value and name.
+// Whether the line is parsed as this algorithm, digest and name.
 fn is_read_as(
     alloc: Global,
     text: &[u8],

@@ -1,5 +1,4 @@
-//! One line of a list of checksums, as the program `xxhsum` writes and reads it: which value of which kind it
-//! shows, and of which file.
+//! One line of a checksum list, as `xxhsum` prints and parses it: a file's name, its digest, and the algorithm.
 #![tactic(auto)]
 
 pub mod digits;

@@ -5,15 +5,15 @@ ghost use Rattle.xxhsum_line.specs.Parts.{up_to_nul, without_return, Lacks, HasP
 
 use memchr::{memchr, memrchr};
 
-/// What a line consists of.
+/// The parts of a line.
 #[derive(Clone, Copy, Debug, PartialEq, Eq)]
 pub enum Parts<'a> {
-    /// Digits, a space, a byte that is no opening bracket, and the name of a file.
+    /// Digits, a space, any byte but `(`, and the name of a file.
     Plain {
         digits: &'a [u8],
         name: &'a [u8],
     },
-    /// A tag, the name of a file in brackets, an equals sign and digits.
+    /// A tag, the name of a file in parentheses, an equals sign and digits.
     Tagged {
         tag: &'a [u8],
         name: &'a [u8],
@@ -21,7 +21,7 @@ pub enum Parts<'a> {
     },
 }
 
-/// What comes before the first NUL of a line, or the whole line where it has none.
+/// The line up to its first NUL, or whole where it has none.
 pub fn up_to_nul(line: &[u8]) -> &[u8]
     ensures { result.now ≡ up_to_nul line.now }
 {
@@ -41,7 +41,7 @@ pub fn without_return(line: &[u8]) -> &[u8]
     }
 }
 
-/// The parts of a line, without its line feed. `None` where it has neither form.
+/// Splits a line, which is given without its line feed, into its parts. `None` where it has neither form.
 pub fn parts_of(line: &[u8]) -> Option<Parts<'_>>
     ensures { MatchOption result (HasNoParts line.now) (HasParts line.now) }
 {
@@ -56,7 +56,7 @@ pub fn parts_of(line: &[u8]) -> Option<Parts<'_>>
     }
 }
 
-// The parts of a tagged line, which has this tag, a space, an opening bracket and these bytes behind it.
+// The parts of a tagged line, which has this tag, a space, `(` and then these bytes.
 fn tagged_parts<'a>(tag: &'a [u8], inside: &'a [u8]) -> Option<Parts<'a>>
     ensures { MatchOption result (HasNoTaggedParts inside.now) (IsTaggedWith tag.now inside.now) }
 {
@@ -65,7 +65,7 @@ fn tagged_parts<'a>(tag: &'a [u8], inside: &'a [u8]) -> Option<Parts<'a>>
     Some(Parts::Tagged { tag, name, digits })
 }
 
-// What stands before the first space, and behind it.
+// Splits bytes at the first space.
 fn split_at_first_space(line: &[u8]) -> Option<(&[u8], &[u8])>
     ensures { MatchOption result (Lacks 32 line.now)
         (λ parts. (line.now ≡ parts.0.now ++ 32 ∷ parts.1.now) × Lacks 32 parts.0.now) }
@@ -74,7 +74,7 @@ fn split_at_first_space(line: &[u8]) -> Option<(&[u8], &[u8])>
     Some((&line[..place], &line[place + 1..]))
 }
 
-// What stands before the last space, and behind it.
+// Splits bytes at the last space.
 fn split_at_last_space(line: &[u8]) -> Option<(&[u8], &[u8])>
     ensures { MatchOption result (Lacks 32 line.now)
         (λ parts. (line.now ≡ parts.0.now ++ 32 ∷ parts.1.now) × Lacks 32 parts.1.now) }

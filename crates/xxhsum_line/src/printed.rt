@@ -10,27 +10,27 @@ use std::alloc::{AllocError, Global};
 use xxh_io::hex::write_digits;
 use xxh_io::kind::Kind;
 
-/// How a line is written.
+/// The form of a line.
 #[derive(Clone, Copy, Debug, PartialEq, Eq)]
 pub struct Shape {
-    /// With a tag before the name and the digits behind it, as BSD's programs write it.
+    /// BSD-style: a tag before the name, and the digits after it.
     pub is_tagged: bool,
-    /// With the bytes of the value in the opposite order.
+    /// The digest has its least significant byte first.
     pub is_little: bool,
 }
 
-/// How lines are written, and what each ends with.
+/// The form of printed lines, and what each ends with.
 #[derive(Clone, Copy, Debug, PartialEq, Eq)]
 pub struct Style {
-    /// How they are written.
+    /// Their form.
     pub shape: Shape,
-    /// With a NUL at the end in place of a line feed, and the name as it is, where no byte of it ends the line.
+    /// Each ends with a NUL in place of a line feed, and its name isn't escaped.
     pub ends_in_nul: bool,
 }
 
-/// The line of this value of the file with this name, in this style: with its line feed as [`digest_line`] has it, or
-/// with its NUL, and then no byte of the name is escaped and no backslash stands before it. `AllocError` where memory
-/// runs out.
+/// The line of this file's digest, in this style: with its line feed as [`digest_line`] has it, or with its NUL, and
+/// then no byte of the name is escaped and the line begins with no backslash of its own. `AllocError` where memory runs
+/// out.
 pub fn styled_line(
     alloc: Global,
     kind: Kind,
@@ -49,9 +49,9 @@ pub fn styled_line(
     Ok(line)
 }
 
-/// The line of this value of the file with this name, with its line feed, which is the only one in it. A name with a
-/// backslash, a line feed or a carriage return is escaped, and its line begins with a backslash. Of a value that has
-/// more digits than its kind, the lowest are shown. `AllocError` where memory runs out.
+/// The line of this file's digest, with its line feed, which is the only one in it. A name with a backslash, a line
+/// feed or a carriage return is escaped, and its line begins with a backslash. Of a digest with more digits than the
+/// algorithm has, the least significant are printed. `AllocError` where memory runs out.
 pub fn digest_line(
     alloc: Global,
     kind: Kind,
@@ -86,7 +86,7 @@ fn put_formed(
     }
 }
 
-// Puts the name, as it is or escaped.
+// Appends the name, as it is or escaped.
 fn put_name(line: &mut Vec<u8>, name: &[u8], is_raw: bool) -> Result<(), AllocError>
     ensures { IfOk result (λ _. line.new.items ≡ line.old.items ++ name_shown is_raw name.now) }
 {
@@ -135,7 +135,7 @@ fn put_tagged(
     put_value(line, kind, is_little, value)
 }
 
-// What comes before the digits in a line without a tag.
+// The prefix of the digits in a plain line.
 fn prefix_of(kind: Kind) -> &'static [u8]
     ensures { result.now ≡ prefix_of kind }
 {
@@ -145,7 +145,7 @@ fn prefix_of(kind: Kind) -> &'static [u8]
     }
 }
 
-// The digits of the value.
+// The digits of the digest.
 fn put_value(line: &mut Vec<u8>, kind: Kind, is_little: bool, value: u128) -> Result<(), AllocError>
     ensures { IfOk result (λ _. line.new.items ≡ line.old.items ++ shown kind is_little value) }
 {

@@ -9,16 +9,16 @@ use xxh_io::script_sink::ScriptSink;
 
 /// A sink that may hold bytes for a while, to write many at once.
 ///
-/// Bytes that it holds count as taken. Where the write of them fails later, they are lost, and so is what follows: its
-/// next write fails.
+/// Bytes that it holds count as written to it. Where their own write fails later, they are lost, and the next write to
+/// it fails.
 pub trait Output: Sink {
-    // The bytes that were taken and are not written yet.
+    // The bytes that it holds.
     ghost held: { Self → List ℕ };
 
-    // A write of bytes that were taken has failed.
+    // Bytes that it held were lost.
     ghost has_lost: { Self → Bool };
 
-    /// Whether a write of bytes that were taken has failed.
+    /// Whether bytes that it held were lost: their write failed.
     fn has_lost(&self) -> bool
         ensures { result ≡ has_lost self.now };
 

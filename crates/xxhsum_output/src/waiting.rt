@@ -1,4 +1,4 @@
-//! Bytes that wait before they are written.
+//! A buffer of bytes that wait to be written.
 
 ghost use Rattle.std.specs.Prelude.{◌≡◌, ◌↔◌, ◌+◌, ◌≤◌, ◌++◌, [], true, false, length, Err, IfErr, IfOk, OnErr};
 ghost use Rattle.xxh_io.specs.Digest.{Writes};
@@ -7,7 +7,7 @@ use xxh_io::ends::Sink;
 use xxh_io::error::DigestError;
 use xxh_io::write::write_all;
 
-/// Bytes that wait to be written, at most `N` of them.
+/// A buffer of at most `N` bytes that wait to be written.
 #[derive(Drop)]
 pub struct Waiting<const N: usize> {
     bytes: [u8; N],
@@ -18,7 +18,7 @@ pub struct Waiting<const N: usize> {
 impl<const N: usize> Waiting<N> {
     ghost use Rattle.xxhsum_output.specs.Waiting.{waiting_bytes, waiting_count};
 
-    /// None wait.
+    /// An empty buffer.
     pub fn new() -> Waiting<N>
         ensures bytes { waiting_bytes result ≡ [] }
         ensures count { waiting_count result ≡ 0 }
@@ -29,14 +29,14 @@ impl<const N: usize> Waiting<N> {
         }
     }
 
-    /// How many wait.
+    /// How many bytes wait.
     pub fn len(&self) -> usize
         ensures { result ≡ waiting_count self.now }
     {
         self.len
     }
 
-    /// Puts bytes for which there is capacity behind those that wait.
+    /// Appends bytes for which there is capacity.
     pub fn append(&mut self, bytes: &[u8])
         requires { waiting_count self.old + length bytes.now ≤ N }
         ensures bytes { waiting_bytes self.new ≡ waiting_bytes self.old ++ bytes.now }

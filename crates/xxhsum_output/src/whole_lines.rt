@@ -7,16 +7,16 @@ use crate::output::Output;
 use crate::waiting::Waiting;
 use xxh_io::ends::{Failed, Sink};
 
-/// How many bytes wait at most.
+/// The most bytes that wait.
 pub const MOST_WAITING: usize = 4096;
 
-/// A sink that passes what it is given to the sink behind it, many lines at a time: what one write gives it is never cut
-/// over two writes there. Lines wait while they have at most 4,096 bytes together, and a longer one is passed alone.
+/// A buffered sink before another one, which writes many lines at a time: what one write gives it is never split over
+/// two writes there. Lines wait while they have at most 4,096 bytes together, and a longer one is passed alone.
 #[derive(Drop)]
 pub struct WholeLines<W> {
     inner: W,
     waiting: Waiting<MOST_WAITING>,
-    // How many bytes may wait.
+    // The most bytes that wait: 0 where each line is passed at once.
     capacity: usize,
     has_failed: bool,
     ghost bounded: { capacity ≤ 4096 },
@@ -28,7 +28,7 @@ impl<W: Sink> WholeLines<W> {
     ghost use Rattle.xxhsum_output.specs.WholeLines.{Reaches, RefusesLine, TakesLine, behind, waiting_lines};
     ghost use Rattle.xxhsum_output.specs.declared.whole_lines.WholeLines.{WholeLines};
 
-    /// Nothing waits in front of this sink. Where it doesn't gather, each line is passed at once.
+    /// An empty buffer before this sink. Where `gathers` is false, each line is passed at once.
     pub fn new(inner: W, gathers: bool) -> WholeLines<W>
         ensures behind { behind result ≡ inner }
         ensures empty { waiting_lines result ≡ [] }
@@ -42,7 +42,7 @@ impl<W: Sink> WholeLines<W> {
         }
     }
 
-    /// The sink behind it. Lines that wait are dropped.
+    /// The sink behind it. Lines that wait are lost.
     pub fn into_inner(self) -> W
         ensures { result ≡ behind self }
     {
@@ -50,8 +50,8 @@ impl<W: Sink> WholeLines<W> {
         inner
     }
 
-    // Puts a line behind those that wait. Where there is no capacity for it those are written first, and then it
-    // waits, or is passed alone.
+    // Appends a line to those that wait. Where there is no capacity for it those are written first, and then it waits,
+    // or is passed alone.
     fn take_line(&mut self, line: &[u8]) -> Result<usize, Failed>
         requires some { 0 < length line.now }
         ensures within { IfOk result (λ n. n ≤ length line.now) }
@@ -92,8 +92,8 @@ impl<W: Sink> WholeLines<W> {
         }
     }
 
-    /// Laws, with nothing to run: where nothing waited, what such a sink took was taken by the sink behind it, but for what
-    /// waits; or a write there failed, and that sink took a beginning of it.
+    /// The laws of such a sink: where nothing waited, what it took the sink behind it took, but for what waits; or a
+    /// write there failed, and that sink took a beginning of it. It does nothing.
     pub fn laws()
         ensures taken { (old new : WholeLines W) (bytes : List ℕ)
             → W.has_failed (behind old) ≡ false → waiting_lines old ≡ []
@@ -141,7 +141,7 @@ impl<W: Sink> Output for WholeLines<W> {
         if self.inner.failed() {
             return;
         }
-        // What could not be written is lost, which `has_lost` says.
+        // What could not be written is lost, as `has_lost` reports.
         let _ = self.write_waiting();
     }
 }

@@ -9,7 +9,7 @@ use xxhsum_files::refusal::Refusal;
 use xxhsum_files::store::Store;
 use xxhsum_files::system::SystemFiles;
 
-// What the first read of the file of this name gives, and a word where there is none.
+// What the first read of the file of this name gives, or a word where there is none.
 fn first_read<'a, S: Store>(store: &S, name: &[u8], room: &'a mut [u8; 16]) -> &'a [u8] {
     let Ok(mut file) = store.open(name) else {
         return b"refused";
@@ -23,8 +23,8 @@ fn first_read<'a, S: Store>(store: &S, name: &[u8], room: &'a mut [u8; 16]) -> &
     }
 }
 
-// Whether each name leads to what the row has: what the first read of its file gives, or a word where there is none;
-// and whether it is a directory's.
+// Whether each row is what its name gives: the first read of its file, or a word where there is none; and whether it is
+// a directory's.
 pub(crate) fn leads_to<S: Store>(store: &S, rows: &[(&[u8], &[u8], bool)]) -> bool {
     rows.iter().all(|(name, want, is_directory)| {
         first_read(store, name, &mut [0; 16]) == *want && store.is_directory(name) == *is_directory
@@ -65,7 +65,7 @@ fn a_slice_is_given_whole(rt: HostRuntime) {
     assert!(rt; first_read(&MemoryFiles::new(&entries), b"a", &mut [0; 16]) == b"hello".as_slice());
 }
 
-// A name that is not there is refused, as the system would.
+// A missing file is refused, as the system would.
 #[test]
 fn a_refusal_has_its_words(rt: HostRuntime) -> Result<(), Fail> {
     let Err(why) = MemoryFiles::new(&[entry(b"a", ScriptSource::new(b"", &[], 0), false)]).open(
@@ -96,7 +96,7 @@ fn the_system_gives_its_files(rt: HostRuntime) {
     );
 }
 
-// A refusal has the system's words alone, without std's number behind them.
+// A refusal has the system's message alone, without the number that std appends.
 #[test]
 fn a_refusal_of_the_system_has_its_words(rt: HostRuntime) -> Result<(), Fail> {
     for (name, words) in [

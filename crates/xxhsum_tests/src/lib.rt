@@ -1,5 +1,5 @@
-//! Tests of `xxhsum`: its lines, words and files, and the program over them. Lines and answers are those of Debian's
-//! `xxhsum` 0.8.1.
+//! Tests of `xxhsum`: its lines, arguments and files, and the program over them. Lines and outputs are those of
+//! Debian's `xxhsum` 0.8.1.
 #![tactic(auto)]
 
 #[cfg(test)]

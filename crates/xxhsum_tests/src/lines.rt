@@ -1,4 +1,4 @@
-//! Lines of the original: those that it wrote, and what it made of others. Its release 0.8.3 knows each of them, 0.8.1
+//! Lines of the original: those that it printed, and how it parsed others. Its release 0.8.3 knows each of them, 0.8.1
 //! none with an escape or the prefix of XXH3, and no comment.
 
 use std::alloc::{AllocError, Global};
@@ -8,7 +8,7 @@ use xxhsum_line::entry::{Entry, Meaning, meaning_of};
 use xxhsum_line::laws::{is_read_back, laws_of_lines};
 use xxhsum_line::printed::{Shape, digest_line};
 
-// The lines that 0.8.3 wrote of a file with the 10 bytes `some bytes`, by kind and value: plain, plain and
+// The lines that 0.8.3 printed for a file with the 10 bytes `some bytes`, by algorithm and digest: plain, plain and
 // little-endian, tagged, tagged and little-endian. The name looks like a part of a line.
 const WRITTEN: [(Kind, u128, [&str; 4]); 4] = [
     (
@@ -55,7 +55,7 @@ const WRITTEN: [(Kind, u128, [&str; 4]); 4] = [
 
 const NAME: &[u8] = b"a b) = c";
 
-// Lines that it wrote of a file with these bytes and another name.
+// Lines that it printed for a file with these bytes and another name.
 const NAMED: [(&str, bool, &str); 6] = [
     ("a\\b", false, "\\55cfd3deadcabb2a  a\\\\b"),
     ("a\nb", false, "\\55cfd3deadcabb2a  a\\nb"),
@@ -65,7 +65,7 @@ const NAMED: [(&str, bool, &str); 6] = [
     ("", true, "XXH64 () = 55cfd3deadcabb2a"),
 ];
 
-// Whether the line says this of a file.
+// Whether the line is parsed as this entry.
 fn says(
     alloc: Global,
     line: &str,
@@ -141,8 +141,8 @@ fn a_line_is_read_back(rt: HostRuntime) -> Result<(), Fail> {
     Ok(())
 }
 
-// Lines that 0.8.3 was given with `-c`, of a file without bytes: with `--little-endian` or not, and the kind that it
-// took them for.
+// Lines that 0.8.3 checked with `-c`, of an empty file: with `--little-endian` or not, and the algorithm as which it
+// parsed them.
 const TAKEN: [(&str, bool, Kind); 15] = [
     ("02CC5D05 *empty", false, X32),
     ("055dcc02  empty", true, X32),
@@ -161,7 +161,7 @@ const TAKEN: [(&str, bool, Kind); 15] = [
     ("\\#XXH (empty) = ef46db3751d8e999", false, X64),
 ];
 
-// The hash of no bytes.
+// The digest of no bytes.
 fn of_nothing(kind: Kind) -> u128 {
     match kind {
         X32 => 0x02cc_5d05,

@@ -1,4 +1,5 @@
-//! Many arguments and many reads, beyond each constant of the code: all are taken, and memory is not said to be wanting.
+//! Many arguments and many reads, beyond each constant of the code: all are taken, and no call reports that memory ran
+//! out.
 
 use std::alloc::AllocError;
 use std::env::FillError;

@@ -1,4 +1,4 @@
-//! The program over a table of names. Digests, lines and answers are those of Debian's `xxhsum` 0.8.1 over such files.
+//! The program over a table of names. Digests, lines and outputs are those of Debian's `xxhsum` 0.8.1 over such files.
 
 use crate::entry::entry;
 use std::alloc::{AllocError, Global};
@@ -27,7 +27,7 @@ const LIST: &[u8] =
 const CHECKED: &[u8] =
     b"a: OK\nb: FAILED\nL:4: Could not open or read 'gone': No such file or directory.\nb: OK\n1 line is improperly formatted\n1 listed file could not be read\n1 computed checksum did NOT match\n";
 
-// What is told of the file whose second read fails, as docs/XXHSUM.md has it.
+// What is reported of the file whose second read fails, as docs/XXHSUM.md has it.
 const BAD: &[u8] = b"Error: Could not read 'bad': a failure occurred reading the input file. \n";
 
 // The files a and b, the folder d, a file whose second read fails, and a list.
@@ -79,7 +79,7 @@ fn each_name_has_its_line(rt: HostRuntime) -> Result<(), AllocError> {
     Ok(())
 }
 
-// A file that can't be read stops nothing; a write that fails does, at once.
+// A file that can't be read doesn't end the run; a failed write does, at once.
 #[test]
 fn a_failed_write_alone_stops_the_run(rt: HostRuntime) -> Result<(), AllocError> {
     let entries = entries();

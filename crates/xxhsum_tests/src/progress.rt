@@ -1,5 +1,5 @@
-//! What is shown of the reading of long files. The lines have the numbers that a reader of such a terminal would work
-//! out: a line at each 64 MiB, of so many MiB, MiB a second, and seconds for the rest.
+//! Progress of long files. The lines have the numbers that a reader of such a terminal would work out: a line at each
+//! 64 MiB, of the MiB so far, MiB a second, and seconds left.
 
 use crate::entry::entry;
 use crate::files::leads_to;
@@ -12,8 +12,8 @@ use xxhsum_program::watched::WatchedFiles;
 
 const MIB: usize = 1048576;
 
-// Counts of reads with the milliseconds at which they end, where the reading begins at 500; the size; whether they are
-// shown; and what is shown of them.
+// Counts of bytes read with the times at which the reads end (ms, from a start at 500); the size; whether progress is
+// on; and what is shown.
 const READS: &[(&[(usize, u64)], Option<u64>, bool, &str)] = &[
     (
         &[(63 * MIB, 600), (1048575, 700), (1, 756), (0, 800)],

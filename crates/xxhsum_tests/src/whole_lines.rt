@@ -1,4 +1,4 @@
-//! Lines that are gathered: which writes the sink behind them gets.
+//! Buffered lines: which writes the sink behind them gets.
 
 use xxh_io::ends::Sink;
 use xxh_io::script_sink::ScriptSink;
@@ -6,7 +6,7 @@ use xxh_io::write::write_all;
 use xxhsum_output::output::Output;
 use xxhsum_output::whole_lines::WholeLines;
 
-// In front of a sink of which this write fails, so that what it has then is what the writes before it brought.
+// A buffer before a sink whose write of this number fails, so that the sink has what the writes before it brought.
 fn failing_at(write: u64, gathers: bool) -> WholeLines<ScriptSink<99999>> {
     WholeLines::new(ScriptSink::new(99999, write), gathers)
 }

@@ -1,4 +1,4 @@
-//! What the words ask for.
+//! What the arguments ask for.
 
 use std::alloc::Global;
 use std::test::Fail;
@@ -6,7 +6,7 @@ use xxh_io::kind::Kind;
 use xxhsum_words::name::default_kind;
 use xxhsum_words::options::{Asked, asked_by};
 
-// Words that a space parts, as `xxhsum` was given them, and what it took them for.
+// Arguments, separated by a space, as `xxhsum` was given them, and how it parsed them.
 const TABLE: &[(&str, &str)] = &[
     ("a", "64 0"),
     ("a -H0", "64 0"),
@@ -71,7 +71,7 @@ const TABLE: &[(&str, &str)] = &[
     ("-i99999999999", "large"),
 ];
 
-// The answer in words of the table.
+// What was asked for, in words of the table.
 fn told(alloc: Global, asked: Asked) -> Result<String, Fail> {
     let (options, names_from) = match asked {
         Asked::Run {

@@ -1,4 +1,4 @@
-//! A word of letters, each an option, after a single `-`.
+//! An argument of letters after a single `-`, each an option.
 
 ghost use Rattle.std.specs.Prelude.{◌≡◌, ◌≤◌, length, IfOk};
 ghost use Rattle.xxhsum_words.specs.Letters.{alone, kind_step, letter_of, letters_step, numbered_kind, skipped_number};
@@ -8,14 +8,14 @@ use crate::options::{Asked, Options, Step};
 use crate::table::{NO_LETTER, letter_step};
 use xxh_io::kind::Kind;
 
-/// A letter that was read: the options after it, and how many of the letters that follow belong to it.
+/// A parsed letter: the options after it, and how many of the letters that follow belong to it.
 #[derive(Clone, Copy, Debug, PartialEq, Eq)]
 pub(crate) struct Letter {
     pub options: Options,
     pub taken: usize,
 }
 
-/// What the letters of a word do, one after another.
+/// Applies the letters of an argument to these options, in order.
 pub(crate) fn letters(word: &[u8], mut options: Options) -> Step
     ensures { result ≡ letters_step 0 options word.now }
 {
@@ -32,7 +32,7 @@ pub(crate) fn letters(word: &[u8], mut options: Options) -> Step
     Step::Takes(options)
 }
 
-// What a letter does that stands before these others. An error is what its word does, whatever follows.
+// Applies a letter, which these others follow. An error is what the whole argument does, whatever follows.
 fn letter_at(letter: u8, after: &[u8], options: Options) -> Result<Letter, Step>
     ensures letter { result ≡ letter_of options letter after.now }
     ensures within { IfOk result (λ read. read.taken ≤ length after.now) }
@@ -45,7 +45,7 @@ fn letter_at(letter: u8, after: &[u8], options: Options) -> Result<Letter, Step>
     }
 }
 
-// A letter that no others belong to, by what it does.
+// A letter that no others belong to, by its step.
 fn alone(step: Step) -> Result<Letter, Step>
     ensures letter { result ≡ alone step }
     ensures within { IfOk result (λ read. read.taken ≡ 0) }
@@ -56,7 +56,7 @@ fn alone(step: Step) -> Result<Letter, Step>
     }
 }
 
-// `H`: the number after it names the kind.
+// `H`: the number after it names the algorithm.
 fn kind_letter(after: &[u8], options: Options) -> Result<Letter, Step>
     ensures letter { result ≡ kind_step options after.now }
     ensures within { IfOk result (λ read. read.taken ≤ length after.now) }
@@ -81,7 +81,7 @@ fn skipped_letter(after: &[u8], options: Options) -> Result<Letter, Step>
     })
 }
 
-// The kind of this number of `-H`.
+// The algorithm of this number of `-H`.
 fn numbered_kind(number: u32) -> Option<Kind>
     ensures { result ≡ numbered_kind number }
 {

@@ -1,4 +1,4 @@
-//! What the words of `xxhsum`'s command line ask for.
+//! What the arguments of `xxhsum` ask for.
 #![tactic(auto)]
 
 mod letters;

@@ -8,7 +8,7 @@ ghost use Rattle.xxhsum_words.specs.Number.{digits_of, number_of, suffix_letters
 #[derive(Clone, Copy, Debug, PartialEq, Eq)]
 pub(crate) struct Number {
     pub value: u32,
-    /// How many letters write it, its unit among them.
+    /// How many letters it takes, with its unit.
     pub letters: usize,
 }
 
@@ -16,11 +16,11 @@ pub(crate) struct Number {
 #[derive(Clone, Copy, Debug, PartialEq, Eq)]
 pub(crate) struct Unit {
     pub factor: u32,
-    /// How many letters write it.
+    /// How many letters it takes.
     pub letters: usize,
 }
 
-// The greatest number that a further digit may follow.
+// The greatest number that another digit may follow.
 const MOST_BEFORE_A_DIGIT: u32 = 429_496_728;
 
 /// The number at the start of the letters, 0 where they begin with no digit; `None` where it is too large.
@@ -48,7 +48,7 @@ fn digit_count(letters: &[u8]) -> usize
         .count()
 }
 
-// The number that the digits write, if it is not too large.
+// The value of the digits. `None` where it is too large.
 fn value_of(digits: &[u8]) -> Option<u32>
     requires { all_ascii_digits digits.now ≡ true }
     ensures { result ≡ value_named digits.now }

@@ -1,4 +1,4 @@
-//! The words of the command line.
+//! The arguments of the command line.
 
 ghost use Rattle.std.specs.Prelude.{◌≡◌, drop, map};
 ghost use Rattle.xxhsum_words.specs.Options.{asked_of, have_input, leaves_input, lists_audited, lists_before, run_from, word_step};
@@ -10,18 +10,18 @@ use xxh_io::kind::Kind;
 /// Where the names of a run come from.
 #[derive(Clone, Copy, Debug, PartialEq, Eq)]
 pub enum NamesFrom {
-    /// The words are names.
+    /// The arguments are names.
     Words,
-    /// `--files-from`, `--filelist`: the words are files of names, a name a line.
+    /// `--files-from`, `--filelist`: the arguments are files of names, one a line.
     Lines,
-    /// `--files0-from`: the words are files of names, each ended by a NUL.
+    /// `--files0-from`: the arguments are files of names, each ended by a NUL.
     Nuls,
 }
 
 impl NamesFrom {
     ghost use Rattle.xxhsum_words.specs.Options.{are_listed};
 
-    /// Whether the names stand in lists.
+    /// Whether the names are read from lists.
     pub fn are_listed(self) -> bool
         ensures { result ≡ are_listed self }
     {
@@ -32,32 +32,32 @@ impl NamesFrom {
     }
 }
 
-/// What the options say.
+/// The options that are in effect.
 #[derive(Clone, Copy, Debug, PartialEq, Eq)]
 pub struct Options {
-    /// The digest that is computed: the last `-H`, or else the program's own.
+    /// The algorithm: that of the last `-H`, or else the program's own.
     pub kind: Kind,
-    /// `-c`, `--check`: the names are lists, whose lines are compared with their files.
+    /// `-c`, `--check`: the names are lists, which are checked.
     pub checks: bool,
-    /// `-q`, `--quiet`: nothing is said of a file that is as its line has it.
+    /// `-q`, `--quiet`: OK isn't printed for a verified file.
     pub is_quiet: bool,
-    /// `--status`: a comparison prints no result.
+    /// `--status`: a check prints no result.
     pub is_status_only: bool,
-    /// `--strict`: a line that is no checksum line makes the list a bad one.
+    /// `--strict`: a malformed line makes its list a bad one.
     pub is_strict: bool,
-    /// `-w`, `--warn`: each line that is no checksum line is told.
+    /// `-w`, `--warn`: each malformed line is reported.
     pub warns: bool,
-    /// `--ignore-missing`: a comparison passes over a file that isn't there.
+    /// `--ignore-missing`: a check passes over missing files.
     pub ignores_missing: bool,
-    /// `--tag`: lines are printed as BSD has them.
+    /// `--tag`: lines are printed BSD-style.
     pub is_tagged: bool,
     /// `--little-endian`: digests are printed, and read, with their lowest byte first.
     pub is_little_endian: bool,
     /// `-z`, `--zero`: each printed line ends with a NUL, and its name isn't escaped.
     pub ends_in_nul: bool,
-    /// `--audit`: the first word is a list, whose lines are put beside the names.
+    /// `--audit`: the first argument is a checksum list, with which the named files are compared.
     pub audits: bool,
-    /// `-r`, `--recursive`: a folder's name stands for the files below it.
+    /// `-r`, `--recursive`: the name of a folder means the files below it.
     pub walks: bool,
     /// Where the names come from.
     pub names_from: NamesFrom,
@@ -65,10 +65,10 @@ pub struct Options {
     pub takes_terminal: bool,
 }
 
-/// What the words ask for.
+/// What the arguments ask for.
 #[derive(Clone, Copy, Debug, PartialEq, Eq)]
 pub enum Asked {
-    /// Digests of the files of the names, or their comparison. The names are the words from this one on.
+    /// Digests of the named files, or a comparison. The names are the arguments from this index on.
     Run { options: Options, names_from: usize },
     /// A benchmark, by `-b` or `--bench-all`.
     Benchmark,
@@ -76,28 +76,28 @@ pub enum Asked {
     Version,
     /// The help.
     Help,
-    /// Nothing: the word of this index is no option.
+    /// Nothing: the argument of this index is no option.
     WrongOption { at: usize },
-    /// Nothing: `-z` stands beside `-c` or `--audit`.
+    /// Nothing: `-z` was given with `-c` or `--audit`.
     NulsInList,
-    /// Nothing: `-r` stands beside `-c` or lists of names.
+    /// Nothing: `-r` was given with `-c` or lists of names.
     WalkBesideLists,
-    /// Nothing: `-r` stands without a name.
+    /// Nothing: `-r` was given without a name.
     WalkOfNothing,
-    /// Nothing: `-` stands beside names, or behind `--`, where standard input is not read.
+    /// Nothing: `-` was given with names, or after `--`, where standard input is not read.
     InputBesideNames,
-    /// Words in which an option has a number that is too large.
+    /// Nothing: an option has a number that is too large.
     NumberTooLarge,
 }
 
-/// What one word does.
+/// What one argument does.
 #[derive(Clone, Copy, Debug, PartialEq, Eq)]
 pub(crate) enum Step {
     /// It is an option. After it these options hold.
     Takes(Options),
-    /// It is a name, so the options have ended before it.
+    /// It is a name: the options end before it.
     EndsBefore,
-    /// It is `--`: the names are the words after it.
+    /// It is `--`: the names are the arguments after it.
     EndsAfter,
     /// It is no option, though it looks like one.
     IsWrong,
@@ -105,7 +105,7 @@ pub(crate) enum Step {
     Settles(Asked),
 }
 
-/// What the words after the program's name ask for, where the digest is of this kind if they name none.
+/// Parses the arguments after the program's name. The algorithm is this one if they name none.
 pub fn asked_by(kind: Kind, words: &[Vec<u8>]) -> Asked
     ensures { result ≡ asked_of kind (map (λ word. word.items) words.now) }
 {
@@ -137,9 +137,9 @@ pub fn asked_by(kind: Kind, words: &[Vec<u8>]) -> Asked
     run_from(options, words.len(), words)
 }
 
-// The run by these options, of the names from this word on. What is compared or audited is no list, so its lines end with
-// no NUL; folders are walked below names alone, of which there is one; and standard input is never left unread where it is
-// asked for.
+// The run by these options, of the names from this index on. It is refused where no list is printed whose lines could
+// end with a NUL, where there is no name below which a folder could be walked, and where standard input would stay
+// unread.
 fn run_from(options: Options, names_from: usize, words: &[Vec<u8>]) -> Asked
     ensures { result ≡ run_from options names_from
         (drop names_from (map (λ word. word.items) words.now)) }
@@ -162,7 +162,7 @@ fn run_from(options: Options, names_from: usize, words: &[Vec<u8>]) -> Asked
     }
 }
 
-/// The words from this place on.
+/// The arguments from this index on.
 pub fn words_behind(words: &[Vec<u8>], place: usize) -> &[Vec<u8>]
     ensures { map (λ word. word.items) result.now
         ≡ drop place (map (λ word. word.items) words.now) }
@@ -181,14 +181,14 @@ fn leaves_input(options: Options, names: &[Vec<u8>]) -> bool
     have_input(names) || (options.takes_terminal && names.len() > lists_before(options))
 }
 
-// How many lists of digests stand before the names: that of an audit.
+// How many checksum lists precede the names: that of an audit.
 fn lists_audited(options: Options) -> usize
     ensures { result ≡ lists_audited options }
 {
     if options.audits { 1 } else { 0 }
 }
 
-// How many lists stand before the names: that of an audit whose names are listed.
+// How many checksum lists precede lists of names: that of an audit.
 fn lists_before(options: Options) -> usize
     ensures { result ≡ lists_before options }
 {
@@ -211,7 +211,7 @@ fn have_input(names: &[Vec<u8>]) -> bool
     false
 }
 
-// What the word does after words that made these options.
+// What the argument does to these options.
 fn word_step(word: &[u8], options: Options) -> Step
     ensures { result ≡ word_step options word.now }
 {

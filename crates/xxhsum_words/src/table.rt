@@ -1,4 +1,4 @@
-//! The options, each said once: its letter, its name, what it does, and what the help says of it.
+//! The options, each in one row: its letter, its name, what it does, and its text in the help.
 
 ghost use Rattle.std.specs.Prelude.{◌≡◌, map};
 ghost use Rattle.xxhsum_words.specs.Table.{does_step, of_letter, of_name, seen};
@@ -8,15 +8,15 @@ use crate::options::{Asked, NamesFrom, Options, Step};
 /// What an option does.
 #[derive(Clone, Copy, Debug, PartialEq, Eq)]
 pub enum Does {
-    /// The names are lists, whose lines are compared with their files.
+    /// The names are lists, which are checked.
     Checks,
-    /// The first name is a list, whose lines are put beside the other names.
+    /// The first name is a checksum list, with which the other files are compared.
     Audits,
-    /// Folders are walked: the names stand for the files below them.
+    /// Folders are walked: their names mean the files below them.
     Walks,
-    /// The names stand in lists of this form.
+    /// The names are read from lists of this form.
     Lists(NamesFrom),
-    /// Lines are printed as BSD has them.
+    /// Lines are printed BSD-style.
     Tags,
     /// Digests have their lowest byte first.
     TurnsRound,
@@ -24,17 +24,17 @@ pub enum Does {
     EndsInNul,
     /// Nothing: files are read as they are.
     Nothing,
-    /// Nothing is said of a file that is as its line has it.
+    /// OK isn't printed for a verified file.
     Quiets,
-    /// A comparison prints no result.
+    /// A check prints no result.
     Silences,
-    /// Files that aren't there are passed over.
+    /// Missing files are passed over.
     IgnoresMissing,
     /// A malformed line makes its list a bad one.
     IsStrict,
     /// Malformed lines are reported.
     Warns,
-    /// The words behind it are names.
+    /// The arguments after it are names.
     EndsOptions,
     /// It asks for this, whatever follows.
     Asks(Asked),
@@ -43,8 +43,8 @@ pub enum Does {
 /// The letter of an option that has none.
 pub const NO_LETTER: u8 = b'-';
 
-/// All options but those whose letter has a number: the letter behind `-`, the name behind `--`, what it does, and what
-/// the help has behind the name, which is nothing where the help has no line for it.
+/// All options but those whose letter takes a number: the letter after `-`, the name after `--`, what it does, and its
+/// text in the help, which is empty where the help has no line for it.
 pub const ROWS: [(u8, &str, Does, &str); 19] = [
     (
         b'c',
@@ -147,7 +147,7 @@ pub const ROWS: [(u8, &str, Does, &str); 19] = [
     (b'b', "bench-all", Does::Asks(Asked::Benchmark), ""),
 ];
 
-// What `--` and this name do, after words that made these options.
+// What `--` and this name do to these options.
 pub(crate) fn name_step(name: &[u8], options: Options) -> Step
     ensures { result ≡ of_name ROWS options name.now }
 {
@@ -169,7 +169,7 @@ fn name_in(rows: &[(u8, &str, Does, &str)], name: &[u8], options: Options) -> St
     }
 }
 
-// What `-` and this letter do, after words that made these options.
+// What `-` and this letter do to these options.
 pub(crate) fn letter_step(letter: u8, options: Options) -> Step
     ensures { result ≡ of_letter ROWS options letter }
 {
@@ -191,7 +191,7 @@ fn letter_in(rows: &[(u8, &str, Does, &str)], letter: u8, options: Options) -> S
     }
 }
 
-// What an option does, after words that made these options.
+// Applies an option to these options.
 fn does_step(does: Does, mut options: Options) -> Step
     ensures { result ≡ does_step does options }
 {
