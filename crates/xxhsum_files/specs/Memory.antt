@@ -1,4 +1,4 @@
--- What a table of names leads to.
+-- What the names of a table open.
 use Rattle.std.specs.Prelude.{◌≡◌, ℕ, List, Bool, true, false, Option, Some, option_map, find, bytes_eq, unwrap_or, MatchOption, pos}
 use Rattle.xxhsum_files.specs.declared.memory.MemoryEntry.{MemoryEntry}
 use Rattle.xxhsum_files.specs.declared.memory.MemoryFiles.{MemoryFiles}

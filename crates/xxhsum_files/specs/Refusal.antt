@@ -3,14 +3,14 @@ use Rattle.std.specs.Prelude.{ℤ, pos, ℕ, Bool, List, take}
 use Rattle.std.specs.Ordering.{int_eq}
 use Rattle.xxhsum_files.specs.declared.refusal.Refusal.{Refusal}
 
--- the system's number of the error
+-- the system's error number
 abbrev pub refusal_code : Refusal → ℤ
 refusal_code refusal = refusal.code
 
--- whether there is no file of the name: ENOENT
+-- whether the file is missing: ENOENT
 abbrev pub is_missing : Refusal → Bool
 is_missing refusal = int_eq refusal.code (pos 2)
 
--- the system's words for it
+-- the system's message
 abbrev pub refusal_text : Refusal → List ℕ
 refusal_text refusal = take refusal.len refusal.text

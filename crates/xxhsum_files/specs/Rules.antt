@@ -1,5 +1,5 @@
--- The rules of a store, as one record: which file a name leads to, why to none, and whether it is a directory's; and
--- those of folders.
+-- The rules of a store, as one record: which file a name opens, why none, and whether it is a directory's; and those of
+-- folders.
 use Rattle.xxhsum_files.specs.declared.folders.Folders as folders
 use Rattle.xxhsum_files.specs.declared.store.Store as store
 

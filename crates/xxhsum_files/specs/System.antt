@@ -1,4 +1,4 @@
--- What clauses say of the system's files: which bytes they hold is not known here.
+-- What clauses say of the system's files: which bytes they have is not known here.
 use Rattle.std.specs.Prelude.{◌≡◌, Bool, ℕ, List, Option, pos}
 use Rattle.std.specs.Str.{IsUtf8}
 use Rattle.xxhsum_files.specs.Refusal.{refusal_code}
@@ -7,7 +7,7 @@ use Rattle.xxhsum_files.specs.declared.folders.PathKind.{PathKind}
 use Rattle.xxhsum_files.specs.declared.refusal.Refusal.{Refusal}
 use Rattle.xxhsum_files.specs.declared.system.SystemFiles.{SystemFiles}
 
--- a name may lead to any file
+-- a name may open any file
 abbrev pub AnyFile : {P F : Type 0} → SystemFiles P → List ℕ → FromRead F → Type 0
 AnyFile files name file = Unit {0}
 

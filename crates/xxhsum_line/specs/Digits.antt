@@ -1,9 +1,9 @@
--- Hexadecimal digits of either case, and the numbers that they write.
+-- Hexadecimal digits of either case, and their values.
 use Rattle.std.specs.Prelude.{ℕ, ◌+◌, ◌-◌, ◌*◌, Bool, List, [], ◌∷◌, length, reverse, Option, Some, None, nat_le, nat_eq, ◌&&◌, option_and_then, if◌then◌else◌}
 use Rattle.xxh_io.specs.Kind.{digits_of}
 use Rattle.xxh_io.specs.declared.kind.Kind.{Kind}
 
--- the number that a digit stands for: '0' is 48, 'a' is 87 + 10, and 'A' is 55 + 10
+-- the value of a digit: '0' is 48, 'a' is 87 + 10, and 'A' is 55 + 10
 abbrev pub digit_of : ℕ → Option ℕ
 digit_of c =
     if nat_le 48 c && nat_le c 57 then Some (c - 48)
@@ -11,7 +11,7 @@ digit_of c =
     else if nat_le 65 c && nat_le c 70 then Some (c - 55)
     else None
 
--- the number that digits write, after others that write `before`
+-- the value of digits after others, whose value is `before`
 abbrev pub number_after : ℕ → List ℕ → Option ℕ
 number_after before [] = Some before
 number_after before (c ∷ cs) = option_and_then (λ digit. number_after (before * 16 + digit) cs) (digit_of c)
@@ -24,15 +24,15 @@ abbrev pub pairs_swapped : List ℕ → List ℕ
 pairs_swapped (a ∷ b ∷ rest) = b ∷ a ∷ pairs_swapped rest
 pairs_swapped rest = rest
 
--- the bytes that the digits show, two digits each, in the opposite order
+-- the bytes in reverse order, two digits each
 abbrev pub turned : List ℕ → List ℕ
 turned digits = pairs_swapped (reverse digits)
 
--- digits turned round where they are little-endian
+-- digits whose bytes are reversed where they are little-endian
 abbrev pub turned_if : Bool → List ℕ → List ℕ
 turned_if is_little digits = if is_little then turned digits else digits
 
--- the value that digits show: they are as many as its kind has
+-- the digest that digits write: they are as many as its algorithm has
 abbrev pub value_shown : Kind → Bool → List ℕ → Option ℕ
 value_shown kind is_little digits =
     if nat_eq (length digits) (digits_of kind) then number_of (turned_if is_little digits) else None

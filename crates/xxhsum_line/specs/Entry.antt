@@ -1,4 +1,4 @@
--- What a line says: which value of which kind it shows, and of which file.
+-- What a line means: a file's digest, by which algorithm.
 use Rattle.std.specs.Prelude.{ℕ, ◌≡◌, ◌⊎◌, Bool, false, List, [], ◌∷◌, Option, Some, nat_eq}
 use Rattle.xxh_io.specs.declared.kind.Kind.{Kind}
 use Rattle.xxhsum_line.specs.Digits.{value_shown}
@@ -6,23 +6,23 @@ use Rattle.xxhsum_line.specs.Escapes.{body_of, is_escaped, name_meant}
 use Rattle.xxhsum_line.specs.Parts.{IsPlain, IsTagged, up_to_nul, without_return}
 use Rattle.xxhsum_line.specs.Tags.{bare, kind_of_digits, kind_of_tag, is_little_tag}
 
--- the value that digits of this kind show, with or without their prefix
+-- the digest that digits of this algorithm write, with or without their prefix
 abbrev pub value_meant : Kind → Bool → List ℕ → Option ℕ
 value_meant kind is_little digits = value_shown kind is_little (bare kind digits)
 
--- a plain line: its digits name the kind, and the caller says whether they are little-endian
+-- a plain line: its digits name the algorithm, and the caller says whether they are little-endian
 abbrev pub SaysPlain : Bool → List ℕ → Kind → ℕ → List ℕ → Type 0
 SaysPlain is_little text kind value name =
     (digits : List ℕ) × IsPlain text digits name
     × (kind_of_digits digits ≡ Some kind) × (value_meant kind is_little digits ≡ Some value)
 
--- a tagged line: its tag names the kind, and says whether the digits are little-endian
+-- a tagged line: its tag names the algorithm, and says whether the digits are little-endian
 abbrev pub SaysTagged : List ℕ → Kind → ℕ → List ℕ → Type 0
 SaysTagged text kind value name =
     (tag : List ℕ) × (digits : List ℕ) × IsTagged text tag name digits
     × (kind_of_tag tag ≡ kind) × (value_meant kind (is_little_tag tag) digits ≡ Some value)
 
--- a text of one of the two forms, with the name as it stands there
+-- a text of either form, with the name as it is written there
 abbrev pub TextSays : Bool → List ℕ → Kind → ℕ → List ℕ → Type 0
 TextSays is_little text kind value name =
     SaysPlain is_little text kind value name ⊎ SaysTagged text kind value name
@@ -36,7 +36,7 @@ abbrev pub is_comment : List ℕ → Bool
 is_comment [] = false
 is_comment (c ∷ cs) = nat_eq c 35
 
--- the line, without a carriage return at its end and up to a NUL, is of one of the two forms, and its name means this one
+-- the line, without a carriage return at its end and up to a NUL, is of either form, and its name means this one
 abbrev pub Says : Bool → List ℕ → Kind → ℕ → List ℕ → Type 0
 Says is_little line kind value name =
     let text = up_to_nul (without_return line) in
@@ -44,7 +44,7 @@ Says is_little line kind value name =
     × (shown : List ℕ) × TextSays is_little (body_of text) kind value shown
     × (name_meant (is_escaped text) shown ≡ Some name)
 
--- no line of any form, nor a comment
+-- a malformed line: of neither form, and no comment
 abbrev pub SaysNothing : Bool → List ℕ → Type 0
 SaysNothing is_little line =
     (is_comment line ≡ false) × ((kind : Kind) (value : ℕ) (name : List ℕ) → ¬ Says is_little line kind value name)

@@ -1,7 +1,7 @@
--- Names in lines: bytes that would end a line early are written by a backslash and another byte.
+-- Escaped names: bytes that would end a line early are written as a backslash and another byte.
 use Rattle.std.specs.Prelude.{ℕ, Bool, true, false, ◌||◌, nat_eq, List, [], ◌∷◌, ◌++◌, drop, Option, Some, None, option_and_then, if◌then◌else◌}
 
--- how a byte of a name stands in an escaped line: a backslash, a line feed and a carriage return by two bytes
+-- a byte of a name, escaped: a backslash, a line feed and a carriage return are two bytes
 abbrev pub escape : ℕ → List ℕ
 escape c =
     if nat_eq c 92 then 92 ∷ 92 ∷ []
@@ -13,7 +13,7 @@ abbrev pub escaped : List ℕ → List ℕ
 escaped [] = []
 escaped (c ∷ cs) = escape c ++ escaped cs
 
--- whether a byte is one that stands otherwise in an escaped line
+-- whether a byte is escaped
 abbrev pub is_special : ℕ → Bool
 is_special c = nat_eq c 92 || (nat_eq c 10 || nat_eq c 13)
 
@@ -21,15 +21,15 @@ abbrev pub needs_escape : List ℕ → Bool
 needs_escape [] = false
 needs_escape (c ∷ cs) = is_special c || needs_escape cs
 
--- what the line of a name begins with: a backslash where the name needs one
+-- what the line of a name begins with: a backslash where the name needs escapes
 abbrev pub mark_of : List ℕ → List ℕ
 mark_of name = if needs_escape name then 92 ∷ [] else []
 
--- a text as one line: each of its bytes as an escaped line has it, and a backslash before them where one of them needs it
+-- a text as one line: each of its bytes escaped, and a backslash before them where one of them needs it
 abbrev pub one_line : List ℕ → List ℕ
 one_line text = mark_of text ++ escaped text ++ 10 ∷ []
 
--- the byte that another one behind a backslash stands for
+-- the byte that a backslash and this byte represent
 abbrev pub meant_by : ℕ → Option ℕ
 meant_by c =
     if nat_eq c 92 then Some 92
@@ -41,7 +41,7 @@ meant_by c =
 abbrev pub before : List ℕ → Option (List ℕ) → Option (List ℕ)
 before bytes rest = option_and_then (λ others. Some (bytes ++ others)) rest
 
--- the bytes that are meant, where the byte before them was a backslash or not; a backslash at the end has no meaning
+-- the unescaped bytes, where the byte before them was a backslash or not; a backslash at the end begins no escape
 abbrev pub meant_behind : Bool → List ℕ → Option (List ℕ)
 meant_behind false [] = Some []
 meant_behind true [] = None
@@ -50,7 +50,7 @@ meant_behind false (c ∷ cs) =
 meant_behind true (c ∷ cs) =
     option_and_then (λ b. before (b ∷ []) (meant_behind false cs)) (meant_by c)
 
--- the name that is meant by what stands in an escaped line
+-- an unescaped name
 abbrev pub unescaped : List ℕ → Option (List ℕ)
 unescaped text = meant_behind false text
 
@@ -63,10 +63,10 @@ abbrev pub is_escaped : List ℕ → Bool
 is_escaped [] = false
 is_escaped (c ∷ cs) = if is_blank c then is_escaped cs else nat_eq c 92
 
--- what is left of a line where the first byte of an escaped one is taken away
+-- the line, of an escaped one without its first byte
 abbrev pub body_of : List ℕ → List ℕ
 body_of text = if is_escaped text then drop 1 text else text
 
--- the name that is meant by what stands in a line, escaped or not
+-- the name, unescaped where the line is escaped
 abbrev pub name_meant : Bool → List ℕ → Option (List ℕ)
 name_meant is_escaped text = if is_escaped then unescaped text else Some text

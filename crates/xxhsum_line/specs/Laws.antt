@@ -8,7 +8,7 @@ use Rattle.xxhsum_line.specs.Parts.{IsPlain, IsTagged, Lacks}
 use Rattle.xxhsum_line.specs.Printed.{text_of}
 use Rattle.xxhsum_line.specs.declared.printed.Shape.{Shape}
 
--- a printed line, whose name has no NUL, says what it was made of
+-- a printed line, whose name has no NUL, means the entry that it was made of
 abbrev pub PrintedIsAccepted : Type 0
 PrintedIsAccepted =
     (kind : Kind) (shape : Shape) (value : ℕ) (name : List ℕ) → value < 16 ^ digits_of kind → Lacks 0 name
@@ -23,7 +23,7 @@ PrintedIsOneLine =
 abbrev pub IsOneLine : List ℕ → Type 0
 IsOneLine line = (text : List ℕ) × (line ≡ text ++ 10 ∷ []) × Lacks 10 text
 
--- a text that is told as one line is one, whatever names stand in it
+-- a text that is reported as one line is one, whatever names it has
 abbrev pub ToldIsOneLine : Type 0
 ToldIsOneLine = (text : List ℕ) → IsOneLine (one_line text)
 
@@ -36,14 +36,14 @@ abbrev pub PrintedIsNoComment : Type 0
 PrintedIsNoComment =
     (kind : Kind) (shape : Shape) (value : ℕ) (name : List ℕ) → is_comment (text_of kind shape value name) ≡ false
 
--- an escaped name means the name, and one that needs no escape stands as it is
+-- an escaped name means the name, and one that needs no escape is written as it is
 abbrev pub EscapeIsUndone : Type 0
 EscapeIsUndone = (name : List ℕ) → unescaped (escaped name) ≡ Some name
 
 abbrev pub PlainNamesStay : Type 0
 PlainNamesStay = (name : List ℕ) → needs_escape name ≡ false → escaped name ≡ name
 
--- a line says one thing
+-- a line has one meaning
 abbrev pub SaysOneThing : Type 0
 SaysOneThing =
     (is_little : Bool) (line : List ℕ) (kind kind' : Kind) (value value' : ℕ) (name name' : List ℕ)

@@ -8,7 +8,7 @@ abbrev pub Lacks : ℕ → List ℕ → Type 0
 Lacks byte [] = Unit {0}
 Lacks byte (c ∷ cs) = (c ≢ byte) × Lacks byte cs
 
--- what comes before the first NUL
+-- the line up to its first NUL
 abbrev pub up_to_nul : List ℕ → List ℕ
 up_to_nul [] = []
 up_to_nul (c ∷ cs) = if c == 0 then [] else c ∷ up_to_nul cs

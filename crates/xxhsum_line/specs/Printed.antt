@@ -10,11 +10,11 @@ use Rattle.xxhsum_line.specs.Tags.{tag_of}
 use Rattle.xxhsum_line.specs.declared.printed.Shape.{Shape}
 use Rattle.xxhsum_line.specs.declared.printed.Style.{Style}
 
--- the digits of a value
+-- the digits of a digest
 abbrev pub shown : Kind → Bool → ℕ → List ℕ
 shown kind is_little value = turned_if is_little (hex_digits (digits_of kind) value)
 
--- what comes before the digits in a line without a tag
+-- the prefix of the digits in a plain line
 abbrev pub prefix_of : Kind → List ℕ
 prefix_of X3_64 = codes "XXH3_"
 prefix_of X32 = []
@@ -25,7 +25,7 @@ prefix_of X3_128 = []
 abbrev pub plain_text : Kind → Bool → ℕ → List ℕ → List ℕ
 plain_text kind is_little value name = prefix_of kind ++ (shown kind is_little value ++ 32 ∷ 32 ∷ name)
 
--- the tag, with "_LE" behind it where the digits are little-endian
+-- the tag, followed by "_LE" where the digits are little-endian
 abbrev pub full_tag : Kind → Bool → List ℕ
 full_tag kind is_little = tag_of kind ++ (if is_little then codes "_LE" else [])
 
@@ -34,14 +34,14 @@ abbrev pub tagged_text : Kind → Bool → ℕ → List ℕ → List ℕ
 tagged_text kind is_little value name =
     full_tag kind is_little ++ 32 ∷ 40 ∷ (name ++ 41 ∷ 32 ∷ 61 ∷ 32 ∷ shown kind is_little value)
 
--- a line of one of the two forms, with the name as it stands there
+-- a line of either form, with the name as it is written there
 abbrev pub formed : Kind → Shape → ℕ → List ℕ → List ℕ
 formed kind shape value name =
     if shape.is_tagged
     then tagged_text kind shape.is_little value name
     else plain_text kind shape.is_little value name
 
--- a name as it stands in a line that a NUL ends, or in one that a line feed ends
+-- a name as it is written in a line that a NUL ends, or in one that a line feed ends
 abbrev pub name_shown : Bool → List ℕ → List ℕ
 name_shown is_raw name = if is_raw then name else escaped name
 
@@ -52,7 +52,7 @@ text_of kind shape value name = mark_of name ++ formed kind shape value (escaped
 abbrev pub line_of : Kind → Shape → ℕ → List ℕ → List ℕ
 line_of kind shape value name = text_of kind shape value name ++ 10 ∷ []
 
--- a line that a NUL ends: the name stands as it is, and no backslash before it
+-- a line that a NUL ends: the name as it is, with no backslash before it
 abbrev pub nul_line : Kind → Shape → ℕ → List ℕ → List ℕ
 nul_line kind shape value name = formed kind shape value name ++ 0 ∷ []
 

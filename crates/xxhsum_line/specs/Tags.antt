@@ -1,10 +1,10 @@
--- The tags of lines, and the kinds that they name.
+-- The tags of lines, and the algorithms that they name.
 use Rattle.std.specs.Prelude.{ℕ, Bool, false, ◌||◌, List, [], ◌∷◌, Option, Some, None, nat_eq, codes, drop, length, if◌then◌else◌}
 use Rattle.std.specs.List.{starts_with}
 use Rattle.xxh_io.specs.declared.kind.Kind.{Kind}
 use Rattle.xxh_io.specs.declared.kind.Kind.TheVariants.{X32, X64, X3_64, X3_128}
 
--- the kind of a line without a tag, by how many digits it has
+-- the algorithm of a plain line, by how many digits it has
 abbrev pub kind_of_count : ℕ → Option Kind
 kind_of_count count =
     if nat_eq count 8 then Some X32
@@ -21,11 +21,11 @@ tag_of X3_128 = codes "XXH128"
 abbrev pub begins_with : List ℕ → List ℕ → Bool
 begins_with tag text = starts_with nat_eq tag text
 
--- Whether the digits of XXH3 of 64 bits have their prefix, without which they are taken for XXH64 in a line with no tag.
+-- Whether the digits of XXH3 of 64 bits have their prefix, without which they are parsed as XXH64 in a plain line.
 abbrev pub has_prefix : List ℕ → Bool
 has_prefix digits = begins_with digits (codes "XXH3_")
 
--- the kind of a line without a tag
+-- the algorithm of a plain line
 abbrev pub kind_of_digits : List ℕ → Option Kind
 kind_of_digits digits = if has_prefix digits then Some X3_64 else kind_of_count (length digits)
 
@@ -36,7 +36,7 @@ bare X32 digits = digits
 bare X64 digits = digits
 bare X3_128 digits = digits
 
--- the kind of a line with this tag
+-- the algorithm of a line with this tag
 abbrev pub kind_of_tag : List ℕ → Kind
 kind_of_tag tag =
     if begins_with tag (codes "XXH32") then X32
@@ -45,7 +45,7 @@ kind_of_tag tag =
     else if begins_with tag (codes "XXH3") then X3_64
     else X64
 
--- "_LE" stands somewhere in the tag
+-- the tag contains "_LE"
 abbrev pub is_little_tag : List ℕ → Bool
 is_little_tag [] = false
 is_little_tag (c ∷ cs) = begins_with (c ∷ cs) (codes "_LE") || is_little_tag cs

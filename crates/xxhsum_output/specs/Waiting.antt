@@ -1,4 +1,4 @@
--- Bytes that wait before they are written.
+-- Bytes that wait to be written.
 use Rattle.std.specs.Prelude.{ℕ, List, take}
 use Rattle.xxhsum_output.specs.declared.waiting.Waiting.{Waiting}
 

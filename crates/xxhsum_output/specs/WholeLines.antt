@@ -1,4 +1,4 @@
--- Lines that are gathered, and written whole.
+-- Lines that are buffered, and written whole.
 use Rattle.std.specs.Prelude.{◌≡◌, ◌⊎◌, ℕ, Bool, true, false, List, [], ◌++◌}
 use Rattle.xxhsum_output.specs.declared.whole_lines.WholeLines.{WholeLines}
 use Rattle.xxh_io.specs.Digest.{Refused, Took}
@@ -18,7 +18,7 @@ waiting_lines lines = waiting_bytes lines.waiting
 abbrev pub has_failed : {W : Type 0} → WholeLines W → Bool
 has_failed lines = lines.has_failed
 
--- The line waits behind the others; or those were written, and it waits alone; or those were written, and then it was.
+-- The line waits after the others; or those were written, and it waits alone; or those were written, and then it was.
 abbrev pub Passes : {W : Type 0} → SinkRules W → WholeLines W → List ℕ → WholeLines W → Type 0
 Passes {W} writing old line new =
     ((behind new ≡ behind old) × (waiting_lines new ≡ waiting_lines old ++ line))

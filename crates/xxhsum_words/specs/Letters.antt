@@ -1,4 +1,4 @@
--- What a word of letters does, each an option.
+-- What an argument of letters does, each an option.
 use Rattle.std.proofs.Common.{zero, suc}
 use Rattle.std.specs.Prelude.{ℕ, List, [], ◌∷◌, ◌==◌, ◌||◌, Option, Some, None, if◌then◌else◌}
 use Rattle.std.specs.declared.result.Result.{Result}
@@ -15,7 +15,7 @@ use Rattle.xxhsum_words.specs.Number.{number_of}
 use Rattle.xxhsum_words.specs.Table.{of_letter}
 use Rattle.xxhsum_words.specs.declared.table.TheConstants.{ROWS}
 
--- the kind of this number of -H
+-- the algorithm of this number of -H
 abbrev pub numbered_kind : ℕ → Option Kind
 numbered_kind number =
     if number == 0 || number == 32 then Some X32
@@ -24,7 +24,7 @@ numbered_kind number =
     else if number == 3 then Some X3_64
     else None
 
--- a letter that no others belong to, by what it does
+-- a letter that no others belong to, by its step
 abbrev pub alone : Step → Result Letter Step
 alone (Takes options) = Ok (record { options = options; taken = 0 })
 alone EndsBefore = Err EndsBefore
@@ -32,7 +32,7 @@ alone EndsAfter = Err EndsAfter
 alone IsWrong = Err IsWrong
 alone (Settles asked) = Err (Settles asked)
 
--- H: its number names the kind
+-- H: its number names the algorithm
 abbrev pub with_kind : Options → ℕ → Option Kind → Result Letter Step
 with_kind options taken (Some kind) = Ok (record { options = record options { kind = kind }; taken = taken })
 with_kind options taken None = Err IsWrong
@@ -52,7 +52,7 @@ past_number options None = Err (Settles NumberTooLarge)
 abbrev pub skipped_number : Options → List ℕ → Result Letter Step
 skipped_number options after = past_number options (number_of after)
 
--- what a letter does that stands before these others: `-` is no letter, and H, i and B have a number
+-- what a letter does, which these others follow: `-` is no letter, and H, i and B take a number
 abbrev pub letter_of : Options → ℕ → List ℕ → Result Letter Step
 letter_of options letter after =
     if letter == 45 then Err IsWrong

@@ -18,7 +18,7 @@ abbrev pub value_named : List ℕ → Option ℕ
 value_named digits =
     if nat_lt (digits_value 10 digits) 4294967290 then Some (digits_value 10 digits) else None
 
--- how many letters of a unit stand after its K or M
+-- how many letters of a unit follow its K or M
 abbrev pub suffix_letters : List ℕ → ℕ
 suffix_letters letters =
     if begins_with (codes "iB") letters then 2

@@ -1,4 +1,4 @@
--- What the words of the command line ask for.
+-- What the arguments of the command line ask for.
 use Rattle.std.specs.Prelude.{ℕ, ◌+◌, Bool, List, [], ◌∷◌, drop, length, true, false, bytes_eq, nat_le, nat_lt, ◌&&◌, ◌||◌, codes, if◌then◌else◌}
 use Rattle.xxh_io.specs.declared.kind.Kind.{Kind}
 use Rattle.xxhsum_words.specs.declared.options.Asked.{Asked}
@@ -32,7 +32,7 @@ no_options kind = record {
   takes_terminal = false;
 }
 
--- what the word does after words that made these options
+-- what the argument does to these options
 abbrev pub word_step : Options → List ℕ → Step
 word_step options word =
     if begins_with (codes "--") word then of_name ROWS options (drop 2 word)
@@ -40,7 +40,7 @@ word_step options word =
     else if begins_with (codes "-") word then letters_step 0 options (drop 1 word)
     else EndsBefore
 
--- the names stand in lists of names
+-- the names are read from lists of names
 abbrev pub are_listed : NamesFrom → Bool
 are_listed Words = false
 are_listed Lines = true
@@ -51,11 +51,11 @@ abbrev pub have_input : List (List ℕ) → Bool
 have_input [] = false
 have_input (name ∷ names) = bytes_eq name (codes "-") || have_input names
 
--- how many lists of digests stand before the names: that of an audit
+-- how many checksum lists precede the names: that of an audit
 abbrev pub lists_audited : Options → ℕ
 lists_audited options = if options.audits then 1 else 0
 
--- how many lists stand before the names: that of an audit whose names are listed
+-- how many checksum lists precede lists of names: that of an audit
 abbrev pub lists_before : Options → ℕ
 lists_before options = if options.audits && are_listed options.names_from then 1 else 0
 
@@ -64,7 +64,7 @@ abbrev pub leaves_input : Options → List (List ℕ) → Bool
 leaves_input options names =
     have_input names || (options.takes_terminal && nat_lt (lists_before options) (length names))
 
--- the run by these options, of these names, which are the words from this one on; `-z` is refused beside `-c` and
+-- the run by these options, of these names, the arguments from this index on; `-z` is refused beside `-c` and
 -- `--audit`, `-r` beside `-c`, beside lists of names and without a name, and `-` beside names
 abbrev pub run_from : Options → ℕ → List (List ℕ) → Asked
 run_from options at names =
@@ -74,7 +74,7 @@ run_from options at names =
     else if leaves_input options names then InputBesideNames
     else Run options at
 
--- a word that is no option ends them
+-- an argument that is no option ends them
 abbrev pub after_word : Step → ℕ → Options → List ℕ → List (List ℕ) → (Options → Asked) → Asked
 after_word (Takes next) at options word words go_on = go_on next
 after_word EndsBefore at options word words go_on = run_from options at (word ∷ words)
@@ -82,12 +82,12 @@ after_word EndsAfter at options word words go_on = run_from options (at + 1) wor
 after_word IsWrong at options word words go_on = WrongOption at
 after_word (Settles asked) at options word words go_on = asked
 
--- what the words ask for that stand after this many others, which made these options
+-- what these arguments ask for, which follow this many others that made these options
 abbrev pub asked_after : ℕ → Options → List (List ℕ) → Asked
 asked_after at options [] = run_from options at []
 asked_after at options (word ∷ words) =
     after_word (word_step options word) at options word words (λ next. asked_after (at + 1) next words)
 
--- what the words after the program's name ask for
+-- what the arguments after the program's name ask for
 abbrev pub asked_of : Kind → List (List ℕ) → Asked
 asked_of kind words = asked_after 0 (no_options kind) words

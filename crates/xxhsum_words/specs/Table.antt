@@ -1,4 +1,4 @@
--- What a table of options says.
+-- What a table of options means.
 use Rattle.std.specs.Prelude.{ℕ, List, [], ◌∷◌, true, ◌==◌, bytes_eq, codes, length, if◌then◌else◌}
 use Rattle.std.specs.Borrow.{Bor}
 use Rattle.std.specs.List.{concat, flat_map}
@@ -8,7 +8,7 @@ use Rattle.xxhsum_words.specs.declared.options.Step.TheVariants.{EndsAfter, IsWr
 use Rattle.xxhsum_words.specs.declared.table.Does.{Does}
 use Rattle.xxhsum_words.specs.declared.table.Does.TheVariants.{Checks, Audits, Walks, Lists, Tags, TurnsRound, EndsInNul, Nothing, Quiets, Silences, IgnoresMissing, IsStrict, Warns, EndsOptions, Asks}
 
--- what an option does, after words that made these options
+-- what an option does to these options
 abbrev pub does_step : Does → Options → Step
 does_step Checks options = Takes (record options { checks = true })
 does_step Audits options = Takes (record options { audits = true })
