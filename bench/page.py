@@ -4,7 +4,7 @@
   bench/page.py [--check | FOLDER]
 
 With --check it says whether the page in docs is as it would be drawn; with a folder, data and page are there. The page
-has figures alone: causes that were found stand in docs/SHAPES.md and docs/history/TUNING.md."""
+has figures alone: causes that were found stand in docs/history/TUNING.md."""
 import math
 import os
 import statistics
