@@ -22,7 +22,7 @@ COLOURS = {"ours": "#c0392b", "c_gcc": "#2c3e50", "c_clang": "#2980b9", "c_share
 STREAMS = ("inlined", "called")
 FORMS = {"oneshot": "one-shot", "inlined": "pieces, inlined", "called": "pieces, called", "stream": "pieces"}
 KIB, MIB = 1 << 10, 1 << 20
-LOWEST = 8
+LOWEST = 4
 
 # The lines of a table: the name, the forms, and the sizes from and to.
 SUMMARY = [
