@@ -20,8 +20,7 @@ from names import plain
 
 MNEMONICS = os.path.join(os.path.dirname(os.path.abspath(__file__)), 'mnemonics.txt')
 ANSWER = 'twox_core::xxhash3::large::lanes4::ImplVector::is_widened'
-WIDE = ('twox_core::xxhash3::stripes::take_widened', 'twox_core::width_64::oneshot_widened',
-        'twox_core::width_128::oneshot_widened')
+WIDE = ('twox_core::xxhash3::stripes::take_widened', 'twox_core::xxhash3::stripes::start_widened')
 FOR_V3, FOR_V4, WIDTH = '"target-cpu"="x86-64-v3"', '"target-cpu"="x86-64-v4"', '"prefer-vector-width"="512" '
 HEAD = re.compile(r'^(define [^@\n]*@(?:"([^"]*)"|([\w.]+))\(.*) #(\d+) \{$', re.M)
 # The body that answers a constant, the one number in it that may change.

@@ -110,12 +110,18 @@ block_ended s m some long =
     let count : (length (drop (64 * k) m) - 1) / 64 ≡ r = omega (arith, length-drop (64 * k) m) in
     accumulators_ended s m _ _ long (rw count (block_more s m ((length m - 1) / (64 * q)) r (mod_below ((length m - 1) / 64) q some)) ∙ ap (accumulators_after s m) all)
 
+-- where a block b has no stripe but its last
+none_left : (s m b : List ℕ) → 64 ≤ length m → (length b - 1) / 64 ≡ 0 → final_accumulators (stream_accumulators s m) b (last_stripe m) s ≡ eight (last_accumulator s m)
+unfolding stream_accumulators accumulate_block
+none_left s m b long count = accumulators_ended s m _ b long (rw count refl)
+
 stripe_ended : (s m : List ℕ) → 64 ≤ length m → final_accumulators (stream_accumulators s m) (stream_block m) (last_stripe m) s ≡ eight (last_accumulator s m)
-unfolding stream_accumulators stream_block accumulate_block
-stripe_ended s m long =
-    let k = (length m - 1) / 64 in
-    let count : (length (drop (64 * k) m) - 1) / 64 ≡ 0 = omega (arith, length-drop (64 * k) m) in
-    accumulators_ended s m _ _ long (rw count refl)
+unfolding stream_block
+stripe_ended s m long = none_left s m (stream_block m) long (omega (arith, length-drop (64 * ((length m - 1) / 64)) m))
+
+taken_ended : (s m : List ℕ) → 64 ≤ length m → final_accumulators (stream_accumulators s m) (last_stripe m) (last_stripe m) s ≡ eight (last_accumulator s m)
+unfolding last_stripe
+taken_ended s m long = none_left s m (last_stripe m) long (omega (arith, length-drop (length m - 64) m))
 
 -- ---- the values
 
@@ -169,5 +175,16 @@ pub stream_both : (s m : List ℕ) → 64 ≤ length m
 unfolding finalize_128
 stream_both s m long =
     ap₂ (λ (x y : ℕ). x * 2 ^ 64 + y) (high_of s m _ _ (counted (length m)) (stripe_ended s m long) refl) (stream_low s m long)
+
+-- of a one-shot that has taken all stripes but the last
+pub taken_low : (s m : List ℕ) → 64 ≤ length m → length m < 2 ^ 64
+    → finalize_64 (stream_accumulators s m) (last_stripe m) (last_stripe m) s (length m) ≡ low_above_240 s m
+taken_low s m long low = low_of s m _ _ (length m) (taken_ended s m long) (omega arith)
+
+pub taken_both : (s m : List ℕ) → 64 ≤ length m → length m < 2 ^ 64
+    → finalize_128 (stream_accumulators s m) (last_stripe m) (last_stripe m) s (length m) ≡ high_above_240 s m * 2 ^ 64 + low_above_240 s m
+unfolding finalize_128
+taken_both s m long low =
+    ap₂ (λ (x y : ℕ). x * 2 ^ 64 + y) (high_of s m _ _ (length m) (taken_ended s m long) (omega arith)) (taken_low s m long low)
 
 pub ruleset merge_laws = merge_accumulators-stripe

@@ -11,13 +11,12 @@ ghost use Rattle.twox_core.specs.Short.{combined_bytes, high_0, low_0, high_4_to
 ghost use Rattle.twox_core.specs.Steps.{add64, avalanche, mix, mul64, word64};
 ghost use Rattle.twox_core.specs.Value.{effective_secret, high_in, low_in, range_of, steps_of, xxh3_128};
 
-use crate::xxhash3::large::lanes8;
 use crate::xxhash3::primes::{PRIME_MX2, PRIME32_2, PRIME64_1, PRIME64_2, PRIME64_4};
 use crate::xxhash3::{
-    Algorithm, AnyLength, CUTOFF, DEFAULT_SECRET_LENGTH, DEFAULT_SEED, DefaultLength,
-    DefaultSecret, Derived, Finalize, Kernel, MANY_BYTES, Secret, Vector, avalanche,
-    avalanche_xxh64, chunks_17_to_128, default_secret, derived_secret, full_product,
-    impl_1_to_3_bytes_combined, is_widened, mix_step, pairs_of_u64_bytes, to_u64s,
+    Algorithm, AnyLength, CUTOFF, DEFAULT_SECRET_LENGTH, DEFAULT_SEED, DefaultLength, Derived,
+    Finalize, Kernel, MANY_BYTES, Secret, Vector, avalanche, avalanche_xxh64, chunks_17_to_128,
+    default_secret, derived_secret, full_product, impl_1_to_3_bytes_combined, is_widened, mix_step,
+    oneshot_widened, pairs_of_u64_bytes, to_u64s,
 };
 use twox_words::words::{Halves, IntoU64, IntoU128, bp_as_chunks, u32_at, u64_at};
 
@@ -158,7 +157,7 @@ pub fn oneshot_long(secret: Secret<'_>, input: &[u8]) -> Wide
         ≡ xxh3_128 any (secret_bytes secret.entry) input.now }
 {
     if secret.len() == DEFAULT_SECRET_LENGTH {
-        oneshot_above_240::<DefaultLength>(secret, input)
+        oneshot_of_default_length::<DefaultLength>(secret, input)
     } else {
         oneshot_long_of_any_length(secret, input)
     }
@@ -174,7 +173,21 @@ fn oneshot_long_of_any_length(secret: Secret<'_>, input: &[u8]) -> Wide
     oneshot_above_240::<AnyLength>(secret, input)
 }
 
-// Each `Caller` has code of its own: see `Algorithm::oneshot_of`.
+// With a secret that is as long as the default one. Each `Caller` has code of its own: see `Algorithm::oneshot_of`.
+#[inline(always)]
+fn oneshot_of_default_length<Caller>(secret: Secret<'_>, input: &[u8]) -> Wide
+    requires long { 240 < length input.now }
+    requires all { length (secret_bytes secret) ≡ 192 }
+    ensures { (any : ℕ) → result.high * 2 ^ 64 + result.low
+        ≡ xxh3_128 any (secret_bytes secret.entry) input.now }
+{
+    if is_widened(input) {
+        oneshot_by_eight_lanes(secret, input)
+    } else {
+        oneshot_above_240::<Caller>(secret, input)
+    }
+}
+
 #[inline(always)]
 #[tactic(auto, using(crate::proofs::ValueLaws::long_128, crate::proofs::EndingFacts::block_both))]
 fn oneshot_above_240<Caller>(secret: Secret<'_>, input: &[u8]) -> Wide
@@ -182,9 +195,7 @@ fn oneshot_above_240<Caller>(secret: Secret<'_>, input: &[u8]) -> Wide
     ensures { (any : ℕ) → result.high * 2 ^ 64 + result.low
         ≡ xxh3_128 any (secret_bytes secret.entry) input.now }
 {
-    if is_widened(secret, input) {
-        oneshot_widened(secret.of_default_length(), input)
-    } else if input.len() < MANY_BYTES {
+    if input.len() < MANY_BYTES {
         let algorithm = Algorithm(Kernel {});
         halves(algorithm.oneshot_of::<Finalize128, Caller, false>(secret, input, Finalize128))
     } else {
@@ -204,17 +215,16 @@ fn oneshot_many(secret: Secret<'_>, input: &[u8]) -> Wide
     halves(algorithm.oneshot_of::<Finalize128, AnyLength, true>(secret, input, Finalize128))
 }
 
-// By eight lanes, as another tail call. It knows the secret's length, and so has no branch that is never taken.
+// By eight lanes, as another tail call, of `oneshot_of_default_length`.
 #[inline(never)]
-#[tactic(auto, using(crate::proofs::ValueLaws::long_128, crate::proofs::EndingFacts::block_both))]
-fn oneshot_widened(secret: &DefaultSecret, input: &[u8]) -> Wide
-    requires { 240 < length input.now }
+#[tactic(auto, using(crate::proofs::ValueLaws::long_128, crate::proofs::EndingFacts::taken_both))]
+fn oneshot_by_eight_lanes(secret: Secret<'_>, input: &[u8]) -> Wide
+    requires long { 240 < length input.now }
+    requires all { length (secret_bytes secret) ≡ 192 }
     ensures { (any : ℕ) → result.high * 2 ^ 64 + result.low
-        ≡ xxh3_128 any secret.now input.now }
+        ≡ xxh3_128 any (secret_bytes secret.entry) input.now }
 {
-    let secret = Secret::new(secret).unwrap();
-    let widened = Algorithm(lanes8::Impl {});
-    halves(widened.oneshot_of::<Finalize128, DefaultLength, false>(secret, input, Finalize128))
+    halves(oneshot_widened(secret, input, Finalize128))
 }
 
 // Long inputs with the secret that a seed derives. The seed 0 derives the default one.
@@ -240,7 +250,7 @@ fn oneshot_long_derived(seed: u64, input: &[u8]) -> Wide
         ≡ xxh3_128 any (derived_secret seed) input.now }
 {
     let secret = derived_secret(seed);
-    oneshot_above_240::<Derived>(Secret::new(&secret).unwrap(), input)
+    oneshot_of_default_length::<Derived>(Secret::new(&secret).unwrap(), input)
 }
 
 /// A value of 128 bits as its halves.

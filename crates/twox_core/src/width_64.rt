@@ -10,13 +10,12 @@ ghost use Rattle.twox_core.specs.Short.{combined_bytes, value64_0, value64_4_to_
 ghost use Rattle.twox_core.specs.Steps.{mix, sum_below};
 ghost use Rattle.twox_core.specs.Value.{effective_secret, xxh3_64};
 
-use crate::xxhash3::large::lanes8;
 use crate::xxhash3::primes::{PRIME_MX2, PRIME64_1};
 use crate::xxhash3::{
-    Algorithm, AnyLength, CUTOFF, DEFAULT_SECRET_LENGTH, DEFAULT_SEED, DefaultLength,
-    DefaultSecret, Derived, Finalize, Kernel, MANY_BYTES, Secret, Vector, avalanche,
-    avalanche_xxh64, chunks_17_to_128, default_secret, derived_secret, fold,
-    impl_1_to_3_bytes_combined, is_widened, mix_step, mix_words,
+    Algorithm, AnyLength, CUTOFF, DEFAULT_SECRET_LENGTH, DEFAULT_SEED, DefaultLength, Derived,
+    Finalize, Kernel, MANY_BYTES, Secret, Vector, avalanche, avalanche_xxh64, chunks_17_to_128,
+    default_secret, derived_secret, fold, impl_1_to_3_bytes_combined, is_widened, mix_step,
+    mix_words, oneshot_widened,
 };
 use twox_words::words::{Halves, IntoU64, u32_at, u64_at};
 
@@ -107,7 +106,7 @@ pub fn oneshot_long(secret: Secret<'_>, input: &[u8]) -> u64
     ensures { (any : ℕ) → result ≡ xxh3_64 any (secret_bytes secret.entry) input.now }
 {
     if secret.len() == DEFAULT_SECRET_LENGTH {
-        oneshot_above_240::<DefaultLength>(secret, input)
+        oneshot_of_default_length::<DefaultLength>(secret, input)
     } else {
         oneshot_long_of_any_length(secret, input)
     }
@@ -122,16 +121,27 @@ fn oneshot_long_of_any_length(secret: Secret<'_>, input: &[u8]) -> u64
     oneshot_above_240::<AnyLength>(secret, input)
 }
 
-// Each `Caller` has code of its own: see `Algorithm::oneshot_of`.
+// With a secret that is as long as the default one. Each `Caller` has code of its own: see `Algorithm::oneshot_of`.
+#[inline(always)]
+fn oneshot_of_default_length<Caller>(secret: Secret<'_>, input: &[u8]) -> u64
+    requires long { 240 < length input.now }
+    requires all { length (secret_bytes secret) ≡ 192 }
+    ensures { (any : ℕ) → result ≡ xxh3_64 any (secret_bytes secret.entry) input.now }
+{
+    if is_widened(input) {
+        oneshot_by_eight_lanes(secret, input)
+    } else {
+        oneshot_above_240::<Caller>(secret, input)
+    }
+}
+
 #[inline(always)]
 #[tactic(auto, using(crate::proofs::ValueLaws::long_64, crate::proofs::EndingFacts::block_low))]
 fn oneshot_above_240<Caller>(secret: Secret<'_>, input: &[u8]) -> u64
     requires { 240 < length input.now }
     ensures { (any : ℕ) → result ≡ xxh3_64 any (secret_bytes secret.entry) input.now }
 {
-    if is_widened(secret, input) {
-        oneshot_widened(secret.of_default_length(), input)
-    } else if input.len() < MANY_BYTES {
+    if input.len() < MANY_BYTES {
         Algorithm(Kernel {}).oneshot_of::<Finalize64, Caller, false>(secret, input, Finalize64)
     } else {
         oneshot_many(secret, input)
@@ -148,16 +158,15 @@ fn oneshot_many(secret: Secret<'_>, input: &[u8]) -> u64
     Algorithm(Kernel {}).oneshot_of::<Finalize64, AnyLength, true>(secret, input, Finalize64)
 }
 
-// By eight lanes, as another tail call. It knows the secret's length, and so has no branch that is never taken.
+// By eight lanes, as another tail call, of `oneshot_of_default_length`.
 #[inline(never)]
-#[tactic(auto, using(crate::proofs::ValueLaws::long_64, crate::proofs::EndingFacts::block_low))]
-fn oneshot_widened(secret: &DefaultSecret, input: &[u8]) -> u64
-    requires { 240 < length input.now }
-    ensures { (any : ℕ) → result ≡ xxh3_64 any secret.now input.now }
+#[tactic(auto, using(crate::proofs::ValueLaws::long_64, crate::proofs::EndingFacts::taken_low))]
+fn oneshot_by_eight_lanes(secret: Secret<'_>, input: &[u8]) -> u64
+    requires long { 240 < length input.now }
+    requires all { length (secret_bytes secret) ≡ 192 }
+    ensures { (any : ℕ) → result ≡ xxh3_64 any (secret_bytes secret.entry) input.now }
 {
-    let secret = Secret::new(secret).unwrap();
-    let widened = Algorithm(lanes8::Impl {});
-    widened.oneshot_of::<Finalize64, DefaultLength, false>(secret, input, Finalize64)
+    oneshot_widened(secret, input, Finalize64)
 }
 
 // Long inputs with the secret that a seed derives. The seed 0 derives the default one.
@@ -181,7 +190,7 @@ fn oneshot_long_derived(seed: u64, input: &[u8]) -> u64
     ensures { (any : ℕ) → result ≡ xxh3_64 any (derived_secret seed) input.now }
 {
     let secret = derived_secret(seed);
-    oneshot_above_240::<Derived>(Secret::new(&secret).unwrap(), input)
+    oneshot_of_default_length::<Derived>(Secret::new(&secret).unwrap(), input)
 }
 
 /// The value up to 240 bytes, with a secret and a seed.

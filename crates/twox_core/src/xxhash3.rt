@@ -18,7 +18,7 @@ pub use derivation::{
     derived_secret,
 };
 pub use large::{Algorithm, Finalize, Kernel};
-pub(crate) use large::{AnyLength, DefaultLength, Derived, is_widened};
+pub(crate) use large::{AnyLength, DefaultLength, Derived, is_widened, oneshot_widened};
 pub use mixing::{
     avalanche, avalanche_xxh64, fold, full_product, impl_1_to_3_bytes_combined, mix_step,
     mix_words, to_u64s,

@@ -1,9 +1,9 @@
 //! XXH3 above 240 bytes, over any kernel: the xxHash specification, "XXH3 algorithm description (for large
 //! inputs)".
 
-ghost use Rattle.std.specs.Prelude.{◌≡◌, ◌+◌, ◌-◌, ◌*◌, ◌/◌, ◌%◌, ◌^◌, ◌<◌, ◌≤◌, ℕ, List, length, slice_index, bit_xor, IsTrue};
+ghost use Rattle.std.specs.Prelude.{◌≡◌, ◌+◌, ◌-◌, ◌*◌, ◌/◌, ◌%◌, ◌^◌, ◌<◌, ◌≤◌, ℕ, List, length, slice_index, bit_xor};
 ghost use Rattle.twox_core.specs.Long.{merge_accumulators, stripes_of};
-ghost use Rattle.twox_core.specs.Ending.{block_accumulators, last_block, last_stripe, final_accumulators, finalize_64, finalize_128};
+ghost use Rattle.twox_core.specs.Ending.{block_accumulators, last_block, last_stripe, final_accumulators, finalize_64, finalize_128, stream_accumulators};
 ghost use Rattle.twox_core.specs.SecretBytes.{secret_bytes};
 ghost use Rattle.twox_core.specs.Steps.{fold};
 
@@ -21,8 +21,9 @@ use super::parts::array_at;
 use super::primes::{PRIME64_1, PRIME64_2};
 use super::stripes::{
     BYTES_IN_BLOCK, MANY_BYTES, STRIPES_IN_BLOCK, StripeAccumulator, accumulate_within,
+    start_widened,
 };
-use super::{DEFAULT_SECRET_LENGTH, Secret, Vector, avalanche, fold};
+use super::{Secret, Vector, avalanche, fold};
 use std::simd::u64x4;
 use twox_words::words::{IntoU64, IntoU128};
 
@@ -66,14 +67,36 @@ pub trait Finalize {
             ≡ large_of self.now acc last_block.now last_stripe.now (secret_bytes secret.entry) len };
 }
 
-// Whether eight lanes take a whole one-shot, with a secret that is as long as the default one.
+// Whether eight lanes take a whole one-shot, with a secret that is as long as the default one. No value depends on it.
 #[inline(always)]
-pub(crate) fn is_widened(secret: Secret<'_>, input: &[u8]) -> bool
-    ensures { IsTrue result → length (secret_bytes secret.entry) ≡ 192 }
+pub(crate) fn is_widened(input: &[u8]) -> bool {
+    (Kernel {}).is_widened() && input.len() >= BYTES_IN_BLOCK
+}
+
+// `Algorithm::oneshot` by eight lanes, but for the last 64 bytes and the merge, which four lanes do as well: so the value of
+// either width is made of what one function leaves, and no block is left to take.
+#[inline(always)]
+pub(crate) fn oneshot_widened<F: Finalize + Drop>(
+    secret: Secret<'_>,
+    input: &[u8],
+    finalize: F,
+) -> F::Output
+    requires long { 241 ≤ length input.now }
+    requires all { length (secret_bytes secret) ≡ 192 }
+    ensures { let s = secret_bytes secret.entry in let m = input.now in
+        result ≡ F.large_of finalize (stream_accumulators s m) (last_stripe m) (last_stripe m) s (length m) }
 {
-    (Kernel {}).is_widened()
-        && input.len() >= BYTES_IN_BLOCK
-        && secret.len() == DEFAULT_SECRET_LENGTH
+    let stripes = &input[..64 * ((input.len() - 1) / 64)];
+    let taken = start_widened(stripes, secret.of_default_length());
+    let last_stripe = array_at(input, input.len() - 64);
+    finalize.large(
+        Kernel {},
+        taken.accumulators(),
+        last_stripe,
+        last_stripe,
+        secret,
+        input.len().into_u64(),
+    )
 }
 
 // A caller of `Algorithm::oneshot_of` with a secret of any length.

@@ -11,14 +11,14 @@
 //! | `take_many_stripes` | by one of the next three or `take_stripes` | 2 KiB and more of a piece, 31 of a one-shot |
 //! | `process_by_fours` | four at a time, from any place | 1 to 31 KiB |
 //! | `process_by_blocks` | whole blocks, by `take_many_blocks`, and what stands around them | 31 KiB and more |
-//! | `take_widened` | the same by eight lanes, with no call | 1 KiB and more |
+//! | `take_widened`, `start_widened` | the same by eight lanes, with no call; the second of a one-shot | 1 KiB and more |
 //!
 //! `process_blocks` and the last three are for secrets of 192 bytes, as the default one and each derived one has.
 
-ghost use Rattle.std.specs.Prelude.{◌≡◌, ◌+◌, ◌*◌, ◌/◌, ◌<◌, ◌≤◌, length};
+ghost use Rattle.std.specs.Prelude.{◌≡◌, ◌+◌, ◌-◌, ◌*◌, ◌/◌, ◌%◌, ◌<◌, ◌≤◌, length};
 ghost use Rattle.twox_core.specs.Long.{stripes_of};
 ghost use Rattle.twox_core.specs.SecretBytes.{secret_bytes};
-ghost use Rattle.twox_core.specs.Stripes.{AfterStripes, at_start, after_stripes, current_stripe_of};
+ghost use Rattle.twox_core.specs.Stripes.{AfterStripes, at_start, after_stripes, current_stripe_of, no_stripe};
 
 mod blocks;
 mod fours;
@@ -126,7 +126,7 @@ impl StripeAccumulator {
     {
         let has_whole_blocks = self.current_stripe == 0 && bytes.len() % BYTES_IN_BLOCK == 0;
         if MANY {
-            *self = take_many_stripes(*self, v, bytes, secret);
+            take_many_stripes(self, v, bytes, secret);
         } else if secret.n_stripes() == STRIPES_IN_BLOCK && has_whole_blocks {
             let taken = process_blocks::<V, false>(self.accumulator, v, bytes, secret);
             *self = StripeAccumulator::starting_with(taken);
@@ -147,7 +147,7 @@ impl StripeAccumulator {
         ensures { AfterStripes (secret_bytes secret.entry) self.old bytes.now self.new }
     {
         if MANY {
-            *self = take_many_stripes(*self, v, bytes, secret);
+            take_many_stripes(self, v, bytes, secret);
         } else {
             self.process_stripes(v, bytes, secret);
         }
@@ -185,39 +185,48 @@ fn take_stripes<V: Vector>(
     taken
 }
 
-// The accumulators with the stripes of many bytes taken, out of line.
+// Takes the stripes of many bytes, out of line.
 #[inline(never)]
 fn take_many_stripes<V: Vector>(
-    from: StripeAccumulator,
+    taken: &mut StripeAccumulator,
     v: V,
     bytes: &[u8],
     secret: Secret<'_>,
-) -> StripeAccumulator
-    requires { current_stripe_of from < stripes_of (secret_bytes secret) }
-    ensures { AfterStripes (secret_bytes secret.entry) from bytes.now result }
+)
+    requires { current_stripe_of taken.old < stripes_of (secret_bytes secret) }
+    ensures { AfterStripes (secret_bytes secret.entry) taken.old bytes.now taken.new }
 {
     if secret.n_stripes() != STRIPES_IN_BLOCK || bytes.len() < BYTES_IN_BLOCK {
-        take_stripes(from, v, bytes, secret)
+        *taken = take_stripes(*taken, v, bytes, secret);
     } else if v.is_widened() && secret.len() == DEFAULT_SECRET_LENGTH {
-        take_widened(from, bytes, secret.of_default_length())
+        take_widened(taken, bytes, secret.of_default_length());
     } else if bytes.len() < MANY_BYTES {
-        let mut taken = from;
         taken.process_by_fours(v, bytes, secret);
-        taken
     } else {
-        process_by_blocks::<V, false>(from, v, bytes, secret)
+        *taken = process_by_blocks::<V, false>(*taken, v, bytes, secret);
     }
 }
 
-// The same by eight lanes, in one function that knows the secret's length: so it has no branch that is never taken.
+// The same by eight lanes, in one function that knows the secret's length: so it has no branch that is never taken. The
+// accumulators stay where they lie: a copy would be stored in parts, and a load of all of it waits for these.
 #[inline(never)]
-fn take_widened(from: StripeAccumulator, bytes: &[u8], secret: &DefaultSecret) -> StripeAccumulator
-    requires place { current_stripe_of from < 16 }
+fn take_widened(taken: &mut StripeAccumulator, bytes: &[u8], secret: &DefaultSecret)
+    requires place { current_stripe_of taken.old < 16 }
     requires some { 1024 ≤ length bytes.now }
-    ensures { AfterStripes secret.now from bytes.now result }
+    ensures { AfterStripes secret.now taken.old bytes.now taken.new }
 {
     let secret = Secret::new(secret).unwrap();
-    process_by_blocks::<lanes8::Impl, true>(from, lanes8::Impl {}, bytes, secret)
+    *taken = process_by_blocks::<lanes8::Impl, true>(*taken, lanes8::Impl {}, bytes, secret);
+}
+
+// The accumulators with a one-shot's stripes taken by eight lanes, likewise.
+#[inline(never)]
+pub(super) fn start_widened(bytes: &[u8], secret: &DefaultSecret) -> StripeAccumulator
+    ensures { AfterStripes secret.now no_stripe bytes.now result }
+{
+    let start = StripeAccumulator::new();
+    let secret = Secret::new(secret).unwrap();
+    process_by_blocks::<lanes8::Impl, true>(start, lanes8::Impl {}, bytes, secret)
 }
 
 // The accumulators with the stripes taken by whole blocks, under a secret of 192 bytes: first the stripes to the end of
@@ -231,7 +240,7 @@ fn process_by_blocks<V: Vector, const IN_PLACE: bool>(
 ) -> StripeAccumulator
     requires all { stripes_of (secret_bytes secret) ≡ 16 }
     requires place { current_stripe_of from < 16 }
-    requires some { 1024 ≤ length bytes.now }
+    requires some { 64 * ((16 - current_stripe_of from) % 16) ≤ length bytes.now }
     ensures { AfterStripes (secret_bytes secret.entry) from bytes.now result }
 {
     let to_block = (STRIPES_IN_BLOCK - from.current_stripe()) % STRIPES_IN_BLOCK;
