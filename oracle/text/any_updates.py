@@ -15,13 +15,13 @@ from terms.every_length import LONGEST
 from terms.loops import REFUSALS, NotShown
 from terms.memory import Input, Piece
 from terms.nodes import is_same
-from terms.polynomials import at_most, given, minus, plus, times, variable
+from terms.polynomials import at_most, given, lifted, minus, plus, times, variable
 from terms.polynomials import is_same as is_same_number
 from terms.sides import Request, seed_symbol
 
 from . import streams
 from .every_length import LIMIT, UNROLLED
-from .induction import Family, Loops
+from .induction import Family, Loops, same
 from .memory import Words
 from .processor import NO_LIMIT
 
@@ -109,7 +109,7 @@ class AnyUpdates:
     def expect_state(self, what, state, a, r):
         for at, size, x in self.parts(a, r, [self.accumulator(j, a) for j in range(4)]):
             found = state.load(at, size)
-            if not (is_same(found, x) or is_same_number(found, x)):
+            if not (same(found, x) or is_same(found, lifted(x))):
                 raise NotShown(f"{what}: the state at {at} is {found} and not {x}, of {self.stripe} * ({a}) + {r}")
 
     def call(self, what, state, *rest):

@@ -35,6 +35,10 @@ class CargoProgram(Program):
         self.name = name
         super().__init__(path)
 
+    def all_names(self):
+        """The names as they stand in the text."""
+        return {symbol.name for symbol in self.object.symbols}
+
     def names(self):
         for symbol in self.object.symbols:
             if symbol.info >> 4 == WEAK and symbol.other & 3 != HIDDEN:

@@ -23,7 +23,7 @@ SEEDS, STRIPES, BITS = (0, 5, -1), (0, 1, 1 << 28, 1 << 58), 5      # of records
 
 def interface(cpu):
     """The number that stands in the names of the exports."""
-    names = {symbol.name for symbol in cpu.program.object.symbols}
+    names = cpu.program.all_names()
     numbers = {int(found[1]) for name in names if (found := re.match(r"twox_rust_(\d+)_", name))}
     rax, _ = cpu.call("interface")
     expect_code("interface", low(rax, 32), *numbers)
@@ -74,11 +74,14 @@ def refused(cpu, hash_name, state, code, secret=()):
 
 
 def not_marked(layout, stripe):
-    """Words that are no mark, with facts: all below the marks, and all above those of a stripe."""
-    v, first = variable("v"), layout.mark + stripe
+    """Words that are no mark, with facts: all below the marks, and all above those of a stripe, with both signs, and with
+    both of what they have more than the mark."""
+    v, first, half = variable("v"), layout.mark + stripe, 1 << 31
     yield v, [at_most(v, layout.mark - 1)]
     yield first, []
-    yield plus(v, first, 1), [at_most(v, LIMITS[32] - first - 1)]
+    yield plus(v, first, 1), [at_most(v, half - first - 2)]
+    yield plus(v, half), [at_most(v, layout.mark - 1)]
+    yield plus(v, half, layout.mark), [at_most(v, LIMITS[32] - half - layout.mark)]
 
 
 def without_mark(cpu):

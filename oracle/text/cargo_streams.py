@@ -8,7 +8,6 @@ from terms.polynomials import at_most, given, is_natural, minus, parts_of, plus,
 from terms.polynomials import is_same as is_same_number
 
 from .induction import same
-from .processor import ARGUMENTS
 from .runs import State
 from .values import address
 from .xxh3_updates import BLOCK, ROOM, Xxh3Updates
@@ -131,7 +130,7 @@ class CargoUpdates(Xxh3Updates):
         before, caught = dict(state.cells), []
 
         def catch():
-            caught.extend(self.cpu.registers[name] for name in ARGUMENTS[:5])
+            caught.extend(self.cpu.registers[name] for name in self.cpu.ARGUMENTS[:5])
             return self.cpu.return_from_another()
         self.cpu.replaced = {self.cpu.program.functions[FAR]: catch}
         try:

@@ -88,15 +88,13 @@ def of_request(request, entries):
     return Question(repr(request), lambda cpu: side.of_text(cpu, request), said, request)
 
 
-def questions(entries, is_all):
-    """The requests with their twins, and the other calls."""
-    asked = [twin for request in requests(is_all) for twin in [request, *request.with_seed_0()]]
-    others = [calls.canonical_forms, calls.is_equal, calls.compare, calls.version, calls.copies, calls.forgotten,
-              calls.without_mark, calls.out_of_range, calls.refused_resets, calls.updates_of_nothing,
-              calls.null_pointers, calls.derived_secret, some_secrets]
+def questions(entries, is_all, others):
+    """The requests with their twins, and the other calls. Below the cargo crate a stream always has a seed."""
+    asked = [twin for request in requests(is_all) if others == OTHERS or request.cuts is None or request.kind != "secret"
+             for twin in [request, *request.with_seed_0()]]
     return [*(of_request(request, entries) for request in asked),
             *(Question(call.__name__, silent(call)) for call in others),
-            *(Question(repr(call), silent(call)) for call in (updates() if is_all else ()))]
+            *(Question(repr(call), silent(call)) for call in (updates() if is_all and others == OTHERS else ()))]
 
 
 def updates():
@@ -119,6 +117,11 @@ def update_of(name, k, cpu):
 
 def some_secrets(cpu):
     calls.made_secrets(cpu, [(135, 3), (136, 0), (143, 3), (200, 17), (256, 241)])
+
+
+OTHERS = [calls.canonical_forms, calls.is_equal, calls.compare, calls.version, calls.copies, calls.forgotten,
+          calls.without_mark, calls.out_of_range, calls.refused_resets, calls.updates_of_nothing, calls.null_pointers,
+          calls.derived_secret, some_secrets]
 
 
 def silent(call):
@@ -157,7 +160,7 @@ def near(asked, entries, draw):
 
 def outcome(cpu, instructions, asked, entries, draw):
     """What becomes of a change, by some questions that run it, and some that lie near to them."""
-    before = [cpu.code[x.section][x.at][1] for x in instructions]
+    before = [cpu.program.sections[x.section][x.at] for x in instructions]
     try:
         for x in instructions:
             cpu.change(x)
@@ -263,9 +266,9 @@ def written(x):
 
 # ---- the row
 
-def reasons():
+def reasons(path):
     """The changes that change nothing that is promised: words that all stand in the change's text, and the reason."""
-    with open(EQUAL, encoding="utf-8") as file:
+    with open(path, encoding="utf-8") as file:
         return dict(line.strip().split(" | ") for line in file if line.strip() and not line.startswith("#"))
 
 
@@ -281,16 +284,24 @@ def is_equal(text, known):
 
 def noticed(name, program, is_all, word=""):
     """(changes that were tried in functions with a word in their names, those that aren't noticed and have no reason)."""
+    cpu = Processor(program, name)
+    count = MANY if is_all else SOME if word else FEW
+    return noticed_of(cpu, functools.partial(drawn, cpu), count, reasons(EQUAL), is_all, word)
+
+
+def noticed_of(cpu, changes, count, known, is_all, word="", others=OTHERS):
+    """The same of so many of the `changes` of a text, which are drawn out of places of it, with the reasons that are
+    known, and the calls that are neither one-shots nor streams."""
     nodes.forget()
     # Which changes are drawn doesn't depend on how many questions the ones before were asked.
-    cpu, draw, order = Processor(program, name), random.Random(1), random.Random(2)
+    draw, order = random.Random(1), random.Random(2)
     cpu.limit = LIMIT
     entries = definition.program().run()
-    asked = questions(entries, is_all)
+    asked = questions(entries, is_all, others)
     found = reaching(cpu, asked)
-    known, bad, told = reasons(), [], collections.Counter()
-    changes = drawn(cpu, sorted(place for place in found if word in place[0]), draw)
-    for place, text, instructions in (next(changes) for _ in range(MANY if is_all else SOME if word else FEW)):
+    bad, told = [], collections.Counter()
+    one_by_one = changes(sorted(place for place in found if word in place[0]), draw)
+    for place, text, instructions in itertools.islice(one_by_one, count):
         has_reason = is_equal(text, known)
         reached = [question for k, question in enumerate(asked) if found[place] >> k & 1]
         order.shuffle(reached)

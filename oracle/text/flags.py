@@ -88,6 +88,9 @@ def is_below(cpu, a, b):
     if isinstance(a, Node) and a.number in quotients and isinstance(b, int):
         x, k = quotients[a.number]
         return TESTS["lt"](x, b << k)
+    if isinstance(b, Node) and b.number in quotients and isinstance(a, int):
+        x, k = quotients[b.number]
+        return not TESTS["lt"](x, a + 1 << k)
     return operations.is_below(lifted(a), lifted(b))
 
 
@@ -102,9 +105,15 @@ def is_within(x):
 def are_one_place(a, b):
     if is_same(b, 0) and is_within(a):      # no object begins at 0
         return False
-    if isinstance(a, Address) and isinstance(b, Address) and a.bases == b.bases and is_within(a) and is_within(b):
-        return TESTS["eq"](a.offset, b.offset)
+    if isinstance(a, Address) and isinstance(b, Address) and a.bases == b.bases:
+        if isinstance(minus(a.offset, b.offset), int) or is_near(a.offset) and is_near(b.offset):
+            return TESTS["eq"](a.offset, b.offset)
     raise Undecided(f"{a} == {b}")
+
+
+def is_near(offset):
+    """Whether two such offsets are equal only where the addresses are, which count mod 2 ^ 64."""
+    return is_natural(minus(FAR, offset)) and is_natural(plus(offset, FAR))
 
 
 def is_below_as_places(cpu, a, b):

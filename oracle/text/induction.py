@@ -1,7 +1,7 @@
 """Loops of a text of any number of turns, shown by induction, as terms/loops.py does it for LLVM's text.
 
-A cell is a register, a lane of a vector, or a cell of the stack or of another object that may be written to. At a
-loop's head after k turns some cells hold the words that the definition says of so many stripes. Which ones isn't said:
+A cell is a register or its lower half, a lane of a vector, or a cell of the stack or of another object that may be
+written to. At a loop's head after k turns some cells hold the words that the definition says of so many stripes. Which ones isn't said:
 they are those that hold the definition's words at the start, and those of some stripes more after a first turn. Of the
 other cells that the turn changes some go on by a step, and what is left may be anything at the head. All of that is a
 guess, which a turn from k = any number then shows: the words have to be there, and a cell that does anything else than
@@ -15,11 +15,12 @@ from terms.nodes import Node, Undecided
 from terms.polynomials import divided, given, is_natural, is_number, minus, plus, times, variable
 from terms.polynomials import is_same as is_same_number
 
-from .values import Address, joined
+from .values import Address, half_of, joined, with_half
 
 STEPS = 1, 2, 4, 8, 16            # stripes that a turn takes
 FIRST_TURNS = 64, 4               # so many stripes are left where a first turn is tried
 NEAR = 0, 1, -1, -2, -4           # stripes that lie between a pointer and what was taken
+HALF = "lower half"               # of a register, where a number of 32 bits lies that was worked out by itself
 
 
 class Family:
@@ -80,6 +81,7 @@ def same(a, b):
 def cells_of(cpu):
     """All that a processor holds, and the objects that live: cell -> value. Of memory a cell's size counts as well."""
     out = {("register", name): x for name, x in cpu.registers.items()}
+    out.update({(HALF, name): half for name, x in cpu.registers.items() for half in [half_of(x)] if half is not None})
     out.update({("lane", k, lane): x for k, lanes in enumerate(cpu.vectors) for lane, x in enumerate(lanes)})
     for memory in [cpu.stack, *cpu.live]:
         out.update({(memory, at, cell[0]): cell[1] for at, cell in memory.cells.items() if at != RUNS})
@@ -87,7 +89,7 @@ def cells_of(cpu):
 
 
 def name_of(cell):
-    if cell[0] == "register":
+    if cell[0] in ("register", HALF):
         return cell[1]
     return f"v{cell[1]}[{cell[2]}]" if cell[0] == "lane" else f"{cell[0].name}[{cell[1]}]"
 
@@ -219,6 +221,10 @@ class Proof:
                 cpu.registers[cell[1]] = cpu.fresh("unset") if cell in self.unset else x
             elif cell[0] == "lane":
                 cpu.vectors[cell[1]][cell[2]] = cpu.unset_lane() if cell in self.unset else x
+        for cell in [cell for cell in now if cell[0] == HALF and cell not in self.unset]:
+            if ("register", cell[1]) in self.unset:
+                upper = cpu.fresh("unset", 32)
+                cpu.registers[cell[1]] = with_half(joined((now[cell], 32), (upper, 32)), now[cell])
         for memory in [cpu.stack, *cpu.live]:
             memory.cells = {cell[1]: (cell[2], x) for cell, x in now.items()
                             if cell[0] is memory and cell not in self.unset}

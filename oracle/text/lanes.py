@@ -65,7 +65,7 @@ def of_halves(words):
 @form(V1, "movdqu movups movdqa movaps", "mx xm xx")
 @form(V3, "vmovdqu vmovups vmovdqa vmovaps", "mx xm my ym")
 @form(V3, "vmovdqa", "yy")
-@form(V4, "vmovdqu64", "mz zm zz")
+@form(V4, "vmovdqu64", "mz zm zz ym")
 @form(V4, "vmovdqa64", "mz zm zz yy")
 def move(cpu, x):
     source, to = x.operands
@@ -275,24 +275,6 @@ def permute(cpu, x):
     order, source, to = x.operands
     lanes = read(cpu, source, x, 4)
     write(cpu, to, x, [lanes[order.value >> 2 * k & 3] for k in range(4)])
-
-
-def picked(order, words):
-    """Of some words those whose numbers stand in the low bits of others."""
-    if not all(isinstance(k, int) for k in order):
-        raise Unsupported("an order that is no number")
-    return [words[k % len(words)] for k in order]
-
-
-@form(V4, "vpermi2q vpermi2d vpermt2q vpermt2d", "yyy zzz")
-def permute_two(cpu, x):
-    """Lanes, or halves of them, of two vectors: the vector that is written was the order (i), or the first of both (t)."""
-    second, other, to = (cpu.lanes(y, lanes_count(x)) for y in x.operands)
-    first, order = (other, to) if "i2" in x.mnemonic else (to, other)
-    if x.mnemonic[-1] == "q":
-        return write(cpu, x.operands[-1], x, picked(order, first + second))
-    first, second, order = ([word for lane in side for word in halves(lane)] for side in (first, second, order))
-    write(cpu, x.operands[-1], x, of_halves(picked(order, first + second)))
 
 
 @form(V1, "pslldq psrldq", "ix")

@@ -6,12 +6,14 @@ import collections
 
 from terms.llvm_text import Unsupported
 from terms.memory import Memory, Unset
-from terms.nodes import Node
+from terms.nodes import Node, memo
 from terms.polynomials import Poly, is_natural, is_same, lifted, minus, plus
 
 STACK = 1 << 14                   # bytes of stack that a call may use
 ENTRY = STACK - 64                # where the caller's frame begins, a multiple of 16
 RED = 128                         # bytes below the stack pointer that are a function's own
+
+spelled = memo()                  # the number of a term whose bits were taken apart -> the polynomial that it is
 
 # What a call leaves on the stack.
 ReturnTo = collections.namedtuple("ReturnTo", "section at")
@@ -51,7 +53,7 @@ class Words(Memory):
         for first in firsts:
             size, value = self.cells[first]
             if isinstance(value, (int, Node, Poly)):
-                yield first, size, lifted(value)
+                yield first, size, spell(value)
 
     def clear(self, at, n):
         near = self.cells_near(at, n)
@@ -87,6 +89,14 @@ class Stack(Words):
         """What lies below the stack pointer may be anything."""
         for first in [first for first in self.cells if first < at]:
             del self.cells[first]
+
+
+def spell(x):
+    """A number as bits, which are known to be it."""
+    found = lifted(x)
+    if isinstance(x, Poly) and isinstance(found, Node):
+        spelled[found.number] = x
+    return found
 
 
 def copy(to, source, n, may_overlap):

@@ -33,6 +33,7 @@ class Processor:
     ran, and `limit` how many may in a call. `replaced` has functions in the place of some of the text's, by where these
     begin."""
 
+    ARGUMENTS = ARGUMENTS
     TAKES_STRIPES = ARGUMENTS     # where the arguments lie of a function that gives a record in memory
 
     TOGETHER = 1                  # accumulators of 32 bits that one-shots have in a cell

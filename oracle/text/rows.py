@@ -34,6 +34,7 @@ COVERED = 300, 3000                                 # points that the cases of X
 SOME_SECRETS = [*range(136, 144), *range(190, 202), 256, 257, 576, 999, 1000]
 ANY_SECRET = [f"{name}:{way}" for name in ("3-64", "3-128") for way in ("secret", "both")]
 MOST_NODES = 400_000                                # of the cases of a proof
+SOME_LENGTHS = 5                                   # each so many of the cases of a secret of any length, without --all
 SMALL = [0, 1, 3, 4, 8, 9, 16, 17, 128, 129, 240, 241, 1000]
 assert scalar and lanes                             # which fill the table
 
@@ -301,7 +302,7 @@ def secrets_left_out(made, is_all):
 def any_secrets(make, kind, is_all):
     hash_name, _, way = kind.partition(":")
     proof = any_secret.AnySecret(make())
-    return count_shown(proof, proof.questions(way, hash_name[2:])[::1 if is_all else 4])
+    return count_shown(proof, proof.questions(way, hash_name[2:])[::1 if is_all else SOME_LENGTHS])
 
 
 def up_to_240(make, kind):

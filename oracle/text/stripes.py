@@ -197,25 +197,31 @@ class StripesProof(Proof):
 
 class Summary:
     """What a function does that takes the stripes of a part: it reads a record of accumulators, with the place in the
-    block where `has_place`, and stripes and secret; and it writes such a record. That is what `expect_of` asks of the
-    function itself; `put_into` makes it what a call of the function does."""
+    block where `has_place`, and stripes and secret; and it writes such a record, another one or the same. That is what
+    `taken` of xxh3_updates.py asks of the function itself; `put_into` makes it what a call of the function does."""
 
-    def __init__(self, name, has_place=True, least=0, has_length=True):
+    def __init__(self, name, has_place=True, least=0, has_length=True, is_in_place=False):
         self.name, self.size, self.has_place, self.least = name, TAKEN if has_place else WORDS, has_place, least
         self.has_length = has_length     # whether it is given how long the secret is
+        self.is_in_place = is_in_place   # whether it writes the record that it reads
+
+    def registers(self, cpu):
+        """Where its arguments lie."""
+        return cpu.ARGUMENTS[:5] if self.is_in_place else cpu.TAKES_STRIPES
 
     def put_into(self, cpu, family, source, secret):
         """Calls of the function take parts of the family, of a message and under a secret, each an input."""
         cpu.replaced[cpu.program.functions[self.name]] = functools.partial(self.call, cpu, family, source, secret)
 
     def call(self, cpu, family, source, secret):
-        to, taken, stripes, length, own, own_length = (cpu.registers[name] for name in cpu.TAKES_STRIPES)
+        *records, stripes, length, own, own_length = (cpu.registers[name] for name in self.registers(cpu))
         stack, floor = cpu.frame()
         self.expect("the stack", floor % 16 == 0 and floor >= LEAST_ENTRY)
-        (room, first), (memory, place) = to.place(), taken.place()
-        is_apart = room is not memory or abs(first - place) >= self.size
-        self.expect("the records",
-                    is_apart and room is stack and first >= floor and (memory is not stack or place >= floor))
+        (room, first), (memory, place) = records[0].place(), records[-1].place()
+        if not self.is_in_place:
+            is_apart = room is not memory or abs(first - place) >= self.size
+            self.expect("the records", is_apart and room is stack and first >= floor)
+        self.expect("the record", memory is not stack or place >= floor)
         words = [memory.load(plus(place, 8 * i), 8) for i in range(8)]
         begun = memory.load(plus(place, PLACE), 8) if self.has_place else 0
         part = next((part for part in family.parts if is_same_number(length, times(64, part.turns)) and
@@ -228,17 +234,17 @@ class Summary:
         self.expect("the piece", is_same_number(length, 0) or is_at(stripes, source, times(64, at), length))
         has_whole = not self.has_length or is_same_number(own_length, secret.length)
         self.expect("the secret", has_whole and is_at(own, secret, 0, secret.length))
-        return self.leave(cpu, family, part, stack, first)
+        return self.leave(cpu, family, part, room, first)
 
-    def leave(self, cpu, family, part, stack, first):
+    def leave(self, cpu, family, part, room, first):
         values = family.words(family.stripes(part.start))
         if not is_same_number(part.turns, 0):
             values = [cpu.fresh("word") for _ in range(8)]
             family.suppose(family.stripes(part.end), values)
         for i, x in enumerate(values):
-            stack.store(first + 8 * i, 8, x)
+            room.store(first + 8 * i, 8, x)
         if self.has_place:
-            stack.store(first + PLACE, 8, part.end[1])
+            room.store(first + PLACE, 8, part.end[1])
         return cpu.return_from_another()
 
     def expect(self, what, holds):

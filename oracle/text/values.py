@@ -99,6 +99,7 @@ def low_bits(a, mask):
 # ---- words
 
 quotients = nodes.memo()     # the number of a term that is a polynomial moved down -> that, and by how much
+halves = nodes.memo()        # the number of a term of 64 bits -> its lowest bits, which were worked out by themselves; how many
 
 
 def arithmetic(word, width, a, b):
@@ -116,6 +117,19 @@ def arithmetic(word, width, a, b):
     if word == "lshr" and isinstance(a, Poly) and isinstance(answer, Node) and isinstance(b, int):
         quotients[answer.number] = a, b
     return answer
+
+
+def with_half(x, half, width=WORD // 2):
+    """A term, of which it is known what its lowest bits are."""
+    if isinstance(x, Node):
+        halves[x.number] = half, width
+    return x
+
+
+def half_of(x):
+    """The lower 32 bits of a value, where they were worked out by themselves, or None."""
+    half, width = halves.get(x.number, (None, 0)) if isinstance(x, Node) else (None, 0)
+    return half if width == WORD // 2 else None
 
 
 def masked(word, a, b):
@@ -183,7 +197,8 @@ def low(x, width):
         return low_bits(x, ones(width))
     if isinstance(x, Either):
         return x.under(ones(width))
-    return operations.remainder(x, 1 << width)
+    half, known = halves.get(x.number, (x, 0))
+    return operations.remainder(x, 1 << width) if width > known else half if width == known else bits(half, 0, width)
 
 
 def bits(x, first, n):

@@ -43,10 +43,10 @@ WIDTHS, LEAST, LONGEST_KEPT = ("64", "128"), 9, 256    # the least number of str
 UPDATES, DIGESTS, STRIPES = "any updates", "resets and digests", "functions that take stripes"
 # The functions that take stripes.
 TAKE = Summary("twox_core.xxhash3.stripes.take_stripes")
-TAKE_MANY = Summary("twox_core.xxhash3.stripes.take_many_stripes", least=MANY)
+TAKE_MANY = Summary("twox_core.xxhash3.stripes.take_many_stripes", least=MANY, is_in_place=True)
 TAKE_BLOCKS = Summary("twox_core.xxhash3.stripes.blocks.take_many_blocks", has_place=False, least=1)
 # That of x86-64-v4, which no compiler is believed for, under a secret as long as the default one.
-TAKE_WIDENED = Summary("twox_core.xxhash3.stripes.take_widened", least=BLOCK, has_length=False)
+TAKE_WIDENED = Summary("twox_core.xxhash3.stripes.take_widened", least=BLOCK, has_length=False, is_in_place=True)
 
 # The stripes of a block, and how many bytes the secret has more than these ask for.
 ANY, OF_16, OF_DEFAULT = (None, None), (BLOCK, None), (BLOCK, 0)
@@ -401,11 +401,12 @@ class Xxh3Updates:
             to = Words("to", summary.size, [(at, 8, self.cpu.fresh("a word")) for at in range(0, summary.size, 8)],
                        alignment=8)
             piece = Piece(self.source, times(64, self.stripes(place)), times(64, turns))
-            self.run([to, taken], summary.name, parts, address(to), address(taken), address(piece), piece.length,
+            records = [taken] if summary.is_in_place else [to, taken]
+            self.run(records, summary.name, parts, *map(address, records), address(piece), piece.length,
                      address(self.secret_source), *([self.secret_length] * summary.has_length), summaries=summaries,
-                     into=self.cpu.TAKES_STRIPES)
+                     into=summary.registers(self.cpu))
             expected = [self.after(self.stripes(end))(i) for i in range(8)] + [end[1]] * summary.has_place
-            for memory, cells in (to, expected), (taken, [x for *_, x in cells]):
+            for memory, cells in zip(records, [expected, [x for *_, x in cells]]):
                 for k, x in enumerate(cells):
                     if not same(memory.load(8 * k, 8), x):
                         raise NotShown(f"{summary.name}: {memory.name} at {8 * k} is {memory.load(8 * k, 8)} and not {x}")

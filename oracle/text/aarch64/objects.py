@@ -151,9 +151,9 @@ def without_offset(found):
     raise Unsupported(f"a relocation over {last}")
 
 
-def listing(path, objdump):
-    """Section -> (address, bytes, text) of each instruction, as objdump says them."""
-    out = subprocess.run([objdump, "-d", "-z", "-w", path], check=True, capture_output=True, text=True).stdout
+def listing(path, objdump, *words):
+    """Section -> (address, bytes, text) of each instruction, as objdump says them; of all, or of what words choose."""
+    out = subprocess.run([objdump, "-d", "-z", "-w", *words, path], check=True, capture_output=True, text=True).stdout
     found, lines = {}, None
     for line in out.splitlines():
         if line.startswith("Disassembly of section "):

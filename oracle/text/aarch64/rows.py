@@ -11,7 +11,7 @@ from terms.sides import TOP
 
 from .. import calls, every_length, one_shots, streams
 from .. import rows as shared
-from . import on_qemu
+from . import changes, on_qemu
 from .objects import Program
 from .table import Processor
 
@@ -46,6 +46,8 @@ def choose(given, found):
     made = {"aarch64": functools.partial(Processor, found)}
     out += every_length_rows(made, given.all)
     out.append(Row("the table of instructions beside qemu", on_qemu.tell))
+    out.append(shared.counted("changes of one bit", changes.MANY if given.all else changes.FEW,
+                              functools.partial(changes.noticed, found, given.all)))
     return [row for row in out if given.only in row.title]
 
 

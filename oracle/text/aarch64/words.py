@@ -5,9 +5,10 @@ from terms.polynomials import lifted, plus
 from terms.rules import ones
 
 from ..flags import is_equal
+from ..linked import RETURN, Page, ReturnTo
 from ..values import WORD, address, arithmetic, bits, high_and_low, joined, low
 from .objects import Register, Shift, Vector
-from .processor import LINK, RETURN, Page, ReturnTo, form
+from .processor import form
 from .vectors import of_words, words_of
 
 SIZES = {"b": 1, "h": 2}          # of ldrb, strh ..
@@ -264,14 +265,13 @@ def jump(cpu, x):
 
 @form("bl", "")
 def call(cpu, x):
-    cpu.registers[LINK] = ReturnTo(x.section, x.end)
+    cpu.registers[cpu.LINK] = ReturnTo(x.section, x.end)
     return x.target
 
 
 @form("ret", "")
 def give_back(cpu, x):
-    link = cpu.registers[LINK]
-    return link.place if isinstance(link, ReturnTo) else RETURN
+    return cpu.return_place() or RETURN
 
 
 @form("b.eq b.ne b.cs b.cc b.hi b.ls", "")

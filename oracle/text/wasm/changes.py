@@ -31,8 +31,8 @@ EDGES = [16, 17, 8, 9, 3, 4, 5, 128, 129, 240, 241, 31, 32, 33, 64, 65, 96, 97, 
 EACH_STREAM = 9
 KEPT = 2
 MORE_CUTS = 1, 31, 500, 33, 65, 256, 257
-MORE_PIECES = [(1500, 300, 1000), (1100, 600, 900), (1100, 500, 1090), (520, 500), (513, 512), (514, 500), (700, 505),
-               (970, 500, 520)]
+MORE_PIECES = [(70, 30), (1500, 300, 1000), (1100, 600, 900), (1100, 500, 1090), (520, 500), (513, 512), (514, 500),
+               (700, 505), (970, 500, 520)]
 STREAM_LENGTHS = 3, 0, 5, 33, 70, 12, 257, 1500, 520, 700, 200, 600
 STREAM_CUTS = [], [1], [33], [64, 65], [255, 256], [300, 1000], [500]
 STEPS = 100_000               # instructions of a call, with a change
@@ -248,7 +248,7 @@ def drawn(vm, covered, count, seed):
         if changed and is_same_amount(function, changed.module.functions[place[0]], place[1]):
             continue
         valid += changed is not None
-        text = f"function {place[0]} at {x.at:#x}: {x.opcode.name} {shown(x.given)}: {what}"
+        text = f"function {place[0]}, instruction {place[1]}: {x.opcode.name} {shown(x.given)}: {what}"
         yield text, changed, covered.by_place[place]
 
 
@@ -271,7 +271,7 @@ def drawn_by_hand(vm, covered):
             x, whole = function.code[place[1]], bytearray(vm.module.whole)
             whole[(x.at if byte >= 0 else x.end) + byte] ^= bits
             changed = with_change(vm, function, bytes(whole))
-            yield f"function {place[0]} at {x.at:#x}: {what}", changed, covered.by_place[place]
+            yield f"function {place[0]}, instruction {place[1]}: {what}", changed, covered.by_place[place]
 
 
 def is_there(code, pc, name, given, then):

@@ -1,0 +1,87 @@
+"""Changes of single instructions of the text for 64-bit ARM, each of which has to be noticed, as ../changes.py says.
+
+A change is one bit of an instruction's 32, whatever that bit stands for: a register, a number, a condition, a shift, a
+width, the operation. What the changed bytes are is objdump's word, as it is of the text itself. Bytes that are no
+instruction, or one that the table lacks, aren't a change: the table's refusal would say nothing of the questions."""
+import functools
+import os
+import tempfile
+
+from terms.llvm_text import Unsupported
+
+from .. import changes
+from .objects import SIZE, Shift, listing
+from .table import TABLE, Processor
+
+EQUAL = os.path.join(os.path.dirname(os.path.abspath(__file__)), "equal_changes.txt")
+MANY, FEW = 1000, 40              # changes with --all and without
+BITS = 8 * SIZE
+
+
+class Changed:
+    """A program's object as a file, of which one instruction at a time has one other bit."""
+
+    def __init__(self, program, path):
+        self.program, self.path, self.relocations = program, path, {}
+        with open(path, "wb") as file:
+            file.write(program.object.data)
+
+    def instruction(self, place, bit):
+        """What stands at a place where this bit is the other one, or None where that is none."""
+        section, at = place
+        head = self.program.heads[section]
+        offset, one = head.offset + at + bit // 8, 1 << bit % 8
+        with open(self.path, "r+b") as file:
+            self.put(file, offset, self.program.object.data[offset] ^ one)
+            file.flush()
+            found = self.listed(section, at)
+            self.put(file, offset, self.program.object.data[offset])
+        return found
+
+    @staticmethod
+    def put(file, offset, byte):
+        file.seek(offset)
+        file.write(bytes([byte]))
+
+    def listed(self, section, at):
+        words = f"--section={section}", f"--start-address={at}", f"--stop-address={at + SIZE}"
+        try:
+            (_, _, text), = listing(self.path, "aarch64-linux-gnu-objdump", *words)[section]
+            x = self.program.instruction(section, at, text, self.relocations_of(section).get(at))
+        except (Unsupported, ValueError):
+            return None
+        return x if (x.mnemonic, x.form) in TABLE else None
+
+    def relocations_of(self, section):
+        if section not in self.relocations:
+            self.relocations[section] = self.program.relocations_of(self.program.heads[section])
+        return self.relocations[section]
+
+
+def drawn(changed, places, draw):
+    """(place, text, instructions) of random changes, without end. What computes nothing isn't changed, and a shift by no
+    place is no change."""
+    while True:
+        section, at = place = draw.choice(places)
+        x, bit = changed.program.sections[section][at], draw.randrange(BITS)
+        found = changed.instruction(place, bit) if x.mnemonic not in ("prfm", "brk") else None
+        if found and found != x and not any(isinstance(y, Shift) and not y.amount for y in found.operands):
+            yield place, f"{section[6:]} {at:#x} {written(x)}: bit {bit} {written(found)}", [found]
+
+
+def written(x):
+    """An instruction, with its operands as the table has them."""
+    target = [f"{x.target[1]:#x}" if x.target[0] == x.section else x.target[0]] if x.target else []
+    return " ".join([x.mnemonic, x.form, *map(str, map(plain, x.operands)), *target])
+
+
+def plain(operand):
+    return tuple(operand) if isinstance(operand, tuple) else operand
+
+
+def noticed(program, is_all):
+    """(changes that were tried, those that aren't noticed and have no reason)."""
+    with tempfile.TemporaryDirectory(prefix="arm-text-") as room:
+        changed = Changed(program, os.path.join(room, "text.o"))
+        return changes.noticed_of(Processor(program), functools.partial(drawn, changed), MANY if is_all else FEW,
+                                  changes.reasons(EQUAL), is_all)
