@@ -50,6 +50,7 @@ X3_LE, X128_LE = b'fddc625c55e85595', b'1838525eaacf79c77f3e1b07adc1e9b5'
 # XXH64 of no bytes, and one digit off that of `hello`.
 EMPTY, WRONG = b'ef46db3751d8e999', b'26c7827d889f6da4'
 GOOD = X64 + b'  a\n'
+GOOD_OUT = b'a: OK\n'
 
 
 def unread(place, name, why=b'a failure occurred reading the input file'):
@@ -330,11 +331,60 @@ def plain_lines():
         of_list('a name of 255 bytes, and one that is too long', X64 + b'  ' + b'n' * 255 + b'\n' + X64 + b'  ' + b'x' * 5000 + b'\n'),
         of_list('the prefix of later versions', b'XXH3_' + X3 + b'  a\n' + b'xxh3_' + X3 + b'  a\n', '-cw'),
         of_list('a byte order mark', b'\xef\xbb\xbf' + GOOD, '-cw'),
-        of_list('a line of 32766 bytes', X64 + b'  ' + b'x' * 32748 + b'\n' + GOOD),
-        of_list('a line of 32767 bytes', GOOD + X64 + b'  ' + b'x' * 32749 + b'\n' + GOOD),
-        of_list('a line of 40000 bytes, status', GOOD + b'x' * 40000 + b'\n' + GOOD, '-c', '--status'),
-        of_list('a last line of 32767 bytes', GOOD + X64 + b'  ' + b'x' * 32749),
         of_list('a thousand lines', GOOD * 1000),
+    ]
+
+
+def line_of(count, end=b'\n'):
+    """A line of so many bytes, with digits and a name that no file has."""
+    return X64 + b'  ' + b'x' * (count - len(X64) - 2) + end
+
+
+def not_opened(count):
+    """What is said of the file of line 2, whose name has so many bytes."""
+    return unread(b'L:2', b'x' * count, b'File name too long')
+
+
+def over_long(*lines, out=GOOD_OUT * 2):
+    """What is said of a list whose lines of these numbers are longer than 32,767 bytes."""
+    count = b'1 line is' if len(lines) == 1 else b'%d lines are' % len(lines)
+    return {'out': out and out + count + b' improperly formatted\n', 'status': 1,
+            'err': b''.join(b'L:%d: Error: Line too long.\n' % line for line in lines)}
+
+
+def long_lines():
+    """Lists with lines about as long as one that is checked. At a longer one the originals end, ours goes on behind it."""
+    inside = b'x' * 70000 + b'\r' + X64 + b'  a\0' + X64 + b'  a'
+    return [
+        of_list('a line of 32766 bytes', line_of(32766) + GOOD),
+        # Of a line that ends with a line feed the originals take one byte less.
+        of_list('a line of 32767 bytes', GOOD + line_of(32767) + GOOD, wanted={
+            'out': GOOD_OUT + not_opened(32749) + GOOD_OUT + b'1 listed file could not be read\n', 'err': b'', 'status': 1}),
+        of_list('a line of 32768 bytes', GOOD + line_of(32768) + GOOD, wanted=over_long(2)),
+        of_list('a line of 100000 bytes', GOOD + line_of(100000) + GOOD, '-cw', wanted=over_long(2)),
+        of_list('a line of 40000 bytes, status', GOOD + b'x' * 40000 + b'\n' + GOOD, '-c', '--status'),
+        of_list('a last line of 32766 bytes', GOOD + line_of(32766, b'')),
+        of_list('a last line of 32767 bytes', GOOD + line_of(32767, b'')),
+        of_list('a last line of 32768 bytes', GOOD * 2 + line_of(32768, b''), wanted=over_long(3)),
+        of_list('a last line of 100000 bytes', GOOD * 2 + line_of(100000, b''), wanted=over_long(3)),
+        of_list('lines that fill the buffer', b''.join(GOOD + line_of(count) for count in (65516, 65535, 65536, 131072)) + GOOD,
+                wanted=over_long(2, 4, 6, 8, out=GOOD_OUT * 5)),
+        of_list('a long line with a NUL before its end', GOOD + X64 + b'  a\0' + b'x' * 32748 + b'\n' + GOOD, wanted=over_long(2)),
+        of_list('a long line with a carriage return at its end', GOOD + line_of(32767, b'\r\n') + GOOD, wanted=over_long(2)),
+        of_list('a line of 32766 bytes and a carriage return', GOOD + line_of(32766, b'\r\n') + GOOD, wanted={
+            'out': GOOD_OUT + not_opened(32748) + GOOD_OUT + b'1 listed file could not be read\n', 'err': b'', 'status': 1}),
+        of_list('lines within a long one', GOOD + inside + b'\n' + GOOD, wanted=over_long(2)),
+        of_list('lines within a long last one', GOOD * 2 + inside, wanted=over_long(3)),
+        of_list('a long comment', GOOD + b'#' + b'x' * 32767 + b'\n' + GOOD, wanted=over_long(2)),
+        of_list('a comment of 32767 bytes', b'#' + b'x' * 32766 + b'\n' + GOOD, wanted={
+            'out': GOOD_OUT, 'err': b'', 'status': 0}),
+        of_list('two long lines, strict', GOOD + line_of(40000) * 2 + b'junk\n' + GOOD, '-cw', '--strict', wanted={
+            'out': GOOD_OUT * 2 + b'3 lines are improperly formatted\n', 'status': 1,
+            'err': b'L:2: Error: Line too long.\nL:3: Error: Line too long.\n'
+                   b'L:4: Error: Improperly formatted checksum line.\n'}),
+        of_list('long lines alone', line_of(40000) * 2, wanted={
+            'out': b'', 'err': b'L:1: Error: Line too long.\nL:2: Error: Line too long.\n'
+                              b'L: no properly formatted xxHash checksum lines found\n', 'status': 1}),
     ]
 
 
@@ -391,7 +441,8 @@ def missing_files():
         of_list('nothing is missing', GOOD, *missing),
         of_list('no proper line, --ignore-missing', b'junk\n', *missing, '-w'),
         of_list('an empty list, --ignore-missing', b'', *missing),
-        of_list('a line that is too long, --ignore-missing', gone + b'x' * 40000 + b'\n' + GOOD, *missing),
+        of_list('a line that is too long, --ignore-missing', gone + b'x' * 40000 + b'\n' + GOOD, *missing,
+                wanted=over_long(2, out=GOOD_OUT)),
         Case('several lists, --ignore-missing', (*missing, 'L', 'good', 'wrong'), files={'L': gone}),
         Case('a missing list, --ignore-missing', (*missing, 'gone', 'good')),
         Case('a list from input, --ignore-missing', missing, given=gone),
@@ -496,7 +547,7 @@ def trees():
     ended = {'ended': b'a\0line\nfeed\0e'}
     lines = X64 + b'  a\n' + WRONG + b'  *star\n' + EMPTY + b'  e\n' + X64 + b'  old\n' + X64_LE + b'  lost\n'
     told = (b'*star: changed\na: same\ne: same\n(p): moved from old\nlost: missing\nb c: new\n'
-            b'2 same, 1 changed, 1 moved, 1 new, 1 missing\n')
+            b'2 same, 1 changed, 1 moved, 0 copied, 1 new, 1 missing\n')
     changed = {'out': told, 'err': b'', 'status': 1}
     return [
         Case('names of a file', ('--files-from', 'listed'), files=listed),
@@ -507,22 +558,54 @@ def trees():
             'out': b'\\' + X64 + b'  return\\r\n', 'err': one_line(b"Error: Could not open 'a\r': No such file or directory. "),
             'status': 1}),
         Case('an audit of a list with carriage returns', ('--audit', 'lines', 'a'), files={'lines': X64 + b'  a\r\n'}, wanted={
-            'out': b'a: same\n1 same, 0 changed, 0 moved, 0 new, 0 missing\n', 'err': b'', 'status': 0}),
+            'out': b'a: same\n1 same, 0 changed, 0 moved, 0 copied, 0 new, 0 missing\n', 'err': b'', 'status': 0}),
         Case('names that NULs end', ('--files0-from', 'ended'), files=ended, wanted={
             'out': X64 + b'  a\n\\' + X64 + b'  line\\nfeed\n' + EMPTY + b'  e\n', 'err': b'', 'status': 0}),
         Case('an audit of names of the input, by -', ('--audit', '--files0-from', '-', 'good'), given=b'a\0', wanted={
-            'out': b'a: same\n1 same, 0 changed, 0 moved, 0 new, 0 missing\n', 'err': b'', 'status': 0}),
+            'out': b'a: same\n1 same, 0 changed, 0 moved, 0 copied, 0 new, 0 missing\n', 'err': b'', 'status': 0}),
         Case('names that NULs end, of the input', ('--files0-from', '-'), given=b'a\0e\0', wanted={
             'out': X64 + b'  a\n' + EMPTY + b'  e\n', 'err': b'', 'status': 0}),
         Case('an audit', ('--audit', 'lines', 'a', 'e', 'b c', '(p)', '*star'), files={'lines': lines}, wanted=changed),
         Case('an audit of names of the input', ('--audit', '--files0-from', 'lines'), files={'lines': lines},
              given=b'*star\0b c\0a\0(p)\0e', wanted=changed),
         Case('an audit of what stayed', ('--audit', '-H0', 'lines', 'a'), files={'lines': GOOD},
-             wanted={'out': b'a: same\n1 same, 0 changed, 0 moved, 0 new, 0 missing\n', 'err': b'', 'status': 0}),
+             wanted={'out': b'a: same\n1 same, 0 changed, 0 moved, 0 copied, 0 new, 0 missing\n', 'err': b'', 'status': 0}),
+        Case('an audit of copies', ('--audit', 'lines', 'z', 'a', 'y', 'k', '(p)'),
+             files={'lines': X64 + b'  a\n' + X64 + b'  (p)\n', 'y': HELLO, 'z': HELLO, 'k': b''}, wanted={
+                 'out': b'(p): same\na: same\ny: copy of (p)\nz: copy of (p)\nk: new\n'
+                        b'2 same, 0 changed, 0 moved, 2 copied, 1 new, 0 missing\n', 'err': b'', 'status': 1}),
+        Case('an audit of a copy beside a moved file', ('--audit', 'lines', 'a', 'y', 'z'),
+             files={'lines': X64 + b'  a\n' + X64 + b'  old\n', 'y': HELLO, 'z': HELLO}, wanted={
+                 'out': b'a: same\ny: moved from old\nz: copy of a\n'
+                        b'1 same, 0 changed, 1 moved, 1 copied, 0 new, 0 missing\n', 'err': b'', 'status': 1}),
+        Case('an audit of the bytes of a file before and after it changed', ('--audit', 'lines', 'a', 'y', 'k'),
+             files={'lines': EMPTY + b'  a\n', 'y': HELLO, 'k': b''}, wanted={
+                 'out': b'a: changed\ny: new\nk: new\n0 same, 1 changed, 0 moved, 0 copied, 2 new, 0 missing\n', 'err': b'',
+                 'status': 1}),
+        Case('an audit of a copy by another algorithm', ('--audit', 'lines', '(p)', 'a', 'z'),
+             files={'lines': b'XXH3_' + X3_LE + b'  (p)\n' + GOOD, 'z': HELLO}, wanted={
+                 'out': b'(p): changed\na: same\nz: new\n1 same, 1 changed, 0 moved, 0 copied, 1 new, 0 missing\n', 'err': b'',
+                 'status': 1}),
+        Case('an audit of names with ./', ('--audit', 'lines', './a', 'e', './z', '././y'),
+             files={'lines': GOOD + EMPTY + b'  ././e\n', 'y': HELLO, 'z': HELLO}, wanted={
+                 'out': b'./a: same\ne: same\n././y: copy of ./a\n./z: copy of ./a\n'
+                        b'2 same, 0 changed, 0 moved, 2 copied, 0 new, 0 missing\n', 'err': b'', 'status': 1}),
+        Case('an audit of a line with ./ that is missing', ('--audit', 'lines', 'z'),
+             files={'lines': X64 + b'  ./old\n', 'z': HELLO}, wanted={
+                 'out': b'z: moved from ./old\n0 same, 0 changed, 1 moved, 0 copied, 0 new, 0 missing\n', 'err': b'',
+                 'status': 1}),
+        Case('an audit of lines that differ by ./', ('--audit', 'lines', 'a'), files={'lines': GOOD + X64 + b'  ./a\n'},
+             wanted=fails([b"lines: duplicate name './a'."])),
+        Case('an audit of names that differ by ./', ('--audit', 'lines', 'a', '././a'), files={'lines': GOOD},
+             wanted=fails([b"Error: duplicate name '././a'."])),
+        Case('an audit of names that differ by ./ inside', ('--audit', 'lines', 'd/inner', 'd/./inner'),
+             files={'lines': X64 + b'  d/inner\n'}, wanted={
+                 'out': b'd/inner: same\nd/./inner: copy of d/inner\n1 same, 0 changed, 0 moved, 1 copied, 0 new, 0 missing\n',
+                 'err': b'', 'status': 1}),
         Case('an audit of two kinds', ('--audit', 'lines', 'a'), files={'lines': X128 + b'  old\n'}, wanted={
-            'out': b'a: moved from old\n0 same, 0 changed, 1 moved, 0 new, 0 missing\n', 'err': b'', 'status': 1}),
+            'out': b'a: moved from old\n0 same, 0 changed, 1 moved, 0 copied, 0 new, 0 missing\n', 'err': b'', 'status': 1}),
         Case('an audit of a name that is not there', ('--audit', 'lines', 'a', 'gone'), files={'lines': GOOD}, wanted={
-            'out': b'a: same\n1 same, 0 changed, 0 moved, 0 new, 0 missing\n',
+            'out': b'a: same\n1 same, 0 changed, 0 moved, 0 copied, 0 new, 0 missing\n',
             'err': b"Error: Could not open 'gone': No such file or directory. \n", 'status': 1}),
         Case('an audit of a line that stands twice', ('--audit', 'lines', 'a'), files={'lines': GOOD * 2}, wanted={
             'out': b'', 'err': b"lines: duplicate name 'a'.\n", 'status': 1}),
@@ -530,6 +613,11 @@ def trees():
             'out': b'', 'err': b"Error: duplicate name 'a'.\n", 'status': 1}),
         Case('an audit of a list that breaks off', ('--audit', 'lines', 'a'), files={'lines': GOOD + X64}, wanted={
             'out': b'', 'err': b'lines:2: Error: Improperly formatted checksum line.\n', 'status': 1}),
+        Case('an audit of a list with a line of 32768 bytes', ('--audit', 'lines', 'a'), files={
+            'lines': GOOD + line_of(32768) + GOOD}, wanted={'out': b'', 'err': b'lines:2: Error: Line too long.\n', 'status': 1}),
+        Case('an audit of a list with a last line of 32767 bytes', ('--audit', 'lines', 'a'), files={
+            'lines': GOOD + line_of(32767, b'\r')[1:]}, wanted={
+                'out': b'', 'err': b'lines:2: Error: Improperly formatted checksum line.\n', 'status': 1}),
         Case('an audit without a list', ('--audit',), wanted={
             'out': b'', 'err': b'Error: --audit needs a list.\n', 'status': 1}),
         Case('an audit to a full disk', files={'lines': GOOD}, shell='"$X" --audit lines a >/dev/full', wanted=refused()),
@@ -574,10 +662,10 @@ def folders():
              wanted=fails([closed], b''.join(line for line in found.splitlines(keepends=True) if b't/b/' not in line))),
         Case('-r to a full disk', shell='"$X" -r d >/dev/full', wanted=refused()),
         Case('an audit of a folder', shell=tree + '"$X" -r t >list; "$X" --audit -r list t', wanted=well(
-            same + b'5 same, 0 changed, 0 moved, 0 new, 0 missing\n')),
+            same + b'5 same, 0 changed, 0 moved, 0 copied, 0 new, 0 missing\n')),
         Case('an audit of a folder that has changed', shell=tree + '"$X" -rH3 t >list; mv t/b/deep/q t/q; rm t/B; echo >>t/a; '
              '"$X" --audit -qr list t', wanted={
-                 'out': b't/a: changed\nt/q: moved from t/B\nt/b/deep/q: missing\n2 same, 1 changed, 1 moved, 0 new, 1 missing\n',
+                 'out': b't/a: changed\nt/q: moved from t/B\nt/b/deep/q: missing\n2 same, 1 changed, 1 moved, 0 copied, 0 new, 1 missing\n',
                  'err': b'', 'status': 1}),
         Case('an audit of a folder that can not be read', shell=tree + bound + '"$X" -r t/a >list; $run "$X" --audit -r list t; '
              'status=$?; chmod 700 t/b; exit $status', wanted=fails([closed])),
@@ -626,12 +714,12 @@ def told_names():
         Case('an audit of a line of an odd name that stands twice', ('--audit', 'L', 'a'), files={'L': escaped * 2},
              wanted=fails([b"L: duplicate name '" + odd + b"'."])),
         Case('an audit of odd names', ('--audit', 'L', 'line\nfeed'), files={'L': escaped}, wanted={
-            'out': one_line(b'line\nfeed: moved from ' + odd) + b'0 same, 0 changed, 1 moved, 0 new, 0 missing\n',
+            'out': one_line(b'line\nfeed: moved from ' + odd) + b'0 same, 0 changed, 1 moved, 0 copied, 0 new, 0 missing\n',
             'err': b'', 'status': 1}),
     ]
 
 
-CASES = (names() + kinds() + lines() + options() + input_alone() + program_names() + verdicts() + plain_lines()
+CASES = (names() + kinds() + lines() + options() + input_alone() + program_names() + verdicts() + plain_lines() + long_lines()
          + tagged_lines() + missing_files() + lines_with_nuls() + several_lists() + ends() + trees() + folders() + told_names())
 
 # The cases in which one of the originals does something else than ours, for the reasons that docs/XXHSUM.md gives: 0.8.1

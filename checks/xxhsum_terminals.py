@@ -12,7 +12,8 @@ import tempfile
 import threading
 import time
 
-SECONDS = 20
+# What ends a program that hangs. Beside much other work a long file takes a minute.
+SECONDS = 300
 MIB = 1 << 20
 LONG = 130 * MIB
 # A file with no bytes on the disk, so long that the rest lasts for many seconds.

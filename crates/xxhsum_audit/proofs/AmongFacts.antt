@@ -1,5 +1,5 @@
 -- Elements of lists.
-use Rattle.std.proofs.Common.{◌≡◌, ◌⊎◌, ℕ, suc, zero, ◌<◌, List, [], ◌∷◌, ◌++◌, length, get_or, sym, subst, inl, inr, arith}
+use Rattle.std.proofs.Common.{◌≡◌, ◌⊎◌, ℕ, suc, zero, ◌<◌, List, [], ◌∷◌, ◌++◌, length, get_or, refl, sym, subst, inl, inr, arith}
 use Rattle.std.proofs.lemmas.List.Sorted.{Contains-permutation}
 use Rattle.std.specs.List.{Contains, flat_map}
 use Rattle.std.specs.List.Sorted.{IsPermutation}
@@ -46,3 +46,12 @@ pub among_flat_map : {X A : Type 0} (f : X → List A) (xs : List X) (x : X) (a 
 among_flat_map f [] x a h k = absurd h
 among_flat_map f (y ∷ xs) x a (inl e) k = among_left (f y) (flat_map f xs) a (subst (λ z. IsAmong (f z) a) (sym e) k)
 among_flat_map f (y ∷ xs) x a (inr h) k = among_right (f y) (flat_map f xs) a (among_flat_map f xs x a h k)
+
+-- what is among what all give one of them gives
+pub from_flat_map : {X A : Type 0} (f : X → List A) (xs : List X) (a : A) → IsAmong (flat_map f xs) a → (x : X) × IsAmong xs x × IsAmong (f x) a
+from_flat_map f [] a h = absurd h
+from_flat_map f (y ∷ xs) a h =
+    elim (among_either (f y) (flat_map f xs) a h) [
+      | inl here ↦ (y, inl refl, here)
+      | inr behind ↦ let there = from_flat_map f xs a behind in (there.0, inr there.1, there.2)
+    ]

@@ -1,20 +1,29 @@
 -- What holds of an audit.
-use Rattle.std.proofs.Common.{◌≡◌, ℕ, List, [], ◌∷◌, ◌++◌, refl, sym, ap, subst, ◌∙◌, inl, inr, append_assoc}
+use Rattle.std.proofs.Common.{◌≡◌, ℕ, false, List, [], ◌∷◌, ◌++◌, Option, Some, None, map, refl, sym, ap, subst, ◌∙◌, inl, inr, append_assoc}
 use Rattle.std.proofs.lemmas.List.Concat.{flat_map-append}
 use Rattle.std.proofs.lemmas.List.Sorted.{IsPermutation-append_comm, IsPermutation-append_left, IsPermutation-append_right, IsPermutation-refl, IsPermutation-sym, IsPermutation-trans}
 use Rattle.std.specs.List.{flat_map}
 use Rattle.std.specs.List.Sorted.{IsPermutation}
+use Rattle.std.specs.Ordering.{is_lt, ordering_then}
 use Rattle.xxhsum_audit.proofs.AmongFacts.{among_either, among_flat_map, among_permutation, among_same}
+use Rattle.xxhsum_audit.proofs.CopyFacts.{Ignores, IsOriginal, all_ignore, from_copies, lines_ignore, missing_ignore, names_ignore, new_ignore, original_is}
 use Rattle.xxhsum_audit.proofs.DigestFacts.{FitsDigest, FitsName, all_apart, all_fit_digest, all_fit_name, climbs}
-use Rattle.xxhsum_audit.proofs.MergeFacts.{covers}
+use Rattle.xxhsum_audit.proofs.FoundFacts.{Covers, covers, met_pair, moved_pair}
+use Rattle.xxhsum_audit.proofs.OrderFacts.{digests_tied}
 use Rattle.xxhsum_audit.proofs.SideFacts.{IsSide, by_names, side_of_lines, side_of_names}
-use Rattle.xxhsum_audit.proofs.TwiceFacts.{not_twice, rises}
-use Rattle.xxhsum_audit.proofs.UniqueFacts.{one_order}
-use Rattle.xxhsum_audit.specs.declared.order.By.TheVariants.{Name, Digest}
-use Rattle.xxhsum_audit.specs.Audit.{HasMoves, missing_in, missing_one, new_in, new_one, settled_in, settled_one}
-use Rattle.xxhsum_audit.specs.Item.{IsAmong, Item, LacksName, name_of}
-use Rattle.xxhsum_audit.specs.Laws.{HasNoneTwice, IsOneReport, IsRight, LeavesNoMove, TellsEachLineOnce, TellsEachNameOnce, TellsRight}
-use Rattle.xxhsum_audit.specs.Merge.{Changed, Found, Missing, Moved, New, Same, line_in, lines_in, merged, name_in, names_in}
+use Rattle.xxhsum_audit.proofs.TwiceFacts.{not_twice}
+use Rattle.xxhsum_audit.proofs.UniqueFacts.{one_order, one_rise}
+use Rattle.xxhsum_audit.specs.Audit.{HasMoves, IsAudit, compared, copied, missing_in, missing_one, moved, new_in, new_one, original, same_in, same_one, settled_in, settled_one, with_copy}
+use Rattle.xxhsum_audit.specs.Found.{Changed, Copied, Found, Missing, Moved, New, Same, line_in, lines_in, met, name_in, names_in}
+use Rattle.xxhsum_audit.specs.Item.{HasSameDigest, IsAmong, Item, LacksPath, path_of}
+use Rattle.xxhsum_audit.specs.Laws.{CopiesTheFirst, HasNoneTwice, IsOneReport, IsRight, LeavesNoCopy, LeavesNoMove, StaysSame, TellsEachLineOnce, TellsEachNameOnce, TellsRight}
+use Rattle.xxhsum_audit.specs.Order.{compare_digests, compare_lines, rank_digests, rank_lines}
+
+covers_names : (ls ns : List Item) → Covers ls ns (compared ls ns)
+covers_names = covers met met_pair compare_lines
+
+covers_digests : (ls ns : List Item) → Covers ls ns (moved ls ns)
+covers_digests = covers Moved moved_pair compare_digests
 
 -- ---- each line and each name once
 
@@ -39,42 +48,48 @@ split of alone side (x ∷ f) =
     (sym (flat_map-append of (settled_one x) (settled_in f)))
     (IsPermutation-trans (of x ++ flat_map of f) (of x ++ (rest ++ flat_map alone f)) ((here ++ rest) ++ (alone x ++ flat_map alone f)) first moved)
 
+-- what was found of all, by the first putting side by side
+abbrev MovesOf : List Found → List Found → Type 0
+MovesOf first found = HasMoves (settled_in first) (missing_in first) (new_in first) found
+
 -- a side keeps its items where those that stand alone are put side by side again
-keeps : (of alone : Found → List Item) → IsSide of alone → (first found : List Found) (moves : HasMoves first found) (items : List Item)
-    → IsPermutation (flat_map alone first) items → flat_map of (merged Digest moves.gone moves.come) ≡ items
+keeps : (of alone : Found → List Item) → IsSide of alone → Ignores of → (first found : List Found) (moves : MovesOf first found)
+    (items : List Item) → IsPermutation (flat_map alone first) items → flat_map of (moved moves.gone_ordered moves.come_ordered) ≡ items
     → IsPermutation (flat_map of first) (flat_map of found)
-keeps of alone side first found moves items moved same =
-    let kept = flat_map of (settled_in first) in
-    let whole : flat_map of found ≡ kept ++ items =
-    ap (flat_map of) moves.is ∙ flat_map-append of (settled_in first) (merged Digest moves.gone moves.come) ∙ ap (λ x. kept ++ x) same in
+keeps of alone side same first found moves items moved_items is =
+    let settled = flat_map of (settled_in first) in
+    let rest = moved moves.gone_ordered moves.come_ordered in
+    let whole : flat_map of found ≡ settled ++ items =
+    ap (flat_map of) moves.is ∙ flat_map-append of (settled_in first) (map (with_copy moves.kept) rest)
+    ∙ ap (λ x. settled ++ x) (all_ignore of same moves.kept rest ∙ is) in
     subst (λ x. IsPermutation (flat_map of first) x) (sym whole)
-    (IsPermutation-trans (flat_map of first) (kept ++ flat_map alone first) (kept ++ items) (split of alone side first)
-    (IsPermutation-append_right kept (flat_map alone first) items moved))
+    (IsPermutation-trans (flat_map of first) (settled ++ flat_map alone first) (settled ++ items) (split of alone side first)
+    (IsPermutation-append_right settled (flat_map alone first) items moved_items))
 
 pub tells_each_line_once : TellsEachLineOnce
 tells_each_line_once lines names found audit =
-    let first = merged Name audit.ordered_lines audit.ordered_names in
-    let all = (covers Name audit.ordered_lines audit.ordered_names).lines in
+    let first = compared audit.ordered_lines audit.ordered_names in
+    let all = (covers_names audit.ordered_lines audit.ordered_names).lines in
     let moves = audit.moves in
-    IsPermutation-trans lines (lines_in first) (lines_in found) (subst (λ x. IsPermutation lines x) (sym all) audit.lines_in_order.0)
-    (keeps line_in missing_one side_of_lines first found moves moves.gone moves.gone_in_order.0 (covers Digest moves.gone moves.come).lines)
+    IsPermutation-trans lines (lines_in first) (lines_in found) (subst (λ x. IsPermutation lines x) (sym all) audit.lines_same)
+    (keeps line_in missing_one side_of_lines lines_ignore first found moves moves.gone_ordered moves.gone_in_order.0
+    (covers_digests moves.gone_ordered moves.come_ordered).lines)
 
 pub tells_each_name_once : TellsEachNameOnce
 tells_each_name_once lines names found audit =
-    let first = merged Name audit.ordered_lines audit.ordered_names in
-    let all = (covers Name audit.ordered_lines audit.ordered_names).names in
+    let first = compared audit.ordered_lines audit.ordered_names in
+    let all = (covers_names audit.ordered_lines audit.ordered_names).names in
     let moves = audit.moves in
-    IsPermutation-trans names (names_in first) (names_in found) (subst (λ x. IsPermutation names x) (sym all) audit.names_in_order.0)
-    (keeps name_in new_one side_of_names first found moves moves.come moves.come_in_order.0 (covers Digest moves.gone moves.come).names)
+    IsPermutation-trans names (names_in first) (names_in found) (subst (λ x. IsPermutation names x) (sym all) audit.names_same)
+    (keeps name_in new_one side_of_names names_ignore first found moves moves.come_ordered moves.come_in_order.0
+    (covers_digests moves.gone_ordered moves.come_ordered).names)
 
 -- ---- none twice
 
 pub has_none_twice : HasNoneTwice
-has_none_twice lines names found name audit = (
-  not_twice lines audit.ordered_lines name audit.lines_in_order.0
-      (rises audit.ordered_lines audit.lines_in_order.1 audit.no_line_twice),
-  not_twice names audit.ordered_names name audit.names_in_order.0
-      (rises audit.ordered_names audit.names_in_order.1 audit.no_name_twice),
+has_none_twice lines names found path audit = (
+  not_twice lines audit.ordered_lines path audit.lines_same audit.lines_rise,
+  not_twice names audit.ordered_names path audit.names_same audit.names_rise,
 )
 
 -- ---- the classes are right
@@ -83,6 +98,7 @@ abbrev pub IsSettled : Found → Type 0
 IsSettled (Same l n) = Unit {0}
 IsSettled (Changed l n) = Unit {0}
 IsSettled (Moved l n) = Unit {0}
+IsSettled (Copied o n) = ⊥
 IsSettled (New n) = ⊥
 IsSettled (Missing l) = ⊥
 
@@ -94,121 +110,270 @@ settled_is (Changed l n ∷ f) one (inl e) = (subst IsSettled e tt, inl e)
 settled_is (Changed l n ∷ f) one (inr h) = let rest = settled_is f one h in (rest.0, inr rest.1)
 settled_is (Moved l n ∷ f) one (inl e) = (subst IsSettled e tt, inl e)
 settled_is (Moved l n ∷ f) one (inr h) = let rest = settled_is f one h in (rest.0, inr rest.1)
+settled_is (Copied o n ∷ f) one h = let rest = settled_is f one h in (rest.0, inr rest.1)
 settled_is (New n ∷ f) one h = let rest = settled_is f one h in (rest.0, inr rest.1)
 settled_is (Missing l ∷ f) one h = let rest = settled_is f one h in (rest.0, inr rest.1)
+
+-- a file that stayed is of a line
+same_is : (f : List Found) (s : Item) → IsAmong (same_in f) s → (l : Item) × IsAmong f (Same l s)
+same_is [] s h = absurd h
+same_is (Same l n ∷ f) s (inl e) = (l, inl (ap (Same l) e))
+same_is (Same l n ∷ f) s (inr h) = let rest = same_is f s h in (rest.0, inr rest.1)
+same_is (Changed l n ∷ f) s h = let rest = same_is f s h in (rest.0, inr rest.1)
+same_is (Moved l n ∷ f) s h = let rest = same_is f s h in (rest.0, inr rest.1)
+same_is (Copied o n ∷ f) s h = let rest = same_is f s h in (rest.0, inr rest.1)
+same_is (New n ∷ f) s h = let rest = same_is f s h in (rest.0, inr rest.1)
+same_is (Missing l ∷ f) s h = let rest = same_is f s h in (rest.0, inr rest.1)
 
 right_if_settled : (lines names : List Item) (one : Found) → IsSettled one → FitsName one → IsRight lines names one
 right_if_settled lines names (Same l n) settled fits = fits
 right_if_settled lines names (Changed l n) settled fits = fits
 right_if_settled lines names (Moved l n) settled fits = absurd fits
+right_if_settled lines names (Copied o n) settled fits = absurd settled
 right_if_settled lines names (New n) settled fits = absurd settled
 right_if_settled lines names (Missing l) settled fits = absurd settled
 
-lacks_given : (given ordered : List Item) (name : List ℕ) → IsPermutation given ordered → LacksName ordered name → LacksName given name
-lacks_given given ordered name moved lacks item h = lacks item (among_permutation given ordered item moved h)
+lacks_given : (given ordered : List Item) (path : List ℕ) → IsPermutation given ordered → LacksPath ordered path → LacksPath given path
+lacks_given given ordered path same lacks item h = lacks item (among_permutation given ordered item same h)
 
--- a line that is gone, and a name that has come
-record IsGone (lines names : List Item) (gone come : List Item) : Type 0 where
-  pub gone_lacks : (l : Item) → IsAmong gone l → LacksName names (name_of l)
-  pub come_lacks : (n : Item) → IsAmong come n → LacksName lines (name_of n)
+-- what is known of the lines that are gone, the names that have come, and the files that stayed
+record IsKnown (lines names gone come kept : List Item) : Type 0 where
+  pub gone_lacks : (l : Item) → IsAmong gone l → LacksPath names (path_of l)
+  pub come_lacks : (n : Item) → IsAmong come n → LacksPath lines (path_of n)
+  pub kept_stays : (s : Item) → IsAmong kept s → StaysSame lines names s
 
-line_among : (gone come : List Item) (one : Found) (l : Item) → IsAmong (merged Digest gone come) one → IsAmong (line_in one) l
-    → IsAmong gone l
+line_among : (gone come : List Item) (one : Found) (l : Item) → IsAmong (moved gone come) one → IsAmong (line_in one) l → IsAmong gone l
 line_among gone come one l h k =
-    among_same (lines_in (merged Digest gone come)) gone l (covers Digest gone come).lines
-    (among_flat_map line_in (merged Digest gone come) one l h k)
+    among_same (lines_in (moved gone come)) gone l (covers_digests gone come).lines (among_flat_map line_in (moved gone come) one l h k)
 
-name_among : (gone come : List Item) (one : Found) (n : Item) → IsAmong (merged Digest gone come) one → IsAmong (name_in one) n
-    → IsAmong come n
+name_among : (gone come : List Item) (one : Found) (n : Item) → IsAmong (moved gone come) one → IsAmong (name_in one) n → IsAmong come n
 name_among gone come one n h k =
-    among_same (names_in (merged Digest gone come)) come n (covers Digest gone come).names
-    (among_flat_map name_in (merged Digest gone come) one n h k)
+    among_same (names_in (moved gone come)) come n (covers_digests gone come).names (among_flat_map name_in (moved gone come) one n h k)
 
-right_by_digest : (lines names gone come : List Item) → IsGone lines names gone come → (one : Found)
-    → IsAmong (merged Digest gone come) one → FitsDigest one → IsRight lines names one
-right_by_digest lines names gone come known (Same l n) h fits = absurd fits
-right_by_digest lines names gone come known (Changed l n) h fits = absurd fits
-right_by_digest lines names gone come known (Moved l n) h fits = (
+right_copy : (lines names kept : List Item) (n : Item) → ((s : Item) → IsAmong kept s → StaysSame lines names s)
+    → LacksPath lines (path_of n) → (o : Option Item) → IsOriginal kept n o → IsRight lines names (copied o n)
+right_copy lines names kept n stays lacks None is = lacks
+right_copy lines names kept n stays lacks (Some o) is = (is.1, stays o is.0, lacks)
+
+right_by_digest : (lines names gone come kept : List Item) → IsKnown lines names gone come kept → (one : Found)
+    → IsAmong (moved gone come) one → FitsDigest one → IsRight lines names (with_copy kept one)
+right_by_digest lines names gone come kept known (Same l n) h fits = absurd fits
+right_by_digest lines names gone come kept known (Changed l n) h fits = absurd fits
+right_by_digest lines names gone come kept known (Copied o n) h fits = absurd fits
+right_by_digest lines names gone come kept known (Moved l n) h fits = (
   fits,
   known.gone_lacks l (line_among gone come (Moved l n) l h (inl refl)),
   known.come_lacks n (name_among gone come (Moved l n) n h (inl refl)),
 )
-right_by_digest lines names gone come known (New n) h fits =
-    known.come_lacks n (name_among gone come (New n) n h (inl refl))
-right_by_digest lines names gone come known (Missing l) h fits =
+right_by_digest lines names gone come kept known (New n) h fits =
+    right_copy lines names kept n known.kept_stays (known.come_lacks n (name_among gone come (New n) n h (inl refl)))
+    (original kept n) (original_is kept n)
+right_by_digest lines names gone come kept known (Missing l) h fits =
     known.gone_lacks l (line_among gone come (Missing l) l h (inl refl))
 
+-- ---- of one audit
+
+module _ (lines names : List Item) (found : List Found) (audit : IsAudit lines names found) where
+  abbrev moves : MovesOf (compared audit.ordered_lines audit.ordered_names) found
+  moves = audit.moves
+
+  abbrev first : List Found
+  first = compared audit.ordered_lines audit.ordered_names
+
+  abbrev rest : List Found
+  rest = moved moves.gone_ordered moves.come_ordered
+
+  stays : (s : Item) → IsAmong moves.kept s → StaysSame lines names s
+  stays s h =
+      let there = same_is (settled_in first) s
+      (among_permutation moves.kept (same_in (settled_in first)) s (IsPermutation-sym (same_in (settled_in first)) moves.kept moves.kept_in_order.0) h) in
+      let l = there.0 in
+      let one = Same l s in
+      let here = (settled_is first one there.1).1 in
+      let all = covers_names audit.ordered_lines audit.ordered_names in (
+        among_permutation audit.ordered_names names s (IsPermutation-sym names audit.ordered_names audit.names_same)
+            (among_same (names_in first) audit.ordered_names s all.names (among_flat_map name_in first one s here (inl refl))),
+        (
+          l,
+          among_permutation audit.ordered_lines lines l (IsPermutation-sym lines audit.ordered_lines audit.lines_same)
+              (among_same (lines_in first) audit.ordered_lines l all.lines (among_flat_map line_in first one l here (inl refl))),
+          all_fit_name audit.ordered_lines audit.ordered_names one here,
+        ),
+      )
+
+  known : IsKnown lines names moves.gone_ordered moves.come_ordered moves.kept
+  known =
+      let ls = audit.ordered_lines in
+      let ns = audit.ordered_names in
+      let sides = by_names ls ns in
+      record {
+        gone_lacks = λ l k. lacks_given names ns (path_of l) audit.names_same
+            (sides.missing audit.lines_rise audit.names_rise l (among_permutation moves.gone_ordered (missing_in first) l
+            (IsPermutation-sym (missing_in first) moves.gone_ordered moves.gone_in_order.0) k));
+        come_lacks = λ n k. lacks_given lines ls (path_of n) audit.lines_same
+            (sides.new audit.lines_rise audit.names_rise n (among_permutation moves.come_ordered (new_in first) n
+            (IsPermutation-sym (new_in first) moves.come_ordered moves.come_in_order.0) k));
+        kept_stays = stays;
+      }
+
+  -- what holds of what is settled by name and of what by digest holds of all
+  each : (P : Found → Type 0) → ((one : Found) → IsSettled one → IsAmong (settled_in first) one → P one)
+      → ((one : Found) → IsAmong rest one → FitsDigest one → P (with_copy moves.kept one)) → (one : Found) → IsAmong found one → P one
+  each P by_name by_digest one h =
+      elim (among_either (settled_in first) (map (with_copy moves.kept) rest) one
+      (among_same found (settled_in first ++ map (with_copy moves.kept) rest) one moves.is h)) [
+        | inl a ↦ by_name one (settled_is first one a).0 a
+        | inr b ↦
+            let from = from_copies moves.kept rest one b in
+            subst P from.2 (by_digest from.0 from.1 (all_fit_digest moves.gone_ordered moves.come_ordered from.0 from.1))
+      ]
+
+  right : (one : Found) → IsAmong found one → IsRight lines names one
+  right = each (IsRight lines names)
+      (λ one settled h. right_if_settled lines names one settled
+      (all_fit_name audit.ordered_lines audit.ordered_names one (settled_is first one h).1))
+      (right_by_digest lines names moves.gone_ordered moves.come_ordered moves.kept known)
+
+  -- a file that stayed is among those of which copies are looked for
+  abbrev IsSought : Found → Type 0
+  IsSought (Same l s) = IsAmong moves.kept s
+  IsSought (Changed l n) = Unit {0}
+  IsSought (Moved l n) = Unit {0}
+  IsSought (Copied o n) = Unit {0}
+  IsSought (New n) = Unit {0}
+  IsSought (Missing l) = Unit {0}
+
+  sought_if_settled : (one : Found) → IsSettled one → IsAmong (settled_in first) one → IsSought one
+  sought_if_settled (Same l s) settled h =
+      among_permutation (same_in (settled_in first)) moves.kept s moves.kept_in_order.0
+      (among_flat_map same_one (settled_in first) (Same l s) s h (inl refl))
+  sought_if_settled (Changed l n) settled h = tt
+  sought_if_settled (Moved l n) settled h = tt
+  sought_if_settled (Copied o n) settled h = absurd settled
+  sought_if_settled (New n) settled h = absurd settled
+  sought_if_settled (Missing l) settled h = absurd settled
+
+  sought_copy : (n : Item) (o : Option Item) → IsSought (copied o n)
+  sought_copy n None = tt
+  sought_copy n (Some o) = tt
+
+  sought_by_digest : (one : Found) → IsAmong rest one → FitsDigest one → IsSought (with_copy moves.kept one)
+  sought_by_digest (Same l n) h fits = absurd fits
+  sought_by_digest (Changed l n) h fits = absurd fits
+  sought_by_digest (Moved l n) h fits = tt
+  sought_by_digest (Copied o n) h fits = absurd fits
+  sought_by_digest (New n) h fits = sought_copy n (original moves.kept n)
+  sought_by_digest (Missing l) h fits = tt
+
+  sought : (one : Found) → IsAmong found one → IsSought one
+  sought = each IsSought sought_if_settled sought_by_digest
+
+  -- a name is told to be new, or a copy, as those files say
+  abbrev SaysOriginal : Found → Type 0
+  SaysOriginal (Same l n) = Unit {0}
+  SaysOriginal (Changed l n) = Unit {0}
+  SaysOriginal (Moved l n) = Unit {0}
+  SaysOriginal (Copied o n) = IsOriginal moves.kept n (Some o)
+  SaysOriginal (New n) = IsOriginal moves.kept n None
+  SaysOriginal (Missing l) = Unit {0}
+
+  says_if_settled : (one : Found) → IsSettled one → IsAmong (settled_in first) one → SaysOriginal one
+  says_if_settled (Same l n) settled h = tt
+  says_if_settled (Changed l n) settled h = tt
+  says_if_settled (Moved l n) settled h = tt
+  says_if_settled (Copied o n) settled h = absurd settled
+  says_if_settled (New n) settled h = absurd settled
+  says_if_settled (Missing l) settled h = absurd settled
+
+  says_copy : (n : Item) (o : Option Item) → IsOriginal moves.kept n o → SaysOriginal (copied o n)
+  says_copy n None is = is
+  says_copy n (Some o) is = is
+
+  says_by_digest : (one : Found) → IsAmong rest one → FitsDigest one → SaysOriginal (with_copy moves.kept one)
+  says_by_digest (Same l n) h fits = absurd fits
+  says_by_digest (Changed l n) h fits = absurd fits
+  says_by_digest (Moved l n) h fits = tt
+  says_by_digest (Copied o n) h fits = absurd fits
+  says_by_digest (New n) h fits = says_copy n (original moves.kept n) (original_is moves.kept n)
+  says_by_digest (Missing l) h fits = tt
+
+  says : (one : Found) → IsAmong found one → SaysOriginal one
+  says = each SaysOriginal says_if_settled says_by_digest
+
+  no_copy : (line kept name : Item) → IsAmong found (Same line kept) → IsAmong found (New name) → HasSameDigest kept name → ⊥
+  no_copy line kept name h k same = says (New name) k kept (sought (Same line kept) h) same
+
+  the_first : (line kept original name : Item) → IsAmong found (Same line kept) → IsAmong found (Copied original name)
+      → HasSameDigest kept name → is_lt (rank_lines kept original) ≡ false
+  the_first line kept original name h k same =
+      let is = says (Copied original name) k in
+      let tied : HasSameDigest kept original = (same.0 ∙ sym is.1.0, same.1 ∙ sym is.1.1) in
+      sym (ap (λ o. is_lt (ordering_then o (rank_lines kept original))) (digests_tied kept original tied))
+      ∙ is.2 moves.kept_in_order.1 kept (sought (Same line kept) h) same
+
+  -- ---- no partner is left
+
+  none_alone : (of alone : Found → List Item) → IsSide of alone → (f : List Found) → flat_map alone (settled_in f) ≡ []
+  none_alone of alone side [] = refl
+  none_alone of alone side (x ∷ f) =
+      flat_map-append alone (settled_one x) (settled_in f) ∙ ap (λ y. y ++ flat_map alone (settled_in f)) (side x).1 ∙ none_alone of alone side f
+
+  -- what stands alone is of the second putting side by side
+  rest_alone : (of alone : Found → List Item) → IsSide of alone → Ignores alone → flat_map alone found ≡ flat_map alone rest
+  rest_alone of alone side same =
+      let copies = map (with_copy moves.kept) rest in
+      ap (flat_map alone) moves.is ∙ flat_map-append alone (settled_in first) copies
+      ∙ ap (λ x. x ++ flat_map alone copies) (none_alone of alone side first) ∙ all_ignore alone same moves.kept rest
+
+  no_move : (line name : Item) → IsAmong (missing_in found) line → IsAmong (new_in found) name → HasSameDigest line name → ⊥
+  no_move line name h k same =
+      all_apart moves.gone_ordered moves.come_ordered (climbs moves.gone_ordered moves.gone_in_order.1)
+      (climbs moves.come_ordered moves.come_in_order.1) line name
+      (among_same (missing_in found) (missing_in rest) line (rest_alone line_in missing_one side_of_lines missing_ignore) h)
+      (among_same (new_in found) (new_in rest) name (rest_alone name_in new_one side_of_names new_ignore) k) same
+
 pub tells_right : TellsRight
-tells_right lines names found audit one h =
-    let ls = audit.ordered_lines in
-    let ns = audit.ordered_names in
-    let first = merged Name ls ns in
-    let moves = audit.moves in
-    let up = rises ls audit.lines_in_order.1 audit.no_line_twice in
-    let up' = rises ns audit.names_in_order.1 audit.no_name_twice in
-    let sides = by_names ls ns in
-    let gone : IsGone lines names moves.gone moves.come = record {
-      gone_lacks = λ l k. lacks_given names ns (name_of l) audit.names_in_order.0
-          (sides.missing up up' l (among_permutation moves.gone (missing_in first) l
-          (IsPermutation-sym (missing_in first) moves.gone moves.gone_in_order.0) k));
-      come_lacks = λ n k. lacks_given lines ls (name_of n) audit.lines_in_order.0
-          (sides.new up up' n (among_permutation moves.come (new_in first) n
-          (IsPermutation-sym (new_in first) moves.come moves.come_in_order.0) k));
-    } in
-    let whole = among_same found (settled_in first ++ merged Digest moves.gone moves.come) one moves.is h in
-    elim (among_either (settled_in first) (merged Digest moves.gone moves.come) one whole) [
-      | inl a ↦
-          let settled = settled_is first one a in
-          right_if_settled lines names one settled.0 (all_fit_name ls ns one settled.1)
-      | inr b ↦
-          right_by_digest lines names moves.gone moves.come gone one b (all_fit_digest moves.gone moves.come one b)
-    ]
-
--- ---- no partner is left
-
-none_alone : (of alone : Found → List Item) → IsSide of alone → (f : List Found) → flat_map alone (settled_in f) ≡ []
-none_alone of alone side [] = refl
-none_alone of alone side (x ∷ f) =
-    flat_map-append alone (settled_one x) (settled_in f) ∙ ap (λ y. y ++ flat_map alone (settled_in f)) (side x).1 ∙ none_alone of alone side f
-
--- what stands alone is of the second putting side by side
-rest_alone : (of alone : Found → List Item) → IsSide of alone → (first found : List Found) (moves : HasMoves first found)
-    → flat_map alone found ≡ flat_map alone (merged Digest moves.gone moves.come)
-rest_alone of alone side first found moves =
-    let rest = merged Digest moves.gone moves.come in
-    ap (flat_map alone) moves.is ∙ flat_map-append alone (settled_in first) rest ∙ ap (λ x. x ++ flat_map alone rest) (none_alone of alone side first)
+tells_right lines names found audit one h = right lines names found audit one h
 
 pub leaves_no_move : LeavesNoMove
-leaves_no_move lines names found audit line name h k same =
-    let first = merged Name audit.ordered_lines audit.ordered_names in
-    let moves = audit.moves in
-    let rest = merged Digest moves.gone moves.come in
-    let missing = rest_alone line_in missing_one side_of_lines first found moves in
-    let new = rest_alone name_in new_one side_of_names first found moves in
-    all_apart moves.gone moves.come (climbs moves.gone moves.gone_in_order.1) (climbs moves.come moves.come_in_order.1)
-    line name (among_same (missing_in found) (missing_in rest) line missing h)
-    (among_same (new_in found) (new_in rest) name new k) same
+leaves_no_move lines names found audit line first name h same =
+    let missing = among_flat_map missing_one found (Missing line) line h (inl refl) in (
+      λ k. no_move lines names found audit line name missing (among_flat_map new_one found (New name) name k (inl refl)) same,
+      λ k. no_move lines names found audit line name missing (among_flat_map new_one found (Copied first name) name k (inl refl)) same,
+    )
+
+pub leaves_no_copy : LeavesNoCopy
+leaves_no_copy lines names found audit line kept name h k same = no_copy lines names found audit line kept name h k same
+
+pub copies_the_first : CopiesTheFirst
+copies_the_first lines names found audit line kept original name h k same =
+    the_first lines names found audit line kept original name h k same
 
 -- ---- one report
 
-same_moves : (first first' found found' : List Found) → HasMoves first found → HasMoves first' found' → first ≡ first' → found ≡ found'
-same_moves first first' found found' moves moves' same =
-    let gone : moves.gone ≡ moves'.gone = one_order Digest (missing_in first) (missing_in first') moves.gone moves'.gone
-    (subst (λ f. IsPermutation (missing_in first) (missing_in f)) same (IsPermutation-refl (missing_in first)))
-    moves.gone_in_order moves'.gone_in_order in
-    let come : moves.come ≡ moves'.come = one_order Digest (new_in first) (new_in first') moves.come moves'.come
-    (subst (λ f. IsPermutation (new_in first) (new_in f)) same (IsPermutation-refl (new_in first)))
-    moves.come_in_order moves'.come_in_order in
+same_order : (given given' : List Item) → given ≡ given' → IsPermutation given given'
+same_order given given' same = subst (λ f. IsPermutation given f) same (IsPermutation-refl given)
+
+same_moves : (settled settled' : List Found) (gone gone' come come' : List Item) (found found' : List Found)
+    → HasMoves settled gone come found → HasMoves settled' gone' come' found'
+    → settled ≡ settled' → gone ≡ gone' → come ≡ come' → found ≡ found'
+same_moves settled settled' gone gone' come come' found found' moves moves' one two three =
+    let kept : moves.kept ≡ moves'.kept = one_order (same_in settled) (same_in settled') moves.kept moves'.kept
+    (same_order _ _ (ap same_in one)) moves.kept_in_order moves'.kept_in_order in
+    let went : moves.gone_ordered ≡ moves'.gone_ordered = one_order gone gone' moves.gone_ordered moves'.gone_ordered
+    (same_order _ _ two) moves.gone_in_order moves'.gone_in_order in
+    let came : moves.come_ordered ≡ moves'.come_ordered = one_order come come' moves.come_ordered moves'.come_ordered
+    (same_order _ _ three) moves.come_in_order moves'.come_in_order in
     let is = moves.is in
     let is' = moves'.is in
     cc
 
 pub is_one_report : IsOneReport
 is_one_report lines lines' names names' found found' audit audit' moved moved' =
-    let ls = one_order Name lines lines' audit.ordered_lines audit'.ordered_lines moved audit.lines_in_order
-    audit'.lines_in_order in
-    let ns = one_order Name names names' audit.ordered_names audit'.ordered_names moved' audit.names_in_order
-    audit'.names_in_order in
-    let first : merged Name audit.ordered_lines audit.ordered_names ≡ merged Name audit'.ordered_lines audit'.ordered_names =
-    cc in
-    same_moves _ _ found found' audit.moves audit'.moves first
+    let ls = one_rise lines lines' audit.ordered_lines audit'.ordered_lines moved audit.lines_same audit'.lines_same
+    audit.lines_rise audit'.lines_rise in
+    let ns = one_rise names names' audit.ordered_names audit'.ordered_names moved' audit.names_same audit'.names_same
+    audit.names_rise audit'.names_rise in
+    let first : compared audit.ordered_lines audit.ordered_names ≡ compared audit'.ordered_lines audit'.ordered_names =
+    ap (λ l. compared l audit.ordered_names) ls ∙ ap (λ n. compared audit'.ordered_lines n) ns in
+    same_moves _ _ _ _ _ _ found found' audit.moves audit'.moves (ap settled_in first) (ap missing_in first) (ap new_in first)

@@ -1,22 +1,23 @@
 -- Pairs by name and by digest are right, and by digest no partner is left.
-use Rattle.std.proofs.Common.{◌≡◌, false, List, [], ◌∷◌, map, refl, sym, subst, inl, inr}
+use Rattle.std.proofs.Common.{◌≡◌, false, List, [], ◌∷◌, refl, sym, subst, inl, inr}
 use Rattle.std.specs.declared.cmp.Ordering.{Ordering}
 use Rattle.std.specs.declared.cmp.Ordering.TheVariants.{Less, Equal, Greater}
 use Rattle.std.specs.Ordering.{is_lt, ordering_then}
-use Rattle.xxhsum_audit.proofs.MergeFacts.{Covers, by_turns, pair_by_name}
-use Rattle.xxhsum_audit.proofs.OrderFacts.{back, digests_exact, digests_tied, digests_total, eq_false, eq_true, items_same, less_upto, names_exact}
-use Rattle.xxhsum_audit.proofs.SideFacts.{missing_line, new_name, none_missing}
-use Rattle.xxhsum_audit.specs.declared.order.By.TheVariants.{Name, Digest}
-use Rattle.xxhsum_audit.specs.Audit.{missing_in, new_in}
-use Rattle.xxhsum_audit.specs.Item.{HasSameDigest, IsAmong, Item, name_of}
-use Rattle.xxhsum_audit.specs.Merge.{Changed, Found, Missing, Moved, New, Same, merged, paired}
-use Rattle.xxhsum_audit.specs.Order.{Ascends, compare_digests, compare_names}
+use Rattle.xxhsum_audit.proofs.FoundFacts.{Covers, by_founds, met_is, met_pair, moved_pair}
+use Rattle.xxhsum_audit.proofs.OrderFacts.{back, digests_exact, digests_tied, digests_total, eq_false, eq_true, less_upto, lines_exact}
+use Rattle.xxhsum_audit.proofs.SideFacts.{missing_line, new_name}
+use Rattle.xxhsum_audit.specs.Audit.{compared, missing_in, moved, new_in}
+use Rattle.xxhsum_audit.specs.Found.{Changed, Copied, Found, Missing, Moved, New, Same, met}
+use Rattle.xxhsum_audit.specs.Item.{HasSameDigest, IsAmong, Item, path_of}
+use Rattle.xxhsum_audit.specs.Laws.{IsKept}
+use Rattle.xxhsum_audit.specs.Order.{Ascends, compare_digests, compare_lines, rank_digests, rank_lines}
 
 -- what a pair by name says is right
 abbrev pub FitsName : Found → Type 0
-FitsName (Same l n) = l ≡ n
-FitsName (Changed l n) = (name_of l ≡ name_of n) × (HasSameDigest l n → ⊥)
+FitsName (Same l n) = IsKept l n
+FitsName (Changed l n) = (path_of l ≡ path_of n) × (HasSameDigest l n → ⊥)
 FitsName (Moved l n) = ⊥
+FitsName (Copied o n) = ⊥
 FitsName (New n) = Unit {0}
 FitsName (Missing l) = Unit {0}
 
@@ -25,70 +26,64 @@ abbrev pub FitsDigest : Found → Type 0
 FitsDigest (Same l n) = ⊥
 FitsDigest (Changed l n) = ⊥
 FitsDigest (Moved l n) = HasSameDigest l n
+FitsDigest (Copied o n) = ⊥
 FitsDigest (New n) = Unit {0}
 FitsDigest (Missing l) = Unit {0}
 
-news_fit_name : (ns : List Item) (one : Found) → IsAmong (map New ns) one → FitsName one
-news_fit_name [] one h = absurd h
-news_fit_name (n ∷ ns) one (inl e) = subst FitsName e tt
-news_fit_name (n ∷ ns) one (inr h) = news_fit_name ns one h
+-- all that is found is as it should be
+abbrev AllFit : (Found → Type 0) → List Item → List Item → List Found → Type 0
+AllFit P ls ns f = (one : Found) → IsAmong f one → P one
 
-news_fit_digest : (ns : List Item) (one : Found) → IsAmong (map New ns) one → FitsDigest one
-news_fit_digest [] one h = absurd h
-news_fit_digest (n ∷ ns) one (inl e) = subst FitsDigest e tt
-news_fit_digest (n ∷ ns) one (inr h) = news_fit_digest ns one h
-
-first_or_behind : (P : Found → Type 0) (x : Found) (f : List Found) → P x → ((one : Found) → IsAmong f one → P one)
+more : (P : Found → Type 0) (x : Found) (f : List Found) → P x → ((one : Found) → IsAmong f one → P one)
     → (one : Found) → IsAmong (x ∷ f) one → P one
-first_or_behind P x f here behind one (inl e) = subst P e here
-first_or_behind P x f here behind one (inr h) = behind one h
+more P x f here behind one (inl e) = subst P e here
+more P x f here behind one (inr h) = behind one h
 
-pair_fits_name : (l n : Item) → compare_names l n ≡ Equal → FitsName (paired Name l n)
-pair_fits_name l n e =
-    pair_by_name FitsName l n
-    (λ same. items_same l n (names_exact l n e) (digests_exact l n (eq_true (compare_digests l n) same)))
-    (λ other. (names_exact l n e, λ digest. eq_false (compare_digests l n) other (digests_tied l n digest)))
+met_fits : (l n : Item) → compare_lines l n ≡ Equal → FitsName (met l n)
+met_fits l n e =
+    met_is FitsName l n
+    (λ same. (lines_exact l n e, digests_exact l n (eq_true (compare_digests l n) same)))
+    (λ other. (lines_exact l n e, λ digest. eq_false (compare_digests l n) other (digests_tied l n digest)))
 
-pub all_fit_name : (ls ns : List Item) (one : Found) → IsAmong (merged Name ls ns) one → FitsName one
-all_fit_name = by_turns Name (λ ls ns f. (one : Found) → IsAmong f one → FitsName one)
-    news_fit_name
-    (λ l ls f _ ih. first_or_behind FitsName (Missing l) f tt ih)
-    (λ l n ls ns f e _ ih. first_or_behind FitsName (Missing l) f tt ih)
-    (λ l n ls ns f e _ ih. first_or_behind FitsName (paired Name l n) f (pair_fits_name l n e) ih)
-    (λ l n ls ns f e _ ih. first_or_behind FitsName (New n) f tt ih)
+pub all_fit_name : (ls ns : List Item) (one : Found) → IsAmong (compared ls ns) one → FitsName one
+all_fit_name ls ns =
+    (by_founds met met_pair compare_lines (AllFit FitsName) (λ one h. absurd h)
+    (λ l ls f _ ih. more FitsName (Missing l) f tt ih)
+    (λ n ns f _ ih. more FitsName (New n) f tt ih)
+    (λ l n ls ns f e _ ih. more FitsName (Missing l) f tt ih)
+    (λ l n ls ns f e _ ih. more FitsName (met l n) f (met_fits l n e) ih)
+    (λ l n ls ns f e _ ih. more FitsName (New n) f tt ih) ls ns).1
 
-pub all_fit_digest : (ls ns : List Item) (one : Found) → IsAmong (merged Digest ls ns) one → FitsDigest one
-all_fit_digest = by_turns Digest (λ ls ns f. (one : Found) → IsAmong f one → FitsDigest one)
-    news_fit_digest
-    (λ l ls f _ ih. first_or_behind FitsDigest (Missing l) f tt ih)
-    (λ l n ls ns f e _ ih. first_or_behind FitsDigest (Missing l) f tt ih)
-    (λ l n ls ns f e _ ih. first_or_behind FitsDigest (Moved l n) f (digests_exact l n e) ih)
-    (λ l n ls ns f e _ ih. first_or_behind FitsDigest (New n) f tt ih)
+pub all_fit_digest : (ls ns : List Item) (one : Found) → IsAmong (moved ls ns) one → FitsDigest one
+all_fit_digest ls ns =
+    (by_founds Moved moved_pair compare_digests (AllFit FitsDigest) (λ one h. absurd h)
+    (λ l ls f _ ih. more FitsDigest (Missing l) f tt ih)
+    (λ n ns f _ ih. more FitsDigest (New n) f tt ih)
+    (λ l n ls ns f e _ ih. more FitsDigest (Missing l) f tt ih)
+    (λ l n ls ns f e _ ih. more FitsDigest (Moved l n) f (digests_exact l n e) ih)
+    (λ l n ls ns f e _ ih. more FitsDigest (New n) f tt ih) ls ns).1
 
 -- ---- no partner is left
-
--- no digest is less than one before it
-abbrev pub Climbs : List Item → Type 0
-Climbs [] = Unit {0}
-Climbs (x ∷ xs) = ((y : Item) → IsAmong xs y → is_lt (compare_digests y x) ≡ false) × Climbs xs
 
 not_less_first : (o p : Ordering) → is_lt (ordering_then o p) ≡ false → is_lt o ≡ false
 not_less_first Less p e = e
 not_less_first Equal p e = refl
 not_less_first Greater p e = refl
 
-pub climbs : (xs : List Item) → Ascends Digest xs → Climbs xs
+-- no digest is less than one before it
+pub climbs : (xs : List Item) → Ascends rank_digests xs → Ascends compare_digests xs
 climbs [] up = tt
 climbs (x ∷ xs) up =
-    (λ y h. not_less_first (compare_digests y x) (compare_names y x) (up.0 y h), climbs xs up.1)
+    (λ y h. not_less_first (compare_digests y x) (rank_lines y x) (up.0 y h), climbs xs up.1)
 
 abbrev pub AreApart : List Item → List Item → List Found → Type 0
 AreApart ls ns f =
-    Climbs ls → Climbs ns → (l n : Item) → IsAmong (missing_in f) l → IsAmong (new_in f) n → HasSameDigest l n → ⊥
+    Ascends compare_digests ls → Ascends compare_digests ns → (l n : Item) → IsAmong (missing_in f) l → IsAmong (new_in f) n
+    → HasSameDigest l n → ⊥
 
 -- a digest less than the first of digests that climb is none of them
-below : (a b : Item) (bs : List Item) → compare_digests a b ≡ Less → Climbs (b ∷ bs) → (x : Item) → IsAmong (b ∷ bs) x
-    → compare_digests a x ≡ Less
+below : (a b : Item) (bs : List Item) → compare_digests a b ≡ Less → Ascends compare_digests (b ∷ bs) → (x : Item)
+    → IsAmong (b ∷ bs) x → compare_digests a x ≡ Less
 below a b bs e up x (inl same) = subst (λ y. compare_digests a y ≡ Less) same e
 below a b bs e up x (inr there) = less_upto compare_digests digests_total a b x e (up.0 x there)
 
@@ -117,10 +112,12 @@ greater l n ls ns f e all ih = λ up up' x y h k same.
       | inr there ↦ ih up up'.1 x y h there same
     ]
 
-pub all_apart : (ls ns : List Item) → AreApart ls ns (merged Digest ls ns)
-all_apart = by_turns Digest AreApart
-    (λ ns up up' l n h k same. none_missing ns l h)
-    (λ l ls f all ih up up' x n h k same. new_name [] f all.names n k)
+pub all_apart : (ls ns : List Item) → AreApart ls ns (moved ls ns)
+all_apart ls ns =
+    (by_founds Moved moved_pair compare_digests AreApart
+    (λ up up' l n h k same. absurd h)
+    (λ l ls f all ih up up' x n h k same. absurd (new_name [] f all.names n k))
+    (λ n ns f all ih up up' l x h k same. absurd (missing_line [] f all.lines l h))
     less
     (λ l n ls ns f e all ih up up' x y h k same. ih up.1 up'.1 x y h k same)
-    greater
+    greater ls ns).1

@@ -1,10 +1,16 @@
 pub mod OrderFacts
 pub mod AmongFacts
+pub mod BareFacts
 pub mod UniqueFacts
-pub mod MergeFacts
+pub mod SortFacts
+pub mod TurnFacts
+pub mod FoundFacts
 pub mod SideFacts
 pub mod DigestFacts
+pub mod CopyFacts
+pub mod SearchFacts
 pub mod TwiceFacts
 pub mod AuditFacts
+pub mod EqualFacts
 pub mod CountFacts
 pub mod PartFacts

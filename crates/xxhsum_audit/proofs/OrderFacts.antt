@@ -1,5 +1,5 @@
--- The orders are total, and tell all items apart.
-use Rattle.std.proofs.Common.{◌≡◌, ℕ, true, false, nat_eq, refl, sym, ap, subst, ◌∙◌, if◌then◌else◌}
+-- The orders are total, and tell apart what they compare.
+use Rattle.std.proofs.Common.{◌≡◌, ℕ, true, false, List, nat_eq, refl, sym, ap, subst, ◌∙◌, if◌then◌else◌}
 use Rattle.std.proofs.lemmas.Cmp.{nat_cmp_total, nat_list_cmp_total, on_total, then_total, tied_itself, alike_right}
 use Rattle.std.proofs.lemmas.Map.Lookups.{exact_bytes, exact_unsigned}
 use Rattle.std.specs.Cmp.{IsTotalOrder}
@@ -9,24 +9,30 @@ use Rattle.std.specs.declared.cmp.Ordering.TheVariants.{Less, Equal, Greater}
 use Rattle.std.specs.Ordering.{is_eq, is_lt, nat_cmp, ordering_reverse, ordering_then}
 use Rattle.xxh_io.specs.declared.kind.Kind.{Kind}
 use Rattle.xxh_io.specs.declared.kind.Kind.TheVariants.{X32, X64, X3_64, X3_128}
-use Rattle.xxhsum_audit.specs.declared.order.By.{By}
-use Rattle.xxhsum_audit.specs.declared.order.By.TheVariants.{Name, Digest}
-use Rattle.xxhsum_audit.specs.Item.{HasSameDigest, Item, Says, kind_of, name_of, value_of}
-use Rattle.xxhsum_audit.specs.Order.{compare_all, compare_digests, compare_names, rank_of}
+use Rattle.xxhsum_audit.specs.Item.{HasSameDigest, Item, Says, bare, kind_of, name_of, path_of, value_of}
+use Rattle.xxhsum_audit.specs.Order.{compare_digests, compare_lines, compare_paths, rank_digests, rank_lines, rank_names, rank_of}
 
-pub names_total : IsTotalOrder compare_names
-names_total = on_total name_of nat_list_cmp_total
+pub paths_total : IsTotalOrder compare_paths
+paths_total = on_total bare nat_list_cmp_total
+
+pub names_total : IsTotalOrder rank_names
+names_total = then_total paths_total nat_list_cmp_total
+
+pub lines_total : IsTotalOrder compare_lines
+lines_total = on_total name_of paths_total
+
+pub ranks_total : IsTotalOrder rank_lines
+ranks_total = on_total name_of names_total
 
 pub digests_total : IsTotalOrder compare_digests
 digests_total = then_total (on_total (λ (item : Item). rank_of (kind_of item)) nat_cmp_total) (on_total value_of nat_cmp_total)
 
-pub all_total : (by : By) → IsTotalOrder (compare_all by)
-all_total Name = then_total names_total digests_total
-all_total Digest = then_total digests_total names_total
+pub all_total : IsTotalOrder rank_digests
+all_total = then_total digests_total ranks_total
 
 -- ---- ties
 
-then_equal : (o p : Ordering) → ordering_then o p ≡ Equal → (o ≡ Equal) × (p ≡ Equal)
+pub then_equal : (o p : Ordering) → ordering_then o p ≡ Equal → (o ≡ Equal) × (p ≡ Equal)
 then_equal Less p e = let no : ⊥ = cc in absurd no
 then_equal Equal p e = (refl, e)
 then_equal Greater p e = let no : ⊥ = cc in absurd no
@@ -44,31 +50,32 @@ at_rank X3_128 = refl
 rank_exact : (a b : Kind) → rank_of a ≡ rank_of b → a ≡ b
 rank_exact a b e = sym (at_rank a) ∙ ap kind_at e ∙ at_rank b
 
-pub names_exact : (a b : Item) → compare_names a b ≡ Equal → name_of a ≡ name_of b
-names_exact a b e = exact_bytes (name_of a) (name_of b) e
+pub paths_exact : (a b : List ℕ) → compare_paths a b ≡ Equal → bare a ≡ bare b
+paths_exact a b e = exact_bytes (bare a) (bare b) e
+
+pub lines_exact : (a b : Item) → compare_lines a b ≡ Equal → path_of a ≡ path_of b
+lines_exact a b e = paths_exact (name_of a) (name_of b) e
 
 pub digests_exact : (a b : Item) → compare_digests a b ≡ Equal → HasSameDigest a b
 digests_exact a b e =
     let both = then_equal (nat_cmp (rank_of (kind_of a)) (rank_of (kind_of b))) (nat_cmp (value_of a) (value_of b)) e in
     (rank_exact (kind_of a) (kind_of b) (exact_unsigned _ _ both.0), exact_unsigned _ _ both.1)
 
-pub items_same : (a b : Item) → name_of a ≡ name_of b → HasSameDigest a b → a ≡ b
+items_same : (a b : Item) → name_of a ≡ name_of b → HasSameDigest a b → a ≡ b
 items_same (Says n k v) (Says n' k' v') e d =
     let names : n ≡ n' = e in
     let kinds : k ≡ k' = d.0 in
     let values : v ≡ v' = d.1 in
     cc
 
-pub all_exact : (by : By) (a b : Item) → compare_all by a b ≡ Equal → a ≡ b
-all_exact Name a b e =
-    let both = then_equal (compare_names a b) (compare_digests a b) e in
-    items_same a b (names_exact a b both.0) (digests_exact a b both.1)
-all_exact Digest a b e =
-    let both = then_equal (compare_digests a b) (compare_names a b) e in
-    items_same a b (names_exact a b both.1) (digests_exact a b both.0)
+pub all_exact : (a b : Item) → rank_digests a b ≡ Equal → a ≡ b
+all_exact a b e =
+    let both = then_equal (compare_digests a b) (rank_lines a b) e in
+    let names = then_equal (compare_lines a b) (slice_cmp nat_cmp (name_of a) (name_of b)) both.1 in
+    items_same a b (exact_bytes (name_of a) (name_of b) names.1) (digests_exact a b both.0)
 
-pub names_tied : (a b : Item) → name_of a ≡ name_of b → compare_names a b ≡ Equal
-names_tied a b e = subst (λ x. slice_cmp nat_cmp (name_of a) x ≡ Equal) e (tied_itself nat_list_cmp_total (name_of a))
+pub paths_tied : (a b : List ℕ) → bare a ≡ bare b → compare_paths a b ≡ Equal
+paths_tied a b e = subst (λ x. slice_cmp nat_cmp (bare a) x ≡ Equal) e (tied_itself nat_list_cmp_total (bare a))
 
 pub digests_tied : (a b : Item) → HasSameDigest a b → compare_digests a b ≡ Equal
 digests_tied (Says n k v) (Says n' k' v') d =
@@ -92,6 +99,9 @@ less_upto R order x y z less low = step R order x y z less (R z y) refl low
 
 pub back : {K : Type 0} (R : K → K → Ordering) (order : IsTotalOrder R) (x y : K) → R x y ≡ Greater → R y x ≡ Less
 back R order x y e = order.antisymm y x ∙ ap ordering_reverse e
+
+pub ahead : {K : Type 0} (R : K → K → Ordering) (order : IsTotalOrder R) (x y : K) → R x y ≡ Less → R y x ≡ Greater
+ahead R order x y e = order.antisymm y x ∙ ap ordering_reverse e
 
 -- ---- what a test says
 

@@ -1,16 +1,14 @@
 -- What stands alone side by side has no partner.
-use Rattle.std.proofs.Common.{◌≡◌, ◌≢◌, List, [], ◌∷◌, ◌++◌, map, append-nil, refl, sym, ap, subst, ◌∙◌, inl, inr}
+use Rattle.std.proofs.Common.{◌≡◌, ◌≢◌, ℕ, List, [], ◌∷◌, ◌++◌, append-nil, refl, sym, ap, subst, ◌∙◌, inl, inr}
 use Rattle.std.specs.List.{flat_map}
 use Rattle.std.specs.declared.cmp.Ordering.TheVariants.{Less, Equal, Greater}
 use Rattle.xxhsum_audit.proofs.AmongFacts.{among_either, among_left, among_right}
-use Rattle.xxhsum_audit.proofs.MergeFacts.{Covers, by_turns, pair_by_name}
-use Rattle.xxhsum_audit.proofs.OrderFacts.{back, names_exact, names_tied, names_total}
-use Rattle.xxhsum_audit.specs.declared.order.By.{By}
-use Rattle.xxhsum_audit.specs.declared.order.By.TheVariants.{Name, Digest}
-use Rattle.xxhsum_audit.specs.Audit.{missing_in, missing_one, new_in, new_one, settled_one}
-use Rattle.xxhsum_audit.specs.Item.{IsAmong, Item, LacksName, name_of}
-use Rattle.xxhsum_audit.specs.Merge.{Changed, Found, Missing, Moved, New, Same, line_in, lines_in, merged, name_in, names_in, paired}
-use Rattle.xxhsum_audit.specs.Order.{compare_names}
+use Rattle.xxhsum_audit.proofs.FoundFacts.{Covers, by_founds, met_is, met_pair}
+use Rattle.xxhsum_audit.proofs.OrderFacts.{back, lines_exact, lines_total, paths_tied}
+use Rattle.xxhsum_audit.specs.Audit.{compared, missing_in, missing_one, new_in, new_one, settled_one}
+use Rattle.xxhsum_audit.specs.Found.{Changed, Copied, Found, Missing, Moved, New, Same, line_in, lines_in, met, name_in, names_in}
+use Rattle.xxhsum_audit.specs.Item.{IsAmong, Item, LacksPath, name_of, path_of}
+use Rattle.xxhsum_audit.specs.Order.{Rises, compare_lines}
 
 -- ---- a side of what is found: the lines, or the names, and those of them that stand alone
 
@@ -22,6 +20,7 @@ pub side_of_lines : IsSide line_in missing_one
 side_of_lines (Same l n) = (refl, refl)
 side_of_lines (Changed l n) = (refl, refl)
 side_of_lines (Moved l n) = (refl, refl)
+side_of_lines (Copied o n) = (refl, refl)
 side_of_lines (New n) = (refl, refl)
 side_of_lines (Missing l) = (refl, refl)
 
@@ -29,6 +28,7 @@ pub side_of_names : IsSide name_in new_one
 side_of_names (Same l n) = (refl, refl)
 side_of_names (Changed l n) = (refl, refl)
 side_of_names (Moved l n) = (refl, refl)
+side_of_names (Copied o n) = (refl, refl)
 side_of_names (New n) = (refl, refl)
 side_of_names (Missing l) = (refl, refl)
 
@@ -50,106 +50,99 @@ missing_line ls f all l h = subst (λ x. IsAmong x l) all (alone_is line_in miss
 pub new_name : (ns : List Item) (f : List Found) → names_in f ≡ ns → (n : Item) → IsAmong (new_in f) n → IsAmong ns n
 new_name ns f all n h = subst (λ x. IsAmong x n) all (alone_is name_in new_one side_of_names f n h)
 
-pub none_missing : (ns : List Item) (l : Item) → IsAmong (missing_in (map New ns)) l → ⊥
-none_missing [] l h = h
-none_missing (n ∷ ns) l h = none_missing ns l h
-
-pair_settled : (by : By) (l n : Item) → settled_one (paired by l n) ≡ paired by l n ∷ []
-pair_settled Name l n = pair_by_name (λ f. settled_one f ≡ f ∷ []) l n (λ e. refl) (λ e. refl)
-pair_settled Digest l n = refl
-
 -- nothing of a pair stands alone
-past_pair : (of alone : Found → List Item) → IsSide of alone → (by : By) (l n : Item) (f : List Found) (x : Item)
-    → IsAmong (flat_map alone (paired by l n ∷ f)) x → IsAmong (flat_map alone f) x
-past_pair of alone side by l n f x h =
-    let pair = paired by l n in
-    let none : alone pair ≡ [] =
-    sym (append-nil (alone pair)) ∙ ap (flat_map alone) (sym (pair_settled by l n)) ∙ (side pair).1 in
-    subst (λ o. IsAmong (o ++ flat_map alone f) x) none h
+past_missing : (l n : Item) (f : List Found) (x : Item) → IsAmong (missing_in (met l n ∷ f)) x → IsAmong (missing_in f) x
+past_missing l n f x h =
+    subst (λ o. IsAmong (o ++ missing_in f) x) (met_is (λ m. missing_one m ≡ []) l n (λ e. refl) (λ e. refl)) h
+
+past_new : (l n : Item) (f : List Found) (x : Item) → IsAmong (new_in (met l n ∷ f)) x → IsAmong (new_in f) x
+past_new l n f x h =
+    subst (λ o. IsAmong (o ++ new_in f) x) (met_is (λ m. new_one m ≡ []) l n (λ e. refl) (λ e. refl)) h
 
 -- ---- by name
 
--- each name is less than those behind it
-abbrev pub Rises : List Item → Type 0
-Rises [] = Unit {0}
-Rises (x ∷ xs) = ((y : Item) → IsAmong xs y → compare_names x y ≡ Less) × Rises xs
+-- a lesser name leads elsewhere
+pub not_less : (a b : Item) → compare_lines a b ≡ Less → path_of a ≢ path_of b
+not_less a b less e = let tied = paths_tied (name_of a) (name_of b) e in let no : ⊥ = cc in no
 
--- a lesser name is another
-not_less : (a b : Item) → compare_names a b ≡ Less → name_of a ≢ name_of b
-not_less a b less e = let tied = names_tied a b e in let no : ⊥ = cc in no
-
--- a name less than the first of names that rise is none of them
-lower : (a b : Item) (bs : List Item) → compare_names a b ≡ Less → Rises (b ∷ bs) → LacksName (b ∷ bs) (name_of a)
+-- a name less than the first of names that rise leads where none of them does
+lower : (a b : Item) (bs : List Item) → compare_lines a b ≡ Less → Rises compare_lines (b ∷ bs) → LacksPath (b ∷ bs) (path_of a)
 lower a b bs e up item h =
     elim h [
-      | inl same ↦ λ eq. not_less a b e (sym (ap name_of same ∙ eq))
-      | inr there ↦ λ eq. not_less a item (names_total.trans a b item e (up.0 item there)) (sym eq)
+      | inl same ↦ λ eq. not_less a b e (sym (ap path_of same ∙ eq))
+      | inr there ↦ λ eq. not_less a item (lines_total.trans a b item e (up.0 item there)) (sym eq)
     ]
 
 -- what is known of lines and names as far as they are put side by side
 pub record ByNames (ls ns : List Item) (f : List Found) : Type 0 where
-  pub missing : Rises ls → Rises ns → (l : Item) → IsAmong (missing_in f) l → LacksName ns (name_of l)
-  pub new : Rises ls → Rises ns → (n : Item) → IsAmong (new_in f) n → LacksName ls (name_of n)
+  pub missing : Rises compare_lines ls → Rises compare_lines ns → (l : Item) → IsAmong (missing_in f) l → LacksPath ns (path_of l)
+  pub new : Rises compare_lines ls → Rises compare_lines ns → (n : Item) → IsAmong (new_in f) n → LacksPath ls (path_of n)
 
-news : (ns : List Item) → ByNames [] ns (map New ns)
-news ns = record { missing = λ up up' l h. absurd (none_missing ns l h); new = λ up up' n h item none. absurd none }
+none : ByNames [] [] []
+none = record { missing = λ up up' l h. absurd h; new = λ up up' n h. absurd h }
 
-past : (l : Item) (ls : List Item) (f : List Found) → Covers ls [] f → ByNames ls [] f → ByNames (l ∷ ls) [] (Missing l ∷ f)
-past l ls f all ih = record {
+past_line : (l : Item) (ls : List Item) (f : List Found) → Covers ls [] f → ByNames ls [] f → ByNames (l ∷ ls) [] (Missing l ∷ f)
+past_line l ls f all ih = record {
   missing = λ up up' x h item none. absurd none;
   new = λ up up' n h. absurd (new_name [] f all.names n h);
 }
 
-less : (l n : Item) (ls ns : List Item) (f : List Found) → compare_names l n ≡ Less → Covers ls (n ∷ ns) f → ByNames ls (n ∷ ns) f
+past_name : (n : Item) (ns : List Item) (f : List Found) → Covers [] ns f → ByNames [] ns f → ByNames [] (n ∷ ns) (New n ∷ f)
+past_name n ns f all ih = record {
+  missing = λ up up' x h. absurd (missing_line [] f all.lines x h);
+  new = λ up up' x h item none. absurd none;
+}
+
+less : (l n : Item) (ls ns : List Item) (f : List Found) → compare_lines l n ≡ Less → Covers ls (n ∷ ns) f → ByNames ls (n ∷ ns) f
     → ByNames (l ∷ ls) (n ∷ ns) (Missing l ∷ f)
 less l n ls ns f e all ih = record {
   missing = λ up up' x h.
       elim h [
-        | inl same ↦ subst (λ y. LacksName (n ∷ ns) (name_of y)) same (lower l n ns e up')
+        | inl same ↦ subst (λ y. LacksPath (n ∷ ns) (path_of y)) same (lower l n ns e up')
         | inr k ↦ ih.missing up.1 up' x k
       ];
   new = λ up up' x h item k.
       elim k [
-        | inl same ↦ λ eq. lower l n ns e up' x (new_name (n ∷ ns) f all.names x h) (sym eq ∙ ap name_of (sym same))
+        | inl same ↦ λ eq. lower l n ns e up' x (new_name (n ∷ ns) f all.names x h) (sym eq ∙ ap path_of (sym same))
         | inr there ↦ ih.new up.1 up' x h item there
       ];
 }
 
-equal : (l n : Item) (ls ns : List Item) (f : List Found) → compare_names l n ≡ Equal → Covers ls ns f → ByNames ls ns f
-    → ByNames (l ∷ ls) (n ∷ ns) (paired Name l n ∷ f)
+equal : (l n : Item) (ls ns : List Item) (f : List Found) → compare_lines l n ≡ Equal → Covers ls ns f → ByNames ls ns f
+    → ByNames (l ∷ ls) (n ∷ ns) (met l n ∷ f)
 equal l n ls ns f e all ih = record {
   missing = λ up up' x h item k.
-      let there = past_pair line_in missing_one side_of_lines Name l n f x h in
+      let there = past_missing l n f x h in
       elim k [
         | inl same ↦ λ eq. not_less l x (up.0 x (missing_line ls f all.lines x there))
-            (names_exact l n e ∙ ap name_of same ∙ eq)
+            (lines_exact l n e ∙ ap path_of same ∙ eq)
         | inr behind ↦ ih.missing up.1 up'.1 x there item behind
       ];
   new = λ up up' x h item k.
-      let there = past_pair name_in new_one side_of_names Name l n f x h in
+      let there = past_new l n f x h in
       elim k [
         | inl same ↦ λ eq. not_less n x (up'.0 x (new_name ns f all.names x there))
-            (sym (names_exact l n e) ∙ ap name_of same ∙ eq)
+            (sym (lines_exact l n e) ∙ ap path_of same ∙ eq)
         | inr behind ↦ ih.new up.1 up'.1 x there item behind
       ];
 }
 
-greater : (l n : Item) (ls ns : List Item) (f : List Found) → compare_names l n ≡ Greater → Covers (l ∷ ls) ns f → ByNames (l ∷ ls) ns f
+greater : (l n : Item) (ls ns : List Item) (f : List Found) → compare_lines l n ≡ Greater → Covers (l ∷ ls) ns f → ByNames (l ∷ ls) ns f
     → ByNames (l ∷ ls) (n ∷ ns) (New n ∷ f)
 greater l n ls ns f e all ih = record {
   missing = λ up up' x h item k.
       elim k [
-        | inl same ↦ λ eq. lower n l ls (back compare_names names_total l n e) up x (missing_line (l ∷ ls) f all.lines x h)
-            (sym eq ∙ ap name_of (sym same))
+        | inl same ↦ λ eq. lower n l ls (back compare_lines lines_total l n e) up x (missing_line (l ∷ ls) f all.lines x h)
+            (sym eq ∙ ap path_of (sym same))
         | inr there ↦ ih.missing up up'.1 x h item there
       ];
   new = λ up up' x h.
       elim h [
-        | inl same ↦ subst (λ y. LacksName (l ∷ ls) (name_of y)) same
-            (lower n l ls (back compare_names names_total l n e) up)
+        | inl same ↦ subst (λ y. LacksPath (l ∷ ls) (path_of y)) same
+            (lower n l ls (back compare_lines lines_total l n e) up)
         | inr k ↦ ih.new up up'.1 x k
       ];
 }
 
-pub by_names : (ls ns : List Item) → ByNames ls ns (merged Name ls ns)
-by_names = by_turns Name ByNames news past less equal greater
+pub by_names : (ls ns : List Item) → ByNames ls ns (compared ls ns)
+by_names ls ns = (by_founds met met_pair compare_lines ByNames none past_line past_name less equal greater ls ns).1

@@ -1,71 +1,107 @@
 -- An audit: what became of the lines of a list and of the names that are there.
-use Rattle.std.specs.Prelude.{ℕ, ◌≡◌, List, [], ◌∷◌, ◌++◌, None}
+use Rattle.std.specs.Prelude.{ℕ, ◌≡◌, List, [], ◌∷◌, ◌++◌, Option, Some, None, map, if◌then◌else◌}
 use Rattle.std.specs.List.{flat_map}
 use Rattle.std.specs.List.Sorted.{IsPermutation}
-use Rattle.xxhsum_audit.specs.declared.audit.AuditError.{AuditError}
-use Rattle.xxhsum_audit.specs.declared.audit.AuditError.TheVariants.{LineTwice, NameTwice, OutOfMemory}
-use Rattle.xxhsum_audit.specs.declared.order.By.TheVariants.{Name, Digest}
-use Rattle.xxhsum_audit.specs.Item.{Item, name_of}
-use Rattle.xxhsum_audit.specs.Merge.{Changed, Found, Missing, Moved, New, Same, merged}
-use Rattle.xxhsum_audit.specs.Order.{IsOrder, clash_in}
+use Rattle.std.specs.Ordering.{is_eq}
+use Rattle.xxhsum_audit.specs.declared.side.Side.{Side}
+use Rattle.xxhsum_audit.specs.declared.side.Side.TheVariants.{Line, Name, Both}
+use Rattle.xxhsum_audit.specs.Found.{Copied, Found, Missing, Moved, New, Same, met}
+use Rattle.xxhsum_audit.specs.Item.{Item, path_of}
+use Rattle.xxhsum_audit.specs.Order.{IsOrder, Rises, compare_digests, compare_lines, rank_digests}
+use Rattle.xxhsum_audit.specs.Side.{beside}
+
+-- ---- side by side
+
+-- what became of a side, by what becomes of a line and a name
+abbrev pub as_found : (Item → Item → Found) → Side Item Item → Found
+as_found pair (Line line) = Missing line
+as_found pair (Name name) = New name
+as_found pair (Both line name) = pair line name
+
+-- lines and names by where they lead
+abbrev pub compared : List Item → List Item → List Found
+compared lines names = map (as_found met) (beside compare_lines lines names)
+
+-- lines that are gone, and names that have come, by their digests
+abbrev pub moved : List Item → List Item → List Found
+moved gone come = map (as_found Moved) (beside compare_digests gone come)
+
+-- ---- the classes
 
 abbrev pub missing_one : Found → List Item
 missing_one (Missing line) = line ∷ []
-missing_one (Same line name) = []
-missing_one (Changed line name) = []
-missing_one (Moved line name) = []
-missing_one (New name) = []
+missing_one found = []
 
+-- a name that no line has, and that no line was moved to
 abbrev pub new_one : Found → List Item
 new_one (New name) = name ∷ []
-new_one (Same line name) = []
-new_one (Changed line name) = []
-new_one (Moved line name) = []
-new_one (Missing line) = []
+new_one (Copied first name) = name ∷ []
+new_one found = []
+
+abbrev pub same_one : Found → List Item
+same_one (Same line name) = name ∷ []
+same_one found = []
 
 abbrev pub settled_one : Found → List Found
+settled_one (Copied first name) = []
 settled_one (New name) = []
 settled_one (Missing line) = []
-settled_one (Same line name) = Same line name ∷ []
-settled_one (Changed line name) = Changed line name ∷ []
-settled_one (Moved line name) = Moved line name ∷ []
+settled_one found = found ∷ []
 
--- the lines that are missing, the names that are new, and what is neither
+-- the lines that are missing, the names that are new or copies, the files that stayed, and what is settled by its names
 abbrev pub missing_in : List Found → List Item
 missing_in found = flat_map missing_one found
 
 abbrev pub new_in : List Found → List Item
 new_in found = flat_map new_one found
 
+abbrev pub same_in : List Found → List Item
+same_in found = flat_map same_one found
+
 abbrev pub settled_in : List Found → List Found
 settled_in found = flat_map settled_one found
 
--- where it is known what stands in both by name, the rest is put side by side by the digests
-pub record HasMoves (first found : List Found) : Type 0 where
-  pub gone : List Item
-  pub come : List Item
-  pub gone_in_order : IsOrder Digest (missing_in first) gone
-  pub come_in_order : IsOrder Digest (new_in first) come
-  pub is : found ≡ settled_in first ++ merged Digest gone come
+-- ---- copies
 
--- The lines and the names are put in order, and side by side by name: no two lines have one name, and no two names
--- are equal.
+-- the first of these that has the digest of the name
+abbrev pub original : List Item → Item → Option Item
+original [] name = None
+original (first ∷ kept) name = if is_eq (compare_digests first name) then Some first else original kept name
+
+abbrev pub copied : Option Item → Item → Found
+copied None name = New name
+copied (Some first) name = Copied first name
+
+-- a new name is a copy of the first file that stayed and has its digest
+abbrev pub with_copy : List Item → Found → Found
+with_copy kept (New name) = copied (original kept name) name
+with_copy kept found = found
+
+-- ---- an audit
+
+-- where it is known what stands in both, the rest is put side by side by the digests, and copies are found
+pub record HasMoves (settled : List Found) (gone come : List Item) (found : List Found) : Type 0 where
+  pub kept : List Item
+  pub gone_ordered : List Item
+  pub come_ordered : List Item
+  pub kept_in_order : IsOrder rank_digests (same_in settled) kept
+  pub gone_in_order : IsOrder rank_digests gone gone_ordered
+  pub come_in_order : IsOrder rank_digests come come_ordered
+  pub is : found ≡ settled ++ map (with_copy kept) (moved gone_ordered come_ordered)
+
+-- The lines and the names are put in order and side by side, by where they lead: no two lines lead to one place, and no
+-- two names do.
 pub record IsAudit (lines names : List Item) (found : List Found) : Type 0 where
   pub ordered_lines : List Item
   pub ordered_names : List Item
-  pub lines_in_order : IsOrder Name lines ordered_lines
-  pub names_in_order : IsOrder Name names ordered_names
-  pub no_line_twice : clash_in ordered_lines ≡ None
-  pub no_name_twice : clash_in ordered_names ≡ None
-  pub moves : HasMoves (merged Name ordered_lines ordered_names) found
+  pub lines_same : IsPermutation lines ordered_lines
+  pub names_same : IsPermutation names ordered_names
+  pub lines_rise : Rises compare_lines ordered_lines
+  pub names_rise : Rises compare_lines ordered_names
+  pub moves : HasMoves (settled_in (compared ordered_lines ordered_names))
+      (missing_in (compared ordered_lines ordered_names)) (new_in (compared ordered_lines ordered_names)) found
 
--- two of the items have the name
+-- the names of two of the items lead there
 abbrev pub IsTwice : List Item → List ℕ → Type 0
-IsTwice items name =
-    (a b : Item) × (rest : List Item) × IsPermutation items (a ∷ b ∷ rest) × (name_of a ≡ name) × (name_of b ≡ name)
-
--- why there is no audit
-abbrev pub Refuses : List Item → List Item → AuditError → Type 0
-Refuses lines names (LineTwice name) = IsTwice lines name.now
-Refuses lines names (NameTwice name) = IsTwice names name.now
-Refuses lines names OutOfMemory = Unit {0}
+IsTwice items path =
+    (a b : Item) × (rest : List Item) × IsPermutation items (a ∷ b ∷ rest) × (path_of a ≡ path) × (path_of b ≡ path)

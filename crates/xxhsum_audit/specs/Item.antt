@@ -1,7 +1,9 @@
--- What an entry says: a name, and a value of a kind.
-use Rattle.std.specs.Prelude.{ℕ, ◌≡◌, ◌≢◌, ◌⊎◌, List, [], ◌∷◌, map}
+-- What the digest of a file says: a name, and a value of an algorithm.
+use Rattle.std.specs.Prelude.{ℕ, ◌≡◌, ◌≢◌, ◌⊎◌, Bool, List, [], ◌∷◌, codes, map, nat_eq, take, if◌then◌else◌}
+use Rattle.std.specs.Borrow.{Bor}
+use Rattle.std.specs.Cmp.Lexicographic.{pointwise}
 use Rattle.xxh_io.specs.declared.kind.Kind.{Kind}
-use Rattle.xxhsum_audit.specs.declared.entry.Entry.{Entry}
+use Rattle.xxhsum_audit.specs.declared.digest.FileDigest.{FileDigest}
 
 pub data Item : Type 0 where
   Says : List ℕ → Kind → ℕ → Item
@@ -15,21 +17,44 @@ kind_of (Says name kind value) = kind
 abbrev pub value_of : Item → ℕ
 value_of (Says name kind value) = value
 
-abbrev pub item_of : Entry → Item
-item_of entry = Says entry.name.now entry.kind entry.value
+abbrev pub names_of : List Item → List (List ℕ)
+names_of items = map name_of items
 
-abbrev pub items_of : List Entry → List Item
-items_of entries = map item_of entries
+abbrev pub item_of : FileDigest → Item
+item_of one = Says one.name.now one.kind one.value
+
+abbrev pub items_of : List FileDigest → List Item
+items_of digests = map item_of digests
+
+-- the bytes of texts that are lent
+abbrev pub texts_of : List (Bor (List ℕ)) → List (List ℕ)
+texts_of texts = map (λ text. text.now) texts
+
+-- ---- where a name leads
+
+abbrev pub is_dotted : List ℕ → Bool
+is_dotted name = pointwise nat_eq (take 2 name) (codes "./")
+
+-- a `./` at the beginning counts for nothing, however often it stands there
+unfoldable pub bare : List ℕ → List ℕ
+bare [] = []
+bare (c ∷ []) = c ∷ []
+bare (c ∷ d ∷ name) = if is_dotted (c ∷ d ∷ name) then bare name else c ∷ d ∷ name
+
+abbrev pub path_of : Item → List ℕ
+path_of item = bare (name_of item)
+
+-- ---- items of a list
 
 -- it is one of these
 abbrev pub IsAmong : {X : Type 0} → List X → X → Type 0
 IsAmong [] x = ⊥
 IsAmong (first ∷ xs) x = (first ≡ x) ⊎ IsAmong xs x
 
--- none of these has the name
-abbrev pub LacksName : List Item → List ℕ → Type 0
-LacksName items name = (item : Item) → IsAmong items item → name_of item ≢ name
+-- no name of these leads there
+abbrev pub LacksPath : List Item → List ℕ → Type 0
+LacksPath items path = (item : Item) → IsAmong items item → path_of item ≢ path
 
--- the same value of the same kind
+-- the same value by the same algorithm
 abbrev pub HasSameDigest : Item → Item → Type 0
 HasSameDigest a b = (kind_of a ≡ kind_of b) × (value_of a ≡ value_of b)

@@ -1,11 +1,13 @@
--- What holds of audits.
-use Rattle.std.specs.Prelude.{ℕ, ◌+◌, ◌≡◌, List, length}
+-- What holds of an audit.
+use Rattle.std.specs.Prelude.{ℕ, ◌≡◌, ◌+◌, false, List, length}
 use Rattle.std.specs.List.{count_by}
 use Rattle.std.specs.List.Sorted.{IsPermutation}
-use Rattle.xxhsum_audit.specs.declared.outcome.Class.TheVariants as Of
-use Rattle.xxhsum_audit.specs.Audit.{IsAudit, IsTwice, missing_in, new_in}
-use Rattle.xxhsum_audit.specs.Item.{HasSameDigest, IsAmong, Item, LacksName, name_of}
-use Rattle.xxhsum_audit.specs.Merge.{Changed, Found, Missing, Moved, New, Same, is_of_class, lines_in, names_in}
+use Rattle.std.specs.Ordering.{is_lt}
+use Rattle.xxhsum_audit.specs.declared.verdict.Class.TheVariants as Of
+use Rattle.xxhsum_audit.specs.Audit.{IsAudit, IsTwice}
+use Rattle.xxhsum_audit.specs.Found.{Changed, Copied, Found, Missing, Moved, New, Same, is_of_class, lines_in, names_in}
+use Rattle.xxhsum_audit.specs.Item.{HasSameDigest, IsAmong, Item, LacksPath, path_of}
+use Rattle.xxhsum_audit.specs.Order.{rank_lines}
 
 -- each line is told once, and no other
 abbrev pub TellsEachLineOnce : Type 0
@@ -16,31 +18,63 @@ abbrev pub TellsEachNameOnce : Type 0
 TellsEachNameOnce =
     (lines names : List Item) (found : List Found) → IsAudit lines names found → IsPermutation names (names_in found)
 
--- no two lines of an audit have one name, and no two names
+-- no two lines of an audit lead to one place, and no two names
 abbrev pub HasNoneTwice : Type 0
 HasNoneTwice =
-    (lines names : List Item) (found : List Found) (name : List ℕ) → IsAudit lines names found
-    → (IsTwice lines name → ⊥) × (IsTwice names name → ⊥)
+    (lines names : List Item) (found : List Found) (path : List ℕ) → IsAudit lines names found
+    → (IsTwice lines path → ⊥) × (IsTwice names path → ⊥)
+
+-- the line and the name lead to one place, and have one digest
+abbrev pub IsKept : Item → Item → Type 0
+IsKept line name = (path_of line ≡ path_of name) × HasSameDigest line name
+
+-- the file of this name stayed as a line says
+abbrev pub StaysSame : List Item → List Item → Item → Type 0
+StaysSame lines names name = IsAmong names name × ((line : Item) × IsAmong lines line × IsKept line name)
 
 -- what each class says
 abbrev pub IsRight : List Item → List Item → Found → Type 0
-IsRight lines names (Same line name) = line ≡ name
-IsRight lines names (Changed line name) = (name_of line ≡ name_of name) × (HasSameDigest line name → ⊥)
+IsRight lines names (Same line name) = IsKept line name
+IsRight lines names (Changed line name) = (path_of line ≡ path_of name) × (HasSameDigest line name → ⊥)
 IsRight lines names (Moved line name) =
-    HasSameDigest line name × LacksName names (name_of line) × LacksName lines (name_of name)
-IsRight lines names (New name) = LacksName lines (name_of name)
-IsRight lines names (Missing line) = LacksName names (name_of line)
+    HasSameDigest line name × LacksPath names (path_of line) × LacksPath lines (path_of name)
+IsRight lines names (Copied first name) =
+    HasSameDigest first name × StaysSame lines names first × LacksPath lines (path_of name)
+IsRight lines names (New name) = LacksPath lines (path_of name)
+IsRight lines names (Missing line) = LacksPath names (path_of line)
 
 abbrev pub TellsRight : Type 0
 TellsRight =
     (lines names : List Item) (found : List Found) → IsAudit lines names found
     → (one : Found) → IsAmong found one → IsRight lines names one
 
--- no file is told to be new that may have been moved
+-- no file is told to be new, or to be a copy, that may have been moved
 abbrev pub LeavesNoMove : Type 0
 LeavesNoMove =
     (lines names : List Item) (found : List Found) → IsAudit lines names found
-    → (line name : Item) → IsAmong (missing_in found) line → IsAmong (new_in found) name → HasSameDigest line name → ⊥
+    → (line first name : Item) → IsAmong found (Missing line) → HasSameDigest line name
+    → (IsAmong found (New name) → ⊥) × (IsAmong found (Copied first name) → ⊥)
+
+-- no file is told to be new that is a copy of one that stayed
+abbrev pub LeavesNoCopy : Type 0
+LeavesNoCopy =
+    (lines names : List Item) (found : List Found) → IsAudit lines names found
+    → (line kept name : Item) → IsAmong found (Same line kept) → IsAmong found (New name) → HasSameDigest kept name → ⊥
+
+-- of several files that stayed and have its digest, a copy is told to be one of the first by name
+abbrev pub CopiesTheFirst : Type 0
+CopiesTheFirst =
+    (lines names : List Item) (found : List Found) → IsAudit lines names found
+    → (line kept first name : Item) → IsAmong found (Same line kept) → IsAmong found (Copied first name)
+    → HasSameDigest kept name → is_lt (rank_lines kept first) ≡ false
+
+-- where all are the same, each line has a name with its digest that leads where its own does, and each name such a line
+abbrev pub SameMeansEqual : Type 0
+SameMeansEqual =
+    (lines names : List Item) (found : List Found) → IsAudit lines names found
+    → ((one : Found) → IsAmong found one → (line name : Item) × (one ≡ Same line name))
+    → ((line : Item) → IsAmong lines line → (name : Item) × IsAmong names name × IsKept line name)
+    × ((name : Item) → IsAmong names name → (line : Item) × IsAmong lines line × IsKept line name)
 
 -- the classes of lines add up to the lines, and those of names to the names
 abbrev pub CountsAddUp : Type 0
@@ -51,7 +85,8 @@ CountsAddUp =
     + count_by (is_of_class Of.Moved) found + count_by (is_of_class Of.Missing) found)
     × (length (names_in found)
     ≡ count_by (is_of_class Of.Same) found + count_by (is_of_class Of.Changed) found
-    + count_by (is_of_class Of.Moved) found + count_by (is_of_class Of.New) found)
+    + count_by (is_of_class Of.Moved) found + count_by (is_of_class Of.Copied) found
+    + count_by (is_of_class Of.New) found)
 
 -- The order in which lines and names come changes nothing.
 abbrev pub IsOneReport : Type 0

@@ -1,9 +1,10 @@
 pub mod Audit
+pub mod Found
 pub mod Item
 pub mod Laws
 pub mod List
-pub mod Merge
 pub mod Order
 pub mod Parts
 pub mod Read
+pub mod Side
 pub mod Text

@@ -1,10 +1,8 @@
 -- What the lines of a list say.
-use Rattle.std.specs.Prelude.{ℕ, ◌≡◌, ◌<◌, Bool, true, false, List, [], ◌∷◌, ◌++◌, get_or, length, take}
+use Rattle.std.specs.Prelude.{ℕ, ◌≡◌, Bool, true, false, List, [], ◌∷◌, ◌++◌}
 use Rattle.xxhsum_line.specs.Entry as line
 use Rattle.xxhsum_line.specs.Entry.{SaysNothing, is_comment}
 use Rattle.xxhsum_line.specs.declared.entry.Entry.{Entry}
-use Rattle.xxhsum_audit.specs.declared.list.ListError.{ListError}
-use Rattle.xxhsum_audit.specs.declared.list.ListError.TheVariants.{Improper, OutOfMemory}
 use Rattle.xxhsum_audit.specs.Item.{Item, Says, kind_of, name_of, value_of}
 
 -- what an entry of a list says
@@ -22,13 +20,6 @@ abbrev pub SayAll : Bool → List (List ℕ) → List Item → Type 0
 SayAll is_little [] items = items ≡ []
 SayAll is_little (text ∷ lines) items =
     (front rest : List Item) × (items ≡ front ++ rest) × SaysOne is_little text front × SayAll is_little lines rest
-
--- a line says nothing, and is no comment; those before it say something, or are comments
-abbrev pub IsBroken : Bool → List (List ℕ) → ListError → Type 0
-IsBroken is_little lines (Improper index) =
-    (index < length lines) × SaysNothing is_little (get_or lines index [])
-    × ((items : List Item) × SayAll is_little (take index lines) items)
-IsBroken is_little lines OutOfMemory = Unit {0}
 
 -- what a line says stands behind what was said before; or it says nothing, and is no comment
 abbrev pub TakesLine : Bool → List ℕ → List Item → List Item → Bool → Type 0

@@ -1,55 +1,66 @@
--- The orders of items, and lists that are put in order.
+-- The orders of names and of items, and lists that are put in order.
 use Rattle.std.specs.Prelude.{ℕ, ◌≡◌, Bool, false, List, [], ◌∷◌, Option, Some, None, if◌then◌else◌}
 use Rattle.std.specs.Cmp.Lexicographic.{slice_cmp}
 use Rattle.std.specs.List.Sorted.{IsPermutation}
 use Rattle.std.specs.declared.cmp.Ordering.{Ordering}
+use Rattle.std.specs.declared.cmp.Ordering.TheVariants.{Less}
 use Rattle.std.specs.Ordering.{nat_cmp, ordering_then, is_eq, is_lt}
 use Rattle.xxh_io.specs.declared.kind.Kind.{Kind}
 use Rattle.xxh_io.specs.declared.kind.Kind.TheVariants.{X32, X64, X3_64, X3_128}
-use Rattle.xxhsum_audit.specs.declared.order.By.{By}
-use Rattle.xxhsum_audit.specs.declared.order.By.TheVariants.{Name, Digest}
-use Rattle.xxhsum_audit.specs.Item.{IsAmong, Item, kind_of, name_of, value_of}
+use Rattle.xxhsum_audit.specs.Item.{IsAmong, Item, bare, kind_of, name_of, value_of}
 
--- the place of a kind among the kinds
+-- the place of an algorithm among the algorithms
 abbrev pub rank_of : Kind → ℕ
 rank_of X32 = 0
 rank_of X64 = 1
 rank_of X3_64 = 2
 rank_of X3_128 = 3
 
-abbrev pub compare_names : Item → Item → Ordering
-compare_names a b = slice_cmp nat_cmp (name_of a) (name_of b)
+-- names by where they lead
+abbrev pub compare_paths : List ℕ → List ℕ → Ordering
+compare_paths a b = slice_cmp nat_cmp (bare a) (bare b)
+
+-- and where that ties by all their bytes
+abbrev pub rank_names : List ℕ → List ℕ → Ordering
+rank_names a b = ordering_then (compare_paths a b) (slice_cmp nat_cmp a b)
+
+abbrev pub compare_lines : Item → Item → Ordering
+compare_lines a b = compare_paths (name_of a) (name_of b)
+
+abbrev pub rank_lines : Item → Item → Ordering
+rank_lines a b = rank_names (name_of a) (name_of b)
 
 abbrev pub compare_digests : Item → Item → Ordering
 compare_digests a b =
     ordering_then (nat_cmp (rank_of (kind_of a)) (rank_of (kind_of b))) (nat_cmp (value_of a) (value_of b))
 
--- by one of the two
-abbrev pub compare_by : By → Item → Item → Ordering
-compare_by Name a b = compare_names a b
-compare_by Digest a b = compare_digests a b
+abbrev pub rank_digests : Item → Item → Ordering
+rank_digests a b = ordering_then (compare_digests a b) (rank_lines a b)
 
--- and where that ties by the other
-abbrev pub compare_all : By → Item → Item → Ordering
-compare_all Name a b = ordering_then (compare_names a b) (compare_digests a b)
-compare_all Digest a b = ordering_then (compare_digests a b) (compare_names a b)
+-- ---- lists in order
 
 -- none is less than one before it
-abbrev pub Ascends : By → List Item → Type 0
-Ascends by [] = Unit {0}
-Ascends by (item ∷ items) =
-    ((next : Item) → IsAmong items next → is_lt (compare_all by next item) ≡ false) × Ascends by items
+abbrev pub Ascends : {X : Type 0} → (X → X → Ordering) → List X → Type 0
+Ascends compare [] = Unit {0}
+Ascends {X} compare (x ∷ xs) = ((y : X) → IsAmong xs y → is_lt (compare y x) ≡ false) × Ascends compare xs
 
--- the given items, in order
-abbrev pub IsOrder : By → List Item → List Item → Type 0
-IsOrder by given ordered = IsPermutation given ordered × Ascends by ordered
+-- each is less than those behind it
+abbrev pub Rises : {X : Type 0} → (X → X → Ordering) → List X → Type 0
+Rises compare [] = Unit {0}
+Rises {X} compare (x ∷ xs) = ((y : X) → IsAmong xs y → compare x y ≡ Less) × Rises compare xs
 
--- the first of the others has the name of this one
-abbrev pub shares_name : Item → List Item → Bool
-shares_name item [] = false
-shares_name item (next ∷ items) = is_eq (compare_names item next)
+-- those that were given, in order
+abbrev pub IsOrder : {X : Type 0} → (X → X → Ordering) → List X → List X → Type 0
+IsOrder compare given ordered = IsPermutation given ordered × Ascends compare ordered
 
--- the first name that two neighbours have
-abbrev pub clash_in : List Item → Option (List ℕ)
+-- ---- names that lead to one place
+
+-- the first of the others leads where this one does
+abbrev pub shares_path : List ℕ → List (List ℕ) → Bool
+shares_path name [] = false
+shares_path name (next ∷ names) = is_eq (compare_paths name next)
+
+-- the first name that leads where the next one does
+abbrev pub clash_in : List (List ℕ) → Option (List ℕ)
 clash_in [] = None
-clash_in (item ∷ items) = if shares_name item items then Some (name_of item) else clash_in items
+clash_in (name ∷ names) = if shares_path name names then Some name else clash_in names

@@ -1,23 +1,15 @@
-//! The orders of entries: by their names, or by their digests.
+//! The orders of names and of digests, in which lines and names are put side by side.
 
-ghost use Rattle.std.specs.Prelude.{◌≡◌, MatchOption, None, Some};
-ghost use Rattle.xxhsum_audit.specs.Item.{item_of, items_of};
-ghost use Rattle.xxhsum_audit.specs.Order.{IsOrder, clash_in, compare_all, compare_by, compare_digests, compare_names, rank_of, shares_name};
+ghost use Rattle.std.specs.Prelude.{◌≡◌, IfOk, MatchOption, None, Some};
+ghost use Rattle.xxhsum_audit.specs.Item.{bare, item_of, items_of, names_of, texts_of};
+ghost use Rattle.xxhsum_audit.specs.Order.{IsOrder, clash_in, compare_digests, compare_paths, rank_digests, rank_lines, rank_names, rank_of, shares_path};
 
-use crate::entry::Entry;
+use crate::digest::FileDigest;
+use std::alloc::{AllocError, Global};
 use std::cmp::Ordering;
 use xxh_io::kind::Kind;
 
-/// What entries are put side by side by.
-#[derive(Clone, Copy, Debug, PartialEq, Eq)]
-pub enum By {
-    /// Their names.
-    Name,
-    /// Their kinds and values.
-    Digest,
-}
-
-// The place of a kind among the kinds.
+// The place of an algorithm among the algorithms.
 fn rank_of(kind: Kind) -> u8
     ensures { result ≡ rank_of kind }
 {
@@ -29,13 +21,37 @@ fn rank_of(kind: Kind) -> u8
     }
 }
 
-fn compare_names(a: Entry<'_>, b: Entry<'_>) -> Ordering
-    ensures { result ≡ compare_names (item_of a.entry) (item_of b.entry) }
+// The name without each `./` at its beginning.
+fn bare(name: &[u8]) -> &[u8]
+    ensures { result.now ≡ bare name.now }
 {
-    a.name.cmp(b.name)
+    let mut rest = name;
+    while let Some(behind) = rest.strip_prefix(b"./") {
+        rest = behind;
+    }
+    rest
 }
 
-fn compare_digests(a: Entry<'_>, b: Entry<'_>) -> Ordering
+/// How two names compare. A `./` at the beginning counts for nothing, however often it stands there.
+pub fn compare_paths(a: &[u8], b: &[u8]) -> Ordering
+    ensures { result ≡ compare_paths a.now b.now }
+{
+    bare(a).cmp(bare(b))
+}
+
+// The same, and where they tie by all their bytes.
+fn rank_names(a: &[u8], b: &[u8]) -> Ordering
+    ensures { result ≡ rank_names a.now b.now }
+{
+    match compare_paths(a, b) {
+        Ordering::Less => Ordering::Less,
+        Ordering::Equal => a.cmp(b),
+        Ordering::Greater => Ordering::Greater,
+    }
+}
+
+/// How two digests compare: first by their algorithms.
+pub fn compare_digests(a: FileDigest<'_>, b: FileDigest<'_>) -> Ordering
     ensures { result ≡ compare_digests (item_of a.entry) (item_of b.entry) }
 {
     match rank_of(a.kind).cmp(&rank_of(b.kind)) {
@@ -45,56 +61,68 @@ fn compare_digests(a: Entry<'_>, b: Entry<'_>) -> Ordering
     }
 }
 
-/// How two entries compare by their names, or by their digests.
-pub fn compare_by(by: By, a: Entry<'_>, b: Entry<'_>) -> Ordering
-    ensures { result ≡ compare_by by (item_of a.entry) (item_of b.entry) }
+// The same, and where they tie by their names.
+fn rank_digests(a: FileDigest<'_>, b: FileDigest<'_>) -> Ordering
+    ensures { result ≡ rank_digests (item_of a.entry) (item_of b.entry) }
 {
-    match by {
-        By::Name => compare_names(a, b),
-        By::Digest => compare_digests(a, b),
+    match compare_digests(a, b) {
+        Ordering::Less => Ordering::Less,
+        Ordering::Equal => rank_names(a.name, b.name),
+        Ordering::Greater => Ordering::Greater,
     }
 }
 
-// How two entries compare by all that they have, the one named first.
-fn compare_all(by: By, a: Entry<'_>, b: Entry<'_>) -> Ordering
-    ensures { result ≡ compare_all by (item_of a.entry) (item_of b.entry) }
+/// Puts names in order.
+pub fn put_names_in_order(names: &mut [&[u8]])
+    ensures { IsOrder rank_names (texts_of names.old) (texts_of names.new) }
 {
-    let first = compare_by(by, a, b);
-    if first != Ordering::Equal {
-        return first;
-    }
-    match by {
-        By::Name => compare_digests(a, b),
-        By::Digest => compare_names(a, b),
-    }
+    names.sort_unstable_by(|a, b| rank_names(a, b));
 }
 
-/// Puts the entries in order: by their names and then by their digests, or the other way round.
-pub fn put_in_order(by: By, entries: &mut [Entry<'_>])
-    ensures { IsOrder by (items_of entries.old) (items_of entries.new) }
+/// Puts what lines say in the order of their names.
+pub fn put_lines_in_order(lines: &mut [FileDigest<'_>])
+    ensures { IsOrder rank_lines (items_of lines.old) (items_of lines.new) }
 {
-    entries.sort_unstable_by(|a, b| compare_all(by, *a, *b));
+    lines.sort_unstable_by(|a, b| rank_names(a.name, b.name));
 }
 
-/// The name that two neighbours have, where there are such.
-pub fn clash_in<'n>(entries: &[Entry<'n>]) -> Option<&'n [u8]>
-    ensures { MatchOption result (clash_in (items_of entries.now) ≡ None)
-        (λ name. clash_in (items_of entries.now) ≡ Some name.now) }
+// Puts what was digested in the order of its digests.
+pub(crate) fn put_digests_in_order(digests: &mut [FileDigest<'_>])
+    ensures { IsOrder rank_digests (items_of digests.old) (items_of digests.new) }
 {
-    for at in 0..entries.len() {
-        if shares_name(entries[at], &entries[at + 1..]) {
-            return Some(entries[at].name);
+    digests.sort_unstable_by(|a, b| rank_digests(*a, *b));
+}
+
+/// The names of these, in order. `AllocError` where memory runs out.
+pub fn names_of<'n>(alloc: Global, digests: &[FileDigest<'n>]) -> Result<Vec<&'n [u8]>, AllocError>
+    ensures { IfOk result (λ names. texts_of names.items ≡ names_of (items_of digests.now)) }
+{
+    let mut names = Vec::new(alloc);
+    for one in digests {
+        names.push(one.name)?;
+    }
+    Ok(names)
+}
+
+/// The first name that leads where the next one does, where there is such.
+pub fn clash_in<'n>(names: &[&'n [u8]]) -> Option<&'n [u8]>
+    ensures { MatchOption result (clash_in (texts_of names.now) ≡ None)
+        (λ name. clash_in (texts_of names.now) ≡ Some name.now) }
+{
+    for at in 0..names.len() {
+        if shares_path(names[at], &names[at + 1..]) {
+            return Some(names[at]);
         }
     }
     None
 }
 
-// Whether the first of the others has the name of this one.
-fn shares_name(entry: Entry<'_>, behind: &[Entry<'_>]) -> bool
-    ensures { result ≡ shares_name (item_of entry.entry) (items_of behind.now) }
+// Whether the first of the others leads where this one does.
+fn shares_path(name: &[u8], behind: &[&[u8]]) -> bool
+    ensures { result ≡ shares_path name.now (texts_of behind.now) }
 {
     match behind.first() {
-        Some(next) => compare_names(entry, *next) == Ordering::Equal,
+        Some(next) => compare_paths(name, next) == Ordering::Equal,
         None => false,
     }
 }

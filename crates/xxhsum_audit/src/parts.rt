@@ -8,7 +8,7 @@ use std::alloc::{AllocError, Global};
 
 /// What stands before each byte of this value, and what is left behind the last one where that is anything.
 /// `AllocError` where memory runs out.
-pub fn parts_of<'b>(alloc: Global, end: u8, bytes: &'b [u8]) -> Result<Vec<&'b [u8]>, AllocError>
+pub fn cut_at<'b>(alloc: Global, end: u8, bytes: &'b [u8]) -> Result<Vec<&'b [u8]>, AllocError>
     ensures { IfOk result (λ parts. ArePartsOf end bytes.now
         (map (λ part. part.now) parts.items)) }
 {

@@ -43,7 +43,7 @@ impl From<Failed> for ReadError {
 /// # Errors
 ///
 /// [`ReadError::ReadFailed`] where a read fails, and [`ReadError::OutOfMemory`] where memory runs out.
-pub fn read_all<R: Source>(alloc: Global, source: &mut R) -> Result<Vec<u8>, ReadError>
+pub fn read_text<R: Source>(alloc: Global, source: &mut R) -> Result<Vec<u8>, ReadError>
     requires { R.has_failed source.old ≡ false }
     ensures { MatchResult result
         (λ bytes. GivesAll R.gives source.old source.new bytes.items)

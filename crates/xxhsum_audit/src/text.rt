@@ -1,54 +1,40 @@
 //! An audit in words.
 
-ghost use Rattle.std.specs.Prelude.{◌≡◌, IfOk};
-ghost use Rattle.xxhsum_audit.specs.Item.{item_of};
-ghost use Rattle.xxhsum_audit.specs.Merge.{found_of};
-ghost use Rattle.xxhsum_audit.specs.Text.{moved_text, named_text, text_of};
+ghost use Rattle.std.specs.Prelude.{◌≡◌, ◌++◌, IfOk};
+ghost use Rattle.xxhsum_audit.specs.Found.{found_of};
+ghost use Rattle.xxhsum_audit.specs.Text.{text_of};
 ghost use Rattle.xxhsum_line.specs.Escapes.{one_line};
 
-use crate::outcome::Outcome;
+use crate::verdict::Verdict;
 use std::alloc::{AllocError, Global};
 use xxhsum_line::escapes::put_line;
 
 /// What became of a line, of a name or of both, as a line with its line feed, which is the only one in it: names stand
 /// as lists have them. `AllocError` where memory runs out.
-pub fn outcome_line(alloc: Global, outcome: Outcome<'_>) -> Result<Vec<u8>, AllocError>
-    ensures { IfOk result (λ line. line.items ≡ text_of (found_of outcome.entry)) }
+pub fn verdict_line(alloc: Global, verdict: Verdict<'_>) -> Result<Vec<u8>, AllocError>
+    ensures { IfOk result (λ line. line.items ≡ text_of (found_of verdict.entry)) }
 {
-    match outcome {
-        Outcome::Same { name, .. } => named_line(alloc, name.name, b": same"),
-        Outcome::Changed { name, .. } => named_line(alloc, name.name, b": changed"),
-        Outcome::Moved { line, name } => moved_line(alloc, name.name, line.name),
-        Outcome::New { name } => named_line(alloc, name.name, b": new"),
-        Outcome::Missing { line } => named_line(alloc, line.name, b": missing"),
+    match verdict {
+        Verdict::Same { name, .. } => line_of(alloc, name.name, b": same", b""),
+        Verdict::Changed { name, .. } => line_of(alloc, name.name, b": changed", b""),
+        Verdict::Moved { line, name } => line_of(alloc, name.name, b": moved from ", line.name),
+        Verdict::Copied { original, name } => {
+            line_of(alloc, name.name, b": copy of ", original.name)
+        }
+        Verdict::New { name } => line_of(alloc, name.name, b": new", b""),
+        Verdict::Missing { line } => line_of(alloc, line.name, b": missing", b""),
     }
 }
 
-fn named_line(alloc: Global, name: &[u8], word: &[u8]) -> Result<Vec<u8>, AllocError>
-    ensures { IfOk result (λ line. line.items ≡ named_text name.now word.now) }
+// A name, a word and another name as one line.
+fn line_of(alloc: Global, name: &[u8], word: &[u8], other: &[u8]) -> Result<Vec<u8>, AllocError>
+    ensures { IfOk result (λ line. line.items ≡ one_line (name.now ++ word.now ++ other.now)) }
 {
     let mut text = Vec::new(alloc);
     text.extend_from_slice(name)?;
     text.extend_from_slice(word)?;
-    line_of(alloc, &text)
-}
-
-// The line of a file that was moved here from there.
-fn moved_line(alloc: Global, name: &[u8], from: &[u8]) -> Result<Vec<u8>, AllocError>
-    ensures { IfOk result (λ line. line.items ≡ moved_text name.now from.now) }
-{
-    let mut text = Vec::new(alloc);
-    text.extend_from_slice(name)?;
-    text.extend_from_slice(b": moved from ")?;
-    text.extend_from_slice(from)?;
-    line_of(alloc, &text)
-}
-
-// The text as one line.
-fn line_of(alloc: Global, text: &[u8]) -> Result<Vec<u8>, AllocError>
-    ensures { IfOk result (λ line. line.items ≡ one_line text.now) }
-{
+    text.extend_from_slice(other)?;
     let mut line = Vec::new(alloc);
-    put_line(&mut line, text)?;
+    put_line(&mut line, &text)?;
     Ok(line)
 }

@@ -4,14 +4,14 @@
 #![tactic(auto)]
 
 ghost use Rattle.std.specs.Prelude.{◌≡◌, ◌↔◌, ◌++◌, Bool, List, ℕ, Option, Result, true, codes};
-ghost use Rattle.std.specs.List.{AllByRecursion};
+ghost use Rattle.std.specs.List.{AllByRecursion, flat_map};
 ghost use Rattle.std.specs.List.Sorted.{IsPermutation};
 ghost use Rattle.xxh_io.specs.Digest.{Took};
 ghost use Rattle.xxh_io.specs.declared.kind.Kind.{Kind};
-ghost use Rattle.xxhsum_audit.specs.Audit.{IsAudit, missing_in, new_in};
+ghost use Rattle.xxhsum_audit.specs.Audit.{IsAudit};
 ghost use Rattle.xxhsum_audit.specs.Item.{HasSameDigest, IsAmong, Item};
-ghost use Rattle.xxhsum_audit.specs.Laws.{IsRight};
-ghost use Rattle.xxhsum_audit.specs.Merge.{Found, lines_in, names_in};
+ghost use Rattle.xxhsum_audit.specs.Laws.{IsKept, IsRight};
+ghost use Rattle.xxhsum_audit.specs.Found.{Copied, Found, Missing, New, Same, line_in, name_in};
 ghost use Rattle.xxhsum_headline.specs.Headline.{IsLineOrMessage, PrintsBeginning};
 ghost use Rattle.xxhsum_line.specs.Entry.{Says};
 ghost use Rattle.xxhsum_line.specs.declared.printed.Shape.{Shape};
@@ -125,14 +125,25 @@ pub fn printed_is_accepted<S: Store, R: Source + Drop>()
 
 // ---- audits
 
-/// An audit tells each line of the list once and each name once, each in the class that it has, and leaves no line missing
-/// that has the digest of a new name.
+/// An audit reports each line of the list once and each name once, each in the class that it has, and leaves no line
+/// missing that has the digest of a new name or of a copy.
 pub fn audit_classes()
     ensures { (lines names : List Item) (found : List Found) → IsAudit lines names found
-        → IsPermutation lines (lines_in found) × IsPermutation names (names_in found)
+        → IsPermutation lines (flat_map line_in found) × IsPermutation names (flat_map name_in found)
         × ((one : Found) → IsAmong found one → IsRight lines names one)
-        × ((line name : Item) → IsAmong (missing_in found) line → IsAmong (new_in found) name
-        → HasSameDigest line name → ⊥) }
+        × ((line first name : Item) → IsAmong found (Missing line) → HasSameDigest line name
+        → (IsAmong found (New name) → ⊥) × (IsAmong found (Copied first name) → ⊥)) }
+{
+    laws_of_audits();
+}
+
+/// Where all are the same, which is what status 0 of an audit says, each line has a file where its name leads, with the
+/// line's value, and each name has such a line.
+pub fn same_means_equal()
+    ensures { (lines names : List Item) (found : List Found) → IsAudit lines names found
+        → ((one : Found) → IsAmong found one → (line name : Item) × (one ≡ Same line name))
+        → ((line : Item) → IsAmong lines line → (name : Item) × IsAmong names name × IsKept line name)
+        × ((name : Item) → IsAmong names name → (line : Item) × IsAmong lines line × IsKept line name) }
 {
     laws_of_audits();
 }

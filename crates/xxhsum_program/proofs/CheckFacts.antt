@@ -3,14 +3,15 @@ use Rattle.std.proofs.Common.{◌≡◌, ◌⊎◌, ℕ, Bool, true, List, [], �
 use Rattle.std.specs.List.{AllByRecursion, concat}
 use Rattle.xxh_io.specs.Pieces.{Pieces}
 use Rattle.xxh_io.specs.Rules.{SourceRules}
+use Rattle.xxhsum_line.specs.Parts.{Lacks}
 use Rattle.xxhsum_program.specs.declared.check.Report.{Report}
 use Rattle.xxhsum_program.specs.declared.lines.Lines.{Lines}
 use Rattle.xxhsum_program.specs.declared.lines.Next.TheVariants as Variant
 use Rattle.xxhsum_program.specs.CheckList.{EndsAs, EndsInLine, EndsWell, HasLines, ReadsSome, with_line_feeds}
 use Rattle.xxhsum_program.specs.Findings.{Finding, add_up, count_one}
-use Rattle.xxhsum_program.specs.LinesView.{HasRead, IsAtEnd, IsNext, line_of, waiting}
-use Rattle.xxhsum_program.specs.ListEnd.{LongLine, FailedRead}
-use Rattle.xxhsum_program.specs.ListLines.{FailsAfter, IsLine, end_piece}
+use Rattle.xxhsum_program.specs.LinesView.{HasRead, IsAtEnd, IsHeld, IsNext, IsRead, waiting}
+use Rattle.xxhsum_program.specs.ListEnd.{Endless, FailedRead}
+use Rattle.xxhsum_program.specs.ListLines.{FailsAfter, end_piece}
 use Rattle.xxhsum_program.proofs.EachFacts.{all-push}
 
 pub add_up-push : (ignores : Bool) (report : Report) (findings : List Finding) (finding : Finding) → add_up ignores report (findings ++ finding ∷ []) ≡ count_one ignores (add_up ignores report findings) finding
@@ -23,7 +24,7 @@ add_up-push ignores report (f ∷ fs) finding = add_up-push ignores (count_one i
 abbrev pub Stands : {R : Type 0} → SourceRules R → R → Lines R → List (List ℕ) → Type 0
 Stands reading source state lines =
     (done : List ℕ) × HasRead reading source done state
-    × ((AllByRecursion IsLine lines × (done ≡ with_line_feeds lines)) ⊎ (IsAtEnd state × EndsInLine done lines))
+    × ((AllByRecursion (Lacks 10) lines × (done ≡ with_line_feeds lines)) ⊎ (IsAtEnd state × EndsInLine done lines))
 
 pub stands-new : {R : Type 0} (reading : SourceRules R) (source : R) (state : Lines R) → HasRead reading source [] state → Stands reading source state []
 stands-new reading source state read = ([], read, inl (tt, refl))
@@ -35,12 +36,16 @@ line-feeds-push (x ∷ xs) line =
     ap (λ (r : List ℕ). x ++ 10 ∷ r) (line-feeds-push xs line) ∙ sym (append_assoc x (10 ∷ (before ++ line)) (10 ∷ [])) ∙ ap (λ (r : List ℕ). r ++ 10 ∷ []) (sym (append_assoc x (10 ∷ before) line))
 
 -- one line more
-pub stands-line : {R : Type 0} (reading : SourceRules R) (source : R) (old new : Lines R) (lines : List (List ℕ)) → Stands reading source old lines → ((from : R) (done : List ℕ) → HasRead reading from done old → IsNext reading from done new Variant.Line) → (IsAtEnd old → Variant.Line ≡ Variant.End) → Stands reading source new (lines ++ line_of new ∷ [])
+stands-read : {R : Type 0} (reading : SourceRules R) (source : R) (new : Lines R) (lines : List (List ℕ)) (done line : List ℕ) → AllByRecursion (Lacks 10) lines × (done ≡ with_line_feeds lines) → Lacks 10 line → IsRead reading source done line new → Stands reading source new (lines ++ line ∷ [])
+stands-read reading source new lines done line so_far lacks (inl read) =
+    (done ++ line ++ 10 ∷ [], read, inl (all-push (Lacks 10) lines line so_far.0 lacks, ap (λ (d : List ℕ). d ++ line ++ 10 ∷ []) so_far.1 ∙ sym (line-feeds-push lines line)))
+stands-read reading source new lines done line so_far lacks (inr (some, read, at_end)) =
+    (done ++ line, read, inr (at_end, (lines, line, so_far.0, (lacks, some), ap (λ (d : List ℕ). d ++ line) so_far.1, refl)))
+
+pub stands-line : {R : Type 0} (reading : SourceRules R) (source : R) (old new : Lines R) (lines : List (List ℕ)) → Stands reading source old lines → ((from : R) (done : List ℕ) → HasRead reading from done old → IsNext reading from done new Variant.Line) → (IsAtEnd old → Variant.Line ≡ Variant.End) → (line : List ℕ) × IsHeld line new × Stands reading source new (lines ++ line ∷ [])
 stands-line reading source old new lines (done, read, inl so_far) next ended =
-    elim (next source done read) [
-      | inl more ↦ (done ++ line_of new ++ 10 ∷ [], more.1, inl (all-push IsLine lines (line_of new) so_far.0 more.0, ap (λ (d : List ℕ). d ++ line_of new ++ 10 ∷ []) so_far.1 ∙ sym (line-feeds-push lines (line_of new))))
-      | inr last ↦ (done ++ line_of new, last.1, inr (last.2, (lines, line_of new, so_far.0, last.0, ap (λ (d : List ℕ). d ++ line_of new) so_far.1, refl)))
-    ]
+    let (line, lacks, held, is) = next source done read in
+    (line, held, stands-read reading source new lines done line so_far lacks is)
 stands-line reading source old new lines (done, read, inr so_far) next ended =
     let never = ended so_far.0 in cc
 
@@ -66,17 +71,18 @@ ends-well reading source old new lines (done, read, inr so_far) next =
     let end = next source done read in
     at-end reading source done new lines end.0 end.1 (inr (refl, so_far.1, refl))
 
-pub breaks-too-long : {R : Type 0} (reading : SourceRules R) (source : R) (old new : Lines R) (lines : List (List ℕ)) → Stands reading source old lines → ((from : R) (done : List ℕ) → HasRead reading from done old → IsNext reading from done new Variant.TooLong) → (IsAtEnd old → Variant.TooLong ≡ Variant.End) → EndsAs reading source lines LongLine
-breaks-too-long reading source old new lines (done, read, inl so_far) next ended =
-    let long = next source done read in
-    let state = long.0 in
-    (new.has_ended, waiting new, (state.0, new.source, state.1, state.2, inl (so_far.0, state.3 ∙ ap (λ (d : List ℕ). d ++ waiting new) so_far.1)), long.1)
-breaks-too-long reading source old new lines (done, read, inr so_far) next ended =
+pub breaks-endless : {R : Type 0} (reading : SourceRules R) (source : R) (old new : Lines R) (lines : List (List ℕ)) → Stands reading source old lines → ((from : R) (done : List ℕ) → HasRead reading from done old → IsNext reading from done new Variant.Endless) → (IsAtEnd old → Variant.Endless ≡ Variant.End) → EndsAs reading source lines Endless
+breaks-endless reading source old new lines (done, read, inl so_far) next ended =
+    let (gone, state, endless) = next source done read in
+    let rest = gone ++ waiting new in
+    let text : concat state.0 ≡ with_line_feeds lines ++ rest = state.3 ∙ append_assoc done gone (waiting new) ∙ ap (λ (d : List ℕ). d ++ rest) so_far.1 in
+    (new.has_ended, rest, (state.0, new.source, state.1, state.2, inl (so_far.0, text)), endless)
+breaks-endless reading source old new lines (done, read, inr so_far) next ended =
     let never = ended so_far.0 in cc
 
 pub breaks-failed : {R : Type 0} (reading : SourceRules R) (source : R) (old new : Lines R) (lines : List (List ℕ)) → Stands reading source old lines → ((from : R) (done : List ℕ) → HasRead reading from done old → IsNext reading from done new Variant.Failed) → (IsAtEnd old → Variant.Failed ≡ Variant.End) → EndsAs reading source lines FailedRead
 breaks-failed reading source old new lines (done, read, inl so_far) next ended =
-    let failed = next source done read in
-    (waiting new, subst (λ (d : List ℕ). FailsAfter reading source (d ++ waiting new)) so_far.1 failed.0, failed.1, so_far.0)
+    let (rest, failed, lacks) = next source done read in
+    (rest, subst (λ (d : List ℕ). FailsAfter reading source (d ++ rest)) so_far.1 failed, lacks, so_far.0)
 breaks-failed reading source old new lines (done, read, inr so_far) next ended =
     let never = ended so_far.0 in cc

@@ -1,4 +1,4 @@
--- A report with none different and none unread is one of lines that are well.
+-- A report with none different, none unread and none too long is one of lines that are well.
 use Rattle.std.proofs.Common.{◌≡◌, ◌⊎◌, ◌&&◌, ◌||◌, ℕ, ◌+◌, ◌<◌, Bool, true, false, not, List, [], ◌∷◌, Option, Some, None, min, nat_eq, nat_lt, refl, sym, ap, ◌∙◌, subst, arith, if◌then◌else◌, inl, inr}
 use Rattle.std.specs.List.{AllByRecursion}
 use Rattle.xxh_io.specs.Rules.{SourceRules}
@@ -11,15 +11,15 @@ use Rattle.xxhsum_program.specs.declared.outcome.Reason.{Reason}
 use Rattle.xxhsum_program.specs.declared.outcome.Reason.TheVariants as Why
 use Rattle.xxhsum_program.specs.CheckList.{is_good_list}
 use Rattle.xxhsum_program.specs.EachHas.{EachHas}
-use Rattle.xxhsum_program.specs.Findings.{Finding, Ignored, Improper, IsFinding, Proper, add_up, count_one, no_findings, one_more}
+use Rattle.xxhsum_program.specs.Findings.{Finding, Ignored, Improper, IsFinding, Proper, TooLong, add_up, count_one, no_findings, one_more}
 use Rattle.xxhsum_program.specs.GoodList.{GoodMeansEqual, IsPassedOver, IsWell}
-use Rattle.xxhsum_program.specs.ListEnd.{ListEnd, Whole, TooMany, LongLine, FailedRead, report_at}
+use Rattle.xxhsum_program.specs.ListEnd.{ListEnd, Whole, TooMany, Endless, FailedRead, report_at}
 use Rattle.xxhsum_program.specs.Outcomes.{HasNoValue, has_no_file}
 use Rattle.xxhsum_program.specs.Report.{passes}
 
--- none different, and none unread
+-- none different, none unread, and none too long
 abbrev Clean : Report → Type 0
-Clean report = (report.different ≡ 0) × (report.unread ≡ 0)
+Clean report = (report.different ≡ 0) × (report.unread ≡ 0) × (report.is_broken ≡ false)
 
 more-than-none : (count : ℕ) → one_more count ≡ 0 → ⊥
 more-than-none count is = grind (arith, is)
@@ -39,11 +39,12 @@ passed_over opening reading store name true Why.TooLong none is = let no : false
 one-well : {S F : Type 0} (opening : StoreRules S F) (reading : SourceRules F) (store : S) (options : Options) (line : List ℕ) (report : Report) (finding : Finding)
     → IsFinding opening reading store options.is_little_endian line finding → Clean (count_one options.ignores_missing report finding)
     → Clean report × IsWell opening reading store options line
-one-well opening reading store options line report Ignored is clean = (clean, inl is)
-one-well opening reading store options line report Improper is clean = (clean, inr (inl is))
-one-well opening reading store options line report (Proper name Same) (kind, value, says, is) clean = (clean, inr (inr (kind, value, name, says, inl is)))
+one-well opening reading store options line report Ignored is clean = (clean, inl is.1)
+one-well opening reading store options line report Improper is clean = (clean, inr (inl is.1))
+one-well opening reading store options line report TooLong is clean = let no : true ≡ false = clean.2 in cc
+one-well opening reading store options line report (Proper name Same) (short, kind, value, says, is) clean = (clean, inr (inr (kind, value, name, says, inl is)))
 one-well opening reading store options line report (Proper name Different) is clean = absurd (more-than-none report.different clean.0)
-one-well opening reading store options line report (Proper name (Unread reason)) (kind, value, says, none) clean =
+one-well opening reading store options line report (Proper name (Unread reason)) (short, kind, value, says, none) clean =
     let rest = ignored (options.ignores_missing && has_no_file reason) (record report { proper = one_more report.proper }) clean in
     (rest.0, inr (inr (kind, value, name, says, inr (passed_over opening reading store name options.ignores_missing reason none rest.1))))
 
@@ -64,8 +65,8 @@ passes-clean options report is = grind (arith, is)
 at-clean : (ignores : Bool) (end : ListEnd) (findings : List Finding) → Clean (report_at ignores end findings) → Clean (add_up ignores no_findings findings)
 at-clean ignores Whole findings clean = clean
 at-clean ignores TooMany findings clean = clean
-at-clean ignores LongLine findings clean = clean
-at-clean ignores FailedRead findings clean = clean
+at-clean ignores Endless findings clean = let no : true ≡ false = clean.2 in cc
+at-clean ignores FailedRead findings clean = let no : true ≡ false = clean.2 in cc
 
 pub good-means-equal : {S F R : Type 0} (opening : StoreRules S F) (reading : SourceRules F) (list_reading : SourceRules R) → GoodMeansEqual opening reading list_reading
 good-means-equal opening reading list_reading store options source findings None finds is = let no : false ≡ true = is in cc

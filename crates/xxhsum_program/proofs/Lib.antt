@@ -1,4 +1,4 @@
-mod CheckFacts
+pub mod CheckFacts
 pub mod EachFacts
 mod GoodListFacts
 pub mod HashFacts

@@ -8,7 +8,7 @@ use Rattle.xxhsum_files.specs.Rules.{StoreRules}
 use Rattle.xxhsum_line.specs.Entry.{Says}
 use Rattle.xxhsum_line.specs.Escapes.{escaped, mark_of, needs_escape, one_line, unescaped}
 use Rattle.xxhsum_line.specs.Laws.{EscapeIsUndone, PlainNamesStay}
-use Rattle.xxhsum_program.specs.Findings.{Ignored, Improper, Proper}
+use Rattle.xxhsum_program.specs.Findings.{Ignored, Improper, Proper, TooLong}
 use Rattle.xxhsum_program.specs.Found.{IsFound}
 use Rattle.xxhsum_program.specs.GoodList.{OkMeansEqual}
 use Rattle.xxhsum_program.specs.Outcomes.{IsValueOf, reason_text}
@@ -85,7 +85,8 @@ found-same undone stay quiet list number said name (Unread reason) is =
 pub ok-means-equal : {S F : Type 0} (opening : StoreRules S F) (reading : SourceRules F) → EscapeIsUndone → PlainNamesStay → OkMeansEqual opening reading
 ok-means-equal opening reading undone stay store options list number line Ignored name finds is = absurd (some-line (concat (name ∷ codes ": OK" ∷ [])) is)
 ok-means-equal opening reading undone stay store options list number line Improper name finds is = absurd (some-line (concat (name ∷ codes ": OK" ∷ [])) is)
-ok-means-equal opening reading undone stay store options list number line (Proper said found) name (kind, value, says, of_file) is =
+ok-means-equal opening reading undone stay store options list number line TooLong name finds is = absurd (some-line (concat (name ∷ codes ": OK" ∷ [])) is)
+ok-means-equal opening reading undone stay store options list number line (Proper said found) name (short, kind, value, says, of_file) is =
     let shown = spoken (is_silent options found) (concat (name ∷ codes ": OK" ∷ [])) (found_text options.is_quiet list number said found) is in
     let same = found-same undone stay options.is_quiet list number said name found shown in
     let equal : IsValueOf opening reading store kind said value = subst (λ f. IsFound opening reading store kind value said f) same.0 of_file in (

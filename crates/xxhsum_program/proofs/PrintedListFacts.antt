@@ -15,14 +15,18 @@ use Rattle.xxhsum_line.proofs.LackFacts.{first_same, lacks_not}
 use Rattle.xxhsum_line.proofs.PrintedFacts.{printed_is_accepted, printed_is_no_comment, printed_is_one_line, printed_length}
 use Rattle.xxhsum_program.specs.CheckList.{EndsWell, HasLines, ReadsLines, with_line_feeds}
 use Rattle.xxhsum_program.specs.EachHas.{EachHas}
-use Rattle.xxhsum_program.specs.Findings.{Finding, Ignored, Improper, IsFinding, Proper}
+use Rattle.xxhsum_program.specs.Findings.{Finding, Ignored, Improper, IsFinding, Proper, TooLong}
 use Rattle.xxhsum_program.specs.Found.{IsFound}
-use Rattle.xxhsum_program.specs.ListEnd.{FailedRead, LongLine, TooMany, Whole}
-use Rattle.xxhsum_program.specs.ListLines.{BeginsTooLong, IsLastLine, IsLine, end_piece}
-use Rattle.xxhsum_program.specs.PrintedList.{AreListed, ChecksPrinted, FindsPrintedFiles, FindsPrintedLines, HasJustLines, Holds, HoldsPrintedLines, IsFindingOf, IsLineOf, IsListed, Listed, ShortNamesFit, printed_list, text_of_listed}
+use Rattle.xxhsum_program.specs.ListEnd.{Endless, FailedRead, TooMany, Whole}
+use Rattle.xxhsum_program.specs.ListLines.{IsLastLine, end_piece}
+use Rattle.xxhsum_program.specs.PrintedList.{AreListed, BeginsTooLong, ChecksPrinted, FindsPrintedFiles, FindsPrintedLines, HasJustLines, Holds, HoldsPrintedLines, IsFindingOf, IsLineOf, IsListed, Listed, ShortNamesFit, printed_list, text_of_listed}
 use Rattle.xxhsum_files.specs.Rules.{StoreRules}
 
 -- ---- lines and the rest of a text of lines
+
+-- a printed line
+abbrev pub IsLine : List ℕ → Type 0
+IsLine line = Lacks 10 line × (length line < 32767)
 
 -- the first of some lines, and the others, which make up the rest
 abbrev pub Beginning : List (List ℕ) → List (List ℕ) → List ℕ → Type 0
@@ -32,21 +36,21 @@ nothing_before : (line rest : List ℕ) → ◌≡◌ {A = List ℕ} [] (line ++
 nothing_before [] rest e = cc
 nothing_before (c ∷ line) rest e = cc
 
-pub begins_with_lines : (texts lines : List (List ℕ)) (rest : List ℕ) → AllByRecursion IsLine texts → AllByRecursion IsLine lines
+pub begins_with_lines : (texts lines : List (List ℕ)) (rest : List ℕ) → AllByRecursion IsLine texts → AllByRecursion (Lacks 10) lines
     → with_line_feeds texts ≡ with_line_feeds lines ++ rest → Beginning texts lines rest
 begins_with_lines texts [] rest all is e = (texts, refl, e)
 begins_with_lines [] (line ∷ lines) rest all is e =
     absurd (nothing_before line (with_line_feeds lines ++ rest) (e ∙ append_assoc line (10 ∷ with_line_feeds lines) rest))
 begins_with_lines (text ∷ texts) (line ∷ lines) rest all is e =
     let whole : text ++ 10 ∷ with_line_feeds texts ≡ line ++ 10 ∷ (with_line_feeds lines ++ rest) = e ∙ append_assoc line (10 ∷ with_line_feeds lines) rest in
-    let same = first_same 10 text (with_line_feeds texts) line (with_line_feeds lines ++ rest) whole all.0.0 is.0.0 in
+    let same = first_same 10 text (with_line_feeds texts) line (with_line_feeds lines ++ rest) whole all.0.0 is.0 in
     let more = begins_with_lines texts lines rest all.1 is.1 same.1 in
     (more.0, ap (λ t. t ∷ texts) same.0 ∙ ap (λ ts. line ∷ ts) more.1, more.2)
 
 -- lines leave nothing that no line feed ends
 pub no_last_line : (others : List (List ℕ)) (last : List ℕ) → with_line_feeds others ≡ last → IsLastLine last → ⊥
 no_last_line [] last e is = let none : length last ≡ 0 = ap length (sym e) in omega (arith, none, is.1)
-no_last_line (other ∷ others) last e is = lacks_not 10 other (with_line_feeds others) (subst (Lacks 10) (sym e) is.0.0)
+no_last_line (other ∷ others) last e is = lacks_not 10 other (with_line_feeds others) (subst (Lacks 10) (sym e) is.0)
 
 -- a line feed that stands within a front
 feed_within : (line rest front more : List ℕ) → line ++ 10 ∷ rest ≡ front ++ more → length line < length front → Lacks 10 front → ⊥
@@ -79,6 +83,10 @@ pub listed_are_lines : (is_little : Bool) (entries : List Listed) → AreListed 
 listed_are_lines is_little [] all = tt
 listed_are_lines is_little (e ∷ es) all =
     ((printed_is_one_line e.kind e.shape e.value e.name, all.0.2), listed_are_lines is_little es all.1)
+
+lack_line_feeds : (lines : List (List ℕ)) → AllByRecursion IsLine lines → AllByRecursion (Lacks 10) lines
+lack_line_feeds [] all = tt
+lack_line_feeds (line ∷ lines) all = (all.0.0, lack_line_feeds lines all.1)
 
 is_line_of : (is_little : Bool) (e : Listed) → IsListed is_little e → IsLineOf is_little (text_of_listed e) e
 is_line_of is_little e listed =
@@ -119,7 +127,7 @@ pub reads_printed_lines : {R : Type 0} (reading : SourceRules R) (is_little : Bo
 reads_printed_lines reading is_little entries source end pieces all some read are =
     let texts = map text_of_listed entries in
     let text : concat pieces ≡ with_line_feeds texts ++ [] = are ∙ printed_lines entries ∙ sym (append-nil (with_line_feeds texts)) in
-    (pieces, end, some, read, inl (listed_are_lines is_little entries all, text))
+    (pieces, end, some, read, inl (lack_line_feeds texts (listed_are_lines is_little entries all), text))
 
 -- ---- what a check of the list meets
 
@@ -174,11 +182,12 @@ holds_printed_lines reading is_little entries source all holds =
     (subst (Holds reading source) (printed_lines entries) holds)
 
 found_one : {S F : Type 0} (opening : StoreRules S F) (reading : SourceRules F) (store : S) (is_little : Bool) (line : List ℕ) (e : Listed) (finding : Finding)
-    → IsLineOf is_little line e → IsFinding opening reading store is_little line finding
+    → length line < 32767 → IsLineOf is_little line e → IsFinding opening reading store is_little line finding
     → IsFindingOf opening reading store e finding
-found_one opening reading store is_little line e Ignored of is = absurd (both_ways (is_comment line) of.1 is)
-found_one opening reading store is_little line e Improper of is = absurd (is.1 e.kind e.value e.name of.2)
-found_one opening reading store is_little line e (Proper name found) of (kind, value, says, is) =
+found_one opening reading store is_little line e Ignored short of is = absurd (both_ways (is_comment line) of.1 is.1)
+found_one opening reading store is_little line e Improper short of is = absurd (is.1.1 e.kind e.value e.name of.2)
+found_one opening reading store is_little line e TooLong short of is = let long : 32767 < length line = is in absurd (omega (arith, short, long))
+found_one opening reading store is_little line e (Proper name found) short of (within, kind, value, says, is) =
     let same = of.3 kind value name says in
     let at_kind = subst (λ k. IsFound opening reading store k value name found) same.0 is in
     let at_value = subst (λ v. IsFound opening reading store e.kind v name found) same.1 at_kind in
@@ -190,7 +199,7 @@ finds_printed_files opening reading store is_little [] [] all each = tt
 finds_printed_files opening reading store is_little [] (finding ∷ findings) all each = absurd each
 finds_printed_files opening reading store is_little (e ∷ es) [] all each = absurd each
 finds_printed_files opening reading store is_little (e ∷ es) (finding ∷ findings) all each = (
-  found_one opening reading store is_little (text_of_listed e) e finding (is_line_of is_little e all.0) each.0,
+  found_one opening reading store is_little (text_of_listed e) e finding all.0.2 (is_line_of is_little e all.0) each.0,
   finds_printed_files opening reading store is_little es findings all.1 each.1,
 )
 
@@ -208,7 +217,8 @@ checks_printed opening reading list_reading store is_little entries source findi
     let parts : length texts ≡ length lines + length rest.0 = ap length rest.1 ∙ length-append lines rest.0 in
     let as_many : length texts ≡ length entries = length-map entries text_of_listed in
     absurd (omega (arith, parts, as_many, count, few))
-checks_printed opening reading list_reading store is_little entries source findings LongLine all few holds (lines, each, (has_ended, rest, reads, long)) =
+checks_printed opening reading list_reading store is_little entries source findings Endless all few holds (lines, each, (has_ended, rest, reads, endless)) =
+    let long : BeginsTooLong rest = (rest, [], sym (append-nil rest), endless.0, omega (arith, endless.1), omega (arith, endless.1)) in
     absurd ((holds_printed_lines list_reading is_little entries source all holds).2 has_ended lines rest reads long)
 checks_printed opening reading list_reading store is_little entries source findings FailedRead all few holds (lines, each, (rest, failed, behind, are)) =
     absurd ((holds_printed_lines list_reading is_little entries source all holds).3 (with_line_feeds lines ++ rest) failed)

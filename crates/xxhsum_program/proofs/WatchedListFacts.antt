@@ -7,9 +7,9 @@ use Rattle.xxhsum_program.specs.declared.entry.Found.{Found}
 use Rattle.xxhsum_program.specs.declared.entry.Found.TheVariants.{Same, Different, Unread}
 use Rattle.xxhsum_program.specs.declared.stop.Stop.{Stop}
 use Rattle.xxhsum_program.specs.CheckList.{Checked, ChecksLists, EndsAs, FindsLines, IsListOutcome, ListOutcome, MeetsLines, ReadsLines, Unopened}
-use Rattle.xxhsum_program.specs.Findings.{Finding, Ignored, Improper, IsFinding, Proper}
+use Rattle.xxhsum_program.specs.Findings.{Finding, Ignored, Improper, IsFinding, Proper, TooLong}
 use Rattle.xxhsum_program.specs.Found.{IsFound}
-use Rattle.xxhsum_program.specs.ListEnd.{ListEnd, Whole, TooMany, LongLine, FailedRead}
+use Rattle.xxhsum_program.specs.ListEnd.{ListEnd, Whole, TooMany, Endless, FailedRead}
 use Rattle.xxhsum_program.specs.ListLines.{FailsAfter, end_piece}
 use Rattle.xxhsum_program.proofs.WatchedFacts.{each-other, inner-none, inner-pieces, inner-value}
 use Rattle.xxhsum_files.specs.Rules.{StoreRules}
@@ -28,8 +28,9 @@ inner-found E opening reading files kind value name (Unread reason) is = inner-n
 inner-finding : {S F T : Type 0} (E : Type 0) (opening : StoreRules S F) (reading : SourceRules F) (files : WatchedFiles S T) (is_little : Bool) (line : List ℕ) (finding : Finding) → IsFinding (watched_opening {E = E} opening) (watched_reading reading) files is_little line finding → IsFinding opening reading (files_of files) is_little line finding
 inner-finding E opening reading files is_little line Ignored is = is
 inner-finding E opening reading files is_little line Improper is = is
-inner-finding E opening reading files is_little line (Proper name found) (kind, value, says, is) =
-    (kind, value, says, inner-found E opening reading files kind value name found is)
+inner-finding E opening reading files is_little line TooLong is = is
+inner-finding E opening reading files is_little line (Proper name found) (short, kind, value, says, is) =
+    (short, kind, value, says, inner-found E opening reading files kind value name found is)
 
 -- ---- the reads of a list
 
@@ -47,7 +48,7 @@ inner-ends : {R E : Type 0} (reading : SourceRules R) (list : Watched R E) (line
 inner-ends reading list lines Whole ends = inner-lines reading list _ lines _ ends
 inner-ends reading list lines TooMany ((has_ended, rest, reads), most) =
     ((has_ended, rest, inner-lines reading list has_ended lines rest reads), most)
-inner-ends reading list lines LongLine (has_ended, rest, reads, long) =
+inner-ends reading list lines Endless (has_ended, rest, reads, long) =
     (has_ended, rest, inner-lines reading list has_ended lines rest reads, long)
 inner-ends reading list lines FailedRead (rest, after, unended, all) =
     (rest, inner-after reading list _ after, unended, all)

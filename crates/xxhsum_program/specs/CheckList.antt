@@ -8,6 +8,7 @@ use Rattle.xxh_io.specs.Pieces.{Pieces, NoneEmpty}
 use Rattle.xxh_io.specs.Rules.{SourceRules, SinkRules}
 use Rattle.xxhsum_files.specs.declared.refusal.Refusal.{Refusal}
 use Rattle.xxhsum_files.specs.Rules.{StoreRules}
+use Rattle.xxhsum_line.specs.Parts.{Lacks}
 use Rattle.xxhsum_words.specs.declared.options.Options.{Options}
 use Rattle.xxhsum_program.specs.declared.check.Report.{Report}
 use Rattle.xxhsum_program.specs.declared.stop.Stop.{Stop}
@@ -15,8 +16,8 @@ use Rattle.xxhsum_program.specs.declared.stop.Stop.TheVariants.{WriteFailed, Out
 use Rattle.xxhsum_program.specs.EachHas.{EachHas}
 use Rattle.xxhsum_program.specs.Findings.{Finding, IsFinding, count_one}
 use Rattle.xxhsum_program.specs.Lines.{PrintsUnlessFailed, lines_of}
-use Rattle.xxhsum_program.specs.ListEnd.{ListEnd, Whole, TooMany, LongLine, FailedRead, report_at}
-use Rattle.xxhsum_program.specs.ListLines.{BeginsTooLong, FailsAfter, IsLastLine, IsLine, IsUnended, end_piece}
+use Rattle.xxhsum_program.specs.ListEnd.{ListEnd, Whole, TooMany, Endless, FailedRead, report_at}
+use Rattle.xxhsum_program.specs.ListLines.{FailsAfter, IsEndless, IsLastLine, end_piece}
 use Rattle.xxhsum_program.specs.Report.{passes}
 use Rattle.xxhsum_program.specs.Said.{printed_finding, printed_list, told_finding, told_list, told_refusal}
 use Rattle.xxhsum_program.specs.Told.{TellsOn}
@@ -29,13 +30,13 @@ with_line_feeds (line ∷ lines) = line ++ 10 ∷ with_line_feeds lines
 -- the text is a last line behind others, which have their line feeds
 abbrev pub EndsInLine : List ℕ → List (List ℕ) → Type 0
 EndsInLine text lines =
-    (before : List (List ℕ)) × (last : List ℕ) × AllByRecursion IsLine before × IsLastLine last
+    (before : List (List ℕ)) × (last : List ℕ) × AllByRecursion (Lacks 10) before × IsLastLine last
     × (text ≡ with_line_feeds before ++ last) × (lines ≡ before ++ last ∷ [])
 
 -- The text is these lines, each with its line feed, and then the rest; or the source has ended, and they are all of it.
 abbrev pub HasLines : Bool → List ℕ → List (List ℕ) → List ℕ → Type 0
 HasLines has_ended text lines rest =
-    (AllByRecursion IsLine lines × (text ≡ with_line_feeds lines ++ rest))
+    (AllByRecursion (Lacks 10) lines × (text ≡ with_line_feeds lines ++ rest))
     ⊎ ((has_ended ≡ true) × EndsInLine text lines × (rest ≡ []))
 
 -- reads of the source, of which none but the last was empty, gave these lines and then the rest
@@ -56,11 +57,11 @@ ReadsSome reading source lines = (has_ended : Bool) × (rest : List ℕ) × Read
 abbrev pub EndsAs : {R : Type 0} → SourceRules R → R → List (List ℕ) → ListEnd → Type 0
 EndsAs reading source lines Whole = EndsWell reading source lines
 EndsAs reading source lines TooMany = ReadsSome reading source lines × (length lines ≡ 2 ^ 64 - 2)
-EndsAs reading source lines LongLine =
-    (has_ended : Bool) × (rest : List ℕ) × ReadsLines reading source has_ended lines rest × BeginsTooLong rest
+EndsAs reading source lines Endless =
+    (has_ended : Bool) × (rest : List ℕ) × ReadsLines reading source has_ended lines rest × IsEndless rest
 EndsAs reading source lines FailedRead =
     (rest : List ℕ) × FailsAfter reading source (with_line_feeds lines ++ rest)
-    × IsUnended rest × AllByRecursion IsLine lines
+    × Lacks 10 rest × AllByRecursion (Lacks 10) lines
 
 -- the first lines of a source, or all of them and how they end
 abbrev pub MeetsLines : {R : Type 0} → SourceRules R → R → List (List ℕ) → Option ListEnd → Type 0

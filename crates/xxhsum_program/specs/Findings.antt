@@ -1,5 +1,5 @@
 -- What is found of the lines of a list, and the report that it adds up to.
-use Rattle.std.specs.Prelude.{◌≡◌, ℕ, ◌+◌, ◌-◌, ◌^◌, Bool, true, false, ◌&&◌, List, [], ◌∷◌, min, if◌then◌else◌}
+use Rattle.std.specs.Prelude.{◌≡◌, ℕ, ◌+◌, ◌-◌, ◌≤◌, ◌^◌, Bool, true, false, ◌&&◌, List, [], ◌∷◌, length, min, if◌then◌else◌}
 use Rattle.xxhsum_line.specs.Entry.{Says, SaysNothing, is_comment}
 use Rattle.xxh_io.specs.declared.kind.Kind.{Kind}
 use Rattle.xxh_io.specs.Rules.{SourceRules}
@@ -7,21 +7,24 @@ use Rattle.xxhsum_program.specs.declared.check.Report.{Report}
 use Rattle.xxhsum_program.specs.declared.entry.Found.{Found}
 use Rattle.xxhsum_program.specs.declared.entry.Found.TheVariants.{Same, Different, Unread}
 use Rattle.xxhsum_program.specs.Found.{IsFound}
+use Rattle.xxhsum_program.specs.ListLines.{IsTooLong}
 use Rattle.xxhsum_program.specs.Outcomes.{has_no_file}
 use Rattle.xxhsum_files.specs.Rules.{StoreRules}
 
--- a line is a comment, or malformed, or names a file that was found like this
+-- a line is a comment, or malformed, or too long to be checked, or names a file that was found like this
 pub data Finding : Type 0 where
   Ignored : Finding
   Improper : Finding
+  TooLong : Finding
   Proper : List ℕ → Found → Finding
 
--- what is found of a line
+-- what is found of a line, of which one that is too long is not looked at
 abbrev pub IsFinding : {S F : Type 0} → StoreRules S F → SourceRules F → S → Bool → List ℕ → Finding → Type 0
-IsFinding opening reading store is_little line Ignored = is_comment line ≡ true
-IsFinding opening reading store is_little line Improper = SaysNothing is_little line
+IsFinding opening reading store is_little line Ignored = (length line ≤ 32767) × (is_comment line ≡ true)
+IsFinding opening reading store is_little line Improper = (length line ≤ 32767) × SaysNothing is_little line
+IsFinding opening reading store is_little line TooLong = IsTooLong line
 IsFinding opening reading store is_little line (Proper name found) =
-    (kind : Kind) × (value : ℕ) × Says is_little line kind value name
+    (length line ≤ 32767) × (kind : Kind) × (value : ℕ) × Says is_little line kind value name
     × IsFound opening reading store kind value name found
 
 -- one more, but no more than the largest number of 64 bits
@@ -38,10 +41,12 @@ count_found ignores report (Unread reason) =
 abbrev pub count_proper : Bool → Report → Found → Report
 count_proper ignores report found = count_found ignores (record report { proper = one_more report.proper }) found
 
--- a comment is counted as nothing
+-- A comment is counted as nothing. A line that is too long is malformed, and the list is broken there: nobody knows which
+-- file it names.
 abbrev pub count_one : Bool → Report → Finding → Report
 count_one ignores report Ignored = report
 count_one ignores report Improper = record report { improper = one_more report.improper }
+count_one ignores report TooLong = record report { improper = one_more report.improper; is_broken = true }
 count_one ignores report (Proper name found) = count_proper ignores report found
 
 -- ---- a report of all

@@ -1,6 +1,6 @@
--- What the reader of a list's lines is seen as: the bytes that wait, the line that came last, and what was read. No
--- public clause speaks of it.
-use Rattle.std.specs.Prelude.{◌≡◌, ◌⊎◌, ℕ, ◌+◌, ◌-◌, ◌<◌, true, List, [], ◌∷◌, ◌++◌, Option, Some, None, slice_range, if◌then◌else◌}
+-- What the reader of a list's lines is seen as: the bytes that wait, the line that came last, and what was read.
+use Rattle.std.specs.Prelude.{◌≡◌, ◌⊎◌, ℕ, ◌+◌, ◌-◌, ◌<◌, ◌≤◌, Bool, true, List, [], ◌∷◌, ◌++◌, MatchBool, Option, Some, None, length, slice_range, if◌then◌else◌}
+use Rattle.std.specs.Borrow.{Bor}
 use Rattle.std.specs.List.{concat}
 use Rattle.std.specs.declared.result.Result.{Result}
 use Rattle.std.specs.declared.result.Result.TheVariants.{Ok, Err}
@@ -11,7 +11,7 @@ use Rattle.xxhsum_line.specs.Parts.{Lacks}
 use Rattle.xxhsum_program.specs.declared.lines.Lines.{Lines}
 use Rattle.xxhsum_program.specs.declared.lines.Next.{Next}
 use Rattle.xxhsum_program.specs.declared.lines.Next.TheVariants as Variant
-use Rattle.xxhsum_program.specs.ListLines.{BeginsTooLong, FailsAfter, IsLastLine, IsLine, IsUnended, end_piece}
+use Rattle.xxhsum_program.specs.ListLines.{FailsAfter, IsEndless, IsTooLong, end_piece}
 
 -- the bytes that were read and wait
 abbrev pub waiting : {R : Type 0} → Lines R → List ℕ
@@ -35,16 +35,26 @@ StopsAt (Some len) lines = IsBeforeLineFeed (Some len) lines
 StopsAt None lines =
     IsBeforeLineFeed None lines × ((lines.has_ended ≡ true) ⊎ (32767 < lines.end - lines.start))
 
--- the line that came last
+-- the line that came last, as far as it is kept
 abbrev pub line_of : {R : Type 0} → Lines R → List ℕ
 line_of lines = slice_range lines.buf lines.line_start lines.line_end
 
--- so many of the bytes that waited are gone, and the first of them are the line that came last
-abbrev pub IsTaken : {R : Type 0} → ℕ → ℕ → Lines R → Lines R → Type 0
-IsTaken len taken old new =
+-- the line that came last is this one, which is kept unless it is too long
+abbrev pub IsHeld : {R : Type 0} → List ℕ → Lines R → Type 0
+IsHeld line lines = MatchBool lines.is_long (IsTooLong line) ((length line ≤ 32767) × (line_of lines ≡ line))
+
+-- the line is given, or is too long
+abbrev pub IsGiven : List ℕ → Option (Bor (List ℕ)) → Type 0
+IsGiven line None = IsTooLong line
+IsGiven line (Some given) = (length line ≤ 32767) × (given.now ≡ line)
+
+-- so many of the bytes that waited are gone, and the first of them are the line that came last, or belong to a long one
+abbrev pub IsTaken : {R : Type 0} → ℕ → ℕ → Bool → Lines R → Lines R → Type 0
+IsTaken len taken is_long old new =
     (line_of new ≡ slice_range old.buf old.start (old.start + len))
     × (new.source ≡ old.source) × (new.has_ended ≡ old.has_ended)
     × (waiting new ≡ slice_range old.buf (old.start + taken) old.end)
+    × (new.is_long ≡ is_long) × (new.end - new.start + taken ≡ old.end - old.start)
 
 -- how many more reads the next line takes at most
 abbrev pub most_reads_left : {R : Type 0} → Lines R → ℕ
@@ -61,16 +71,21 @@ HasRead reading from done lines =
 abbrev pub ReadsBehind : {R T : Type 0} → SourceRules R → R → List ℕ → Lines R → Result T Failed → Type 0
 ReadsBehind reading from done new (Ok x) = HasRead reading from done new
 ReadsBehind reading from done new (Err e) =
-    FailsAfter reading from (done ++ waiting new) × IsUnended (waiting new)
+    FailsAfter reading from (done ++ waiting new) × Lacks 10 (waiting new)
 
--- What comes next behind the bytes `done`: a line and its line feed; a last line; bytes that are too long for a line;
--- nothing, since the source has ended; or bytes that no line feed ends, since a read failed.
+-- the line was read behind `done`, with its line feed or as the last one
+abbrev pub IsRead : {R : Type 0} → SourceRules R → R → List ℕ → List ℕ → Lines R → Type 0
+IsRead reading from done line new =
+    HasRead reading from (done ++ line ++ 10 ∷ []) new
+    ⊎ ((0 < length line) × HasRead reading from (done ++ line) new × IsAtEnd new)
+
+-- What comes next behind the bytes `done`: a line; bytes that no line feed ends, more than any line has; nothing, since
+-- the source has ended; or bytes that no line feed ends, since a read failed.
 abbrev pub IsNext : {R : Type 0} → SourceRules R → R → List ℕ → Lines R → Next → Type 0
 IsNext reading from done new Variant.Line =
-    (IsLine (line_of new) × HasRead reading from (done ++ line_of new ++ 10 ∷ []) new)
-    ⊎ (IsLastLine (line_of new) × HasRead reading from (done ++ line_of new) new × IsAtEnd new)
-IsNext reading from done new Variant.TooLong =
-    HasRead reading from done new × BeginsTooLong (waiting new)
+    (line : List ℕ) × Lacks 10 line × IsHeld line new × IsRead reading from done line new
+IsNext reading from done new Variant.Endless =
+    (gone : List ℕ) × HasRead reading from (done ++ gone) new × IsEndless (gone ++ waiting new)
 IsNext reading from done new Variant.End = HasRead reading from done new × IsAtEnd new
 IsNext reading from done new Variant.Failed =
-    FailsAfter reading from (done ++ waiting new) × IsUnended (waiting new)
+    (rest : List ℕ) × FailsAfter reading from (done ++ rest) × Lacks 10 rest

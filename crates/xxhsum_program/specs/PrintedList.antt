@@ -14,9 +14,15 @@ use Rattle.xxhsum_program.specs.ListEnd.{ListEnd, Whole}
 use Rattle.xxhsum_program.specs.EachHas.{EachHas}
 use Rattle.xxhsum_program.specs.Findings.{Finding, IsFinding, Proper}
 use Rattle.xxhsum_program.specs.Found.{IsFound}
-use Rattle.xxhsum_program.specs.ListLines.{BeginsTooLong, CantRead, FailsAfter}
+use Rattle.xxhsum_program.specs.ListLines.{CantRead, FailsAfter}
 use Rattle.xxhsum_program.specs.declared.entry.Found.{Found}
 use Rattle.xxhsum_files.specs.Rules.{StoreRules}
+
+-- more than 32,767 bytes, of which the first 32,767 have no line feed
+abbrev pub BeginsTooLong : List ℕ → Type 0
+BeginsTooLong bytes =
+    (front rest : List ℕ) × (bytes ≡ front ++ rest) × Lacks 10 front × (32767 ≤ length front)
+    × (32767 < length bytes)
 
 -- what a line is printed of
 abbrev pub Listed : Type 0

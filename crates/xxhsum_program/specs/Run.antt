@@ -12,7 +12,7 @@ use Rattle.xxhsum_program.specs.HashNames.{SaysInput, SaysNames}
 use Rattle.xxhsum_program.specs.declared.watched.Watched.{Watched}
 use Rattle.xxhsum_program.specs.declared.watched.WatchedFiles.{WatchedFiles}
 use Rattle.xxhsum_program.specs.Progress.{is_shown}
-use Rattle.xxhsum_program.specs.Task.{Reads, Task, Tells, has_none}
+use Rattle.xxhsum_program.specs.Task.{Reads, Task, Tells, Walks, has_none}
 use Rattle.xxhsum_program.specs.Told.{TellsOn}
 use Rattle.xxhsum_program.specs.Watched.{files_of, meter_of, shows_reads, source_of, watched_opening, watched_reading}
 use Rattle.xxhsum_files.specs.Rules.{StoreRules}
@@ -53,13 +53,14 @@ PerformsWatched {S} {F} {R} T opening reading input_reading writing telling stor
     (watched_reading input_reading) writing telling files options names source w_old w_new e_old e_new result
     options.checks (has_none names)
 
--- a text is told, or files are read as `performs` says
-abbrev pub DoesTask : {W E : Type 0} → (Options → List (List ℕ) → Bool → Type 0) → SinkRules E → Task → W → W → E → E
-    → Result Bool Stop → Type 0
-DoesTask performs telling (Tells text good) w_old w_new e_old e_new result =
+-- a text is told, or files are read as `performs` says, or over a tree as `walks` says
+abbrev pub DoesTask : {W E : Type 0} → (Options → List (List ℕ) → Bool → Type 0) → (Options → List (List ℕ) → Type 0)
+    → SinkRules E → Task → W → W → E → E → Result Bool Stop → Type 0
+DoesTask performs walks telling (Tells text good) w_old w_new e_old e_new result =
     (result ≡ Ok good) × (w_new ≡ w_old) × TellsOn telling text e_old e_new
-DoesTask performs telling (Reads options names shows) w_old w_new e_old e_new result =
+DoesTask performs walks telling (Reads options names shows) w_old w_new e_old e_new result =
     performs options names shows
+DoesTask performs walks telling (Walks options names) w_old w_new e_old e_new result = walks options names
 
 -- ---- the end
 

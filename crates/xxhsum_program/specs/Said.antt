@@ -9,8 +9,8 @@ use Rattle.xxhsum_words.specs.declared.options.Options.{Options}
 use Rattle.xxhsum_program.specs.declared.check.Report.{Report}
 use Rattle.xxhsum_program.specs.declared.entry.Found.{Found}
 use Rattle.xxhsum_program.specs.declared.entry.Found.TheVariants.{Same, Different, Unread}
-use Rattle.xxhsum_program.specs.Findings.{Finding, Ignored, Improper, Proper, report_of}
-use Rattle.xxhsum_program.specs.ListEnd.{ListEnd, Whole, TooMany, LongLine, FailedRead, report_at}
+use Rattle.xxhsum_program.specs.Findings.{Finding, Ignored, Improper, Proper, TooLong, report_of}
+use Rattle.xxhsum_program.specs.ListEnd.{ListEnd, Whole, TooMany, Endless, FailedRead, report_at}
 use Rattle.xxhsum_program.specs.Found.{is_passed_over}
 use Rattle.xxhsum_program.specs.Outcomes.{reason_text}
 use Rattle.xxhsum_program.specs.Report.{is_unverified}
@@ -46,14 +46,19 @@ is_silent options found = options.is_status_only || is_passed_over options.ignor
 abbrev pub printed_finding : Options → List ℕ → ℕ → Finding → List ℕ
 printed_finding options list number Ignored = []
 printed_finding options list number Improper = []
+printed_finding options list number TooLong = []
 printed_finding options list number (Proper name found) =
     if is_silent options found then [] else found_text options.is_quiet list number name found
 
--- what is told of a line
+abbrev pub too_long_text : List ℕ → ℕ → List ℕ
+too_long_text list number = told_of_line list number (codes "Line too long")
+
+-- what is told of a line: that it is too long whatever is asked for
 abbrev pub told_finding : Options → List ℕ → ℕ → Finding → List ℕ
 told_finding options list number Ignored = []
 told_finding options list number Improper =
     if options.warns then told_of_line list number (codes "Improperly formatted checksum line") else []
+told_finding options list number TooLong = too_long_text list number
 told_finding options list number (Proper name found) = []
 
 -- the texts of all lines, of which the first has this number
@@ -103,7 +108,7 @@ told_summary list report =
 abbrev pub told_break : List ℕ → ℕ → Report → ListEnd → List ℕ
 told_break list number report Whole = []
 told_break list number report TooMany = []
-told_break list number report LongLine = told_of_line list number (codes "Line too long")
+told_break list number report Endless = too_long_text list number
 told_break list number report FailedRead =
     if nat_eq report.proper 0 then [] else told_of_line list number (codes "A failure occurred reading the list")
 

@@ -1,22 +1,24 @@
 -- What the arguments ask the program to do.
-use Rattle.std.specs.Prelude.{◌≡◌, ℕ, Bool, true, false, ◌&&◌, not, List, [], ◌∷◌, ◌++◌, Option, Some, None, codes, drop, get_or, length, nat_eq, if◌then◌else◌}
+use Rattle.std.specs.Prelude.{◌≡◌, ℕ, Bool, true, false, ◌&&◌, ◌||◌, not, List, [], ◌∷◌, ◌++◌, Option, Some, None, codes, drop, get_or, length, nat_eq, if◌then◌else◌}
 use Rattle.std.specs.List.{concat}
 use Rattle.xxhsum_program.specs.declared.process.Terminals.{Terminals}
 use Rattle.xxhsum_program.specs.declared.usage.TheConstants.{ABOUT, BEFORE, BEHIND, NO_BENCHMARK, TITLE}
 use Rattle.xxhsum_program.specs.Arguments.{IsLastPart}
 use Rattle.xxhsum_line.specs.Escapes.{one_line}
 use Rattle.xxhsum_words.specs.Name.{kind_of_program}
-use Rattle.xxhsum_words.specs.Options.{asked_of}
+use Rattle.xxhsum_words.specs.Options.{are_listed, asked_of}
 use Rattle.xxhsum_words.specs.Table.{rows_text}
 use Rattle.xxhsum_words.specs.declared.table.TheConstants.{ROWS}
 use Rattle.xxhsum_words.specs.declared.options.Asked.{Asked}
 use Rattle.xxhsum_words.specs.declared.options.Asked.TheVariants.{Run, Benchmark, Version, Help, WrongOption, NulsInList, WalkBesideLists, WalkOfNothing, InputBesideNames, NumberTooLarge}
 use Rattle.xxhsum_words.specs.declared.options.Options.{Options}
 
--- a text is told, and the answer is this; or files are digested, or lists checked, and their reads are shown or not
+-- a text is told, and the answer is this; or files are digested, or lists checked, and their reads are shown or not; or the
+-- run is one over a tree
 pub data Task : Type 0 where
   Tells : List ℕ → Bool → Task
   Reads : Options → List (List ℕ) → Bool → Task
+  Walks : Options → List (List ℕ) → Task
 
 -- the name by which the program was called
 abbrev pub IsProgram : List (List ℕ) → List ℕ → Type 0
@@ -40,6 +42,10 @@ shows_progress terminals options = terminals.errors && not options.is_quiet && n
 
 abbrev pub has_none : List (List ℕ) → Bool
 has_none names = nat_eq (length names) 0
+
+-- a tree is asked for: an audit, the files below folders, or names that stand in lists of names
+abbrev pub is_tree : Options → Bool
+is_tree options = options.audits || options.walks || are_listed options.names_from
 
 -- with no name the input is read, which is no terminal unless that is asked for
 abbrev pub waits_for_terminal : Terminals → Options → List (List ℕ) → Bool
@@ -88,12 +94,17 @@ run_asked WalkOfNothing = None
 run_asked InputBesideNames = None
 run_asked NumberTooLarge = None
 
+-- the task of a run with these options and names
+abbrev pub task_of_run : Terminals → List ℕ → Options → List (List ℕ) → Task
+task_of_run terminals program options names =
+    if is_tree options then Walks options names
+    else (if waits_for_terminal terminals options names
+    then Tells (wrong_text (codes "Wrong parameters") program) false
+    else Reads options names (shows_progress terminals options))
+
 abbrev pub task_from : Terminals → List ℕ → List (List ℕ) → Asked → Option (Options × ℕ) → Task
 task_from terminals program words asked None = Tells (answer_text program words asked) (is_well asked)
-task_from terminals program words asked (Some run) =
-    if waits_for_terminal terminals run.0 (drop run.1 words)
-    then Tells (wrong_text (codes "Wrong parameters") program) false
-    else Reads run.0 (drop run.1 words) (shows_progress terminals run.0)
+task_from terminals program words asked (Some run) = task_of_run terminals program run.0 (drop run.1 words)
 
 -- the task of the words behind the program's name
 abbrev pub task_of : Terminals → List ℕ → List (List ℕ) → Task

@@ -7,7 +7,7 @@ use std::alloc::{AllocError, Global};
 use std::env::FillError;
 use std::rt::Env;
 
-// The room that is tried first for an argument, and how often it is doubled.
+// The capacity that is tried first for an argument, and how often it is doubled.
 const FIRST_ROOM: usize = 256;
 
 const MOST_ROOMS: u32 = 40;
@@ -23,18 +23,18 @@ pub trait Arguments {
     // The argument of this index is longer than so many bytes.
     ghost exceeds: { Self → ℕ → ℕ → Type 0 };
 
-    /// Copies the argument of this index to the front of the buffer, and answers its length.
+    /// Copies the argument of this index to the front of `buf`, and returns its length.
     ///
     /// # Errors
     ///
-    /// [`FillError::NotPresent`] where there is none, and [`FillError::TooLong`] where it is longer than the buffer.
+    /// [`FillError::NotPresent`] where there is none, and [`FillError::TooLong`] where it is longer than `buf`.
     fn fill(&self, index: usize, buf: &mut [u8]) -> Result<usize, FillError>
         ensures within { IfOk result (λ n. n ≤ length buf.new) }
         ensures holds { IfOk result (λ n. holds self.now index (take n buf.new)) }
         ensures refuses { IfErr result (Refuses ends exceeds self.now index (length buf.old)) };
 }
 
-/// The arguments of a process. Which they are no clause can say.
+/// The arguments of a process. No clause can say which they are.
 #[derive(Clone, Copy)]
 pub struct ProcessArguments<'a, P> {
     process: &'a P,
@@ -59,7 +59,7 @@ impl<P: Env> Arguments for ProcessArguments<'_, P> {
     }
 }
 
-/// All arguments, the program's name first. `AllocError` where there was no memory for them.
+/// All arguments, the program's name first. `AllocError` where memory runs out.
 pub fn all_arguments<A: Arguments>(alloc: Global, arguments: &A) -> Result<Vec<Vec<u8>>, AllocError>
     ensures { IfOk result (λ all. AreArguments A.holds A.ends arguments.now
         (map (λ argument. argument.items) all.items)) }
@@ -74,7 +74,7 @@ pub fn all_arguments<A: Arguments>(alloc: Global, arguments: &A) -> Result<Vec<V
     Err(AllocError)
 }
 
-// The argument of this index, where there is one. An error says that there was no memory for it.
+// The argument of this index, where there is one. `AllocError` where memory runs out.
 fn argument<A: Arguments>(
     alloc: Global,
     arguments: &A,

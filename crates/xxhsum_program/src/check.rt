@@ -1,14 +1,15 @@
 //! Lists of checksum lines, and whether their files are as the lines say.
 
-ghost use Rattle.std.specs.Prelude.{◌≡◌, ◌<◌, ◌≤◌, [], true, List, Option, false, length, map, nat_eq, IfErr, IfOk, if◌then◌else◌};
+ghost use Rattle.std.specs.Prelude.{◌≡◌, ◌<◌, ◌≤◌, [], true, List, ℕ, Option, false, length, map, nat_eq, IfErr, IfOk, if◌then◌else◌};
 ghost use Rattle.xxh_io.specs.Digest.{Took};
 ghost use Rattle.xxhsum_program.specs.CheckList.{AnswersList, AnswersOutcome, ChecksLine, FindsLines, IsListOutcome, ListOutcome, ReportsLines, SaysList, SaysLists, printed_outcome, told_outcome};
 ghost use Rattle.xxhsum_program.specs.Finish.{IsWritten};
-ghost use Rattle.xxhsum_program.specs.Findings.{Finding, Improper, IsFinding, count_one, count_proper, no_findings, with_broken_end};
+ghost use Rattle.xxhsum_program.specs.Findings.{Finding, Improper, IsFinding, TooLong, count_one, count_proper, no_findings, with_broken_end};
 ghost use Rattle.xxhsum_program.specs.Lines.{PrintsLine, PrintsLines};
+ghost use Rattle.xxhsum_program.specs.LinesView.{IsGiven};
 ghost use Rattle.xxhsum_program.specs.ListEnd.{FailedRead, ListEnd};
 ghost use Rattle.xxhsum_program.specs.Report.{is_good, is_unverified, passes};
-ghost use Rattle.xxhsum_program.specs.Said.{count_text, found_text, is_silent, numbered, printed_finding, printed_list, printed_summary, summary_text, told_break, told_finding, told_lines, told_list, told_of_line, told_summary, unread_text, unverified_line, unverified_text};
+ghost use Rattle.xxhsum_program.specs.Said.{count_text, found_text, is_silent, numbered, printed_finding, printed_list, printed_summary, summary_text, told_break, told_finding, told_lines, told_list, told_of_line, told_summary, too_long_text, unread_text, unverified_line, unverified_text};
 ghost use Rattle.xxhsum_program.specs.Told.{TellsOn};
 
 use crate::entry::{Found, compare};
@@ -26,26 +27,26 @@ use xxhsum_output::output::Output;
 use xxhsum_output::waiting::Waiting;
 use xxhsum_words::options::Options;
 
-/// What was found in a list: how many of its lines are of each kind.
+/// Counts of the lines of a list, by what was found of them.
 #[derive(Clone, Copy, Debug, PartialEq, Eq)]
 pub struct Report {
-    /// Lines that name a value and a file.
+    /// Well-formed lines.
     pub proper: u64,
-    /// Other lines that are no comments.
+    /// Malformed lines, and those of more than 32,767 bytes.
     pub improper: u64,
-    /// Proper lines whose file could not be opened, or not be read to its end. Where files that aren't there are passed
-    /// over, those aren't counted.
+    /// Well-formed lines whose file could not be opened, or not be read to its end. With `--ignore-missing` without
+    /// those whose file isn't there.
     pub unread: u64,
-    /// Proper lines whose file has their value.
+    /// Well-formed lines whose file has their value.
     pub same: u64,
-    /// Proper lines whose file has another value.
+    /// Well-formed lines whose file has another value.
     pub different: u64,
-    /// The list ends with a line that is too long, or a read of it failed.
+    /// A line is too long to be checked, or a read of the list failed.
     pub is_broken: bool,
 }
 
 impl Report {
-    // Nothing was found yet.
+    // The report of no line.
     fn new() -> Report
         ensures { result ≡ no_findings }
     {
@@ -59,7 +60,7 @@ impl Report {
         }
     }
 
-    // Counts a proper line by how its file is, and one that is passed over neither as read nor as unread.
+    // Counts a well-formed line by `found`. A missing file that is passed over counts neither as read nor as unread.
     fn count(&mut self, found: &Found, ignores_missing: bool)
         ensures { self.new ≡ count_proper ignores_missing self.old found.now }
     {
@@ -75,7 +76,7 @@ impl Report {
         }
     }
 
-    // Where the list breaks off behind what was found.
+    // The same report, of a list that breaks off.
     fn with_broken_end(self) -> Report
         ensures { result ≡ with_broken_end self }
     {
@@ -85,8 +86,8 @@ impl Report {
         }
     }
 
-    /// Whether the list is good: it has a proper line, each file was read and has its value, no line is too long, no
-    /// read of the list failed, and, where the check is strict, no line is improper.
+    /// Whether the list is good: it has a well-formed line, each file was read and has its value, no line is too long,
+    /// no read of the list failed, and, where the check is strict, no line is malformed.
     pub fn is_good(&self, is_strict: bool) -> bool
         ensures { result ≡ is_good is_strict self.now }
     {
@@ -97,14 +98,14 @@ impl Report {
             && !self.is_broken
     }
 
-    // Whether no file has its value, where those that aren't there are passed over.
+    // Whether no file has its value, under `--ignore-missing`.
     fn is_unverified(&self, ignores_missing: bool) -> bool
         ensures { result ≡ is_unverified ignores_missing self.now }
     {
         ignores_missing && self.same == 0
     }
 
-    // Whether the list is good by these options: under `--ignore-missing` a file of it has to have its value.
+    // Whether the list is good by `options`: under `--ignore-missing` a file of it has to have its value.
     fn passes(&self, options: Options) -> bool
         ensures { result ≡ passes options self.now }
     {
@@ -112,7 +113,7 @@ impl Report {
     }
 }
 
-// A list that is checked.
+// What the check of a list needs.
 #[derive(Clone, Copy)]
 struct ListCheck<'a, S> {
     alloc: Global,
@@ -122,7 +123,7 @@ struct ListCheck<'a, S> {
 }
 
 impl<S: Store> ListCheck<'_, S> {
-    // Checks the lines of a source, and says what was found of them.
+    // Checks the lines of `source`, and prints and reports what was found.
     fn check<R: Source + Drop, W: Output, E: Sink>(
         &self,
         source: R,
@@ -146,7 +147,7 @@ impl<S: Store> ListCheck<'_, S> {
         Ok(report.passes(self.options))
     }
 
-    // Checks the lines of a source, up to its end or the first that is too long, or as many as a number can count.
+    // Checks the lines of `source` up to its end, to a line without one, or as many as have numbers.
     fn check_lines<R: Source + Drop, W: Output, E: Sink>(
         &self,
         source: R,
@@ -176,9 +177,8 @@ impl<S: Store> ListCheck<'_, S> {
                     self.tell_of_failure(number, &report, err);
                     return Ok(report.with_broken_end());
                 }
-                Next::TooLong => {
-                    release(out);
-                    tell_of_line(self.name, number, b"Line too long", err);
+                Next::Endless => {
+                    self.tell_too_long(number, out, err);
                     return Ok(report.with_broken_end());
                 }
                 Next::Line => {
@@ -189,10 +189,11 @@ impl<S: Store> ListCheck<'_, S> {
         Ok(report)
     }
 
-    // Compares what the line says with its file, counts it, and says how it is. A comment is counted as nothing.
+    // Compares the file that `line` names, counts the line and prints the result. A comment isn't counted. A `line`
+    // that is `None` is too long.
     fn check_line<W: Output, E: Sink>(
         &self,
-        line: &[u8],
+        line: Option<&[u8]>,
         number: u64,
         report: &mut Report,
         buf: &mut [u8],
@@ -201,12 +202,16 @@ impl<S: Store> ListCheck<'_, S> {
     ) -> Result<(), Stop>
         requires room { 0 < length buf.old }
         requires writer { W.has_failed out.old ≡ false }
-        ensures checks { ChecksLine
+        ensures checks { (text : List ℕ) → IsGiven text line.entry → ChecksLine
             (IsFinding S.Store S.File.Source self.now.store.now self.now.options.is_little_endian
-            line.now) W.Sink E.Sink self.now.options self.now.name.now number
+            text) W.Sink E.Sink self.now.options self.now.name.now number
             report.old report.new out.old out.new err.old err.new result }
         ensures works { IfOk result (λ _. W.has_failed out.new ≡ false) }
     {
+        let Some(line) = line else {
+            self.count_too_long(number, report, out, err);
+            return Ok(());
+        };
         let entry = match meaning_of(self.alloc, line, self.options.is_little_endian)? {
             Meaning::Entry(entry) => entry,
             Meaning::Comment => return Ok(()),
@@ -223,7 +228,7 @@ impl<S: Store> ListCheck<'_, S> {
         self.say_found(number, &entry.name, &found, out)
     }
 
-    // Counts a line that is malformed, and tells it where that is asked for.
+    // Counts a malformed line, and reports it under `--warn`.
     fn count_improper<W: Output, E: Sink>(
         &self,
         number: u64,
@@ -252,7 +257,42 @@ impl<S: Store> ListCheck<'_, S> {
         }
     }
 
-    // Says how the file of the line of this number is.
+    // Counts a line that is too long, and reports it.
+    fn count_too_long<W: Output, E: Sink>(
+        &self,
+        number: u64,
+        report: &mut Report,
+        out: &mut W,
+        err: &mut E,
+    )
+        requires { W.has_failed out.old ≡ false }
+        ensures prints { Took W.Sink [] out.old out.new }
+        ensures written { IsWritten W.held W.has_lost out.new }
+        ensures works { W.has_failed out.new ≡ false }
+        ensures counts { report.new
+            ≡ count_one self.now.options.ignores_missing report.old TooLong }
+        ensures tells { TellsOn E.Sink (too_long_text self.now.name.now number) err.old err.new }
+    {
+        *report = Report {
+            improper: report.improper.saturating_add(1),
+            ..report.with_broken_end()
+        };
+        self.tell_too_long(number, out, err);
+    }
+
+    // Reports that the line of this number is too long.
+    fn tell_too_long<W: Output, E: Sink>(&self, number: u64, out: &mut W, err: &mut E)
+        requires { W.has_failed out.old ≡ false }
+        ensures prints { Took W.Sink [] out.old out.new }
+        ensures written { IsWritten W.held W.has_lost out.new }
+        ensures works { W.has_failed out.new ≡ false }
+        ensures tells { TellsOn E.Sink (too_long_text self.now.name.now number) err.old err.new }
+    {
+        release(out);
+        tell_of_line(self.name, number, b"Line too long", err);
+    }
+
+    // Prints `found`, of the line of this number.
     fn say_found<W: Output>(
         &self,
         number: u64,
@@ -276,7 +316,8 @@ impl<S: Store> ListCheck<'_, S> {
         }
     }
 
-    // Tells that the list could not be read on. Where it has no proper line so far, that is told at its end.
+    // Reports that a read of the list failed. Where it has no well-formed line so far, the summary reports that
+    // instead.
     fn tell_of_failure<E: Sink>(&self, number: u64, report: &Report, err: &mut E)
         ensures { TellsOn E.Sink
             (told_break self.now.name.now number report.now FailedRead) err.old err.new }
@@ -292,14 +333,14 @@ impl<S: Store> ListCheck<'_, S> {
         );
     }
 
-    // The line that says that no file of the list has its value.
+    // The line `no file was verified`.
     fn unverified_line(&self) -> Result<Vec<u8>, AllocError>
         ensures { IfOk result (λ line. line.items ≡ unverified_line self.now.name.now) }
     {
         line_of(self.alloc, &[self.name, b": no file was verified"])
     }
 
-    // Says what is to be said at a list's end.
+    // Prints and reports the summary of a list.
     fn sum_up<W: Output, E: Sink>(
         &self,
         report: &Report,
@@ -319,7 +360,7 @@ impl<S: Store> ListCheck<'_, S> {
         self.say_unverified(report, unverified, out)
     }
 
-    // Says that no file of the list has its value, where those that aren't there are passed over.
+    // Prints `unverified` where no file has its value, under `--ignore-missing`.
     fn say_unverified<W: Output>(
         &self,
         report: &Report,
@@ -339,7 +380,7 @@ impl<S: Store> ListCheck<'_, S> {
         Ok(())
     }
 
-    // Says how many lines are not as they should be, or that there is no list.
+    // Prints how many lines are malformed, unread and different, or reports that none is well-formed.
     fn say_counts<W: Output, E: Sink>(
         &self,
         report: &Report,
@@ -389,14 +430,14 @@ impl<S: Store> ListCheck<'_, S> {
     }
 }
 
-// Whether nothing is said of how a file is.
+// Whether nothing is printed of a file.
 fn is_silent(options: Options, found: &Found) -> bool
     ensures { result ≡ is_silent options found.now }
 {
     options.is_status_only || (options.ignores_missing && found.is_missing())
 }
 
-// Says why the file of the line of this number in this list could not be read.
+// Prints why the file of the line of this number in `list` could not be read.
 fn say_unread<'a, W: Output>(
     alloc: Global,
     list: &'a [u8],
@@ -425,8 +466,8 @@ fn say_unread<'a, W: Output>(
     say_line(alloc, &parts, out)
 }
 
-// Tells what is wrong with the line of this number in this list.
-fn tell_of_line<'a, E: Sink>(list: &'a [u8], number: u64, what: &'a [u8], err: &mut E)
+/// Reports what is wrong with the line of this number in `list`.
+pub fn tell_of_line<'a, E: Sink>(list: &'a [u8], number: u64, what: &'a [u8], err: &mut E)
     ensures { TellsOn E.Sink (told_of_line list.now number what.now) err.old err.new }
 {
     let mut digits = Buffer::new();
@@ -438,7 +479,7 @@ fn tell_of_line<'a, E: Sink>(list: &'a [u8], number: u64, what: &'a [u8], err: &
 // The most bytes that a line with a count has.
 const MOST_COUNT_LINE: usize = 80;
 
-// Says how many there are, in the singular or the plural, where there are any.
+// Prints `count` with `one` or `more` behind it, unless it is 0.
 fn say_count<W: Output>(count: u64, one: &[u8], more: &[u8], out: &mut W) -> Result<(), Stop>
     requires one { length one.now ≤ 40 }
     requires more { length more.now ≤ 40 }
@@ -468,16 +509,17 @@ fn word_for<'a>(count: u64, one: &'a [u8], more: &'a [u8]) -> &'a [u8]
     if count == 1 { one } else { more }
 }
 
-/// Checks the lines of a list, which is told by this name: says for each proper line how its file is, and at the end
-/// how many lines are not as they should be. Answers whether the list is good, by what is found of each of its lines,
-/// up to its end, or to a line that is too long or a read of the list that fails. A file that can't be read is said to
-/// be so, and the next line is checked. Under `--ignore-missing` nothing is said of a file that isn't there, and it isn't
-/// counted; a list of which no file has its value is then told and isn't good.
+/// Checks the lines of the list `name`: prints for each well-formed line whether its file has the value, and at the end
+/// how many lines failed. Returns whether the list is good, up to its end or to a read of it that fails. A file that
+/// can't be read is printed as such, and the next line is checked. A line of more than 32,767 bytes is reported, counts
+/// as malformed and keeps the list from being good; the lines after it are checked. Under `--ignore-missing` a file
+/// that isn't there is neither printed nor counted; a list of which no file has its value is then reported and isn't
+/// good.
 ///
 /// # Errors
 ///
 /// [`Stop::WriteFailed`] where a write to standard output fails, or one had failed before; [`Stop::OutOfMemory`] where
-/// there is no memory for a line: at once. What was found before it is said.
+/// there is no memory for a line: at once. What was found before it is printed.
 pub fn check_list<S: Store, R: Source + Drop, W: Output, E: Sink>(
     alloc: Global,
     store: &S,
@@ -502,7 +544,7 @@ pub fn check_list<S: Store, R: Source + Drop, W: Output, E: Sink>(
     list.check(source, out, err)
 }
 
-// Checks the list of this name. One that can't be opened is told, and isn't good.
+// Checks the list `name`. One that can't be opened is reported, and isn't good.
 fn check_named<S: Store, W: Output, E: Sink>(
     alloc: Global,
     store: &S,
@@ -540,11 +582,11 @@ fn check_named<S: Store, W: Output, E: Sink>(
     }
 }
 
-/// Checks each named list. Answers whether all are good. A list that can't be opened is told, and isn't good.
+/// Checks each list of `names`. Returns whether all are good. A list that can't be opened is reported, and isn't good.
 ///
 /// # Errors
 ///
-/// As [`check_list`], at once: the lists before have their answers, and those after are not opened.
+/// As [`check_list`], at once: the lists before are checked, and those after are not opened.
 pub fn check_lists<S: Store, W: Output, E: Sink>(
     alloc: Global,
     store: &S,

@@ -7,14 +7,14 @@ use crate::outcome::{Reason, value_named};
 use xxhsum_files::store::Store;
 use xxhsum_line::entry::Entry;
 
-/// How the file of a line is.
+/// How the file of a line compares with it.
 #[derive(Clone, Copy, Debug, PartialEq, Eq)]
 pub(crate) enum Found {
-    /// As the line says.
+    /// It has the line's value.
     Same,
     /// It has another value.
     Different,
-    /// It has none: it could not be opened, or not be read to its end.
+    /// It could not be opened, or not be read to its end.
     Unread(Reason),
 }
 
@@ -30,7 +30,7 @@ impl Found {
     }
 }
 
-// Hashes the file that the line names, with reads that are offered the whole buffer.
+// Digests the file that the line names, and compares the value. Each read is offered the whole of `buf`.
 pub(crate) fn compare<S: Store>(store: &S, entry: &Entry, buf: &mut [u8]) -> Found
     requires { 0 < length buf.old }
     ensures { IsFound S.Store S.File.Source store.now entry.now.kind entry.now.value

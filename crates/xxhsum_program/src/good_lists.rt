@@ -6,9 +6,9 @@ use xxh_io::ends::Source;
 use xxhsum_files::store::Store;
 use xxhsum_line::laws::laws_of_lines;
 
-/// A law, with nothing to run: the file of each well-formed line of a good list has the line's value, or the store says that
-/// there is no file of that name and the options pass over it. `check_list` says that its lines are found so, and that it
-/// returns true where the list is good; `run` then exits with 0.
+/// A law, with nothing to run: the file of each well-formed line of a good list has the line's value, or the store says
+/// that there is no file of that name and the options pass over it. `check_list` says that its lines are found so, and
+/// that it returns true where the list is good; `run` then exits with 0.
 pub fn good_means_equal<S: Store, R: Source>()
     ensures { GoodMeansEqual S.Store S.File.Source R.Source }
 {}

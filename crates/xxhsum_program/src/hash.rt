@@ -19,8 +19,8 @@ use xxhsum_files::store::Store;
 use xxhsum_line::printed::{Style, styled_line};
 use xxhsum_output::output::Output;
 
-/// Writes the digest line of each named file, in order, and tells of the names that have none, because they are
-/// directories, can't be opened or can't be read to their end. Answers whether all have one.
+/// Writes the digest line of each named file, in order, and reports the names that have none, because they are
+/// directories, can't be opened or can't be read to their end. Returns whether all have one.
 ///
 /// The caller shows that no write to the output has failed before.
 ///
@@ -55,8 +55,8 @@ pub fn hash_names<S: Store, W: Output, E: Sink>(
     Ok(all)
 }
 
-/// Writes the digest line of what the source gives, under this name. Where it can't be read to its end, that is told.
-/// Answers whether it was.
+/// Writes the digest line of what `input` gives, under this name. Where it can't be read to its end, that is reported.
+/// Returns whether it was.
 ///
 /// The caller shows that neither the source nor the output has failed.
 ///
@@ -91,7 +91,8 @@ pub fn hash_input<R: Source, W: Output, E: Sink>(
     }
 }
 
-// Writes the digest line of a name that has a value. Of one that has none a message follows.
+// Writes the digest line of a name that has a value. For one that has none, writes what `out` holds, since a message
+// follows.
 fn print_outcome<W: Output>(
     alloc: Global,
     kind: Kind,
@@ -118,7 +119,7 @@ fn print_outcome<W: Output>(
     }
 }
 
-/// Tells why a name has no value. Of one that has, nothing.
+/// Reports why a name has no value. Of one that has, nothing.
 pub fn tell_outcome<'a, E: Sink>(name: &'a [u8], outcome: &'a Outcome, err: &mut E)
     ensures { TellsOn E.Sink (told_line name.now outcome.now) err.old err.new }
 {

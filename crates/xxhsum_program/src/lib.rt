@@ -1,5 +1,5 @@
-//! The program `xxhsum` over any store of files and any ends: digest lines of named files, and lists of them that are
-//! checked.
+//! The program `xxhsum` over any store of files and any streams: digest lines of named files, and checks of lists of
+//! them.
 #![tactic(auto)]
 
 pub mod arguments;
@@ -7,7 +7,7 @@ pub mod check;
 mod entry;
 pub mod good_lists;
 pub mod hash;
-mod lines;
+pub mod lines;
 pub mod outcome;
 pub mod printed_lists;
 pub mod process;

@@ -1,21 +1,21 @@
 //! The lines of a list.
 
-ghost use Rattle.std.specs.Prelude.{◌≡◌, ◌+◌, ◌<◌, ◌≤◌, [], false, List, ℕ, length, Ok, None, IfOk, OnOk};
+ghost use Rattle.std.specs.Prelude.{◌≡◌, ◌+◌, ◌-◌, ◌<◌, ◌≤◌, [], false, List, ℕ, length, Ok, None, IfOk, OnOk};
 
 use xxh_io::ends::{Failed, Source};
 
 const BUFFER: usize = 65536;
 
-// The most bytes that a line has, its line feed among them.
+// The most bytes that a line has, without its line feed. A longer one is skipped.
 const MOST: usize = 32767;
 
 /// What comes next in a list.
 #[derive(Clone, Copy, Debug, PartialEq, Eq)]
-pub(crate) enum Next {
-    /// A line.
+pub enum Next {
+    /// A line, or one that is too long.
     Line,
-    /// A line of more than 32,767 bytes, its line feed among them: its list ends there.
-    TooLong,
+    /// A line that didn't end within 2^64 - 1 reads: its list ends there.
+    Endless,
     End,
     /// A read failed.
     Failed,
@@ -23,27 +23,30 @@ pub(crate) enum Next {
 
 /// The lines of a source, one after another.
 #[derive(Drop)]
-pub(crate) struct Lines<R> {
+pub struct Lines<R> {
     source: R,
     buf: [u8; BUFFER],
-    // `buf[start..end]` waits.
+    // `buf[start..end]` is buffered.
     start: usize,
     end: usize,
-    // `buf[line_start..line_end]` is the line that came last, without its line feed.
+    // `buf[line_start..line_end]` is the current line, without its line feed.
     line_start: usize,
     line_end: usize,
+    // The current line has more than MOST bytes.
+    is_long: bool,
     has_ended: bool,
     ghost ordered: { start ≤ end },
     ghost in_bounds: { end ≤ length buf },
+    ghost in_buffer: { end ≤ 65536 },
     ghost line_ordered: { line_start ≤ line_end },
     ghost line_in_bounds: { line_end ≤ length buf },
 }
 
 impl<R: Source + Drop> Lines<R> {
     ghost use Rattle.xxhsum_line.specs.Parts.{Lacks};
-    ghost use Rattle.xxhsum_program.specs.LinesView.{HasRead, IsAtEnd, IsBeforeLineFeed, IsNext, IsTaken, ReadsBehind, StopsAt, line_of, most_reads_left, waiting};
+    ghost use Rattle.xxhsum_program.specs.LinesView.{HasRead, IsAtEnd, IsBeforeLineFeed, IsGiven, IsHeld, IsNext, IsTaken, ReadsBehind, StopsAt, most_reads_left, waiting};
 
-    pub(crate) fn new(source: R) -> Lines<R>
+    pub fn new(source: R) -> Lines<R>
         ensures { HasRead R.Source source [] result }
     {
         Lines {
@@ -53,11 +56,12 @@ impl<R: Source + Drop> Lines<R> {
             end: 0,
             line_start: 0,
             line_end: 0,
+            is_long: false,
             has_ended: false,
         }
     }
 
-    // Moves what waits to the front, and reads once behind it.
+    // Moves the buffered bytes to the front, and reads once behind them.
     fn refill(&mut self) -> Result<(), Failed>
         requires open { self.old.has_ended ≡ false }
         requires unended { Lacks 10 (waiting self.old) }
@@ -79,15 +83,15 @@ impl<R: Source + Drop> Lines<R> {
         Ok(())
     }
 
-    // How many of the bytes that wait come before a line feed.
+    // How many of the buffered bytes come before the first line feed.
     fn before_line_feed(&self) -> Option<usize>
         ensures { IsBeforeLineFeed result self.now }
     {
         memchr::memchr(b'\n', &self.buf[self.start..self.end])
     }
 
-    // Reads until what waits has a line feed or is too long for a line, or the source has ended. Answers how many bytes
-    // come before the line feed.
+    // Reads until the buffered bytes have a line feed or are more than a line has, or the source has ended. Returns how
+    // many come before the line feed.
     fn gather(&mut self) -> Result<Option<usize>, Failed>
         ensures reads { (from : R) (done : List ℕ) → HasRead R.Source from done self.old
             → ReadsBehind R.Source from done self.new result }
@@ -103,45 +107,77 @@ impl<R: Source + Drop> Lines<R> {
         }
     }
 
-    // Takes the next bytes that wait: the first of them are a line.
-    fn take(&mut self, len: usize, taken: usize)
+    // Consumes `taken` buffered bytes: the first `len` are the line, or all belong to one that is too long.
+    fn take(&mut self, len: usize, taken: usize, is_long: bool)
         requires within { len ≤ taken }
         requires waiting { self.old.start + taken ≤ self.old.end }
-        ensures { IsTaken len taken self.old self.new }
+        ensures { IsTaken len taken is_long self.old self.new }
     {
         self.line_start = self.start;
         self.line_end = self.start + len;
         self.start += taken;
+        self.is_long = is_long;
     }
 
-    /// Goes on to the next line.
-    pub(crate) fn next(&mut self) -> Next
+    // Skips a line of which more than MOST bytes are buffered: to behind its line feed, or to the end.
+    fn pass_over(&mut self) -> Next
+        requires unended { Lacks 10 (waiting self.old) }
+        requires long { 32767 < self.old.end - self.old.start }
+        ensures { (from : R) (done : List ℕ) → HasRead R.Source from done self.old
+            → IsNext R.Source from done self.new result }
+    {
+        for turn in 0..u64::MAX {
+            let waiting = self.end - self.start;
+            self.take(0, waiting, true);
+            if self.has_ended {
+                return Next::Line;
+            }
+            match self.refill() {
+                Ok(()) => {}
+                Err(Failed) => return Next::Failed,
+            }
+            if let Some(len) = self.before_line_feed() {
+                self.take(0, len + 1, true);
+                return Next::Line;
+            }
+        }
+        Next::Endless
+    }
+
+    /// Advances to the next line.
+    pub fn next(&mut self) -> Next
         ensures next { (from : R) (done : List ℕ) → HasRead R.Source from done self.old
             → IsNext R.Source from done self.new result }
         ensures ended { IsAtEnd self.old → result ≡ Next.End }
     {
         match self.gather() {
             Err(Failed) => Next::Failed,
-            Ok(Some(len)) if len >= MOST => Next::TooLong,
+            Ok(Some(len)) if len > MOST => {
+                self.take(0, len + 1, true);
+                Next::Line
+            }
             Ok(Some(len)) => {
-                self.take(len, len + 1);
+                self.take(len, len + 1, false);
                 Next::Line
             }
             Ok(None) => match self.end - self.start {
                 0 => Next::End,
-                waiting if waiting > MOST => Next::TooLong,
+                waiting if waiting > MOST => self.pass_over(),
                 waiting => {
-                    self.take(waiting, waiting);
+                    self.take(waiting, waiting, false);
                     Next::Line
                 }
             },
         }
     }
 
-    /// The line that came last, without its line feed.
-    pub(crate) fn line(&self) -> &[u8]
-        ensures { result.now ≡ line_of self.now }
+    /// The current line, without its line feed. `None` where it has more than 32,767 bytes.
+    pub fn line(&self) -> Option<&[u8]>
+        ensures { (line : List ℕ) → IsHeld line self.now → IsGiven line result }
     {
-        &self.buf[self.line_start..self.line_end]
+        if self.is_long {
+            return None;
+        }
+        Some(&self.buf[self.line_start..self.line_end])
     }
 }

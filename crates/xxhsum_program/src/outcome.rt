@@ -1,4 +1,4 @@
-//! What becomes of one name of a hashing run.
+//! The outcome of one name of a hashing run.
 
 ghost use Rattle.std.specs.Prelude.{◌≡◌, ◌<◌, false, length, IfOk, IfErr};
 ghost use Rattle.xxhsum_program.specs.Outcomes.{Comes, HasNoValue, IsValueOf, reason_of};
@@ -16,7 +16,7 @@ pub(crate) const MAX_READS: u64 = u64::MAX;
 /// How many bytes each read of a file is offered.
 pub const OFFERED: usize = 131072;
 
-/// What became of a name.
+/// The outcome of a name.
 #[derive(Clone, Copy, Debug, PartialEq, Eq)]
 pub enum Outcome {
     /// Its file was read to the end, and has this value.
@@ -66,7 +66,7 @@ impl Reason {
         }
     }
 
-    // It in words: the system's where the file can't be opened.
+    // The reason as text: the system's where the file can't be opened.
     pub(crate) fn text(&self) -> &[u8]
         ensures { result.now ≡ reason_text self.now }
     {
@@ -77,7 +77,7 @@ impl Reason {
         }
     }
 
-    // What could not be done with the file.
+    // The step that failed: `open` or `read`.
     pub(crate) fn step(&self) -> &[u8]
         ensures { result.now ≡ step_text self.now }
     {
@@ -100,8 +100,7 @@ impl From<DigestError> for Reason {
     }
 }
 
-/// Opens the name and hashes its file, with reads that are offered the whole buffer. An error says why there is no
-/// value.
+/// Opens the name and digests its file. Each read is offered the whole of `buf`. An error says why there is no value.
 pub(crate) fn value_named<S: Store>(
     store: &S,
     kind: Kind,
@@ -121,7 +120,7 @@ pub(crate) fn value_named<S: Store>(
     }
 }
 
-/// Opens the name and hashes its file, with reads that are offered the whole buffer. A directory is one exactly where
+/// Opens the name and digests its file. Each read is offered the whole of `buf`. A name is a directory exactly where
 /// the store says so.
 pub fn outcome_of<S: Store>(store: &S, kind: Kind, name: &[u8], buf: &mut [u8]) -> Outcome
     requires { 0 < length buf.old }

@@ -1,9 +1,9 @@
-//! The program over its arguments, a store of files and its ends.
+//! What the arguments ask for, and a run over files and lists.
 
 ghost use Rattle.std.specs.Prelude.{◌≡◌, false, Bool, List, ℕ, Option, Result, [], drop, get_or, map, IfSome};
 ghost use Rattle.xxhsum_program.specs.Joined.{joined};
-ghost use Rattle.xxhsum_program.specs.Run.{DoesTask, PerformsAs, PerformsWatched, end_text, status_of, stop_text, style_of};
-ghost use Rattle.xxhsum_program.specs.Task.{IsProgram, answer_text, has_none, is_well, run_asked, shows_progress, task_of, usage_text, waits_for_terminal, wrong_text};
+ghost use Rattle.xxhsum_program.specs.Run.{PerformsAs, PerformsWatched, end_text, status_of, stop_text, style_of};
+ghost use Rattle.xxhsum_program.specs.Task.{IsProgram, answer_text, has_none, is_tree, is_well, run_asked, shows_progress, usage_text, waits_for_terminal, wrong_text};
 ghost use Rattle.xxhsum_program.specs.Told.{TellsOn};
 ghost use Rattle.xxhsum_program.specs.declared.stop.Stop.{Stop};
 
@@ -21,13 +21,12 @@ use xxh_io::ends::{Sink, Source};
 use xxhsum_files::store::Store;
 use xxhsum_line::printed::{Shape, Style};
 use xxhsum_output::output::Output;
-use xxhsum_words::name::default_kind;
-use xxhsum_words::options::{Asked, Options, asked_by, words_behind};
+use xxhsum_words::options::{Asked, Options};
 
 // What standard input is called in lines.
 const INPUT: &[u8] = b"stdin";
 
-// What is told where `-` stands beside names or behind `--`.
+// The message where `-` stands beside names or behind `--`.
 const INPUT_BESIDE_NAMES: &[u8] =
     b"Error: '-' is standard input, which is read alone; a file of that name is './-'.\n";
 
@@ -40,59 +39,8 @@ pub struct Terminals {
     pub errors: bool,
 }
 
-/// Does what the words behind the program's name ask for, over a store of files and these ends. Progress is shown on
-/// the screen, which is standard error too. Answers whether all went well.
-///
-/// The caller shows that neither the input nor the output has failed.
-///
-/// # Errors
-///
-/// [`Stop::WriteFailed`] where a write to the output fails, and [`Stop::OutOfMemory`] where memory runs out.
-pub fn run_words<S, R, W, E, T>(
-    alloc: Global,
-    args: &[Vec<u8>],
-    store: &S,
-    terminals: Terminals,
-    input: R,
-    out: &mut W,
-    err: &mut E,
-    screen: T,
-) -> Result<bool, Stop>
-where
-    S: Store,
-    R: Source + Drop,
-    W: Output,
-    E: Sink,
-    T: Sink + Ticks + Copy + Drop,
-    requires reader { R.has_failed input ≡ false }
-    requires writer { W.has_failed out.old ≡ false }
-    ensures { let arguments = map (λ argument. argument.items) args.now in (program : List ℕ)
-        × IsProgram arguments program
-        × DoesTask (PerformsWatched T S.Store S.File.Source R.Source W.Sink E.Sink store.now input
-        out.old out.new err.old err.new result)
-        E.Sink (task_of terminals program (drop 1 arguments))
-        out.old out.new err.old err.new result }
-{
-    let program = program_of(args);
-    let words = words_of(args);
-    let asked = asked_by(default_kind(program), words);
-    match run_asked(asked) {
-        None => Ok(tell_answer(program, words, asked, err)),
-        Some(found) => {
-            let (options, place) = found;
-            let names = words_behind(words, place);
-            if waits_for_terminal(terminals, options, names) {
-                tell_wrong(&[b"Wrong parameters"], program, err);
-                return Ok(false);
-            }
-            let shows = shows_progress(terminals, options);
-            perform_watched(alloc, store, options, names, shows, input, out, err, screen)
-        }
-    }
-}
-
-// The options of a run that is asked for, and which of the words its names begin at.
-fn run_asked(asked: Asked) -> Option<(Options, usize)>
+/// The options of the run that is asked for, and the index of the argument at which its names begin.
+pub fn run_asked(asked: Asked) -> Option<(Options, usize)>
     ensures { result ≡ run_asked asked }
 {
     match asked {
@@ -122,8 +70,8 @@ pub fn program_of(args: &[Vec<u8>]) -> &[u8]
     }
 }
 
-/// The words behind the program's name.
-pub fn words_of(args: &[Vec<u8>]) -> &[Vec<u8>]
+/// The arguments behind the program's name.
+pub fn arguments_behind_name(args: &[Vec<u8>]) -> &[Vec<u8>]
     ensures { map (λ word. word.items) result.now
         ≡ drop 1 (map (λ argument. argument.items) args.now) }
 {
@@ -133,22 +81,29 @@ pub fn words_of(args: &[Vec<u8>]) -> &[Vec<u8>]
     }
 }
 
-// Whether progress is to be shown.
-fn shows_progress(terminals: Terminals, options: Options) -> bool
+/// Whether a run over a tree is asked for: an audit, the files below folders, or names that stand in lists of names.
+pub fn is_tree(options: Options) -> bool
+    ensures { result ≡ is_tree options }
+{
+    options.audits || options.walks || options.names_from.are_listed()
+}
+
+/// Whether progress is to be shown: on a terminal, and there neither with `-q` nor with `--status`.
+pub fn shows_progress(terminals: Terminals, options: Options) -> bool
     ensures { result ≡ shows_progress terminals options }
 {
     terminals.errors && !options.is_quiet && !options.is_status_only
 }
 
-// Whether standard input would be read from a terminal that nobody asked for.
-fn waits_for_terminal(terminals: Terminals, options: Options, names: &[Vec<u8>]) -> bool
+/// Whether standard input would be read from a terminal that nobody asked for.
+pub fn waits_for_terminal(terminals: Terminals, options: Options, names: &[Vec<u8>]) -> bool
     ensures { result ≡ waits_for_terminal terminals options (map (λ name. name.items) names.now) }
 {
     has_none(names) && !options.takes_terminal && terminals.input
 }
 
-// Tells what is asked for where that is no run, and answers whether all is well. Of a run nothing is told.
-fn tell_answer<E: Sink>(program: &[u8], words: &[Vec<u8>], asked: Asked, err: &mut E) -> bool
+/// Writes what is asked for where that is no run, and returns whether all is well. Of a run nothing is written.
+pub fn tell_answer<E: Sink>(program: &[u8], words: &[Vec<u8>], asked: Asked, err: &mut E) -> bool
     ensures well { result ≡ is_well asked }
     ensures tells { TellsOn E.Sink
         (answer_text program.now (map (λ word. word.items) words.now) asked) err.old err.new }
@@ -206,7 +161,7 @@ fn tell_answer<E: Sink>(program: &[u8], words: &[Vec<u8>], asked: Asked, err: &m
     }
 }
 
-// The word of this index.
+// The argument of this index.
 fn word_at(words: &[Vec<u8>], at: usize) -> &[u8]
     ensures { result.now ≡ get_or (map (λ word. word.items) words.now) at [] }
 {
@@ -216,8 +171,8 @@ fn word_at(words: &[Vec<u8>], at: usize) -> &[u8]
     }
 }
 
-// Tells what is wrong with the words, in these parts of a line, and how the program is used.
-fn tell_wrong<E: Sink>(line: &[&[u8]], program: &[u8], err: &mut E)
+/// Reports what is wrong with the arguments, in these parts of a line, and how the program is used.
+pub fn tell_wrong<E: Sink>(line: &[&[u8]], program: &[u8], err: &mut E)
     ensures { TellsOn E.Sink (wrong_text (joined line.now) program.now) err.old err.new }
 {
     tell_line(line, err);
@@ -225,7 +180,7 @@ fn tell_wrong<E: Sink>(line: &[&[u8]], program: &[u8], err: &mut E)
     tell_usage(program, err);
 }
 
-// Tells how the program is used.
+// Reports how the program is used.
 fn tell_usage<E: Sink>(program: &[u8], err: &mut E)
     ensures { TellsOn E.Sink (usage_text program.now) err.old err.new }
 {
@@ -237,9 +192,16 @@ fn tell_usage<E: Sink>(program: &[u8], err: &mut E)
     tell(BEHIND, err);
 }
 
-// Does what is asked for over the files and the input, whose reads are shown on the screen or not.
+/// Digests the files of the names, or checks the lists of these names. Progress is shown on the screen, which is
+/// standard error too, or not. Returns whether all went well.
+///
+/// The caller shows that neither the input nor the output has failed.
+///
+/// # Errors
+///
+/// [`Stop::WriteFailed`] where a write to the output fails, and [`Stop::OutOfMemory`] where memory runs out.
 #[tactic(auto, unfolding(crate::specs::Run::PerformsWatched))]
-fn perform_watched<S, R, W, E, T>(
+pub fn perform_watched<S, R, W, E, T>(
     alloc: Global,
     store: &S,
     options: Options,
@@ -267,7 +229,7 @@ where
     perform(alloc, &files, options, names, input, out, err)
 }
 
-// Digests the names, or checks them.
+// Digests the files of the names, or checks them as lists.
 #[tactic(auto, unfolding(crate::specs::Run::PerformsAs))]
 fn perform<S, R, W, E>(
     alloc: Global,
@@ -303,7 +265,7 @@ where
     hash_names(alloc, store, options.kind, style, names, out, err)
 }
 
-/// How the options want lines to be written.
+/// The style of lines by the options.
 pub fn style_of(options: Options) -> Style
     ensures { result ≡ style_of options }
 {
@@ -322,7 +284,7 @@ fn has_none(names: &[Vec<u8>]) -> bool
     names.is_empty()
 }
 
-/// Tells why the program stops, and answers the exit status: 0 where all went well, and else 1.
+/// Reports why the program stops, and returns the exit status: 0 where all went well, and else 1.
 pub fn conclude<E: Sink>(done: Result<bool, Stop>, err: &mut E) -> u8
     ensures status { result ≡ status_of done }
     ensures tells { TellsOn E.Sink (end_text done) err.old err.new }
@@ -337,7 +299,7 @@ pub fn conclude<E: Sink>(done: Result<bool, Stop>, err: &mut E) -> u8
     }
 }
 
-// The line that tells why the program stops.
+// The message of why the program stops.
 fn line_of(stop: Stop) -> &'static [u8]
     ensures { result.now ≡ stop_text stop }
 {

@@ -9,7 +9,7 @@ use crate::tell::{tell, tell_parts};
 use itoa::Buffer;
 use xxh_io::ends::Sink;
 
-// How many bytes of a file are read from one line to the next: 64 MiB.
+// The bytes of a file between two progress lines: 64 MiB.
 const STEP: u64 = 67108864;
 
 const MIB: u64 = 1048576;
@@ -26,20 +26,20 @@ const ONE_ROW: &[u8] = b"\x1b[?7l";
 // The same on again, and the cursor at the line's beginning.
 const ENDED: &[u8] = b"\x1b[?7h\r";
 
-/// Counts what is read of a file, and shows it on an end at each 64 MiB, with how fast it is read and, where its size is
-/// known, how long that will last; or nowhere.
+/// Counts the bytes read of a file, and shows them at each 64 MiB, with the rate and, where the size is known, the time
+/// left. Where it is off it shows nothing.
 #[derive(Drop)]
 pub struct Meter<E> {
     end: E,
     is_on: bool,
     count: u64,
     size: Option<u64>,
-    // When the reading began, in milliseconds.
+    // The time of the first read (ms).
     started: u64,
 }
 
 impl<E: Sink> Meter<E> {
-    /// Nothing is read yet of so many bytes, if that is known, and the clock stands at so many milliseconds.
+    /// The meter of a file of `size` bytes, if that is known, of which nothing is read at time `started` (ms).
     pub fn new(end: E, is_on: bool, size: Option<u64>, started: u64) -> Meter<E>
         ensures end { end_of result ≡ end }
         ensures shown { is_shown result ≡ is_on }
@@ -56,7 +56,7 @@ impl<E: Sink> Meter<E> {
         }
     }
 
-    /// Where it shows what it counts.
+    /// Where it shows the progress line.
     pub fn into_end(self) -> E
         ensures { result ≡ end_of self }
     {
@@ -70,8 +70,7 @@ impl<E: Sink> Meter<E> {
         end
     }
 
-    /// Counts a read of so many bytes, behind which the clock stands at so many milliseconds. One of none takes the line
-    /// away, where there is one.
+    /// Adds `count` bytes read by time `now` (ms). A count of 0 is the end of the file and clears the progress line.
     pub fn show_at(&mut self, count: usize, now: u64)
         ensures { Shows E.Sink count now self.old self.new }
     {
@@ -89,7 +88,8 @@ impl<E: Sink> Meter<E> {
 }
 
 impl<E: Sink + Ticks> Meter<E> {
-    /// Counts a read of so many bytes, by the time that its end tells. One of none takes the line away.
+    /// Adds `count` bytes read by the time of the screen's clock. A count of 0 is the end of the file and clears the
+    /// progress line.
     pub fn show(&mut self, count: usize)
         ensures { ShowsSometime E.Sink count self.old self.new }
     {
@@ -98,19 +98,19 @@ impl<E: Sink + Ticks> Meter<E> {
     }
 }
 
-/// The time, which is asked for only where progress is shown.
+/// The screen's time (ms), read only where progress is shown.
 pub(crate) fn time_of<E: Ticks>(end: &E, is_on: bool) -> u64 {
     if is_on { end.now() } else { 0 }
 }
 
-// How many KiB a second were read, of so many bytes in so many milliseconds.
+// The rate in KiB a second, of `count` bytes in `millis` ms.
 fn rate_of(count: u64, millis: u64) -> u64
     ensures { result ≡ rate_of count millis }
 {
     count / KIB * 1000 / millis.max(1)
 }
 
-// Shows the second count where a step ends between both.
+// Shows `count` where a multiple of 64 MiB lies above `before`.
 fn show_between<E: Sink>(before: u64, count: u64, size: Option<u64>, millis: u64, end: &mut E)
     ensures { TellsOn E.Sink (progress_line size millis before count) end.old end.new }
 {
@@ -122,7 +122,7 @@ fn show_between<E: Sink>(before: u64, count: u64, size: Option<u64>, millis: u64
     }
 }
 
-// Shows how much was read, and how fast.
+// Shows `count` and the rate.
 fn show_rate<E: Sink>(count: u64, rate: u64, end: &mut E)
     ensures { TellsOn E.Sink (rate_text count rate) end.old end.new }
 {
@@ -134,7 +134,7 @@ fn show_rate<E: Sink>(count: u64, rate: u64, end: &mut E)
     tell_parts(&parts, end);
 }
 
-// Shows how many seconds the rest will last, where the size is known.
+// Shows the seconds left, where the size is known.
 fn show_left<E: Sink>(size: Option<u64>, count: u64, rate: u64, end: &mut E)
     ensures { TellsOn E.Sink (left_text size count rate) end.old end.new }
 {
@@ -149,7 +149,7 @@ fn show_left<E: Sink>(size: Option<u64>, count: u64, rate: u64, end: &mut E)
     }
 }
 
-// Takes the line away, where so many bytes had one.
+// Clears the progress line, where `count` bytes had one.
 fn clear_after<E: Sink>(count: u64, end: &mut E)
     ensures { TellsOn E.Sink (cleared count) end.old end.new }
 {

@@ -1,4 +1,4 @@
-//! Lines for the standard output, of which none may be lost.
+//! Lines on standard output, of which none may be lost.
 
 ghost use Rattle.std.specs.Prelude.{◌≡◌, ◌++◌, [], false, Bool, Result, IfOk, IfErr};
 ghost use Rattle.xxh_io.specs.Digest.{Took};
@@ -14,7 +14,7 @@ use xxh_io::write::write_all;
 use xxhsum_line::escapes::put_line;
 use xxhsum_output::output::Output;
 
-// Puts the parts behind the text, one after another.
+// Appends the parts to the text.
 fn put_parts(text: &mut Vec<u8>, parts: &[&[u8]]) -> Result<(), AllocError>
     ensures { IfOk result (λ _. text.new.items ≡ text.old.items ++ joined parts.now) }
 {
@@ -61,7 +61,7 @@ pub fn print<W: Sink>(bytes: &[u8], out: &mut W) -> Result<(), Stop>
     }
 }
 
-// Writes what the output holds, so that it comes before a message.
+// Writes what the output holds, before a message.
 pub(crate) fn release<W: Output>(out: &mut W)
     requires { W.has_failed out.old ≡ false }
     ensures prints { Took W.Sink [] out.old out.new }

@@ -1,4 +1,4 @@
-//! Where progress is shown, and the clock that it goes by.
+//! The screen of the progress line, and its clock.
 
 ghost use Rattle.std.specs.Io.KnownBytes.{Appends, Keeps};
 ghost use Rattle.xxhsum_program.specs.Screen.{has_screen_failed, shown_on};
@@ -7,9 +7,9 @@ use std::io::Write;
 use std::rt::Clock;
 use xxh_io::ends::{Failed, Sink};
 
-/// What tells the time.
+/// A clock.
 pub trait Ticks {
-    /// How many milliseconds have gone by since some start, and 0 where the clock can't be read. No clause says which.
+    /// The milliseconds since some start, and 0 where the clock can't be read. No clause says which.
     fn now(&self) -> u64;
 }
 
@@ -22,7 +22,7 @@ pub struct Screen<'a, W, P> {
 }
 
 impl<'a, W: Write + Copy, P: Clock> Screen<'a, W, P> {
-    /// One on which nothing was shown yet.
+    /// A screen on which nothing was shown yet.
     pub fn new(writer: W, process: &'a P) -> Screen<'a, W, P> {
         Screen {
             writer,

@@ -1,4 +1,4 @@
-//! Lines for the standard error, which takes what it can: a line that it refuses stops nothing.
+//! Messages on standard error. One that can't be written stops nothing.
 
 ghost use Rattle.std.specs.Prelude.{◌≡◌};
 ghost use Rattle.xxhsum_line.specs.Escapes.{escaped, mark_of, needs_escape, one_line};
@@ -29,7 +29,7 @@ pub fn tell_line<E: Sink>(parts: &[&[u8]], err: &mut E)
     tell(b"\n", err);
 }
 
-// Writes what a line of these parts begins with: a backslash where one of them has a byte that is escaped.
+// Writes a backslash where one of the parts has a byte that is escaped.
 fn tell_mark<E: Sink>(parts: &[&[u8]], err: &mut E)
     ensures { TellsOn E.Sink (mark_of (joined parts.now)) err.old err.new }
 {

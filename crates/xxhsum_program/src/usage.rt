@@ -30,14 +30,14 @@ The exit status is 0 if every file was read and matches its checksum, if there i
 
 pub(crate) const NO_BENCHMARK: &[u8] = b": this xxhsum has no benchmark";
 
-// Tells the lines of all options that the help has.
+// Writes the lines of all options that the help has.
 pub(crate) fn tell_options<E: Sink>(err: &mut E)
     ensures { TellsOn E.Sink (rows_text ROWS) err.old err.new }
 {
     tell_rows(&ROWS, err);
 }
 
-// Tells the lines of these options.
+// Writes the lines of these options.
 fn tell_rows<E: Sink>(rows: &[(u8, &str, Does, &str)], err: &mut E)
     ensures { TellsOn E.Sink (rows_text (map seen rows.now)) err.old err.new }
 {
@@ -47,7 +47,7 @@ fn tell_rows<E: Sink>(rows: &[(u8, &str, Does, &str)], err: &mut E)
     }
 }
 
-// Tells the line of an option, unless the help has none.
+// Writes the line of an option, unless the help has none.
 fn tell_row<'a, E: Sink>(letter: u8, name: &'a [u8], help: &'a [u8], err: &mut E)
     ensures { TellsOn E.Sink (row_text letter name.now help.now) err.old err.new }
 {
@@ -60,7 +60,7 @@ fn tell_row<'a, E: Sink>(letter: u8, name: &'a [u8], help: &'a [u8], err: &mut E
     tell_parts(&parts, err);
 }
 
-// What stands before the name of an option with this letter.
+// The text before the name of an option with this letter.
 fn shown_letter<'a>(letter: u8, short: &'a [u8; 4]) -> &'a [u8]
     requires { short.now ≡ 45 ∷ letter ∷ 44 ∷ 32 ∷ [] }
     ensures { result.now ≡ letter_text letter }

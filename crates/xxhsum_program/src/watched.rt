@@ -90,7 +90,7 @@ impl<'a, S: Store, W: Sink + Ticks + Copy + Drop> WatchedFiles<'a, S, W> {
 }
 
 impl<S: Store, W: Sink + Ticks + Copy + Drop> WatchedFiles<'_, S, W> {
-    // The meter of the file of this name, of which nothing is read yet.
+    // A meter for the file of this name.
     fn meter_of(&self, name: &[u8]) -> Meter<W>
         ensures { IsFresh S.Store self.now name.now result }
     {
@@ -132,14 +132,14 @@ impl<S: Store, W: Sink + Ticks + Copy + Drop> Store for WatchedFiles<'_, S, W> {
     }
 }
 
-/// A law, with nothing to run: what a watched source gives its source gives.
+/// A law, with nothing to run: the pieces that a watched source gives are those of its source.
 pub fn watched_pieces<R: Source, E: Sink + Ticks>()
     ensures { (old new : Watched R E) (pieces : List (List ℕ))
         → Pieces ⟦<Watched<R, E> as Source>⟧.gives old pieces new
         → Pieces R.gives (source_of old) pieces (source_of new) }
 {}
 
-/// A law, with nothing to run: what a hashing run over watched files says it says of the files.
+/// A law, with nothing to run: the outcomes of a hashing run over watched files are those of the files.
 pub fn watched_names<S: Store, W: Sink + Ticks + Copy + Drop>()
     ensures { (files : WatchedFiles S W) (kind : Kind) (names done rest : List (List ℕ))
         → (outcomes : List Outcome) → (result : Result Bool Stop)
@@ -148,8 +148,7 @@ pub fn watched_names<S: Store, W: Sink + Ticks + Copy + Drop>()
         → HashesNames S.Store S.File.Source (files_of files) kind names done rest outcomes result }
 {}
 
-/// A law, with nothing to run: what the check of a watched list over watched files finds is found of the list and the
-/// files.
+/// A law, with nothing to run: the findings of a watched list over watched files are those of the list and the files.
 pub fn watched_list<S: Store, W: Sink + Ticks + Copy + Drop, R: Source, E: Sink + Ticks>()
     ensures { (files : WatchedFiles S W) (list : Watched R E) (is_little : Bool)
         → (findings : List Finding) (end : Option ListEnd)
@@ -160,7 +159,7 @@ pub fn watched_list<S: Store, W: Sink + Ticks + Copy + Drop, R: Source, E: Sink 
         R.Source (source_of list) findings end }
 {}
 
-/// A law, with nothing to run: what the check of watched lists says it says of the lists.
+/// A law, with nothing to run: the outcomes of checks of watched lists are those of the lists.
 pub fn watched_lists<S: Store, W: Sink + Ticks + Copy + Drop>()
     ensures { (files : WatchedFiles S W) (is_little : Bool) (options : Options)
         → (names done rest : List (List ℕ)) (outcomes : List ListOutcome)

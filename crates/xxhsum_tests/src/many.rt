@@ -6,7 +6,7 @@ use std::env::FillError;
 use std::rt::Env;
 use std::test::Fail;
 use xxh_io::script_source::ScriptSource;
-use xxhsum_audit::read::read_all;
+use xxhsum_audit::read::read_text;
 use xxhsum_program::arguments::{ProcessArguments, all_arguments};
 
 // A process with so many arguments, each of one byte, and no environment.
@@ -53,7 +53,7 @@ fn each_read_of_a_list_is_taken(rt: HostRuntime) -> Result<(), Fail> {
     let bytes = vec![in rt.alloc(); b'a'; 70_000]?;
     let sizes = vec![in rt.alloc(); 1usize; 70_000]?;
     let mut source = ScriptSource::new(&bytes, &sizes, 0);
-    let Ok(all) = read_all(rt.alloc(), &mut source) else {
+    let Ok(all) = read_text(rt.alloc(), &mut source) else {
         return Err(Fail::from("not all is there"));
     };
     assert!(rt; all.len() == 70_000);

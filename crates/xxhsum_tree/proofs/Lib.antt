@@ -1,5 +1,9 @@
 mod FindFacts
+mod GoodAuditFacts
+mod JoinFacts
+mod OnceFacts
 mod ReportFacts
 mod RowFacts
+mod SaidFacts
 mod WalkFacts
 mod VisitFacts

@@ -6,7 +6,7 @@ use Rattle.std.specs.declared.result.Result.{Result}
 use Rattle.xxh_io.specs.Digest.{Refused, Took}
 use Rattle.xxh_io.specs.Rules.{SinkRules}
 use Rattle.xxh_io.proofs.WriteFacts.{Refused-join, Refused-more, Took-join}
-use Rattle.xxhsum_audit.specs.Merge.{Found}
+use Rattle.xxhsum_audit.specs.Found.{Found}
 use Rattle.xxhsum_program.specs.Lines.{PrintsLine}
 use Rattle.xxhsum_program.specs.declared.stop.Stop.{Stop}
 use Rattle.xxhsum_program.specs.declared.stop.Stop.TheVariants.{OutOfMemory, WriteFailed}

@@ -1,32 +1,37 @@
--- Rows, where one more comes; and that no name stands twice in what they come to.
-use Rattle.std.proofs.Common.{◌≡◌, ℕ, Bool, true, false, ◌&&◌, List, [], ◌∷◌, ◌++◌, append-nil, refl, sym, ap, subst, inl, ◌∙◌, Ok, Err}
+-- Rows, where one more comes, and what they come to.
+use Rattle.std.proofs.Common.{◌≡◌, ℕ, Bool, true, false, ◌&&◌, List, [], ◌∷◌, ◌++◌, append-nil, map, refl, sym, ap, subst, inl, ◌∙◌, Ok, Err}
 use Rattle.std.specs.Result.{IsErr, MatchResult}
 use Rattle.std.specs.declared.alloc.AllocError.{AllocError}
 use Rattle.std.specs.declared.result.Result.{Result}
+use Rattle.std.proofs.lemmas.List.{map-append}
 use Rattle.std.proofs.lemmas.List.Concat.{flat_map-append}
 use Rattle.std.specs.List.{flat_map}
-use Rattle.xxhsum_audit.specs.declared.order.By.TheVariants.{Name}
-use Rattle.xxhsum_audit.specs.Audit.{IsAudit}
-use Rattle.xxhsum_program.proofs.EachFacts.{and-assoc, and-true}
-use Rattle.xxhsum_program.specs.declared.stop.Stop.{Stop}
-use Rattle.xxhsum_tree.specs.Audits.{AnswersAudit, AuditsSides}
-use Rattle.xxhsum_tree.specs.Report.{PrintsReport, are_same}
-use Rattle.xxhsum_words.specs.declared.options.Options.{Options}
 use Rattle.xxh_io.specs.declared.kind.Kind.{Kind}
 use Rattle.xxh_io.specs.Rules.{SinkRules, SourceRules}
-use Rattle.xxhsum_audit.specs.Item.{Item, name_of}
-use Rattle.xxhsum_audit.specs.Merge.{Found, merged}
+use Rattle.xxhsum_audit.proofs.FoundFacts.{met_is}
+use Rattle.xxhsum_audit.specs.declared.digest.FileDigest.{FileDigest}
+use Rattle.xxhsum_audit.specs.declared.moves.Compared.{Compared}
+use Rattle.xxhsum_audit.specs.declared.side.Side.{Side}
+use Rattle.xxhsum_audit.specs.declared.verdict.Verdict.{Verdict}
+use Rattle.xxhsum_audit.specs.Audit.{HasMoves, IsAudit, missing_in, new_in, settled_in}
+use Rattle.xxhsum_audit.specs.Found.{Found, Missing, New, found_of, founds_of, met}
+use Rattle.xxhsum_audit.specs.Item.{Item, item_of, items_of}
+use Rattle.xxhsum_audit.specs.Order.{Rises, compare_lines, compare_paths}
+use Rattle.xxhsum_audit.specs.Side.{by_path}
 use Rattle.xxhsum_files.specs.Rules.{StoreRules}
-use Rattle.xxhsum_program.specs.Lines.{told_line}
+use Rattle.xxhsum_program.proofs.EachFacts.{and-assoc, and-true}
 use Rattle.xxhsum_program.specs.Outcomes.{is_digested}
-use Rattle.xxhsum_program.specs.Told.{TellsOn}
 use Rattle.xxhsum_program.specs.declared.outcome.Outcome.{Outcome}
 use Rattle.xxhsum_program.specs.declared.outcome.Outcome.TheVariants.{Digested, IsDirectory, Unread}
-use Rattle.xxhsum_tree.specs.Digests.{AddsMet, AddsName, AddsRow, DigestsRows}
-use Rattle.xxhsum_tree.specs.Rows.{AreRows, IsMet, IsRow, Met, Row, are_read, is_read, kept_if, kept_in, kind_of_new, seen_in}
-use Rattle.xxhsum_tree.specs.declared.digests.Digests.{Digests}
+use Rattle.xxhsum_program.specs.declared.stop.Stop.{Stop}
+use Rattle.xxhsum_tree.proofs.JoinFacts.{is-audit}
+use Rattle.xxhsum_tree.specs.Audits.{AnswersAudit, AuditsSides}
+use Rattle.xxhsum_tree.specs.Digests.{DigestsRows, Grows}
+use Rattle.xxhsum_tree.specs.Report.{PrintsReport, are_same}
+use Rattle.xxhsum_tree.specs.Rows.{AreRows, IsRow, Row, are_read, digest_of, first_in, first_of, is_read, kept_in, kind_of_new, seen_in}
+use Rattle.xxhsum_words.specs.declared.options.Options.{Options}
 
-pub rows-more : {S F : Type 0} (opening : StoreRules S F) (reading : SourceRules F) (store : S) (kind : Kind) (sides : List Found) (rows : List Row) (side : Found) (row : Row) → AreRows opening reading store kind sides rows → IsRow opening reading store kind side row → AreRows opening reading store kind (sides ++ side ∷ []) (rows ++ row ∷ [])
+pub rows-more : {S F : Type 0} (opening : StoreRules S F) (reading : SourceRules F) (store : S) (kind : Kind) (sides : List (Side Item (List ℕ))) (rows : List Row) (side : Side Item (List ℕ)) (row : Row) → AreRows opening reading store kind sides rows → IsRow opening reading store kind side row → AreRows opening reading store kind (sides ++ side ∷ []) (rows ++ row ∷ [])
 rows-more opening reading store kind [] rows side row none is =
     (row, [], ap (λ x. x ++ row ∷ []) none, is, refl)
 rows-more opening reading store kind (s ∷ sides) rows side row are is = (
@@ -45,37 +50,66 @@ read-more (r ∷ rows) row = ap (λ x. is_read r && x) (read-more rows row) ∙ 
 pub flat-push : {X A : Type 0} (f : X → List A) (xs : List X) (x : X) → flat_map f (xs ++ x ∷ []) ≡ flat_map f xs ++ f x
 flat-push f xs x = flat_map-append f xs (x ∷ []) ∙ ap (λ more. flat_map f xs ++ more) (append-nil (f x))
 
--- ---- a name and its line
+-- what more rows come to stands behind
+pub first-push : {A : Type 0} (of : Found → List A) (kind : Kind) (rows : List Row) (row : Row) → flat_map of (first_in kind (rows ++ row ∷ [])) ≡ flat_map of (first_in kind rows) ++ flat_map of (first_of kind row)
+first-push of kind rows row =
+    ap (flat_map of) (flat-push (first_of kind) rows row) ∙ flat_map-append of (first_in kind rows) (first_of kind row)
 
-pub is-silent : (name : List ℕ) (outcome : Outcome) → is_digested outcome ≡ true → told_line name outcome ≡ []
-is-silent name (Digested value) is = refl
-is-silent name IsDirectory is = let no : ⊥ = cc in absurd no
-is-silent name (Unread reason) is = let no : ⊥ = cc in absurd no
+-- ---- one side
 
-pub is-kept : (line : Item) (outcome : Outcome) → is_digested outcome ≡ true → kept_if line outcome ≡ line ∷ []
-is-kept line (Digested value) is = refl
-is-kept line IsDirectory is = let no : ⊥ = cc in absurd no
-is-kept line (Unread reason) is = let no : ⊥ = cc in absurd no
+pub not-digested : (kind : Kind) (name : List ℕ) (outcome : Outcome) → is_digested outcome ≡ false → digest_of kind name outcome ≡ []
+not-digested kind name (Digested value) is = let no : ⊥ = cc in absurd no
+not-digested kind name IsDirectory is = refl
+not-digested kind name (Unread reason) is = refl
 
-pub is-left-out : (line : Item) (outcome : Outcome) → is_digested outcome ≡ false → kept_if line outcome ≡ []
-is-left-out line (Digested value) is = let no : ⊥ = cc in absurd no
-is-left-out line IsDirectory is = refl
-is-left-out line (Unread reason) is = refl
+-- a line alone
+pub grows-gone : (old new : Compared) (line : FileDigest) → new.gone.items ≡ old.gone.items ++ line ∷ [] → new.settled ≡ old.settled → new.come ≡ old.come → new.are_all ≡ old.are_all
+    → Grows old new (Missing (item_of line) ∷ []) true
+grows-gone old new line more settled come all = (
+  ap (λ x. founds_of x.items) settled ∙ sym (append-nil (founds_of old.settled.items)),
+  ap items_of more ∙ map-append item_of old.gone.items (line ∷ []),
+  ap (λ x. items_of x.items) come ∙ sym (append-nil (items_of old.come.items)),
+  all ∙ sym (and-true old.are_all),
+)
 
-pub met-row : {S F E : Type 0} (opening : StoreRules S F) (reading : SourceRules F) (telling : SinkRules E) (store : S) (kind : Kind) (line name : Item) (old new : Digests) (e_old e_new : E) (result : Result (Unit {0}) AllocError) → AddsMet opening reading telling store line (name_of name) old new e_old e_new result → AddsRow telling (IsMet opening reading store line name) kind old new e_old e_new result
-met-row opening reading telling store kind line name old new e_old e_new (Ok x) adds =
-    (Met line (name_of name) adds.0, (adds.0, refl, adds.1), adds.2, adds.3)
-met-row opening reading telling store kind line name old new e_old e_new (Err e) adds = adds
+-- a name alone
+pub grows-come : (old new : Compared) (one : FileDigest) (item : Item) → item_of one ≡ item → new.come.items ≡ old.come.items ++ one ∷ [] → new.settled ≡ old.settled → new.gone ≡ old.gone → new.are_all ≡ old.are_all
+    → Grows old new (New item ∷ []) true
+grows-come old new one item is more settled gone all = (
+  ap (λ x. founds_of x.items) settled ∙ sym (append-nil (founds_of old.settled.items)),
+  ap (λ x. items_of x.items) gone ∙ sym (append-nil (items_of old.gone.items)),
+  ap items_of more ∙ map-append item_of old.come.items (one ∷ []) ∙ ap (λ x. items_of old.come.items ++ x ∷ []) is,
+  all ∙ sym (and-true old.are_all),
+)
+
+-- both
+pub grows-met : (old new : Compared) (verdict : Verdict) (line item : Item) → found_of verdict ≡ met line item → new.settled.items ≡ old.settled.items ++ verdict ∷ [] → new.gone ≡ old.gone → new.come ≡ old.come → new.are_all ≡ old.are_all
+    → Grows old new (met line item ∷ []) true
+grows-met old new verdict line item is more gone come all = (
+  ap founds_of more ∙ map-append found_of old.settled.items (verdict ∷ []) ∙ ap (λ x. founds_of old.settled.items ++ x ∷ []) is
+      ∙ ap (λ x. founds_of old.settled.items ++ x) (sym (met_is (λ f. settled_in (f ∷ []) ≡ f ∷ []) line item (λ e. refl) (λ e. refl))),
+  ap (λ x. items_of x.items) gone ∙ sym (append-nil (items_of old.gone.items))
+      ∙ ap (λ x. items_of old.gone.items ++ x) (sym (met_is (λ f. missing_in (f ∷ []) ≡ []) line item (λ e. refl) (λ e. refl))),
+  ap (λ x. items_of x.items) come ∙ sym (append-nil (items_of old.come.items))
+      ∙ ap (λ x. items_of old.come.items ++ x) (sym (met_is (λ f. new_in (f ∷ []) ≡ []) line item (λ e. refl) (λ e. refl))),
+  all ∙ sym (and-true old.are_all),
+)
+
+and-false : (a : Bool) → false ≡ (a && false)
+and-false true = refl
+and-false false = refl
+
+-- a name with no digest
+pub grows-nothing : (old new : Compared) (found : List Found) (read : Bool) → found ≡ [] → read ≡ false → new.settled ≡ old.settled → new.gone ≡ old.gone → new.come ≡ old.come → new.are_all ≡ false → Grows old new found read
+grows-nothing old new found read none unread settled gone come all =
+    subst (λ f. Grows old new f read) (sym none) (subst (λ r. Grows old new [] r) (sym unread) (
+      ap (λ x. founds_of x.items) settled ∙ sym (append-nil (founds_of old.settled.items)),
+      ap (λ x. items_of x.items) gone ∙ sym (append-nil (items_of old.gone.items)),
+      ap (λ x. items_of x.items) come ∙ sym (append-nil (items_of old.come.items)),
+      all ∙ and-false old.are_all,
+    ))
 
 -- ---- without memory
-
-pub fails-name : {S F E : Type 0} (opening : StoreRules S F) (reading : SourceRules F) (telling : SinkRules E) (store : S) (kind : Kind) (name : List ℕ) (old new : Digests) (e_old e_new : E) (result : Result Bool AllocError) → IsErr result → TellsOn telling [] e_old e_new → AddsName opening reading telling store kind name old new e_old e_new result
-fails-name opening reading telling store kind name old new e_old e_new (Ok x) is tells = let no : ⊥ = cc in absurd no
-fails-name opening reading telling store kind name old new e_old e_new (Err e) is tells = tells
-
-pub fails-met : {S F E : Type 0} (opening : StoreRules S F) (reading : SourceRules F) (telling : SinkRules E) (store : S) (line : Item) (name : List ℕ) (old new : Digests) (e_old e_new : E) (result : Result (Unit {0}) AllocError) → IsErr result → TellsOn telling [] e_old e_new → AddsMet opening reading telling store line name old new e_old e_new result
-fails-met opening reading telling store line name old new e_old e_new (Ok x) is tells = let no : ⊥ = cc in absurd no
-fails-met opening reading telling store line name old new e_old e_new (Err e) is tells = tells
 
 pub fails-rows : {T : Type 0} (is : T → Type 0) (fails : Type 0) (result : Result T AllocError) → IsErr result → fails → MatchResult result is (λ _. fails)
 fails-rows is fails (Ok x) err fact = let no : ⊥ = cc in absurd no
@@ -83,18 +117,26 @@ fails-rows is fails (Err e) err fact = fact
 
 -- ---- an audit of all rows
 
-pub says-audit : {S F W E : Type 0} (opening : StoreRules S F) (reading : SourceRules F) (writing : SinkRules W) (telling : SinkRules E) (store : S) (options : Options) (lines names : List Item) (kind : Kind) (sides : List Found) (kept seen : List Item) (all : Bool) (found : List Found) (w_old w_new : W) (e_old e_new : E) (result : Result Bool Stop)
-    → kind ≡ kind_of_new options.kind lines → sides ≡ merged Name lines names → DigestsRows opening reading telling store kind sides kept seen all e_old e_new → IsAudit kept seen found → PrintsReport writing options found w_old w_new result → ((rows : List Row) → all ≡ are_read rows → AnswersAudit rows found result) → AuditsSides opening reading writing telling store options lines names w_old w_new e_old e_new result
-says-audit opening reading writing telling store options lines names kind sides kept seen all found w_old w_new e_old e_new result kinds beside digests audit prints answers =
+pub says-audit : {S F W E : Type 0} (opening : StoreRules S F) (reading : SourceRules F) (writing : SinkRules W) (telling : SinkRules E) (store : S) (options : Options) (lines : List Item) (names : List (List ℕ)) (kind : Kind) (compared : Compared) (found : List Found) (w_old w_new : W) (e_old e_new : E) (result : Result Bool Stop)
+    → Rises compare_lines lines → Rises compare_paths names → kind ≡ kind_of_new options.kind lines
+    → DigestsRows opening reading telling store kind (by_path lines names) compared e_old e_new
+    → HasMoves (founds_of compared.settled.items) (items_of compared.gone.items) (items_of compared.come.items) found
+    → PrintsReport writing options found w_old w_new result → ((rows : List Row) → compared.are_all ≡ are_read rows → AnswersAudit rows found result) → AuditsSides opening reading writing telling store options lines names w_old w_new e_old e_new result
+says-audit {S} {F} {W} {E} opening reading writing telling store options lines names kind compared found w_old w_new e_old e_new result up up' kinds digests moves prints answers =
     let rows = digests.0 in
+    let holds = digests.2 in
+    let moved = subst (λ s. HasMoves s (missing_in (first_in kind rows)) (new_in (first_in kind rows)) found) holds.settled
+    (subst (λ g. HasMoves (founds_of compared.settled.items) g (new_in (first_in kind rows)) found) holds.gone
+    (subst (λ c. HasMoves (founds_of compared.settled.items) (items_of compared.gone.items) c found) holds.come moves)) in
+    let audit = is-audit opening reading store kind lines names rows found up up' digests.1 moved in
     inl (
       rows,
       found,
-      subst (λ k. AreRows opening reading store k (merged Name lines names) rows) kinds (subst (λ s. AreRows opening reading store kind s rows) beside digests.1),
-      digests.5,
-      subst (λ items. IsAudit (kept_in rows) items found) (digests.3 ∙ ap (λ k. seen_in k rows) kinds) (subst (λ items. IsAudit items seen found) digests.2 audit),
+      subst (λ k. AreRows opening reading store k (by_path lines names) rows) kinds digests.1,
+      digests.3,
+      subst (λ k. IsAudit (kept_in rows) (seen_in k rows) found) kinds audit,
       prints,
-      answers rows digests.4,
+      answers rows holds.all,
     )
 
 pub answers-not-same : (rows : List Row) (found : List Found) → are_same found ≡ false → AnswersAudit rows found (Ok false)

@@ -1,5 +1,5 @@
 -- A run over a tree, by its options and words.
-use Rattle.std.proofs.Common.{◌≡◌, ℕ, Bool, true, false, List, ◌∷◌, Option, Some, None, drop, subst, sym, MatchBool}
+use Rattle.std.proofs.Common.{◌≡◌, ℕ, Bool, true, false, List, ◌∷◌, subst, sym, MatchBool}
 use Rattle.std.specs.declared.result.Result.{Result}
 use Rattle.xxh_io.specs.Rules.{SinkRules, SourceRules}
 use Rattle.xxhsum_files.specs.Rules.{FolderRules, StoreRules}
@@ -7,7 +7,7 @@ use Rattle.xxhsum_program.specs.CheckList.{SaysLists}
 use Rattle.xxhsum_program.specs.HashNames.{SaysNames}
 use Rattle.xxhsum_program.specs.Run.{PerformsAs, style_of}
 use Rattle.xxhsum_program.specs.declared.stop.Stop.{Stop}
-use Rattle.xxhsum_tree.specs.Run.{AuditsWords, DoesAsked, Walks, WalksFolders, WalksNames}
+use Rattle.xxhsum_tree.specs.Run.{AuditsWords, Walks, WalksFolders, WalksNames}
 use Rattle.xxhsum_words.specs.Options.{are_listed}
 use Rattle.xxhsum_words.specs.declared.options.Options.{Options}
 
@@ -50,9 +50,3 @@ module _ {S F R W E : Type 0} (opening : StoreRules S F) (folders : FolderRules 
   pub walks-names : (words : List (List ℕ)) → options.audits ≡ false → options.walks ≡ false → WalksNames opening reading input_reading writing telling store input w_old w_new e_old e_new result options words → Walks opening folders reading input_reading writing telling store input w_old w_new e_old e_new result options words
   unfolding Walks
   walks-names words is does walks = missed _ _ options.audits is (missed _ _ options.walks does walks)
-
-pub asks-tree : (asked : Option (Options × ℕ)) (tree : Options × ℕ) (words : List (List ℕ)) (walks : Options → List (List ℕ) → Type 0) (does : Type 0) → asked ≡ Some tree → walks tree.0 (drop tree.1 words) → DoesAsked asked words walks does
-asks-tree asked tree words walks does is fact = subst (λ o. DoesAsked o words walks does) (sym is) fact
-
-pub asks-none : (asked : Option (Options × ℕ)) (words : List (List ℕ)) (walks : Options → List (List ℕ) → Type 0) (does : Type 0) → asked ≡ None → does → DoesAsked asked words walks does
-asks-none asked words walks does is fact = subst (λ o. DoesAsked o words walks does) (sym is) fact

@@ -1,15 +1,14 @@
 -- An audit of names against the list of a name.
-use Rattle.std.specs.Prelude.{◌≡◌, ◌⊎◌, ℕ, Bool, true, false, ◌&&◌, List, [], ◌∷◌, Option, Some, None, codes, map}
+use Rattle.std.specs.Prelude.{◌≡◌, ◌⊎◌, ℕ, Bool, true, false, ◌&&◌, List, [], ◌∷◌, Option, Some, None, codes}
 use Rattle.std.specs.List.{concat}
 use Rattle.std.specs.declared.result.Result.{Result}
 use Rattle.std.specs.declared.result.Result.TheVariants.{Ok, Err}
-use Rattle.xxh_io.specs.declared.kind.Kind.{Kind}
 use Rattle.xxh_io.specs.Rules.{SinkRules, SourceRules}
-use Rattle.xxhsum_audit.specs.declared.order.By.TheVariants.{Name}
 use Rattle.xxhsum_audit.specs.Audit.{IsAudit}
-use Rattle.xxhsum_audit.specs.Item.{Item, Says}
-use Rattle.xxhsum_audit.specs.Merge.{Found, merged}
-use Rattle.xxhsum_audit.specs.Order.{IsOrder, clash_in}
+use Rattle.xxhsum_audit.specs.Found.{Found}
+use Rattle.xxhsum_audit.specs.Item.{Item, names_of}
+use Rattle.xxhsum_audit.specs.Order.{IsOrder, clash_in, rank_lines, rank_names}
+use Rattle.xxhsum_audit.specs.Side.{by_path}
 use Rattle.xxhsum_files.specs.Rules.{StoreRules}
 use Rattle.xxhsum_line.specs.Escapes.{one_line}
 use Rattle.xxhsum_program.specs.declared.stop.Stop.{Stop}
@@ -21,41 +20,37 @@ use Rattle.xxhsum_tree.specs.Rows.{AreRows, Row, TellsRows, are_read, kept_in, k
 use Rattle.xxhsum_tree.specs.Said.{ListSays, ListSaysNothing}
 use Rattle.xxhsum_words.specs.declared.options.Options.{Options}
 
--- the name stands twice, among what this names
+-- another name leads where this one does, among what is named first
 abbrev pub twice_text : List ℕ → List ℕ → List ℕ
 twice_text among name = one_line (concat (among ∷ codes ": duplicate name '" ∷ name ∷ codes "'." ∷ []))
 
--- it is told which name stands twice, where one does
+-- it is told which name leads where another does, where one does
 abbrev pub TellsTwice : {E : Type 0} → SinkRules E → List ℕ → Option (List ℕ) → E → E → Bool → Type 0
 TellsTwice telling among None old new result = (result ≡ false) × (new ≡ old)
 TellsTwice telling among (Some name) old new result =
     (result ≡ true) × TellsOn telling (twice_text among name) old new
-
--- the names that were given, of whose digests nothing is known yet
-abbrev pub asked_items : Kind → List (List ℕ) → List Item
-asked_items kind names = map (λ name. Says name kind 0) names
 
 -- all are the same, and each name that was given has a digest
 abbrev pub AnswersAudit : List Row → List Found → Result Bool Stop → Type 0
 AnswersAudit rows found (Ok all) = all ≡ (are_same found && are_read rows)
 AnswersAudit rows found (Err stop) = Unit {0}
 
--- Lines and names are put side by side by name, both in order and none twice. Each name is digested, and what became of
+-- Lines and names are put side by side by where they lead, both in order and none twice. Each name is digested, and what became of
 -- the lines and the names is printed; or there was no memory before anything was.
 abbrev pub AuditsSides : {S F W E : Type 0} → StoreRules S F → SourceRules F → SinkRules W → SinkRules E → S → Options
-    → List Item → List Item → W → W → E → E → Result Bool Stop → Type 0
+    → List Item → List (List ℕ) → W → W → E → E → Result Bool Stop → Type 0
 AuditsSides opening reading writing telling store options lines names w_old w_new e_old e_new result =
     let kind = kind_of_new options.kind lines in
-    let sides = merged Name lines names in
+    let sides = by_path lines names in
     ((rows : List Row) × (found : List Found) × AreRows opening reading store kind sides rows
     × TellsOn telling (told_in rows) e_old e_new × IsAudit (kept_in rows) (seen_in kind rows) found
     × PrintsReport writing options found w_old w_new result × AnswersAudit rows found result)
     ⊎ ((rows : List Row) × TellsRows opening reading telling store kind sides rows e_old e_new
     × (w_new ≡ w_old) × (result ≡ Err OutOfMemory))
 
--- where two lines, or two names, have one name, only that is told
+-- where two lines, or two names, lead to one place, only that is told
 abbrev pub AuditsUnlessTwice : {S F W E : Type 0} → StoreRules S F → SourceRules F → SinkRules W → SinkRules E → S → Options
-    → List ℕ → List Item → List Item → W → W → E → E → Result Bool Stop → Option (List ℕ) → Option (List ℕ) → Type 0
+    → List ℕ → List Item → List (List ℕ) → W → W → E → E → Result Bool Stop → Option (List ℕ) → Option (List ℕ) → Type 0
 AuditsUnlessTwice opening reading writing telling store options list lines names w_old w_new e_old e_new result (Some name) other =
     OnlyTells telling (twice_text list name) w_old w_new e_old e_new result
 AuditsUnlessTwice opening reading writing telling store options list lines names w_old w_new e_old e_new result None (Some name) =
@@ -67,9 +62,9 @@ AuditsUnlessTwice opening reading writing telling store options list lines names
 abbrev pub AuditsItems : {S F W E : Type 0} → StoreRules S F → SourceRules F → SinkRules W → SinkRules E → S → Options
     → List ℕ → List Item → List (List ℕ) → W → W → E → E → Result Bool Stop → Type 0
 AuditsItems opening reading writing telling store options list said names w_old w_new e_old e_new result =
-    ((lines asked : List Item) × IsOrder Name said lines × IsOrder Name (asked_items options.kind names) asked
+    ((lines : List Item) × (asked : List (List ℕ)) × IsOrder rank_lines said lines × IsOrder rank_names names asked
     × AuditsUnlessTwice opening reading writing telling store options list lines asked w_old w_new e_old e_new result
-    (clash_in lines) (clash_in asked))
+    (clash_in (names_of lines)) (clash_in asked))
     ⊎ HasNoRoom w_old w_new e_old e_new result
 
 -- The lines of the list are put beside the names; where the list has no text, or a line says nothing, only that is told.

@@ -1,3 +1,4 @@
+pub mod AuditLaws
 pub mod Audits
 pub mod Digests
 pub mod Finds

@@ -5,9 +5,9 @@ use Rattle.std.specs.declared.result.Result.{Result}
 use Rattle.std.specs.declared.result.Result.TheVariants.{Ok, Err}
 use Rattle.xxh_io.specs.Digest.{Refused, Took}
 use Rattle.xxh_io.specs.Rules.{SinkRules}
-use Rattle.xxhsum_audit.specs.declared.outcome.Class.{Class}
-use Rattle.xxhsum_audit.specs.declared.outcome.Class.TheVariants as Of
-use Rattle.xxhsum_audit.specs.Merge.{Found, is_of_class}
+use Rattle.xxhsum_audit.specs.declared.verdict.Class.{Class}
+use Rattle.xxhsum_audit.specs.declared.verdict.Class.TheVariants as Of
+use Rattle.xxhsum_audit.specs.Found.{Found, is_of_class}
 use Rattle.xxhsum_audit.specs.Text.{text_of}
 use Rattle.xxhsum_program.specs.declared.stop.Stop.{Stop}
 use Rattle.xxhsum_program.specs.declared.stop.Stop.TheVariants.{OutOfMemory, WriteFailed}
@@ -27,8 +27,8 @@ class_text class found word = decimal (count_by (is_of_class class) found) ++ wo
 abbrev pub counts_text : List Found → List ℕ
 counts_text found =
     class_text Of.Same found (codes " same, ") ++ class_text Of.Changed found (codes " changed, ")
-    ++ class_text Of.Moved found (codes " moved, ") ++ class_text Of.New found (codes " new, ")
-    ++ class_text Of.Missing found (codes " missing\n")
+    ++ class_text Of.Moved found (codes " moved, ") ++ class_text Of.Copied found (codes " copied, ")
+    ++ class_text Of.New found (codes " new, ") ++ class_text Of.Missing found (codes " missing\n")
 
 -- the lines, and how many there are of each class; nothing where only the status is asked for
 abbrev pub report_text : Options → List Found → List ℕ

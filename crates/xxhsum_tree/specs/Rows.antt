@@ -1,10 +1,12 @@
 -- Lines and names side by side, and what became of the names.
-use Rattle.std.specs.Prelude.{◌≡◌, ℕ, Bool, true, ◌&&◌, List, [], ◌∷◌, ◌++◌}
+use Rattle.std.specs.Prelude.{◌≡◌, ℕ, Bool, true, ◌&&◌, List, [], ◌∷◌, ◌++◌, map}
 use Rattle.std.specs.List.{flat_map}
 use Rattle.xxh_io.specs.declared.kind.Kind.{Kind}
 use Rattle.xxh_io.specs.Rules.{SinkRules, SourceRules}
-use Rattle.xxhsum_audit.specs.Item.{Item, Says, kind_of, name_of}
-use Rattle.xxhsum_audit.specs.Merge.{Changed, Found, Missing, Moved, New, Same}
+use Rattle.xxhsum_audit.specs.declared.side.Side.{Side}
+use Rattle.xxhsum_audit.specs.declared.side.Side.TheVariants.{Line, Name, Both}
+use Rattle.xxhsum_audit.specs.Found.{Found, Missing, New, met}
+use Rattle.xxhsum_audit.specs.Item.{Item, Says, kind_of}
 use Rattle.xxhsum_files.specs.Rules.{StoreRules}
 use Rattle.xxhsum_program.specs.Lines.{told_line}
 use Rattle.xxhsum_program.specs.Outcomes.{Comes, is_digested}
@@ -18,28 +20,21 @@ pub data Row : Type 0 where
   Met : Item → List ℕ → Outcome → Row
   Come : List ℕ → Outcome → Row
 
--- the kind of a name that no line has: that of the first line, and where there is none, this one
+-- the algorithm of a name that no line has: that of the first line, and where there is none, this one
 abbrev pub kind_of_new : Kind → List Item → Kind
 kind_of_new without [] = without
 kind_of_new without (line ∷ lines) = kind_of line
 
--- a name beside its line is digested by the line's kind
-abbrev pub IsMet : {S F : Type 0} → StoreRules S F → SourceRules F → S → Item → Item → Row → Type 0
-IsMet opening reading store line name row =
-    (outcome : Outcome) × (row ≡ Met line (name_of name) outcome)
-    × Comes opening reading store (kind_of line) (name_of name) outcome
-
--- what became of a side: a name that no line has is digested by this kind
-abbrev pub IsRow : {S F : Type 0} → StoreRules S F → SourceRules F → S → Kind → Found → Row → Type 0
-IsRow opening reading store kind (Missing line) row = row ≡ Gone line
-IsRow opening reading store kind (New name) row =
-    (outcome : Outcome) × (row ≡ Come (name_of name) outcome) × Comes opening reading store kind (name_of name) outcome
-IsRow opening reading store kind (Same line name) row = IsMet opening reading store line name row
-IsRow opening reading store kind (Changed line name) row = IsMet opening reading store line name row
-IsRow opening reading store kind (Moved line name) row = IsMet opening reading store line name row
+-- what became of a side: a name beside its line is digested by the line's algorithm, and another by this one
+abbrev pub IsRow : {S F : Type 0} → StoreRules S F → SourceRules F → S → Kind → Side Item (List ℕ) → Row → Type 0
+IsRow opening reading store kind (Line line) row = row ≡ Gone line
+IsRow opening reading store kind (Name name) row =
+    (outcome : Outcome) × (row ≡ Come name outcome) × Comes opening reading store kind name outcome
+IsRow opening reading store kind (Both line name) row =
+    (outcome : Outcome) × (row ≡ Met line name outcome) × Comes opening reading store (kind_of line) name outcome
 
 -- a row for each side, in order
-abbrev pub AreRows : {S F : Type 0} → StoreRules S F → SourceRules F → S → Kind → List Found → List Row → Type 0
+abbrev pub AreRows : {S F : Type 0} → StoreRules S F → SourceRules F → S → Kind → List (Side Item (List ℕ)) → List Row → Type 0
 AreRows opening reading store kind [] rows = rows ≡ []
 AreRows opening reading store kind (side ∷ sides) rows =
     (row : Row) × (rest : List Row) × (rows ≡ row ∷ rest) × IsRow opening reading store kind side row
@@ -47,27 +42,28 @@ AreRows opening reading store kind (side ∷ sides) rows =
 
 -- ---- what is known by them
 
--- the line is put beside the names: not where its name was given and has no digest
-abbrev pub kept_if : Item → Outcome → List Item
-kept_if line (Digested value) = line ∷ []
-kept_if line IsDirectory = []
-kept_if line (Unread reason) = []
-
-abbrev pub kept_of : Row → List Item
-kept_of (Gone line) = line ∷ []
-kept_of (Met line name outcome) = kept_if line outcome
-kept_of (Come name outcome) = []
-
 -- the name and its digest, where it has one
 abbrev pub digest_of : Kind → List ℕ → Outcome → List Item
 digest_of kind name (Digested value) = Says name kind value ∷ []
 digest_of kind name IsDirectory = []
 digest_of kind name (Unread reason) = []
 
+-- the line is put beside the names: not where its name was given and has no digest
+abbrev pub kept_of : Row → List Item
+kept_of (Gone line) = line ∷ []
+kept_of (Met line name outcome) = map (λ item. line) (digest_of (kind_of line) name outcome)
+kept_of (Come name outcome) = []
+
 abbrev pub seen_of : Kind → Row → List Item
 seen_of kind (Gone line) = []
 seen_of kind (Met line name outcome) = digest_of (kind_of line) name outcome
 seen_of kind (Come name outcome) = digest_of kind name outcome
+
+-- what became of it by its name
+abbrev pub first_of : Kind → Row → List Found
+first_of kind (Gone line) = Missing line ∷ []
+first_of kind (Met line name outcome) = map (met line) (digest_of (kind_of line) name outcome)
+first_of kind (Come name outcome) = map New (digest_of kind name outcome)
 
 -- why a name has no digest
 abbrev pub told_of : Row → List ℕ
@@ -87,6 +83,9 @@ kept_in rows = flat_map kept_of rows
 abbrev pub seen_in : Kind → List Row → List Item
 seen_in kind rows = flat_map (seen_of kind) rows
 
+abbrev pub first_in : Kind → List Row → List Found
+first_in kind rows = flat_map (first_of kind) rows
+
 abbrev pub told_in : List Row → List ℕ
 told_in rows = flat_map told_of rows
 
@@ -95,8 +94,8 @@ are_read [] = true
 are_read (row ∷ rows) = is_read row && are_read rows
 
 -- the first of the sides have their rows, of which it is told why a name has no digest
-abbrev pub TellsRows : {S F E : Type 0} → StoreRules S F → SourceRules F → SinkRules E → S → Kind → List Found → List Row
+abbrev pub TellsRows : {S F E : Type 0} → StoreRules S F → SourceRules F → SinkRules E → S → Kind → List (Side Item (List ℕ)) → List Row
     → E → E → Type 0
 TellsRows opening reading telling store kind sides rows e_old e_new =
-    (done rest : List Found) × (sides ≡ done ++ rest) × AreRows opening reading store kind done rows
+    (done rest : List (Side Item (List ℕ))) × (sides ≡ done ++ rest) × AreRows opening reading store kind done rows
     × TellsOn telling (told_in rows) e_old e_new

@@ -1,5 +1,5 @@
 -- What the program does with its arguments, which may ask for a tree.
-use Rattle.std.specs.Prelude.{◌≡◌, ℕ, Bool, true, false, ◌&&◌, ◌||◌, ◌⊎◌, List, [], ◌∷◌, Option, Some, None, codes, drop, if◌then◌else◌, MatchBool}
+use Rattle.std.specs.Prelude.{◌≡◌, ℕ, Bool, true, false, ◌&&◌, ◌⊎◌, List, [], ◌∷◌, Option, Some, None, codes, drop, MatchBool}
 use Rattle.std.specs.declared.result.Result.{Result}
 use Rattle.std.specs.declared.result.Result.TheVariants.{Ok, Err}
 use Rattle.xxh_io.specs.Rules.{SinkRules, SourceRules}
@@ -14,28 +14,8 @@ use Rattle.xxhsum_tree.specs.Audits.{Audits}
 use Rattle.xxhsum_tree.specs.Finds.{GoesOn, OnlyTells}
 use Rattle.xxhsum_tree.specs.Names.{ListNames, ListNone, end_of}
 use Rattle.xxhsum_tree.specs.Walk.{WalksAll, WalksSome}
-use Rattle.xxhsum_words.specs.Name.{kind_of_program}
-use Rattle.xxhsum_words.specs.Options.{are_listed, asked_of}
-use Rattle.xxhsum_words.specs.declared.options.Asked.{Asked}
-use Rattle.xxhsum_words.specs.declared.options.Asked.TheVariants.{Run, Benchmark, Version, Help, WrongOption, NulsInList, WalkBesideLists, WalkOfNothing, InputBesideNames, NumberTooLarge}
+use Rattle.xxhsum_words.specs.Options.{are_listed}
 use Rattle.xxhsum_words.specs.declared.options.Options.{Options}
-
--- a tree is asked for: an audit, the files below folders, or names that stand in lists of names
-abbrev pub is_tree : Options → Bool
-is_tree options = options.audits || options.walks || are_listed options.names_from
-
--- the options of a run over a tree, and which of the words its names begin at
-abbrev pub tree_asked : Asked → Option (Options × ℕ)
-tree_asked (Run options place) = if is_tree options then Some (options, place) else None
-tree_asked Benchmark = None
-tree_asked Version = None
-tree_asked Help = None
-tree_asked (WrongOption at) = None
-tree_asked NulsInList = None
-tree_asked WalkBesideLists = None
-tree_asked WalkOfNothing = None
-tree_asked InputBesideNames = None
-tree_asked NumberTooLarge = None
 
 -- Without an audit, the names that stand in lists are digested, or taken for lists and checked.
 abbrev pub WalksNames : {S F R W E : Type 0} → StoreRules S F → SourceRules F → SourceRules R → SinkRules W → SinkRules E
@@ -103,18 +83,11 @@ Walks opening folders reading input_reading writing telling store input w_old w_
     (WalksFolders opening folders reading writing telling store options words w_old w_new e_old e_new result)
     (WalksNames opening reading input_reading writing telling store input w_old w_new e_old e_new result options words))
 
--- a run over a tree, of these words; or another
-abbrev pub DoesAsked : Option (Options × ℕ) → List (List ℕ) → (Options → List (List ℕ) → Type 0) → Type 0 → Type 0
-DoesAsked None words walks does = does
-DoesAsked (Some tree) words walks does = walks tree.0 (drop tree.1 words)
-
--- the task of the arguments is done, which may be a run over a tree; or there was no memory for them, and nothing is
+-- the task of the arguments is done; or there was no memory for them, and nothing is
 abbrev pub DoesArguments : {W E : Type 0} → (Options → List (List ℕ) → Bool → Type 0) → (Options → List (List ℕ) → Type 0)
     → SinkRules E → Terminals → Option (List (List ℕ)) → W → W → E → E → Result Bool Stop → Type 0
 DoesArguments performs walks telling terminals None w_old w_new e_old e_new result =
     (result ≡ Err OutOfMemory) × (w_new ≡ w_old) × (e_new ≡ e_old)
 DoesArguments performs walks telling terminals (Some arguments) w_old w_new e_old e_new result =
     (program : List ℕ) × IsProgram arguments program
-    × DoesAsked (tree_asked (asked_of (kind_of_program program) (drop 1 arguments))) (drop 1 arguments) walks
-    ((called : List ℕ) × IsProgram arguments called
-    × DoesTask performs telling (task_of terminals called (drop 1 arguments)) w_old w_new e_old e_new result)
+    × DoesTask performs walks telling (task_of terminals program (drop 1 arguments)) w_old w_new e_old e_new result

@@ -1,31 +1,52 @@
 -- What the lines of a list say, which is audited.
-use Rattle.std.specs.Prelude.{◌≡◌, ◌⊎◌, ℕ, ◌+◌, ◌-◌, ◌^◌, Bool, List, codes, min}
+use Rattle.std.specs.Prelude.{◌≡◌, ◌⊎◌, ℕ, ◌+◌, ◌≤◌, Bool, List, [], ◌∷◌, ◌++◌, codes, length}
+use Rattle.std.specs.List.{AllByRecursion}
 use Rattle.xxh_io.specs.Rules.{SourceRules}
 use Rattle.xxhsum_audit.specs.Item.{Item}
-use Rattle.xxhsum_audit.specs.List.{IsBroken, SayAll}
-use Rattle.xxhsum_audit.specs.Parts.{ArePartsOf}
-use Rattle.xxhsum_audit.specs.declared.list.ListError.TheVariants.{Improper}
+use Rattle.xxhsum_audit.specs.List.{SayAll}
 use Rattle.xxhsum_files.specs.Rules.{StoreRules}
-use Rattle.xxhsum_program.specs.Said.{told_of_line}
-use Rattle.xxhsum_tree.specs.Texts.{GivesText, HasNoText}
-
--- the number of a line, which is at most the largest of 64 bits
-abbrev pub number_of : ℕ → ℕ
-number_of index = min (index + 1) (2 ^ 64 - 1)
+use Rattle.xxhsum_files.specs.declared.refusal.Refusal.{Refusal}
+use Rattle.xxhsum_line.specs.Entry.{SaysNothing}
+use Rattle.xxhsum_program.specs.CheckList.{EndsAs, EndsWell, ReadsSome}
+use Rattle.xxhsum_program.specs.ListEnd.{Endless, FailedRead}
+use Rattle.xxhsum_program.specs.ListLines.{IsTooLong}
+use Rattle.xxhsum_program.specs.Said.{told_of_line, too_long_text}
+use Rattle.xxhsum_tree.specs.Texts.{unopened_text, unread_text}
 
 abbrev pub improper_text : List ℕ → ℕ → List ℕ
 improper_text list number = told_of_line list number (codes "Improperly formatted checksum line")
 
--- the list has this text, and its lines say this
-abbrev pub ListSays : {S F : Type 0} → StoreRules S F → SourceRules F → S → Bool → List ℕ → List Item → Type 0
-ListSays opening reading store is_little list items =
-    (text : List ℕ) × (lines : List (List ℕ)) × GivesText opening reading store list text
-    × ArePartsOf 10 text lines × SayAll is_little lines items
+-- none of the lines is too long, and they say this
+abbrev pub HaveSaid : Bool → List (List ℕ) → List Item → Type 0
+HaveSaid is_little lines items = AllByRecursion (λ line. length line ≤ 32767) lines × SayAll is_little lines items
 
--- the list has no text, or the first of its lines that is neither an entry nor a comment is that of this number: what is
--- told of it
+-- the lines of the source say this
+abbrev pub SourceSays : {R : Type 0} → SourceRules R → Bool → R → List Item → Type 0
+SourceSays reading is_little source items =
+    (lines : List (List ℕ)) × EndsWell reading source lines × HaveSaid is_little lines items
+
+-- the line of this number is neither an entry nor a comment, or too long: what is told of it
+abbrev pub IsFault : Bool → List ℕ → ℕ → List ℕ → List ℕ → Type 0
+IsFault is_little list number line told =
+    (IsTooLong line × (told ≡ too_long_text list number))
+    ⊎ ((length line ≤ 32767) × SaysNothing is_little line × (told ≡ improper_text list number))
+
+-- behind lines that say something or are comments a read fails, or one has no end, or is the first with a fault
+abbrev pub SourceSaysNothing : {R : Type 0} → SourceRules R → Bool → List ℕ → R → List ℕ → Type 0
+SourceSaysNothing reading is_little list source told =
+    (lines : List (List ℕ)) × (items : List Item) × HaveSaid is_little lines items
+    × ((EndsAs reading source lines FailedRead × (told ≡ unread_text list))
+    ⊎ ((EndsAs reading source lines Endless × (told ≡ too_long_text list (length lines + 1)))
+    ⊎ ((line : List ℕ) × ReadsSome reading source (lines ++ line ∷ [])
+    × IsFault is_little list (length lines + 1) line told)))
+
+-- the list can be read, and its lines say this
+abbrev pub ListSays : {S F : Type 0} → StoreRules S F → SourceRules F → S → Bool → List ℕ → List Item → Type 0
+ListSays {S} {F} opening reading store is_little list items =
+    (file : F) × opening.opens store list file × SourceSays reading is_little file items
+
+-- it can't be opened, or its lines say nothing: what is told of it
 abbrev pub ListSaysNothing : {S F : Type 0} → StoreRules S F → SourceRules F → S → Bool → List ℕ → List ℕ → Type 0
-ListSaysNothing opening reading store is_little list told =
-    HasNoText opening reading store list told
-    ⊎ ((text : List ℕ) × (lines : List (List ℕ)) × (index : ℕ) × GivesText opening reading store list text
-    × ArePartsOf 10 text lines × IsBroken is_little lines (Improper index) × (told ≡ improper_text list (number_of index)))
+ListSaysNothing {S} {F} opening reading store is_little list told =
+    ((why : Refusal) × opening.refuses store list why × (told ≡ unopened_text list why))
+    ⊎ ((file : F) × opening.opens store list file × SourceSaysNothing reading is_little list file told)

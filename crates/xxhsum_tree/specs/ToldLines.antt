@@ -1,6 +1,6 @@
 -- That what is told and printed of an audit and of lists is one line, whatever names stand in it.
 use Rattle.std.specs.Prelude.{ℕ, List}
-use Rattle.xxhsum_audit.specs.Merge.{Found}
+use Rattle.xxhsum_audit.specs.Found.{Found}
 use Rattle.xxhsum_audit.specs.Text.{text_of}
 use Rattle.xxhsum_files.specs.declared.refusal.Refusal.{Refusal}
 use Rattle.xxhsum_line.specs.Laws.{IsOneLine}

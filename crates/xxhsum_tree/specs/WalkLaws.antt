@@ -1,10 +1,11 @@
 -- What holds of walks: their files are those that names in folders lead to.
-use Rattle.std.specs.Prelude.{◌≡◌, ℕ, Bool, true, false, List, [], ◌∷◌, map}
+use Rattle.std.specs.Prelude.{◌≡◌, ◌<◌, ℕ, Bool, true, false, List, [], ◌∷◌, length, map}
 use Rattle.std.specs.List.Sorted.{IsPermutation}
 use Rattle.xxhsum_audit.specs.Item.{IsAmong}
 use Rattle.xxhsum_files.specs.Rules.{FolderRules, StoreRules}
 use Rattle.xxhsum_files.specs.declared.folders.PathKind.{PathKind}
 use Rattle.xxhsum_files.specs.declared.folders.PathKind.TheVariants.{File, Folder}
+use Rattle.xxhsum_line.specs.Parts.{Lacks}
 use Rattle.xxhsum_tree.specs.Walk.{HasKind, Place, Seen, Visits, are_open, below, files_in, given, with_slash}
 
 -- the store says one thing of each name, and of each folder, but for the order of the names in it
@@ -41,3 +42,21 @@ FindsNoOther {S} {F} opening folders =
     → Visits opening folders store (map given names) trace left → IsAmong (files_in trace) file
     → (name : List ℕ) × (behind : List (List ℕ)) × IsAmong names name
     × LeadsTo opening folders store (given name) behind file
+
+-- each name in a folder stands there once, has a byte, and no slash
+pub record HoldsNames {S : Type 0} (folders : FolderRules S) (store : S) : Type 0 where
+  pub once : (folder : List ℕ) (names : List (List ℕ)) (name : List ℕ) (rest : List (List ℕ)) → folders.holds store folder names
+      → IsPermutation names (name ∷ name ∷ rest) → ⊥
+  pub plain : (folder : List ℕ) (names : List (List ℕ)) (name : List ℕ) → folders.holds store folder names → IsAmong names name
+      → (0 < length name) × Lacks 47 name
+
+-- each stands once
+abbrev pub IsOnce : {X : Type 0} → List X → Type 0
+IsOnce [] = Unit {0}
+IsOnce (x ∷ xs) = (IsAmong xs x → ⊥) × IsOnce xs
+
+-- no path stands twice among the files below a name
+abbrev pub FindsOnce : {S F : Type 0} → StoreRules S F → FolderRules S → Type 0
+FindsOnce {S} {F} opening folders =
+    (store : S) (name : List ℕ) (trace : List Seen) (left : List Place)
+    → HoldsNames folders store → Visits opening folders store (given name ∷ []) trace left → IsOnce (files_in trace)

@@ -1,29 +1,25 @@
 //! The audit of names against a list of digests.
 
 ghost use Rattle.std.specs.Prelude.{◌≡◌, false, IfOk, map};
-ghost use Rattle.xxhsum_audit.specs.declared.order.By.TheVariants.{Name};
-ghost use Rattle.xxhsum_audit.specs.Audit.{IsAudit};
-ghost use Rattle.xxhsum_audit.specs.Item.{items_of};
+ghost use Rattle.xxhsum_audit.specs.Item.{items_of, texts_of};
 ghost use Rattle.xxhsum_audit.specs.List.{said_by};
-ghost use Rattle.xxhsum_audit.specs.Merge.{founds_of};
-ghost use Rattle.xxhsum_audit.specs.Order.{IsOrder, clash_in};
+ghost use Rattle.xxhsum_audit.specs.Order.{IsOrder, Rises, clash_in, compare_lines, compare_paths, rank_lines, rank_names};
 ghost use Rattle.xxhsum_program.specs.Told.{TellsOn};
-ghost use Rattle.xxhsum_tree.specs.Audits.{Audits, AuditsItems, AuditsSides, TellsTwice, asked_items, twice_text};
+ghost use Rattle.xxhsum_tree.specs.AuditLaws.{AuditMeansEqual};
+ghost use Rattle.xxhsum_tree.specs.Audits.{Audits, AuditsItems, AuditsSides, TellsTwice, twice_text};
 ghost use Rattle.xxhsum_tree.specs.Rows.{kind_of_new};
 
-use crate::digests::{Digests, digests_of};
+use crate::digests::digests_of;
 use crate::report::{are_same, print_report};
 use crate::said::said_named;
 use std::alloc::{AllocError, Global};
 use xxh_io::ends::Sink;
 use xxh_io::kind::Kind;
-use xxhsum_audit::audit::audit;
-use xxhsum_audit::entry::Entry;
-use xxhsum_audit::merge::merge;
-use xxhsum_audit::order::{By, clash_in, put_in_order};
-use xxhsum_audit::outcome::Outcome;
+use xxhsum_audit::digest::FileDigest;
+use xxhsum_audit::moves::verdicts;
+use xxhsum_audit::order::{clash_in, names_of, put_lines_in_order, put_names_in_order};
 use xxhsum_files::store::Store;
-use xxhsum_line::entry::Entry as Line;
+use xxhsum_line::entry::Entry;
 use xxhsum_program::stop::Stop;
 use xxhsum_program::tell::tell_line;
 use xxhsum_words::options::Options;
@@ -62,7 +58,7 @@ fn audit_lines<S: Store, W: Sink, E: Sink>(
     store: &S,
     options: Options,
     list: &[u8],
-    said: &[Line],
+    said: &[Entry],
     names: &[Vec<u8>],
     out: &mut W,
     err: &mut E,
@@ -73,8 +69,9 @@ fn audit_lines<S: Store, W: Sink, E: Sink>(
         out.old out.new err.old err.new result }
 {
     let lines = lines_in_order(alloc, said)?;
-    let asked = names_in_order(alloc, names, options.kind)?;
-    if tell_twice(list, &lines, err) {
+    let asked = names_in_order(alloc, names)?;
+    let listed = names_of(alloc, &lines)?;
+    if tell_twice(list, &listed, err) {
         return Ok(false);
     }
     if tell_twice(b"Error", &asked, err) {
@@ -84,64 +81,54 @@ fn audit_lines<S: Store, W: Sink, E: Sink>(
 }
 
 // What the lines say, in the order of the names.
-fn lines_in_order(alloc: Global, said: &[Line]) -> Result<Vec<Entry<'_>>, AllocError>
-    ensures { IfOk result (λ lines. IsOrder Name (map said_by said.now) (items_of lines.items)) }
+fn lines_in_order(alloc: Global, said: &[Entry]) -> Result<Vec<FileDigest<'_>>, AllocError>
+    ensures { IfOk result (λ lines. IsOrder rank_lines (map said_by said.now) (items_of lines.items)) }
 {
-    let mut lines = entries_said(alloc, said)?;
-    put_in_order(By::Name, &mut lines);
+    let mut lines = digests_said(alloc, said)?;
+    put_lines_in_order(&mut lines);
     Ok(lines)
 }
 
 // The names, in order.
-fn names_in_order(
-    alloc: Global,
-    names: &[Vec<u8>],
-    kind: Kind,
-) -> Result<Vec<Entry<'_>>, AllocError>
-    ensures { IfOk result (λ asked. IsOrder Name
-        (asked_items kind (map (λ name. name.items) names.now)) (items_of asked.items)) }
+fn names_in_order(alloc: Global, names: &[Vec<u8>]) -> Result<Vec<&[u8]>, AllocError>
+    ensures { IfOk result (λ asked. IsOrder rank_names (map (λ name. name.items) names.now)
+        (texts_of asked.items)) }
 {
-    let mut asked = entries_asked(alloc, names, kind)?;
-    put_in_order(By::Name, &mut asked);
+    let mut asked = names_lent(alloc, names)?;
+    put_names_in_order(&mut asked);
     Ok(asked)
 }
 
-// What the lines say, as entries.
-fn entries_said(alloc: Global, said: &[Line]) -> Result<Vec<Entry<'_>>, AllocError>
-    ensures { IfOk result (λ entries. items_of entries.items ≡ map said_by said.now) }
+// What the lines say.
+fn digests_said(alloc: Global, said: &[Entry]) -> Result<Vec<FileDigest<'_>>, AllocError>
+    ensures { IfOk result (λ lines. items_of lines.items ≡ map said_by said.now) }
 {
-    let mut entries = Vec::new(alloc);
+    let mut lines = Vec::new(alloc);
     for line in said {
-        entries.push(Entry {
+        lines.push(FileDigest {
             name: &line.name,
             kind: line.kind,
             value: line.value,
         })?;
     }
-    Ok(entries)
+    Ok(lines)
 }
 
-// The names, whose digests are not known yet.
-fn entries_asked(alloc: Global, names: &[Vec<u8>], kind: Kind) -> Result<Vec<Entry<'_>>, AllocError>
-    ensures { IfOk result (λ entries. items_of entries.items
-        ≡ asked_items kind (map (λ name. name.items) names.now)) }
+fn names_lent(alloc: Global, names: &[Vec<u8>]) -> Result<Vec<&[u8]>, AllocError>
+    ensures { IfOk result (λ asked. texts_of asked.items ≡ map (λ name. name.items) names.now) }
 {
-    let mut entries = Vec::new(alloc);
+    let mut asked = Vec::new(alloc);
     for name in names {
-        entries.push(Entry {
-            name,
-            kind,
-            value: 0,
-        })?;
+        asked.push(name.as_slice())?;
     }
-    Ok(entries)
+    Ok(asked)
 }
 
-// Tells the name that two neighbours have, where there are such.
-fn tell_twice<E: Sink>(among: &[u8], entries: &[Entry<'_>], err: &mut E) -> bool
-    ensures { TellsTwice E.Sink among.now (clash_in (items_of entries.now)) err.old err.new result }
+// Tells the name that leads where the next one does, where there is such.
+fn tell_twice<E: Sink>(among: &[u8], names: &[&[u8]], err: &mut E) -> bool
+    ensures { TellsTwice E.Sink among.now (clash_in (texts_of names.now)) err.old err.new result }
 {
-    match clash_in(entries) {
+    match clash_in(names) {
         Some(name) => {
             tell_name(among, name, err);
             true
@@ -157,25 +144,26 @@ fn tell_name<'a, E: Sink>(among: &'a [u8], name: &'a [u8], err: &mut E)
     tell_line(&parts, err);
 }
 
-// Digests the names that stand beside lines, and says what became of both.
+// Digests the names that stand beside lines, both in order, and says what became of both.
 fn audit_sides<S: Store, W: Sink, E: Sink>(
     alloc: Global,
     store: &S,
     options: Options,
-    lines: &[Entry<'_>],
-    asked: &[Entry<'_>],
+    lines: &[FileDigest<'_>],
+    asked: &[&[u8]],
     out: &mut W,
     err: &mut E,
 ) -> Result<bool, Stop>
-    requires { W.has_failed out.old ≡ false }
+    requires works { W.has_failed out.old ≡ false }
+    requires lines { Rises compare_lines (items_of lines.now) }
+    requires names { Rises compare_paths (texts_of asked.now) }
     ensures { AuditsSides S.Store S.File.Source W.Sink E.Sink store.now options
-        (items_of lines.now) (items_of asked.now) out.old out.new err.old err.new result }
+        (items_of lines.now) (texts_of asked.now) out.old out.new err.old err.new result }
 {
-    let sides = merge(alloc, By::Name, lines, asked)?;
     let kind = kind_of_new(lines, options.kind);
-    let mut digests = digests_of(alloc, store, kind, &sides, err)?;
-    let are_all = digests.are_all;
-    let found = settled(alloc, &mut digests)?;
+    let compared = digests_of(alloc, store, kind, lines, asked, err)?;
+    let are_all = compared.are_all;
+    let found = verdicts(alloc, compared)?;
     print_report(alloc, options, &found, out)?;
     if !are_same(&found) {
         return Ok(false);
@@ -183,8 +171,8 @@ fn audit_sides<S: Store, W: Sink, E: Sink>(
     Ok(are_all)
 }
 
-// The kind of a name that no line has: that of the first line in the order of names.
-fn kind_of_new(lines: &[Entry<'_>], without: Kind) -> Kind
+// The algorithm of a name that no line has: that of the first line in the order of names.
+fn kind_of_new(lines: &[FileDigest<'_>], without: Kind) -> Kind
     ensures { result ≡ kind_of_new without (items_of lines.now) }
 {
     match lines.first() {
@@ -193,13 +181,8 @@ fn kind_of_new(lines: &[Entry<'_>], without: Kind) -> Kind
     }
 }
 
-// What became of lines and names. No two lines have one name here, and no two names: only memory can be wanting.
-fn settled<'n>(alloc: Global, digests: &mut Digests<'n>) -> Result<Vec<Outcome<'n>>, AllocError>
-    ensures { IfOk result (λ found. IsAudit (items_of digests.old.lines.items)
-        (items_of digests.old.names.items) (founds_of found.items)) }
-{
-    match audit(alloc, &mut digests.lines, &mut digests.names) {
-        Ok(found) => Ok(found),
-        Err(_) => Err(AllocError),
-    }
-}
+/// A law, with nothing to run. A good audit means equal files: where `audit_names` answers that all are the same, each line
+/// of the list has a file among the names, whose bytes have the line's value, and each name is that of such a line.
+pub fn audit_means_equal<S: Store, W: Sink, E: Sink>()
+    ensures { AuditMeansEqual S.Store S.File.Source W.Sink E.Sink }
+{}

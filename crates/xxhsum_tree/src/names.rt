@@ -7,7 +7,7 @@ ghost use Rattle.xxhsum_tree.specs.Names.{AddsNames, AreNamesIn, ListNames, List
 use crate::texts::texts_named;
 use std::alloc::{AllocError, Global};
 use xxh_io::ends::{Sink, Source};
-use xxhsum_audit::parts::parts_of;
+use xxhsum_audit::parts::cut_at;
 use xxhsum_files::store::Store;
 use xxhsum_program::stop::Stop;
 use xxhsum_words::options::NamesFrom;
@@ -71,7 +71,7 @@ fn add_names(
     ensures { IfOk result (λ _. AddsNames end text.now (map (λ name. name.items) names.old.items)
         (map (λ name. name.items) names.new.items)) }
 {
-    let parts = parts_of(alloc, end, text)?;
+    let parts = cut_at(alloc, end, text)?;
     for part in &parts {
         add_name(alloc, part, names)?;
     }

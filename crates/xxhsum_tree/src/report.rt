@@ -1,15 +1,15 @@
 //! What is printed of an audit.
 
 ghost use Rattle.std.specs.Prelude.{◌≡◌, ◌++◌, false, IfOk};
-ghost use Rattle.xxhsum_audit.specs.Merge.{found_of, founds_of};
+ghost use Rattle.xxhsum_audit.specs.Found.{found_of, founds_of};
 ghost use Rattle.xxhsum_program.specs.Lines.{PrintsLine};
 ghost use Rattle.xxhsum_tree.specs.Report.{PrintsReport, are_same, class_text, counts_text, shown_text};
 
 use itoa::Buffer;
 use std::alloc::{AllocError, Global};
 use xxh_io::ends::Sink;
-use xxhsum_audit::outcome::{Class, Outcome, count_of};
-use xxhsum_audit::text::outcome_line;
+use xxhsum_audit::text::verdict_line;
+use xxhsum_audit::verdict::{Class, Verdict, count_of};
 use xxhsum_program::say::print;
 use xxhsum_program::stop::Stop;
 use xxhsum_words::options::Options;
@@ -18,7 +18,7 @@ use xxhsum_words::options::Options;
 pub(crate) fn print_report<W: Sink>(
     alloc: Global,
     options: Options,
-    found: &[Outcome<'_>],
+    found: &[Verdict<'_>],
     out: &mut W,
 ) -> Result<(), Stop>
     requires { W.has_failed out.old ≡ false }
@@ -27,8 +27,8 @@ pub(crate) fn print_report<W: Sink>(
     if options.is_status_only {
         return Ok(());
     }
-    for outcome in found {
-        print_one(alloc, options.is_quiet, *outcome, out)?;
+    for verdict in found {
+        print_one(alloc, options.is_quiet, *verdict, out)?;
     }
     let counts = counts_line(alloc, found)?;
     print(&counts, out)
@@ -38,29 +38,30 @@ pub(crate) fn print_report<W: Sink>(
 fn print_one<W: Sink>(
     alloc: Global,
     is_quiet: bool,
-    outcome: Outcome<'_>,
+    verdict: Verdict<'_>,
     out: &mut W,
 ) -> Result<(), Stop>
     requires { W.has_failed out.old ≡ false }
-    ensures prints { PrintsLine W.Sink (shown_text is_quiet (found_of outcome.entry))
+    ensures prints { PrintsLine W.Sink (shown_text is_quiet (found_of verdict.entry))
         out.old out.new result }
     ensures works { IfOk result (λ _. W.has_failed out.new ≡ false) }
 {
-    if is_quiet && outcome.class() == Class::Same {
+    if is_quiet && verdict.class() == Class::Same {
         return Ok(());
     }
-    let line = outcome_line(alloc, outcome)?;
+    let line = verdict_line(alloc, verdict)?;
     print(&line, out)
 }
 
 // How many there are of each class.
-fn counts_line(alloc: Global, found: &[Outcome<'_>]) -> Result<Vec<u8>, AllocError>
+fn counts_line(alloc: Global, found: &[Verdict<'_>]) -> Result<Vec<u8>, AllocError>
     ensures { IfOk result (λ line. line.items ≡ counts_text (founds_of found.now)) }
 {
     let mut line = Vec::new(alloc);
     put_count(&mut line, Class::Same, found, b" same, ")?;
     put_count(&mut line, Class::Changed, found, b" changed, ")?;
     put_count(&mut line, Class::Moved, found, b" moved, ")?;
+    put_count(&mut line, Class::Copied, found, b" copied, ")?;
     put_count(&mut line, Class::New, found, b" new, ")?;
     put_count(&mut line, Class::Missing, found, b" missing\n")?;
     Ok(line)
@@ -69,7 +70,7 @@ fn counts_line(alloc: Global, found: &[Outcome<'_>]) -> Result<Vec<u8>, AllocErr
 fn put_count(
     line: &mut Vec<u8>,
     class: Class,
-    found: &[Outcome<'_>],
+    found: &[Verdict<'_>],
     word: &[u8],
 ) -> Result<(), AllocError>
     ensures { IfOk result (λ _. line.new.items
@@ -81,11 +82,11 @@ fn put_count(
 }
 
 // Whether all are the same.
-pub(crate) fn are_same(found: &[Outcome<'_>]) -> bool
+pub(crate) fn are_same(found: &[Verdict<'_>]) -> bool
     ensures { result ≡ are_same (founds_of found.now) }
 {
-    for outcome in found {
-        if outcome.class() != Class::Same {
+    for verdict in found {
+        if verdict.class() != Class::Same {
             return false;
         }
     }

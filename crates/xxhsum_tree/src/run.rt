@@ -4,12 +4,10 @@ ghost use Rattle.std.specs.Prelude.{◌≡◌, false, Bool, List, ℕ, Option, S
 ghost use Rattle.xxhsum_program.specs.Arguments.{AreArguments};
 ghost use Rattle.xxhsum_program.specs.Finish.{Finishes};
 ghost use Rattle.xxhsum_program.specs.Run.{PerformsWatched, end_text, status_of};
-ghost use Rattle.xxhsum_program.specs.Task.{IsProgram};
 ghost use Rattle.xxhsum_program.specs.Told.{TellsOn};
 ghost use Rattle.xxhsum_program.specs.declared.stop.Stop.{Stop};
-ghost use Rattle.xxhsum_tree.specs.Run.{AuditsBelow, AuditsWords, DoesArguments, Walks, WalksFolders, WalksNames, all_well, is_tree, tree_asked};
-ghost use Rattle.xxhsum_words.specs.Name.{kind_of_program};
-ghost use Rattle.xxhsum_words.specs.Options.{are_listed, asked_of};
+ghost use Rattle.xxhsum_tree.specs.Run.{AuditsBelow, AuditsWords, DoesArguments, Walks, WalksFolders, WalksNames, all_well};
+ghost use Rattle.xxhsum_words.specs.Options.{are_listed};
 
 use crate::audit::audit_names;
 use crate::names::names_listed;
@@ -22,16 +20,19 @@ use xxhsum_output::output::Output;
 use xxhsum_program::arguments::{Arguments, all_arguments};
 use xxhsum_program::check::check_lists;
 use xxhsum_program::hash::hash_names;
-use xxhsum_program::process::{Terminals, conclude, program_of, run_words, style_of, words_of};
+use xxhsum_program::process::{
+    Terminals, arguments_behind_name, conclude, is_tree, perform_watched, program_of, run_asked,
+    shows_progress, style_of, tell_answer, tell_wrong, waits_for_terminal,
+};
 use xxhsum_program::say::finish;
 use xxhsum_program::screen::Ticks;
 use xxhsum_program::stop::Stop;
 use xxhsum_program::tell::tell;
 use xxhsum_words::name::default_kind;
-use xxhsum_words::options::{Asked, Options, asked_by, words_behind};
+use xxhsum_words::options::{Options, asked_by, words_behind};
 
-/// Does what the arguments ask for, over a store of files and these ends. Progress is shown on the screen, which is
-/// standard error too. Answers the exit status: 0 where every file was digested, or is as its line says, and all that was
+/// Does what the arguments ask for, over a store of files and these streams. Progress is shown on the screen, which is
+/// standard error too. Returns the exit status: 0 where every file was digested, or has its line's value, and all that was
 /// printed is written, and else 1.
 ///
 /// The caller shows that neither the input nor the output has failed.
@@ -74,7 +75,7 @@ where
     }
 }
 
-// Does what the arguments ask for. Answers whether all went well.
+// Decides by the arguments what the program does, and does it. Returns whether all went well.
 fn run_arguments<S, R, W, E, T>(
     alloc: Global,
     args: &[Vec<u8>],
@@ -100,58 +101,23 @@ where
         E.Sink terminals (Some (map (λ argument. argument.items) args.now))
         out.old out.new err.old err.new result }
 {
-    match tree_of(args) {
-        Some(tree) => {
-            let (options, place) = tree;
-            let words = words_of(args);
-            let names = words_behind(words, place);
-            walk(alloc, store, options, names, input, out, err)
-        }
-        None => run_words(alloc, args, store, terminals, input, out, err, screen),
-    }
-}
-
-// The options where the arguments ask for a tree, and which of the words its names begin at.
-fn tree_of(args: &[Vec<u8>]) -> Option<(Options, usize)>
-    ensures { let arguments = map (λ argument. argument.items) args.now in (program : List ℕ)
-        × IsProgram arguments program
-        × (result ≡ tree_asked (asked_of (kind_of_program program) (drop 1 arguments))) }
-{
     let program = program_of(args);
-    let words = words_of(args);
-    tree_asked(asked_by(default_kind(program), words))
-}
-
-fn tree_asked(asked: Asked) -> Option<(Options, usize)>
-    ensures { result ≡ tree_asked asked }
-{
-    match asked {
-        Asked::Run {
-            options,
-            names_from,
-        } => {
-            if is_tree(options) {
-                Some((options, names_from))
-            } else {
-                None
-            }
-        }
-        Asked::Benchmark
-        | Asked::Version
-        | Asked::Help
-        | Asked::WrongOption { .. }
-        | Asked::NulsInList
-        | Asked::WalkBesideLists
-        | Asked::WalkOfNothing
-        | Asked::InputBesideNames
-        | Asked::NumberTooLarge => None,
+    let words = arguments_behind_name(args);
+    let asked = asked_by(default_kind(program), words);
+    let Some(found) = run_asked(asked) else {
+        return Ok(tell_answer(program, words, asked, err));
+    };
+    let (options, place) = found;
+    let names = words_behind(words, place);
+    if is_tree(options) {
+        return walk(alloc, store, options, names, input, out, err);
     }
-}
-
-fn is_tree(options: Options) -> bool
-    ensures { result ≡ is_tree options }
-{
-    options.audits || options.walks || options.names_from.are_listed()
+    if waits_for_terminal(terminals, options, names) {
+        tell_wrong(&[b"Wrong parameters"], program, err);
+        return Ok(false);
+    }
+    let shows = shows_progress(terminals, options);
+    perform_watched(alloc, store, options, names, shows, input, out, err, screen)
 }
 
 // Audits the names, digests the files below folders, or digests or checks the names that stand in lists of names.
@@ -178,7 +144,7 @@ fn walk<S: Store + Folders, R: Source + Drop, W: Output, E: Sink>(
     walk_names(alloc, store, options, words, input, out, err)
 }
 
-// Audits names against the list that the first word names.
+// Audits names against the list that the first argument names.
 fn walk_audit<S: Store + Folders, R: Source + Drop, W: Output, E: Sink>(
     alloc: Global,
     store: &S,
@@ -210,8 +176,8 @@ fn walk_audit<S: Store + Folders, R: Source + Drop, W: Output, E: Sink>(
     audit_names(alloc, store, options, list, &names, out, err)
 }
 
-// Audits the files of the names and of the folders below them against the list of this name. Where a folder can't be
-// read, there is no audit: nobody knows whether a line of it is missing.
+// Audits the files of the names and of the folders below them against `list`. Where a folder can't be read, there is no
+// audit: nobody knows whether a line of it is missing.
 fn audit_below<S: Store + Folders, W: Output, E: Sink>(
     alloc: Global,
     store: &S,

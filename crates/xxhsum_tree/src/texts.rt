@@ -4,12 +4,14 @@ ghost use Rattle.std.specs.Prelude.{◌≡◌, ◌∷◌, ◌++◌, [], false, L
 ghost use Rattle.xxhsum_program.specs.EachHas.{EachHas};
 ghost use Rattle.xxhsum_program.specs.Run.{input_name};
 ghost use Rattle.xxhsum_program.specs.Task.{has_none};
+ghost use Rattle.xxhsum_program.specs.Told.{TellsOn};
 ghost use Rattle.xxhsum_tree.specs.Finds.{Finds};
-ghost use Rattle.xxhsum_tree.specs.Texts.{Breaks, GiveTexts, GivesText, HasNoText, HasText, LackText, LacksOne, unread_text};
+ghost use Rattle.xxhsum_tree.specs.Texts.{Breaks, GiveTexts, GivesText, HasNoText, HasText, LackText, LacksOne, unopened_text, unread_text};
 
 use std::alloc::{AllocError, Global};
 use xxh_io::ends::{Sink, Source};
-use xxhsum_audit::read::{ReadError, read_all};
+use xxhsum_audit::read::{ReadError, read_text};
+use xxhsum_files::refusal::Refusal;
 use xxhsum_files::store::Store;
 use xxhsum_program::stop::Stop;
 use xxhsum_program::tell::tell_line;
@@ -35,17 +37,36 @@ pub fn text_named<S: Store, E: Sink>(
     match store.open(name) {
         Ok(file) => text_of(alloc, name, file, err),
         Err(refusal) => {
-            let parts: [&[u8]; 5] = [
-                b"Error: Could not open '",
-                name,
-                b"': ",
-                refusal.text(),
-                b".",
-            ];
-            tell_line(&parts, err);
+            tell_unopened(name, &refusal, err);
             Ok(None)
         }
     }
+}
+
+// Reports that the list of this name can't be opened.
+pub(crate) fn tell_unopened<'a, E: Sink>(name: &'a [u8], refusal: &'a Refusal, err: &mut E)
+    ensures { TellsOn E.Sink (unopened_text name.now refusal.now) err.old err.new }
+{
+    let parts: [&[u8]; 5] = [
+        b"Error: Could not open '",
+        name,
+        b"': ",
+        refusal.text(),
+        b".",
+    ];
+    tell_line(&parts, err);
+}
+
+// Reports that a read of the list of this name failed.
+pub(crate) fn tell_unread<'a, E: Sink>(name: &'a [u8], err: &mut E)
+    ensures { TellsOn E.Sink (unread_text name.now) err.old err.new }
+{
+    let parts: [&[u8]; 3] = [
+        b"Error: Could not read '",
+        name,
+        b"': a failure occurred reading the list.",
+    ];
+    tell_line(&parts, err);
 }
 
 /// All bytes of a source that is told by this name. `None` where it can't be read, which is told.
@@ -64,16 +85,11 @@ pub fn text_of<R: Source + Drop, E: Sink>(
         (λ told. Breaks R.Source source × (told ≡ unread_text name.now)) err.old err.new }
 {
     let mut source = source;
-    match read_all(alloc, &mut source) {
+    match read_text(alloc, &mut source) {
         Ok(text) => Ok(Some(text)),
         Err(ReadError::OutOfMemory) => Err(Stop::OutOfMemory),
         Err(ReadError::ReadFailed) => {
-            let parts: [&[u8]; 3] = [
-                b"Error: Could not read '",
-                name,
-                b"': a failure occurred reading the list.",
-            ];
-            tell_line(&parts, err);
+            tell_unread(name, err);
             Ok(None)
         }
     }

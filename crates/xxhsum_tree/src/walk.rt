@@ -2,7 +2,7 @@
 
 ghost use Rattle.std.specs.Prelude.{◌≡◌, ◌++◌, ◌∷◌, [], IfOk, MatchResult, map};
 ghost use Rattle.xxhsum_program.specs.Told.{TellsOn};
-ghost use Rattle.xxhsum_tree.specs.WalkLaws.{FindsEachFile, FindsNoOther};
+ghost use Rattle.xxhsum_tree.specs.WalkLaws.{FindsEachFile, FindsNoOther, FindsOnce};
 ghost use Rattle.xxhsum_tree.specs.Walk.{HasKind, IsInOrder, IsSeen, SeesFolder, SeesOne, WalksAll, WalksSome, below, closed_text, place_of, waiting_in, with_slash};
 
 use std::alloc::{AllocError, Global};
@@ -216,8 +216,10 @@ fn tell_closed<'a, E: Sink>(name: &'a [u8], refusal: Refusal, err: &mut E)
 
 /// A law, with nothing to run. The files of a walk are those that names in folders lead to from the names that were
 /// given, and no other; and each of those is found, where the names in each folder could be read and the store says one
-/// thing of each name. `hash_names` then has one outcome for each.
+/// thing of each name. Below one name no path is found twice, where each name in a folder stands there once and has no
+/// slash. `hash_names` then has one outcome for each.
 pub fn laws_of_walks<S: Store + Folders>()
     ensures each { FindsEachFile S.Store S.Folders }
     ensures no_other { FindsNoOther S.Store S.Folders }
+    ensures once { FindsOnce S.Store S.Folders }
 {}

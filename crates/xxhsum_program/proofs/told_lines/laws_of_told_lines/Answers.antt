@@ -6,9 +6,9 @@ use Rattle.xxhsum_program.specs.declared.entry.Found.{Found}
 use Rattle.xxhsum_program.specs.declared.entry.Found.TheVariants.{Same, Different, Unread}
 use Rattle.xxhsum_program.specs.declared.outcome.Outcome.TheVariants as Came
 use Rattle.xxhsum_program.specs.declared.check.Report.{Report}
-use Rattle.xxhsum_program.specs.Findings.{Ignored, Improper, Proper}
+use Rattle.xxhsum_program.specs.Findings.{Ignored, Improper, Proper, TooLong}
 use Rattle.xxhsum_program.specs.Lines.{step_text}
-use Rattle.xxhsum_program.specs.ListEnd.{ListEnd, Whole, TooMany, LongLine, FailedRead}
+use Rattle.xxhsum_program.specs.ListEnd.{ListEnd, Whole, TooMany, Endless, FailedRead}
 use Rattle.xxhsum_program.specs.Outcomes.{reason_text}
 use Rattle.xxhsum_program.specs.Report.{is_unverified}
 use Rattle.xxhsum_program.specs.Said.{found_text, is_silent, named_text, told_break, told_of_line}
@@ -36,13 +36,14 @@ told list number what = one (concat (list ∷ codes ":" ∷ decimal number ∷ c
 findings : FindingsAreSaidInLines
 findings options list number Ignored = (nothing, nothing)
 findings options list number Improper = (nothing, only options.warns (told_of_line list number (codes "Improperly formatted checksum line")) (told list number (codes "Improperly formatted checksum line")))
+findings options list number TooLong = (nothing, told list number (codes "Line too long"))
 findings options list number (Proper name is) =
     (unless (is_silent options is) (found_text options.is_quiet list number name is) (found options.is_quiet list number name is), nothing)
 
 break : (list : List ℕ) (number : ℕ) (report : Report) (end : ListEnd) → IsLineOrNothing (told_break list number report end)
 break list number report Whole = nothing
 break list number report TooMany = nothing
-break list number report LongLine = told list number (codes "Line too long")
+break list number report Endless = told list number (codes "Line too long")
 break list number report FailedRead = unless (nat_eq report.proper 0) (told_of_line list number (codes "A failure occurred reading the list")) (told list number (codes "A failure occurred reading the list"))
 
 lists : ListsAreToldInLines

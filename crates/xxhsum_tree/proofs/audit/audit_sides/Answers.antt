@@ -1,7 +1,7 @@
 use Rattle.std.proofs.Common.{Ok, Err, false, [], ap, inr, refl, subst, sym, ◌∙◌}
-use Rattle.xxhsum_audit.specs.Item.{items_of}
-use Rattle.xxhsum_audit.specs.Merge.{founds_of, merged}
-use Rattle.xxhsum_audit.specs.declared.order.By.TheVariants.{Name}
+use Rattle.xxhsum_audit.specs.Found.{founds_of}
+use Rattle.xxhsum_audit.specs.Item.{items_of, texts_of}
+use Rattle.xxhsum_audit.specs.Side.{by_path}
 use Rattle.xxhsum_program.specs.declared.stop.Stop.TheVariants.{OutOfMemory}
 use Rattle.xxhsum_tree.specs.Report.{PrintsReport, are_same}
 use Rattle.xxhsum_program.proofs.HashFacts.{is-err}
@@ -10,34 +10,29 @@ use Rattle.xxhsum_tree.proofs.RowFacts.{answers-all, answers-not-same, says-audi
 use Rattle.xxhsum_program.proofs.ToldFacts.{tells-nothing}
 use Rattle.xxhsum_tree.proofs.audit.audit_sides.Goals as goal
 
-pub returns-in_err-sides : goal.returns-in_err-sides
-returns-in_err-sides g c =
-    let sides = merged Name (items_of c.args.lines.now) (items_of c.args.asked.now) in
-    inr ([], ([], sides, refl, refl, tells-nothing g.E.Sink c.args.err.now), refl, is-err c.from_residual.result OutOfMemory c.from_residual.ensures.1)
-
 pub returns-in_err-print_report : goal.returns-in_err-print_report
 returns-in_err-print_report g c =
     let stop = c.in_err-print_report.field-0.0 in
     let result = c.from_residual-in_err-print_report.result in
     let is = is-err result stop c.from_residual-in_err-print_report.ensures.1 in
     let found = founds_of c.in_ok-found.found.items in
-    let prints = subst (λ some. PrintsReport {T = Unit {0}} g.W.Sink c.args.options (founds_of some) c.args.out.now c.print_report.new.out (Err stop)) c.deref-2.ensures.value c.in_err-print_report.ensures in
-    says-audit g.S.Store g.S.File.Source g.W.Sink g.E.Sink c.args.store.now c.args.options (items_of c.args.lines.now) (items_of c.args.asked.now) _ _ _ _ _ found _ _ _ _ result
-    c.kind_of_new-kind.ensures (ap founds_of c.deref.ensures.value ∙ c.in_ok-sides.ensures) c.in_ok-digests.ensures c.in_ok-found.ensures
+    let prints = subst (λ some. PrintsReport {T = Unit {0}} g.W.Sink c.args.options (founds_of some) c.args.out.now c.print_report.new.out (Err stop)) c.deref.ensures.value c.in_err-print_report.ensures in
+    says-audit g.S.Store g.S.File.Source g.W.Sink g.E.Sink c.args.store.now c.args.options (items_of c.args.lines.now) (texts_of c.args.asked.now) _ _ found _ _ _ _ result
+    c.requires.lines c.requires.names c.kind_of_new-kind.ensures c.in_ok-compared.ensures c.in_ok-found.ensures
     (report-stops (Unit {0}) g.W.Sink c.args.options found _ _ stop result is prints) (λ rows all. stop-answers rows found stop result is)
 
 pub returns-then-not-are_same : goal.returns-then-not-are_same
 returns-then-not-are_same g c =
     let found = founds_of c.in_ok-found.found.items in
-    let prints = subst (λ some. PrintsReport {T = Unit {0}} g.W.Sink c.args.options (founds_of some) c.args.out.now c.print_report.new.out (Ok tt)) c.deref-2.ensures.value c.in_ok-print_report.ensures in
-    says-audit g.S.Store g.S.File.Source g.W.Sink g.E.Sink c.args.store.now c.args.options (items_of c.args.lines.now) (items_of c.args.asked.now) _ _ _ _ _ found _ _ _ _ (Ok false)
-    c.kind_of_new-kind.ensures (ap founds_of c.deref.ensures.value ∙ c.in_ok-sides.ensures) c.in_ok-digests.ensures c.in_ok-found.ensures prints
-    (λ rows all. answers-not-same rows found (sym (ap (λ some. are_same (founds_of some)) c.deref-3.ensures.value) ∙ sym c.are_same.ensures ∙ c.if-not-are_same.true))
+    let prints = subst (λ some. PrintsReport {T = Unit {0}} g.W.Sink c.args.options (founds_of some) c.args.out.now c.print_report.new.out (Ok tt)) c.deref.ensures.value c.in_ok-print_report.ensures in
+    says-audit g.S.Store g.S.File.Source g.W.Sink g.E.Sink c.args.store.now c.args.options (items_of c.args.lines.now) (texts_of c.args.asked.now) _ _ found _ _ _ _ (Ok false)
+    c.requires.lines c.requires.names c.kind_of_new-kind.ensures c.in_ok-compared.ensures c.in_ok-found.ensures prints
+    (λ rows all. answers-not-same rows found (sym (ap (λ some. are_same (founds_of some)) c.deref-2.ensures.value) ∙ sym c.are_same.ensures ∙ c.if-not-are_same.true))
 
 pub returns : goal.returns
 returns g c =
     let found = founds_of c.in_ok-found.found.items in
-    let prints = subst (λ some. PrintsReport {T = Unit {0}} g.W.Sink c.args.options (founds_of some) c.args.out.now c.print_report.new.out (Ok tt)) c.deref-2.ensures.value c.in_ok-print_report.ensures in
-    says-audit g.S.Store g.S.File.Source g.W.Sink g.E.Sink c.args.store.now c.args.options (items_of c.args.lines.now) (items_of c.args.asked.now) _ _ _ _ _ found _ _ _ _ (Ok c.in_ok-digests.digests.are_all)
-    c.kind_of_new-kind.ensures (ap founds_of c.deref.ensures.value ∙ c.in_ok-sides.ensures) c.in_ok-digests.ensures c.in_ok-found.ensures prints
-    (λ rows all. answers-all rows found _ (sym (ap (λ some. are_same (founds_of some)) c.deref-3.ensures.value) ∙ sym c.are_same.ensures ∙ c.if-not-are_same.false) all)
+    let prints = subst (λ some. PrintsReport {T = Unit {0}} g.W.Sink c.args.options (founds_of some) c.args.out.now c.print_report.new.out (Ok tt)) c.deref.ensures.value c.in_ok-print_report.ensures in
+    says-audit g.S.Store g.S.File.Source g.W.Sink g.E.Sink c.args.store.now c.args.options (items_of c.args.lines.now) (texts_of c.args.asked.now) _ _ found _ _ _ _ (Ok c.in_ok-compared.compared.are_all)
+    c.requires.lines c.requires.names c.kind_of_new-kind.ensures c.in_ok-compared.ensures c.in_ok-found.ensures prints
+    (λ rows all. answers-all rows found _ (sym (ap (λ some. are_same (founds_of some)) c.deref-2.ensures.value) ∙ sym c.are_same.ensures ∙ c.if-not-are_same.false) all)

@@ -1,19 +1,21 @@
-use Rattle.std.proofs.Common.{rules, ◌∷◌, ◌++◌, ◌&&◌, [], ◌≡◌, ap, drop, refl, subst, sym, take, take-append-drop, append-nil, ◌∙◌}
-use Rattle.std.proofs.lemmas.List.{map-append, map_more}
-use Rattle.xxhsum_audit.specs.Merge.{found_of, founds_of}
+use Rattle.std.proofs.Common.{rules, ◌∷◌, ◌++◌, ◌&&◌, [], ◌≡◌, ap, append-nil, append_assoc, drop, length, refl, subst, sym, take, ◌-◌, ◌∙◌}
+use Rattle.std.proofs.lemmas.List.{take_rest}
+use Rattle.xxhsum_audit.specs.Audit.{missing_in, missing_one, new_in, new_one, settled_in, settled_one}
+use Rattle.xxhsum_audit.specs.Item.{items_of, texts_of}
+use Rattle.xxhsum_audit.specs.Side.{by_path, lines_of, names_of, path_side}
 use Rattle.xxhsum_program.specs.Told.{TellsOn}
 use Rattle.xxhsum_program.proofs.ToldFacts.{tells-more, tells-nothing}
-use Rattle.xxhsum_tree.specs.Rows.{AreRows, is_read, kept_of, seen_of, told_of}
-use Rattle.xxhsum_tree.proofs.RowFacts.{fails-rows, flat-push, read-more, rows-more}
+use Rattle.xxhsum_tree.specs.Rows.{AreRows, first_of, is_read, told_of}
+use Rattle.xxhsum_tree.proofs.RowFacts.{fails-rows, first-push, flat-push, read-more, rows-more}
 use Rattle.xxhsum_tree.proofs.digests.digests_of.Goals as goal
 
 pub loop-side-init : goal.loop-side-init
 loop-side-init g c = record {
   rows = [];
+  done = [];
+  parts = refl;
   are = refl;
-  lines = search rules;
-  names = search rules;
-  all = refl;
+  holds = record { settled = search rules; gone = search rules; come = search rules; all = refl };
   tells = tells-nothing g.E.Sink c.args.err.now;
 }
 
@@ -21,27 +23,43 @@ pub loop-side-preserved : goal.loop-side-preserved
 loop-side-preserved g c =
     let so_far = c.loop-side.invariant in
     let rows = so_far.rows in
-    let k = c.loop-side.side-index in
     let kind = c.args.kind in
+    let side = path_side c.in-Some.side in
+    let lines = c.loop-side.lines_left.now in
+    let names = c.loop-side.names_left.now in
+    let fewer = ap (λ k. drop k lines) (sym c.lines.ensures) ∙ sym (take_rest lines c.lines.result) in
+    let others = ap (λ k. drop k names) (sym c.names.ensures) ∙ sym (take_rest names c.names.result) in
+    let left = by_path (items_of (drop (lines_of c.in-Some.side) lines)) (texts_of (drop (names_of c.in-Some.side) names)) in
+    let behind = ap (λ l. by_path (items_of l) (texts_of (drop (names_of c.in-Some.side) names))) fewer
+    ∙ ap (λ l. by_path (items_of (take (length lines - c.lines.result) (drop c.lines.result lines))) (texts_of l)) others in
     let added = c.in_ok-add_side.ensures in
     let row = added.0 in
+    let grows = added.2 in
     record {
       rows = rows ++ row ∷ [];
-      are = subst (λ sides. AreRows g.S.Store g.S.File.Source c.args.store.now kind sides (rows ++ row ∷ [])) (sym (map_more found_of c.args.sides.now k _ c.loop-side-test.true))
-          (rows-more g.S.Store g.S.File.Source c.args.store.now kind _ rows _ row so_far.are added.1);
-      lines = added.2.0 ∙ ap (λ items. items ++ kept_of row) so_far.lines ∙ sym (flat-push kept_of rows row);
-      names = added.2.1 ∙ ap (λ items. items ++ seen_of kind row) so_far.names ∙ sym (flat-push (seen_of kind) rows row);
-      all = added.2.2 ∙ ap (λ all. all && is_read row) so_far.all ∙ sym (read-more rows row);
+      done = so_far.done ++ side ∷ [];
+      parts = so_far.parts ∙ ap (λ s. so_far.done ++ s) c.in-Some.ensures.is ∙ sym (append_assoc so_far.done (side ∷ []) left)
+          ∙ ap (λ s. (so_far.done ++ side ∷ []) ++ s) behind;
+      are = rows-more g.S.Store g.S.File.Source c.args.store.now kind so_far.done rows side row so_far.are added.1;
+      holds = record {
+        settled = grows.0 ∙ ap (λ f. f ++ settled_in (first_of kind row)) so_far.holds.settled ∙ sym (first-push settled_one kind rows row);
+        gone = grows.1 ∙ ap (λ f. f ++ missing_in (first_of kind row)) so_far.holds.gone ∙ sym (first-push missing_one kind rows row);
+        come = grows.2 ∙ ap (λ f. f ++ new_in (first_of kind row)) so_far.holds.come ∙ sym (first-push new_one kind rows row);
+        all = grows.3 ∙ ap (λ all. all && is_read row) so_far.holds.all ∙ sym (read-more rows row);
+      };
       tells = subst (λ text. TellsOn g.E.Sink text c.args.err.now c.add_side.new.err) (sym (flat-push told_of rows row))
           (tells-more g.E.Sink _ _ _ _ _ so_far.tells added.3);
     }
 
+pub returns : goal.returns
+returns g c =
+    let so_far = c.loop-side.invariant in
+    let all = sym (so_far.parts ∙ ap (λ s. so_far.done ++ s) c.in_default.ensures ∙ append-nil so_far.done) in
+    (so_far.rows, subst (λ s. AreRows g.S.Store g.S.File.Source c.args.store.now c.args.kind s so_far.rows) all so_far.are, so_far.holds, so_far.tells)
+
 pub returns-in_err-add_side : goal.returns-in_err-add_side
 returns-in_err-add_side g c =
     let so_far = c.loop-side.invariant in
-    let k = c.loop-side.side-index in
-    let sides = c.args.sides.now in
-    let parts : founds_of sides ≡ founds_of (take k sides) ++ founds_of (drop k sides) =
-    ap founds_of (sym (take-append-drop k sides)) ∙ map-append found_of (take k sides) (drop k sides) in
+    let left = by_path (items_of c.loop-side.lines_left.now) (texts_of c.loop-side.names_left.now) in
     fails-rows _ _ c.from_residual.result c.from_residual.ensures.0
-    (so_far.rows, (founds_of (take k sides), founds_of (drop k sides), parts, so_far.are, rw append-nil at (tells-more g.E.Sink _ _ _ _ _ so_far.tells c.in_err-add_side.ensures)))
+    (so_far.rows, (so_far.done, left, so_far.parts, so_far.are, rw append-nil at (tells-more g.E.Sink _ _ _ _ _ so_far.tells c.in_err-add_side.ensures)))

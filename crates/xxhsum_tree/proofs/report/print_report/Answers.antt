@@ -2,7 +2,7 @@ use Rattle.std.proofs.Common.{◌+◌, ◌≤◌, ap, drop, length, subst, sym, 
 use Rattle.std.proofs.lemmas.List.{map_more, take_all}
 use Rattle.xxh_io.specs.Digest.{Took}
 use Rattle.xxh_io.proofs.WriteFacts.{Took-join}
-use Rattle.xxhsum_audit.specs.Merge.{found_of, founds_of}
+use Rattle.xxhsum_audit.specs.Found.{found_of, founds_of}
 use Rattle.xxhsum_program.specs.Lines.{PrintsLine}
 use Rattle.xxhsum_tree.specs.Report.{shown_lines}
 use Rattle.xxhsum_program.proofs.HashFacts.{is-err}
@@ -11,33 +11,33 @@ use Rattle.xxhsum_tree.proofs.report.print_report.Goals as goal
 
 pub returns-in_err-print_one : goal.returns-in_err-print_one
 returns-in_err-print_one g c =
-    let so_far = c.loop-outcome.invariant in
-    let k = c.loop-outcome.outcome-index in
+    let so_far = c.loop-verdict.invariant in
+    let k = c.loop-verdict.verdict-index in
     let found = c.args.found.now in
     let stop = c.in_err-print_one.field-0.0 in
     report-stops (Unit {0}) g.W.Sink c.args.options (founds_of found) _ _ stop c.from_residual.result (is-err c.from_residual.result stop c.from_residual.ensures.1)
     (stops-in-line (Unit {0}) g.W.Sink c.args.options (founds_of found) (founds_of (take k found)) (founds_of (drop (k + 1) found)) _ _ _ _ stop c.if-options.false
-    (map-at found_of found k _ c.loop-outcome-test.true) so_far.prints c.in_err-print_one.ensures.prints)
+    (map-at found_of found k _ c.loop-verdict-test.true) so_far.prints c.in_err-print_one.ensures.prints)
 
-pub loop-outcome-preserved : goal.loop-outcome-preserved
-loop-outcome-preserved g c =
-    let so_far = c.loop-outcome.invariant in
-    let k = c.loop-outcome.outcome-index in
+pub loop-verdict-preserved : goal.loop-verdict-preserved
+loop-verdict-preserved g c =
+    let so_far = c.loop-verdict.invariant in
+    let k = c.loop-verdict.verdict-index in
     let found = c.args.found.now in
     let lines = shown_lines c.args.options.is_quiet in
     record {
       prints = subst (λ text. Took g.W.Sink text c.args.out.now c.print_one.new.out)
-          (sym (ap lines (map_more found_of found k _ c.loop-outcome-test.true) ∙ shown-push c.args.options.is_quiet (founds_of (take k found)) _))
+          (sym (ap lines (map_more found_of found k _ c.loop-verdict-test.true) ∙ shown-push c.args.options.is_quiet (founds_of (take k found)) _))
           (Took-join g.W.Sink _ _ _ _ _ so_far.prints c.in_ok-print_one.ensures.prints);
       works = c.in_ok-print_one.ensures.works;
     }
 
 pub returns : goal.returns
 returns g c =
-    let so_far = c.loop-outcome.invariant in
-    let k = c.loop-outcome.outcome-index in
+    let so_far = c.loop-verdict.invariant in
+    let k = c.loop-verdict.verdict-index in
     let found = c.args.found.now in
-    let all : length found ≤ k = omega (arith, c.loop-outcome-test.false) in
-    let took = subst (λ some. Took g.W.Sink (shown_lines c.args.options.is_quiet (founds_of some)) c.args.out.now c.loop-outcome.out) (take_all k found all) so_far.prints in
-    ends-in-counts g.W.Sink c.args.options (founds_of found) c.args.out.now c.loop-outcome.out c.print.new.out c.print.result c.if-options.false took
-    (subst (λ bytes. PrintsLine g.W.Sink bytes c.loop-outcome.out c.print.new.out c.print.result) (c.deref.ensures.value ∙ c.in_ok-counts.ensures) c.print.ensures.prints)
+    let all : length found ≤ k = omega (arith, c.loop-verdict-test.false) in
+    let took = subst (λ some. Took g.W.Sink (shown_lines c.args.options.is_quiet (founds_of some)) c.args.out.now c.loop-verdict.out) (take_all k found all) so_far.prints in
+    ends-in-counts g.W.Sink c.args.options (founds_of found) c.args.out.now c.loop-verdict.out c.print.new.out c.print.result c.if-options.false took
+    (subst (λ bytes. PrintsLine g.W.Sink bytes c.loop-verdict.out c.print.new.out c.print.result) (c.deref.ensures.value ∙ c.in_ok-counts.ensures) c.print.ensures.prints)

@@ -1,12 +1,12 @@
 use Rattle.std.proofs.Common.{◌≡◌, false, take}
 use Rattle.xxh_io.specs.Digest.{Took}
-use Rattle.xxhsum_audit.specs.Merge.{founds_of}
+use Rattle.xxhsum_audit.specs.Found.{founds_of}
 use Rattle.xxhsum_tree.specs.Report.{shown_lines}
 use Rattle.xxhsum_tree.proofs.report.print_report.Given as goal
 
 -- the lines so far
-abbrev pub invariant-loop-outcome : goal.invariant-loop-outcome
-invariant-loop-outcome g l = record {
-  prints : Took g.W.Sink (shown_lines l.options.is_quiet (founds_of (take l.outcome-index l.found))) l.initial.out l.out;
+abbrev pub invariant-loop-verdict : goal.invariant-loop-verdict
+invariant-loop-verdict g l = record {
+  prints : Took g.W.Sink (shown_lines l.options.is_quiet (founds_of (take l.verdict-index l.found))) l.initial.out l.out;
   works : g.W.Sink.has_failed l.out ≡ false;
 }

@@ -1,18 +1,75 @@
-use Rattle.std.proofs.Common.{ap, drop, map, subst, sym, ◌∙◌}
-use Rattle.xxhsum_tree.specs.Run.{Walks}
-use Rattle.xxhsum_tree.proofs.WalkFacts.{asks-none, asks-tree}
+use Rattle.std.proofs.Common.{◌≡◌, ℕ, true, false, List, Option, Some, None, codes, drop, refl, Ok, map, sym, ap, ◌∙◌}
+use Rattle.xxh_io.specs.declared.kind.Kind.{Kind}
+use Rattle.xxhsum_words.specs.Name.{kind_of_program}
+use Rattle.xxhsum_words.specs.Options.{asked_of}
+use Rattle.xxhsum_words.specs.declared.options.Asked.{Asked}
+use Rattle.xxhsum_words.specs.declared.options.Options.{Options}
+use Rattle.xxhsum_program.specs.declared.process.Terminals.{Terminals}
+use Rattle.xxhsum_program.specs.Task.{Reads, Tells, Walks, answer_text, is_tree, is_well, run_asked, shows_progress, task_from, task_of, waits_for_terminal, wrong_text}
 use Rattle.xxhsum_tree.proofs.run.run_arguments.Goals as goal
 
-pub returns-in-Some : goal.returns-in-Some
-returns-in-Some g c =
-    let words = drop 1 (map (λ argument. argument.items) c.args.args.now) in
-    let tree = c.in-Some.tree in
-    let walks = Walks g.S.Store g.S.Folders g.S.File.Source g.R.Source g.W.Sink g.E.Sink c.args.store.now c.args.input c.args.out.now c.walk.new.out c.args.err.now c.walk.new.err c.walk.result in
-    let does = subst (λ names. walks tree.0 names) (c.words_behind-names.ensures ∙ ap (drop tree.1) c.words_of-words.ensures) c.walk.ensures in
-    (c.tree_of.ensures.0, c.tree_of.ensures.1, asks-tree _ tree words walks _ (sym c.tree_of.ensures.2 ∙ c.in-Some.is) does)
+-- What the words ask for is the task.
 
-pub returns-in-None : goal.returns-in-None
-returns-in-None g c =
-    let words = drop 1 (map (λ argument. argument.items) c.args.args.now) in
-    let walks = Walks g.S.Store g.S.Folders g.S.File.Source g.R.Source g.W.Sink g.E.Sink c.args.store.now c.args.input c.args.out.now c.run_words.new.out c.args.err.now c.run_words.new.err c.run_words.result in
-    (c.tree_of.ensures.0, c.tree_of.ensures.1, asks-none _ words walks _ (sym c.tree_of.ensures.2 ∙ c.in-None.is) c.run_words.ensures)
+-- by the words, the kind and what they ask for as they were found
+task-is : (terminals : Terminals) (program : List ℕ) (arguments words : List (List ℕ)) (kind : Kind) (asked : Asked) (run : Option (Options × ℕ)) → words ≡ drop 1 arguments → kind ≡ kind_of_program program → asked ≡ asked_of kind words → run ≡ run_asked asked → task_of terminals program (drop 1 arguments) ≡ task_from terminals program words asked run
+task-is terminals program arguments words kind asked run same kinds is runs = rw (runs, is, kinds, same) refl
+
+task-told : (terminals : Terminals) (program : List ℕ) (words : List (List ℕ)) (asked : Asked) (run : Option (Options × ℕ)) → run ≡ None → task_from terminals program words asked run ≡ Tells (answer_text program words asked) (is_well asked)
+task-told terminals program words asked run is = rw is refl
+
+-- where a run is asked for, by whether it is one over a tree and waits for a terminal
+module _ (terminals : Terminals) (program : List ℕ) (words names : List (List ℕ)) (asked : Asked) (run : Option (Options × ℕ)) (options : Options) (place : ℕ) (is : run ≡ Some (options, place)) (same : names ≡ drop place words) where
+  task-walks : is_tree options ≡ true → task_from terminals program words asked run ≡ Walks options names
+  task-walks tree = rw (is, tree, same) refl
+
+  task-waits : is_tree options ≡ false → waits_for_terminal terminals options names ≡ true → task_from terminals program words asked run ≡ Tells (wrong_text (codes "Wrong parameters") program) false
+  task-waits tree waits =
+      let still : waits_for_terminal terminals options (drop place words) ≡ true = rw same at waits in
+      rw (is, tree, still) refl
+
+  task-reads : is_tree options ≡ false → waits_for_terminal terminals options names ≡ false → task_from terminals program words asked run ≡ Reads options names (shows_progress terminals options)
+  task-reads tree waits =
+      let still : waits_for_terminal terminals options (drop place words) ≡ false = rw same at waits in
+      rw (is, tree, still, same) refl
+
+pub returns-in_default : goal.returns-in_default
+returns-in_default g c =
+    let arguments = map (λ argument. argument.items) c.args.args.now in
+    let program = c.program_of-program.result.now in
+    let words = map (λ word. word.items) c.arguments_behind_name-words.result.now in
+    let asked = c.asked_by-asked.result in
+    let task = task-is c.args.terminals program arguments words c.default_kind.result asked c.run_asked.result c.arguments_behind_name-words.ensures c.default_kind.ensures c.asked_by-asked.ensures c.run_asked.ensures in
+    (program, c.program_of-program.ensures, rw (task ∙ task-told c.args.terminals program words asked c.run_asked.result c.in_default.is) (ap Ok c.tell_answer.ensures.well, refl, c.tell_answer.ensures.tells))
+
+pub returns-then-is_tree : goal.returns-then-is_tree
+returns-then-is_tree g c =
+    let arguments = map (λ argument. argument.items) c.args.args.now in
+    let program = c.program_of-program.result.now in
+    let words = map (λ word. word.items) c.arguments_behind_name-words.result.now in
+    let asked = c.asked_by-asked.result in
+    let task = task-is c.args.terminals program arguments words c.default_kind.result asked c.run_asked.result c.arguments_behind_name-words.ensures c.default_kind.ensures c.asked_by-asked.ensures c.run_asked.ensures in
+    let names = map (λ name. name.items) c.words_behind-names.result.now in
+    let run = c.in-Some.found in
+    (program, c.program_of-program.ensures, rw (task ∙ task-walks c.args.terminals program words names asked c.run_asked.result run.0 run.1 c.in-Some.is c.words_behind-names.ensures (sym c.is_tree.ensures ∙ c.if-is_tree.true)) c.walk.ensures)
+
+pub returns-then-waits_for_terminal : goal.returns-then-waits_for_terminal
+returns-then-waits_for_terminal g c =
+    let arguments = map (λ argument. argument.items) c.args.args.now in
+    let program = c.program_of-program.result.now in
+    let words = map (λ word. word.items) c.arguments_behind_name-words.result.now in
+    let asked = c.asked_by-asked.result in
+    let task = task-is c.args.terminals program arguments words c.default_kind.result asked c.run_asked.result c.arguments_behind_name-words.ensures c.default_kind.ensures c.asked_by-asked.ensures c.run_asked.ensures in
+    let names = map (λ name. name.items) c.words_behind-names.result.now in
+    let run = c.in-Some.found in
+    (program, c.program_of-program.ensures, rw (task ∙ task-waits c.args.terminals program words names asked c.run_asked.result run.0 run.1 c.in-Some.is c.words_behind-names.ensures (sym c.is_tree.ensures ∙ c.if-is_tree.false) (sym c.waits_for_terminal.ensures ∙ c.if-waits_for_terminal.true)) (refl, refl, c.tell_wrong.ensures))
+
+pub returns : goal.returns
+returns g c =
+    let arguments = map (λ argument. argument.items) c.args.args.now in
+    let program = c.program_of-program.result.now in
+    let words = map (λ word. word.items) c.arguments_behind_name-words.result.now in
+    let asked = c.asked_by-asked.result in
+    let task = task-is c.args.terminals program arguments words c.default_kind.result asked c.run_asked.result c.arguments_behind_name-words.ensures c.default_kind.ensures c.asked_by-asked.ensures c.run_asked.ensures in
+    let names = map (λ name. name.items) c.words_behind-names.result.now in
+    let run = c.in-Some.found in
+    (program, c.program_of-program.ensures, rw (task ∙ task-reads c.args.terminals program words names asked c.run_asked.result run.0 run.1 c.in-Some.is c.words_behind-names.ensures (sym c.is_tree.ensures ∙ c.if-is_tree.false) (sym c.waits_for_terminal.ensures ∙ c.if-waits_for_terminal.false)) (rw c.shows_progress-shows.ensures at c.perform_watched.ensures))

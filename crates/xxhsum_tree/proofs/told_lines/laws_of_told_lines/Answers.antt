@@ -1,7 +1,7 @@
 use Rattle.std.proofs.Common.{[], ◌∷◌, ◌++◌, codes, decimal}
 use Rattle.std.specs.List.{concat}
 use Rattle.xxhsum_audit.specs.Item.{name_of}
-use Rattle.xxhsum_audit.specs.Merge.{Changed, Missing, Moved, New, Same}
+use Rattle.xxhsum_audit.specs.Found.{Changed, Copied, Missing, Moved, New, Same}
 use Rattle.xxhsum_files.specs.Refusal.{refusal_text}
 use Rattle.xxhsum_line.proofs.PrintedFacts.{told_is_one_line}
 use Rattle.xxhsum_tree.specs.ToldLines.{AuditsAreSaidInLines, ListsAreToldInLines, TwiceIsToldInLines}
@@ -21,6 +21,7 @@ audits : AuditsAreSaidInLines
 audits (Same line name) = told_is_one_line (name_of name ++ codes ": same")
 audits (Changed line name) = told_is_one_line (name_of name ++ codes ": changed")
 audits (Moved line name) = told_is_one_line (name_of name ++ codes ": moved from " ++ name_of line)
+audits (Copied original name) = told_is_one_line (name_of name ++ codes ": copy of " ++ name_of original)
 audits (New name) = told_is_one_line (name_of name ++ codes ": new")
 audits (Missing line) = told_is_one_line (name_of line ++ codes ": missing")
 

@@ -1,12 +1,10 @@
 use Rattle.std.proofs.Common.{◌≡◌, ◌+◌, ◌-◌, ◌^◌, ◌∷◌, ◌++◌, [], length, Some, Err, refl, sym, ap, subst, ◌∙◌, append-nil, arith}
 use Rattle.std.proofs.lemmas.List.{length_push}
 use Rattle.xxh_io.proofs.WriteFacts.{Took-join}
-use Rattle.xxhsum_program.specs.CheckList.{ChecksLine}
 use Rattle.xxhsum_program.specs.Findings.{IsFinding, count_one, no_findings, report_of, with_broken_end}
-use Rattle.xxhsum_program.specs.LinesView.{line_of}
-use Rattle.xxhsum_program.specs.ListEnd.{Whole, TooMany, LongLine, FailedRead}
+use Rattle.xxhsum_program.specs.ListEnd.{Whole, TooMany, Endless, FailedRead}
 use Rattle.xxhsum_program.specs.Said.{numbered, printed_finding, told_finding}
-use Rattle.xxhsum_program.proofs.CheckFacts.{add_up-push, breaks-failed, breaks-too-long, ends-well, some-read, stands-line, stands-new}
+use Rattle.xxhsum_program.proofs.CheckFacts.{add_up-push, breaks-endless, breaks-failed, ends-well, some-read, stands-line, stands-new}
 use Rattle.xxhsum_program.proofs.EachFacts.{EachHas-push}
 use Rattle.xxhsum_program.proofs.HashFacts.{is-err}
 use Rattle.xxhsum_program.proofs.OutcomeFacts.{took-nothing-more}
@@ -33,19 +31,20 @@ pub loop-number-preserved : goal.loop-number-preserved
 loop-number-preserved g c =
     let so_far = c.loop-number.invariant in
     let state = c.next.new.self in
-    let checked = c.in_ok-check_line-in-Line.ensures.checks in
+    let (line, held, stands) = stands-line g.R.Source c.args.source c.loop-number.lines state so_far.read so_far.stands c.in-Line.ensures.next c.in-Line.ensures.ended in
+    let checked = c.in_ok-check_line-in-Line.ensures.checks line (c.line.ensures line held) in
     let finding = checked.0 in
     let options = c.args.self.now.options in
     let list = c.args.self.now.name.now in
     let number = c.loop-number.number in
     record {
-      read = so_far.read ++ line_of state ∷ [];
+      read = so_far.read ++ line ∷ [];
       findings = so_far.findings ++ finding ∷ [];
-      each = EachHas-push _ so_far.read so_far.findings (line_of state) finding so_far.each (rw c.line.ensures at checked.1);
+      each = EachHas-push _ so_far.read so_far.findings line finding so_far.each checked.1;
       report = checked.2 ∙ ap (λ r. count_one options.ignores_missing r finding) so_far.report ∙ sym (add_up-push options.ignores_missing no_findings so_far.findings finding);
-      lines = omega (arith, length_push so_far.read (line_of state), so_far.lines);
+      lines = omega (arith, length_push so_far.read line, so_far.lines);
       count = omega (arith, length_push so_far.findings finding, so_far.count);
-      stands = stands-line g.R.Source c.args.source c.loop-number.lines state so_far.read so_far.stands c.in-Line.ensures.next c.in-Line.ensures.ended;
+      stands = stands;
       prints = rw (numbered-push (printed_finding options list) 1 so_far.findings finding number so_far.count) (Took-join g.W.Sink _ _ _ _ _ so_far.prints checked.3);
       tells = rw (numbered-push (told_finding options list) 1 so_far.findings finding number so_far.count) (tells-more g.E.Sink _ _ _ _ _ so_far.tells checked.4);
       works = c.in_ok-check_line-in-Line.ensures.works;
@@ -75,16 +74,16 @@ returns-in-Failed-clause-checks g c =
       tells-more g.E.Sink _ _ c.args.err.now c.loop-number.err c.tell_of_failure.new.err so_far.tells (tells-break g.E.Sink c.args.self.now.name.now FailedRead c.loop-number.number (length so_far.findings + 1) c.loop-number.report (report_of c.args.self.now.options.ignores_missing so_far.findings) c.loop-number.err c.tell_of_failure.new.err count so_far.report c.tell_of_failure.ensures),
     )
 
-pub returns-in-TooLong-clause-checks : goal.returns-in-TooLong-clause-checks
-returns-in-TooLong-clause-checks g c =
+pub returns-in-Endless-clause-checks : goal.returns-in-Endless-clause-checks
+returns-in-Endless-clause-checks g c =
     let so_far = c.loop-number.invariant in
     let count : c.loop-number.number ≡ length so_far.findings + 1 = omega (arith, so_far.count) in (
       so_far.findings,
-      Some LongLine,
-      (so_far.read, so_far.each, breaks-too-long g.R.Source c.args.source c.loop-number.lines c.next.new.self so_far.read so_far.stands c.in-TooLong.ensures.next c.in-TooLong.ensures.ended),
-      c.with_broken_end-in-TooLong.ensures ∙ ap with_broken_end so_far.report,
-      took-nothing-more g.W.Sink _ _ _ _ so_far.prints c.release-in-TooLong.ensures.prints,
-      tells-more g.E.Sink _ _ c.args.err.now c.loop-number.err c.tell_of_line.new.err so_far.tells (tells-break g.E.Sink c.args.self.now.name.now LongLine c.loop-number.number (length so_far.findings + 1) c.loop-number.report (report_of c.args.self.now.options.ignores_missing so_far.findings) c.loop-number.err c.tell_of_line.new.err count so_far.report c.tell_of_line.ensures),
+      Some Endless,
+      (so_far.read, so_far.each, breaks-endless g.R.Source c.args.source c.loop-number.lines c.next.new.self so_far.read so_far.stands c.in-Endless.ensures.next c.in-Endless.ensures.ended),
+      c.with_broken_end-in-Endless.ensures ∙ ap with_broken_end so_far.report,
+      took-nothing-more g.W.Sink _ _ _ _ so_far.prints c.tell_too_long.ensures.prints,
+      tells-more g.E.Sink _ _ c.args.err.now c.loop-number.err c.tell_too_long.new.err so_far.tells (tells-break g.E.Sink c.args.self.now.name.now Endless c.loop-number.number (length so_far.findings + 1) c.loop-number.report (report_of c.args.self.now.options.ignores_missing so_far.findings) c.loop-number.err c.tell_too_long.new.err count so_far.report c.tell_too_long.ensures.tells),
     )
 
 pub returns-clause-checks : goal.returns-clause-checks
@@ -105,8 +104,8 @@ returns-in_err-check_line-in-Line-clause-checks g c =
     let so_far = c.loop-number.invariant in
     let state = c.next.new.self in
     let stop = c.in_err-check_line-in-Line.field-0.0 in
-    let checked = c.in_err-check_line-in-Line.ensures.checks in
-    let after = stands-line g.R.Source c.args.source c.loop-number.lines state so_far.read so_far.stands c.in-Line.ensures.next c.in-Line.ensures.ended in
+    let (line, held, stands) = stands-line g.R.Source c.args.source c.loop-number.lines state so_far.read so_far.stands c.in-Line.ensures.next c.in-Line.ensures.ended in
+    let checked = c.in_err-check_line-in-Line.ensures.checks line (c.line.ensures line held) in
     let is_finding = IsFinding g.S.Store g.S.File.Source c.args.self.now.store.now c.args.self.now.options.is_little_endian in
     rw (is-err c.from_residual.result stop c.from_residual.ensures.1)
-    (lines-stop is_finding g.R.Source g.W.Sink g.E.Sink c.args.self.now.options c.args.self.now.name.now c.args.source c.args.out.now c.loop-number.out _ c.args.err.now c.loop-number.err _ c.loop-number.lines state so_far.read so_far.findings (line_of state) c.loop-number.number c.loop-number.report c.check_line.new.report stop so_far.each so_far.stands after so_far.count so_far.prints so_far.tells (subst (λ bytes. ChecksLine (is_finding bytes) g.W.Sink g.E.Sink c.args.self.now.options c.args.self.now.name.now c.loop-number.number c.loop-number.report c.check_line.new.report c.loop-number.out c.check_line.new.out c.loop-number.err c.check_line.new.err (Err stop)) c.line.ensures checked))
+    (lines-stop is_finding g.R.Source g.W.Sink g.E.Sink c.args.self.now.options c.args.self.now.name.now c.args.source c.args.out.now c.loop-number.out _ c.args.err.now c.loop-number.err _ c.loop-number.lines state so_far.read so_far.findings line c.loop-number.number c.loop-number.report c.check_line.new.report stop so_far.each so_far.stands stands so_far.count so_far.prints so_far.tells checked)

@@ -1,19 +1,32 @@
-use Rattle.std.proofs.Common.{inl, inr, arith}
-use Rattle.xxhsum_program.proofs.LineFacts.{begins-too-long, comes-last-line, comes-line, not-at-end}
+use Rattle.std.proofs.Common.{arith}
+use Rattle.xxhsum_program.specs.LinesView.{waiting}
+use Rattle.xxhsum_program.proofs.LineFacts.{comes-last-line, comes-line, comes-long-line, not-at-end}
 use Rattle.xxhsum_program.proofs.lines.Lines.next.Goals as goal
 
 pub returns-in-Err-clause-next : goal.returns-in-Err-clause-next
-returns-in-Err-clause-next g c = λ from done read. c.in-Err.ensures.reads from done read
+returns-in-Err-clause-next g c = λ from done read.
+    let failed = c.in-Err.ensures.reads from done read in
+    (waiting c.gather.new.self, failed.0, failed.1)
+
+pub overflow_add-len : goal.overflow_add-len
+overflow_add-len g c =
+    let stops = rw c.in-Ok-Some.field-0-is at c.in-Ok-Some.ensures in
+    omega (arith, stops.found.0)
+
+pub returns-in-Ok-Some-clause-next : goal.returns-in-Ok-Some-clause-next
+returns-in-Ok-Some-clause-next g c = λ from done read.
+    let stops = rw c.in-Ok-Some.field-0-is at c.in-Ok-Some.ensures in
+    comes-long-line g.R.Source from done c.gather.new.self c.take.new.self c.in-Ok-Some.len (omega arith) (omega arith) stops.found c.take.ensures (stops.reads from done read)
 
 pub returns-in-Ok-Some-2-clause-next : goal.returns-in-Ok-Some-2-clause-next
 returns-in-Ok-Some-2-clause-next g c = λ from done read.
     let stops = rw c.in-Ok-Some.field-0-is at c.in-Ok-Some.ensures in
-    inl (comes-line g.R.Source from done c.gather.new.self c.take.new.self c.in-Ok-Some.len (omega arith) (omega arith) stops.found c.take.ensures (stops.reads from done read))
+    comes-line g.R.Source from done c.gather.new.self c.take-in-Ok-Some-2.new.self c.in-Ok-Some.len (omega arith) (omega arith) stops.found c.take-in-Ok-Some-2.ensures (stops.reads from done read)
 
 pub returns-in_default-clause-next : goal.returns-in_default-clause-next
 returns-in_default-clause-next g c = λ from done read.
     let stops = rw c.in-Ok-None.field-0-is at c.in-Ok-None.ensures in
-    (stops.reads from done read, begins-too-long c.gather.new.self (omega arith) (omega arith) stops.found)
+    c.pass_over.ensures from done (stops.reads from done read)
 
 pub returns-in_default-clause-ended : goal.returns-in_default-clause-ended
 returns-in_default-clause-ended g c = λ at_end.
@@ -22,7 +35,7 @@ returns-in_default-clause-ended g c = λ at_end.
 pub returns-in_default-2-clause-next : goal.returns-in_default-2-clause-next
 returns-in_default-2-clause-next g c = λ from done read.
     let stops = rw c.in-Ok-None.field-0-is at c.in-Ok-None.ensures in
-    inr (comes-last-line g.R.Source from done c.gather.new.self c.take-in_default-2.new.self _ (omega arith) (omega arith) (omega arith) (omega arith) stops.found c.take-in_default-2.ensures (stops.reads from done read))
+    comes-last-line g.R.Source from done c.gather.new.self c.take-in_default-2.new.self _ (omega arith) (omega arith) (omega arith) (omega arith) stops.found c.take-in_default-2.ensures (stops.reads from done read)
 
 pub returns-in_default-2-clause-ended : goal.returns-in_default-2-clause-ended
 returns-in_default-2-clause-ended g c = λ at_end.

@@ -1,0 +1,15 @@
+use Rattle.std.proofs.Common.{◌≡◌, ◌+◌, ◌++◌, length, map}
+use Rattle.xxhsum_audit.specs.Audit.{moved, with_copy}
+use Rattle.xxhsum_audit.specs.Found.{founds_of}
+use Rattle.xxhsum_audit.specs.Item.{items_of}
+use Rattle.xxhsum_audit.specs.Side.{by_digest}
+use Rattle.xxhsum_audit.proofs.moves.add_moves.Given as goal
+
+-- what is found so far, and what the rest comes to
+abbrev pub invariant-loop-side : goal.invariant-loop-side
+invariant-loop-side l =
+    founds_of l.found.items ++ map (with_copy (items_of l.kept)) (moved (items_of l.gone_left) (items_of l.come_left))
+    ≡ founds_of l.initial.found.items ++ map (with_copy (items_of l.kept)) (moved (items_of l.fn.gone) (items_of l.fn.come))
+
+abbrev pub decreases-loop-side : goal.decreases-loop-side
+decreases-loop-side l = length (by_digest (items_of l.gone_left) (items_of l.come_left))

@@ -1,0 +1,8 @@
+use Rattle.std.proofs.Common.{◌≡◌, take}
+use Rattle.xxhsum_audit.specs.Audit.{same_in}
+use Rattle.xxhsum_audit.specs.Found.{founds_of}
+use Rattle.xxhsum_audit.specs.Item.{items_of}
+use Rattle.xxhsum_audit.proofs.moves.same_in.Given as goal
+
+abbrev pub invariant-loop-verdict : goal.invariant-loop-verdict
+invariant-loop-verdict l = items_of l.kept.items ≡ same_in (founds_of (take l.verdict-index l.settled))

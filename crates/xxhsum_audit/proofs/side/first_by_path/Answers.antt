@@ -1,0 +1,25 @@
+use Rattle.xxhsum_audit.proofs.TurnFacts.{first-both, first-greater, first-less, first-line, first-name, first-none}
+use Rattle.xxhsum_audit.specs.Item.{item_of}
+use Rattle.xxhsum_audit.specs.Side.{compare_to_name}
+use Rattle.xxhsum_audit.proofs.side.first_by_path.Goals as goal
+
+pub returns-in-None-None : goal.returns-in-None-None
+returns-in-None-None c = first-none compare_to_name item_of (λ text. text.now) _ _ c.in-None-None.ensures.cases c.in-None-None.ensures'.cases
+
+pub returns-in-Some-None : goal.returns-in-Some-None
+returns-in-Some-None c = first-line compare_to_name item_of (λ text. text.now) _ _ _ _ c.in-Some-None.ensures.cases.0 c.in-Some-None.ensures'.cases
+
+pub returns-in-None-Some : goal.returns-in-None-Some
+returns-in-None-Some c = first-name compare_to_name item_of (λ text. text.now) _ _ _ _ c.in-None-Some.ensures.cases c.in-None-Some.ensures'.cases.0
+
+pub returns-in-Less : goal.returns-in-Less
+returns-in-Less c =
+    first-less compare_to_name item_of (λ text. text.now) _ _ _ _ _ _ _ c.in-Some-Some.ensures.cases.0 c.in-Some-Some.ensures'.cases.0 c.compare_paths.ensures c.in-Less.is
+
+pub returns-in-Equal : goal.returns-in-Equal
+returns-in-Equal c =
+    first-both compare_to_name item_of (λ text. text.now) _ _ _ _ _ _ _ c.in-Some-Some.ensures.cases.0 c.in-Some-Some.ensures'.cases.0 c.compare_paths.ensures c.in-Equal.is
+
+pub returns-in-Greater : goal.returns-in-Greater
+returns-in-Greater c =
+    first-greater compare_to_name item_of (λ text. text.now) _ _ _ _ _ _ _ c.in-Some-Some.ensures.cases.0 c.in-Some-Some.ensures'.cases.0 c.compare_paths.ensures c.in-Greater.is

@@ -1,0 +1,10 @@
+use Rattle.std.proofs.Common.{◌≡◌, ◌≤◌, take}
+use Rattle.std.specs.List.{count_by}
+use Rattle.xxhsum_audit.specs.Found.{founds_of, is_of_class}
+use Rattle.xxhsum_audit.proofs.verdict.count_of.Given as goal
+
+abbrev pub invariant-loop-verdict : goal.invariant-loop-verdict
+invariant-loop-verdict l = record {
+  counted : l.count ≡ count_by (is_of_class l.class) (founds_of (take l.verdict-index l.verdicts));
+  within : l.count ≤ l.verdict-index;
+}

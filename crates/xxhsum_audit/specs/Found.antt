@@ -1,0 +1,77 @@
+-- What became of lines and names.
+use Rattle.std.specs.Prelude.{Bool, true, false, List, [], ◌∷◌, map, if◌then◌else◌}
+use Rattle.std.specs.List.{flat_map}
+use Rattle.std.specs.Ordering.{is_eq}
+use Rattle.xxhsum_audit.specs.declared.verdict.Class.{Class}
+use Rattle.xxhsum_audit.specs.declared.verdict.Class.TheVariants as Of
+use Rattle.xxhsum_audit.specs.declared.verdict.Verdict.{Verdict}
+use Rattle.xxhsum_audit.specs.declared.verdict.Verdict.TheVariants as Told
+use Rattle.xxhsum_audit.specs.Item.{Item, item_of}
+use Rattle.xxhsum_audit.specs.Order.{compare_digests}
+
+-- what became of a line, of a name, or of both; of a name that is a copy, with the file that it is a copy of
+pub data Found : Type 0 where
+  Same : Item → Item → Found
+  Changed : Item → Item → Found
+  Moved : Item → Item → Found
+  Copied : Item → Item → Found
+  New : Item → Found
+  Missing : Item → Found
+
+abbrev pub found_of : Verdict → Found
+found_of (Told.Same line name) = Same (item_of line) (item_of name)
+found_of (Told.Changed line name) = Changed (item_of line) (item_of name)
+found_of (Told.Moved line name) = Moved (item_of line) (item_of name)
+found_of (Told.Copied first name) = Copied (item_of first) (item_of name)
+found_of (Told.New name) = New (item_of name)
+found_of (Told.Missing line) = Missing (item_of line)
+
+abbrev pub founds_of : List Verdict → List Found
+founds_of verdicts = map found_of verdicts
+
+-- a line and what is found under its name
+abbrev pub met : Item → Item → Found
+met line name = if is_eq (compare_digests line name) then Same line name else Changed line name
+
+abbrev pub class_of : Found → Class
+class_of (Same line name) = Of.Same
+class_of (Changed line name) = Of.Changed
+class_of (Moved line name) = Of.Moved
+class_of (Copied first name) = Of.Copied
+class_of (New name) = Of.New
+class_of (Missing line) = Of.Missing
+
+abbrev pub is_class : Class → Class → Bool
+is_class Of.Same Of.Same = true
+is_class Of.Changed Of.Changed = true
+is_class Of.Moved Of.Moved = true
+is_class Of.Copied Of.Copied = true
+is_class Of.New Of.New = true
+is_class Of.Missing Of.Missing = true
+is_class a b = false
+
+abbrev pub is_of_class : Class → Found → Bool
+is_of_class class found = is_class (class_of found) class
+
+-- ---- the lines and the names that are spoken of
+
+abbrev pub line_in : Found → List Item
+line_in (Same line name) = line ∷ []
+line_in (Changed line name) = line ∷ []
+line_in (Moved line name) = line ∷ []
+line_in (Missing line) = line ∷ []
+line_in found = []
+
+abbrev pub name_in : Found → List Item
+name_in (Same line name) = name ∷ []
+name_in (Changed line name) = name ∷ []
+name_in (Moved line name) = name ∷ []
+name_in (Copied first name) = name ∷ []
+name_in (New name) = name ∷ []
+name_in (Missing line) = []
+
+abbrev pub lines_in : List Found → List Item
+lines_in found = flat_map line_in found
+
+abbrev pub names_in : List Found → List Item
+names_in found = flat_map name_in found

@@ -1,0 +1,81 @@
+//! Two lists in order, side by side.
+
+ghost use Rattle.std.specs.Prelude.{◌≡◌, [], MatchOption};
+ghost use Rattle.xxhsum_audit.specs.Side.{IsFirst, digest_side, digest_sides, lines_of, names_of, path_side, path_sides};
+
+use crate::digest::FileDigest;
+use crate::order::{compare_digests, compare_paths};
+use std::cmp::Ordering;
+
+/// What stands first in two lists that are in order: in one of them alone, or in both.
+#[derive(Clone, Copy, Debug, PartialEq, Eq)]
+pub enum Side<L, N> {
+    /// A line, whose name was not given, or whose digest no name has.
+    Line(L),
+    /// A name that no line has, or whose digest none has.
+    Name(N),
+    /// A line and a name that are alike.
+    Both(L, N),
+}
+
+impl<L, N> Side<L, N> {
+    /// How many lines it is of: one or none.
+    pub fn lines(&self) -> usize
+        ensures { result ≡ lines_of self.now }
+    {
+        match self {
+            Side::Line(_) | Side::Both(_, _) => 1,
+            Side::Name(_) => 0,
+        }
+    }
+
+    /// How many names it is of: one or none.
+    pub fn names(&self) -> usize
+        ensures { result ≡ names_of self.now }
+    {
+        match self {
+            Side::Name(_) | Side::Both(_, _) => 1,
+            Side::Line(_) => 0,
+        }
+    }
+}
+
+/// What stands first in lines and names that are in order.
+pub fn first_by_path<'n>(
+    lines: &[FileDigest<'n>],
+    names: &[&'n [u8]],
+) -> Option<Side<FileDigest<'n>, &'n [u8]>>
+    ensures { MatchOption result (path_sides lines.now names.now ≡ [])
+        (λ side. IsFirst path_sides lines.now names.now (path_side side) (lines_of side) (names_of side)) }
+{
+    match (lines.split_first(), names.split_first()) {
+        (None, None) => None,
+        (Some((line, _)), None) => Some(Side::Line(*line)),
+        (None, Some((name, _))) => Some(Side::Name(*name)),
+        (Some((line, _)), Some((name, _))) => match compare_paths(line.name, name) {
+            Ordering::Less => Some(Side::Line(*line)),
+            Ordering::Equal => Some(Side::Both(*line, *name)),
+            Ordering::Greater => Some(Side::Name(*name)),
+        },
+    }
+}
+
+// What stands first in lines that are gone and names that have come, both in the order of their digests.
+pub(crate) fn first_by_digest<'n>(
+    gone: &[FileDigest<'n>],
+    come: &[FileDigest<'n>],
+) -> Option<Side<FileDigest<'n>, FileDigest<'n>>>
+    ensures { MatchOption result (digest_sides gone.now come.now ≡ [])
+        (λ side. IsFirst digest_sides gone.now come.now (digest_side side) (lines_of side) (names_of side)) }
+{
+    match (gone.split_first(), come.split_first()) {
+        (None, None) => None,
+        (Some((line, _)), None) => Some(Side::Line(*line)),
+        (None, Some((name, _))) => Some(Side::Name(*name)),
+        (Some((line, _)), Some((name, _))) => match compare_digests(*line, *name) {
+            Ordering::Less => Some(Side::Line(*line)),
+            Ordering::Equal => Some(Side::Both(*line, *name)),
+            Ordering::Greater => Some(Side::Name(*name)),
+        },
+    }
+}

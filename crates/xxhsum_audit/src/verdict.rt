@@ -1,0 +1,96 @@
+//! What an audit says of a line, of a name, or of both.
+
+ghost use Rattle.std.specs.Prelude.{◌≡◌};
+ghost use Rattle.std.specs.List.{count_by};
+ghost use Rattle.xxhsum_audit.specs.Found.{class_of, found_of, founds_of, is_of_class, met};
+ghost use Rattle.xxhsum_audit.specs.Item.{item_of};
+
+use crate::digest::FileDigest;
+use crate::order::compare_digests;
+use std::cmp::Ordering;
+
+/// What became of a line, of a name, or of both.
+#[derive(Clone, Copy, Debug, PartialEq, Eq)]
+pub enum Verdict<'n> {
+    /// The file of the name is as the line says.
+    Same {
+        line: FileDigest<'n>,
+        name: FileDigest<'n>,
+    },
+    /// The file of the line's name has another digest.
+    Changed {
+        line: FileDigest<'n>,
+        name: FileDigest<'n>,
+    },
+    /// The line's name is gone, and a name that no line has has its digest.
+    Moved {
+        line: FileDigest<'n>,
+        name: FileDigest<'n>,
+    },
+    /// No line has the name, and its digest is that of a file that stayed as it was.
+    Copied {
+        original: FileDigest<'n>,
+        name: FileDigest<'n>,
+    },
+    /// No line has the name, and neither a line that is left nor a file that stayed its digest.
+    New {
+        name: FileDigest<'n>,
+    },
+    /// The line's name is gone, and no name that is left has its digest.
+    Missing {
+        line: FileDigest<'n>,
+    },
+}
+
+/// The six classes of verdicts.
+#[derive(Clone, Copy, Debug, PartialEq, Eq)]
+pub enum Class {
+    Same,
+    Changed,
+    Moved,
+    Copied,
+    New,
+    Missing,
+}
+
+impl<'n> Verdict<'n> {
+    /// Of a line, and of the digest that the file of its name has now.
+    pub fn met(line: FileDigest<'n>, name: FileDigest<'n>) -> Verdict<'n>
+        ensures { found_of result ≡ met (item_of line.entry) (item_of name.entry) }
+    {
+        if compare_digests(line, name) == Ordering::Equal {
+            Verdict::Same { line, name }
+        } else {
+            Verdict::Changed { line, name }
+        }
+    }
+}
+
+impl Verdict<'_> {
+    /// Its class.
+    pub fn class(self) -> Class
+        ensures { result ≡ class_of (found_of self.entry) }
+    {
+        match self {
+            Verdict::Same { .. } => Class::Same,
+            Verdict::Changed { .. } => Class::Changed,
+            Verdict::Moved { .. } => Class::Moved,
+            Verdict::Copied { .. } => Class::Copied,
+            Verdict::New { .. } => Class::New,
+            Verdict::Missing { .. } => Class::Missing,
+        }
+    }
+}
+
+/// How many of the verdicts are of this class.
+pub fn count_of(class: Class, verdicts: &[Verdict<'_>]) -> usize
+    ensures { result ≡ count_by (is_of_class class) (founds_of verdicts.now) }
+{
+    let mut count = 0;
+    for verdict in verdicts {
+        if verdict.class() == class {
+            count += 1;
+        }
+    }
+    count
+}

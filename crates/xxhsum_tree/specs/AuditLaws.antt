@@ -1,0 +1,24 @@
+-- What an audit means that is good.
+use Rattle.std.specs.Prelude.{◌≡◌, ℕ, Bool, true, List}
+use Rattle.std.specs.declared.result.Result.TheVariants.{Ok}
+use Rattle.xxh_io.specs.Rules.{SinkRules, SourceRules}
+use Rattle.xxhsum_audit.specs.Item.{IsAmong, Item, bare, kind_of, path_of, value_of}
+use Rattle.xxhsum_files.specs.Rules.{StoreRules}
+use Rattle.xxhsum_program.specs.Outcomes.{IsValueOf}
+use Rattle.xxhsum_tree.specs.Audits.{Audits}
+use Rattle.xxhsum_tree.specs.Said.{ListSays}
+use Rattle.xxhsum_words.specs.declared.options.Options.{Options}
+
+-- the name leads where the line's does, and reads of its file gave bytes with the line's value
+abbrev pub IsFileOf : {S F : Type 0} → StoreRules S F → SourceRules F → S → Item → List ℕ → Type 0
+IsFileOf opening reading store line name =
+    (path_of line ≡ bare name) × IsValueOf opening reading store (kind_of line) name (value_of line)
+
+-- each line of the list has a file among the names, and each name is that of such a line
+abbrev pub AuditMeansEqual : {S F W E : Type 0} → StoreRules S F → SourceRules F → SinkRules W → SinkRules E → Type 0
+AuditMeansEqual {S} {F} {W} {E} opening reading writing telling =
+    (store : S) (options : Options) (list : List ℕ) (names : List (List ℕ)) (w_old w_new : W) (e_old e_new : E)
+    → Audits opening reading writing telling store options list names w_old w_new e_old e_new (Ok true)
+    → (lines : List Item) × ListSays opening reading store options.is_little_endian list lines
+    × ((line : Item) → IsAmong lines line → (name : List ℕ) × IsAmong names name × IsFileOf opening reading store line name)
+    × ((name : List ℕ) → IsAmong names name → (line : Item) × IsAmong lines line × IsFileOf opening reading store line name)
