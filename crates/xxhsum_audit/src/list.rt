@@ -6,7 +6,7 @@ ghost use Rattle.xxhsum_audit.specs.List.{TakesLine, said_by};
 use std::alloc::{AllocError, Global};
 use xxhsum_line::entry::{Entry, Meaning, meaning_of};
 
-/// Puts what a line says behind the entries; of a comment nothing. `false` where it says nothing, and is no comment.
+/// Puts what a line says behind the entries; of a comment nothing. `false` where it is malformed.
 /// `AllocError` where memory runs out.
 pub fn take_line(
     alloc: Global,

@@ -1,4 +1,4 @@
-//! What an audit says of a line, of a name, or of both.
+//! The verdict of an audit on a line, on a name, or on both.
 
 ghost use Rattle.std.specs.Prelude.{◌≡◌};
 ghost use Rattle.std.specs.List.{count_by};

@@ -24,9 +24,9 @@ use xxhsum_program::stop::Stop;
 use xxhsum_program::tell::tell_line;
 use xxhsum_words::options::Options;
 
-/// Puts the names beside the lines of the list of this name, and says of each what became of it. Answers whether all
-/// are the same. A list that can't be read, a line that says nothing, and a line or a name that stands twice are told,
-/// and then nothing is said. It is told why a name has no digest, and its line is left out.
+/// Compares the names with the lines of the list of this name, and prints a verdict on each. Returns whether all
+/// are the same. A list that can't be read, a malformed line, and a duplicate line or name are reported,
+/// and then nothing is printed. Why a name has no digest is reported, and its line is left out.
 ///
 /// The caller shows that no write to the output has failed before.
 ///
@@ -52,7 +52,7 @@ pub fn audit_names<S: Store, W: Sink, E: Sink>(
     audit_lines(alloc, store, options, list, &said, names, out, err)
 }
 
-// Puts the names beside what the lines of a list say.
+// Compares the names with what the lines of a list state.
 fn audit_lines<S: Store, W: Sink, E: Sink>(
     alloc: Global,
     store: &S,
@@ -124,7 +124,7 @@ fn names_lent(alloc: Global, names: &[Vec<u8>]) -> Result<Vec<&[u8]>, AllocError
     Ok(asked)
 }
 
-// Tells the name that leads where the next one does, where there is such.
+// Reports the first name that leads where the next one does, if there is one.
 fn tell_twice<E: Sink>(among: &[u8], names: &[&[u8]], err: &mut E) -> bool
     ensures { TellsTwice E.Sink among.now (clash_in (texts_of names.now)) err.old err.new result }
 {
@@ -144,7 +144,7 @@ fn tell_name<'a, E: Sink>(among: &'a [u8], name: &'a [u8], err: &mut E)
     tell_line(&parts, err);
 }
 
-// Digests the names that stand beside lines, both in order, and says what became of both.
+// Digests the names, in step with the lines, both in order, and gives the verdicts on both.
 fn audit_sides<S: Store, W: Sink, E: Sink>(
     alloc: Global,
     store: &S,
@@ -181,7 +181,7 @@ fn kind_of_new(lines: &[FileDigest<'_>], without: Kind) -> Kind
     }
 }
 
-/// A law, with nothing to run. A good audit means equal files: where `audit_names` answers that all are the same, each line
+/// A law, with nothing to run. A good audit means equal files: where `audit_names` returns that all are the same, each line
 /// of the list has a file among the names, whose bytes have the line's value, and each name is that of such a line.
 pub fn audit_means_equal<S: Store, W: Sink, E: Sink>()
     ensures { AuditMeansEqual S.Store S.File.Source W.Sink E.Sink }

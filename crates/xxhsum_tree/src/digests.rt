@@ -18,7 +18,7 @@ use xxhsum_program::hash::tell_outcome;
 use xxhsum_program::outcome::{OFFERED, Outcome, outcome_of};
 
 // Digests names and puts them beside lines, both in order: by the algorithm of the line, and where no line has the name by
-// this one. It is told why a name has no digest: of it nothing is known, and its line is left out.
+// this one. Why a name has no digest is reported: nothing is known of it, and its line is left out.
 pub(crate) fn digests_of<'n, S: Store, E: Sink>(
     alloc: Global,
     store: &S,
@@ -76,7 +76,7 @@ fn add_side<'n, S: Store, E: Sink>(
     Ok(())
 }
 
-// Digests a name. `None` where it has no digest, which is told.
+// Digests a name. `None` where it has no digest, which is reported.
 fn digest_name<'n, S: Store, E: Sink>(
     store: &S,
     kind: Kind,

@@ -13,7 +13,7 @@ use xxhsum_program::stop::Stop;
 use xxhsum_words::options::NamesFrom;
 
 /// The names that stand in the lists of these names, or in the input where there are none: those of the first list and
-/// then those of the next, in their order there. `None` where a list can't be opened or read, which is told.
+/// then those of the next, in their order there. `None` where a list can't be opened or read, which is reported.
 ///
 /// # Errors
 ///

@@ -37,7 +37,7 @@ pub(crate) fn said_named<S: Store, E: Sink>(
     }
 }
 
-// What the lines of a source say, which is told by this name.
+// What the lines of a source state, which is reported by this name.
 fn said_by_lines<R: Source + Drop, E: Sink>(
     alloc: Global,
     is_little: bool,

@@ -19,7 +19,7 @@ use xxhsum_program::tell::tell_line;
 // What standard input is called.
 const INPUT: &[u8] = b"stdin";
 
-/// All bytes of the file of this name. `None` where it can't be opened or read, which is told.
+/// All bytes of the file of this name. `None` where it can't be opened or read, which is reported.
 ///
 /// # Errors
 ///
@@ -69,7 +69,7 @@ pub(crate) fn tell_unread<'a, E: Sink>(name: &'a [u8], err: &mut E)
     tell_line(&parts, err);
 }
 
-/// All bytes of a source that is told by this name. `None` where it can't be read, which is told.
+/// All bytes of a source that is reported by this name. `None` where it can't be read, which is reported.
 ///
 /// # Errors
 ///
@@ -96,7 +96,7 @@ pub fn text_of<R: Source + Drop, E: Sink>(
 }
 
 /// The texts of the files of these names, or of the input where there are none. `None` where one can't be read, which
-/// is told.
+/// is reported.
 ///
 /// # Errors
 ///
