@@ -46,6 +46,7 @@ impl<R: Source + Drop> Lines<R> {
     ghost use Rattle.xxhsum_line.specs.Parts.{Lacks};
     ghost use Rattle.xxhsum_program.specs.LinesView.{HasRead, IsAtEnd, IsBeforeLineFeed, IsGiven, IsHeld, IsNext, IsTaken, ReadsBehind, StopsAt, most_reads_left, waiting};
 
+    /// The lines of a source of which nothing was read yet.
     pub fn new(source: R) -> Lines<R>
         ensures { HasRead R.Source source [] result }
     {
