@@ -59,7 +59,7 @@ export class Rows {
   fill() {
     const next = this.items.slice(this.shown, this.room);
     this.shown += next.length;
-    this.place.append(...next.map((item) => item.view()));
+    for (const item of next) this.place.append(item.view());
     const left = this.items.length - this.shown;
     this.more.hidden = left === 0;
     if (left > 0) this.more.textContent = `Show more: ${inThousands(left)} left`;

@@ -157,7 +157,11 @@ pub fn oneshot_long(secret: Secret<'_>, input: &[u8]) -> Wide
         ≡ xxh3_128 any (secret_bytes secret.entry) input.now }
 {
     if secret.len() == DEFAULT_SECRET_LENGTH {
-        oneshot_of_default_length::<DefaultLength>(secret, input)
+        if is_widened(input) {
+            oneshot_by_eight_lanes(secret, input)
+        } else {
+            oneshot_above_240::<DefaultLength>(secret, input)
+        }
     } else {
         oneshot_long_of_any_length(secret, input)
     }
@@ -173,21 +177,7 @@ fn oneshot_long_of_any_length(secret: Secret<'_>, input: &[u8]) -> Wide
     oneshot_above_240::<AnyLength>(secret, input)
 }
 
-// With a secret that is as long as the default one. Each `Caller` has code of its own: see `Algorithm::oneshot_of`.
-#[inline(always)]
-fn oneshot_of_default_length<Caller>(secret: Secret<'_>, input: &[u8]) -> Wide
-    requires long { 240 < length input.now }
-    requires all { length (secret_bytes secret) ≡ 192 }
-    ensures { (any : ℕ) → result.high * 2 ^ 64 + result.low
-        ≡ xxh3_128 any (secret_bytes secret.entry) input.now }
-{
-    if is_widened(input) {
-        oneshot_by_eight_lanes(secret, input)
-    } else {
-        oneshot_above_240::<Caller>(secret, input)
-    }
-}
-
+// Each `Caller` has code of its own: see `Algorithm::oneshot_of`.
 #[inline(always)]
 #[tactic(auto, using(crate::proofs::ValueLaws::long_128, crate::proofs::EndingFacts::block_both))]
 fn oneshot_above_240<Caller>(secret: Secret<'_>, input: &[u8]) -> Wide
@@ -215,7 +205,7 @@ fn oneshot_many(secret: Secret<'_>, input: &[u8]) -> Wide
     halves(algorithm.oneshot_of::<Finalize128, AnyLength, true>(secret, input, Finalize128))
 }
 
-// By eight lanes, as another tail call, of `oneshot_of_default_length`.
+// By eight lanes, as another tail call, of `oneshot_long`.
 #[inline(never)]
 #[tactic(auto, using(crate::proofs::ValueLaws::long_128, crate::proofs::EndingFacts::taken_both))]
 fn oneshot_by_eight_lanes(secret: Secret<'_>, input: &[u8]) -> Wide
@@ -237,6 +227,8 @@ fn oneshot_long_with_seed(seed: u64, input: &[u8]) -> Wide
 {
     if seed == DEFAULT_SEED {
         oneshot_long(default_secret(), input)
+    } else if is_widened(input) {
+        oneshot_derived_by_eight_lanes(seed, input)
     } else {
         oneshot_long_derived(seed, input)
     }
@@ -250,7 +242,19 @@ fn oneshot_long_derived(seed: u64, input: &[u8]) -> Wide
         ≡ xxh3_128 any (derived_secret seed) input.now }
 {
     let secret = derived_secret(seed);
-    oneshot_of_default_length::<Derived>(Secret::new(&secret).unwrap(), input)
+    oneshot_above_240::<Derived>(Secret::new(&secret).unwrap(), input)
+}
+
+// Those that eight lanes take, in code of its own: whoever has fewer bytes then keeps no register for this call.
+#[inline(never)]
+#[tactic(auto, using(crate::proofs::ValueLaws::long_128, crate::proofs::EndingFacts::taken_both))]
+fn oneshot_derived_by_eight_lanes(seed: u64, input: &[u8]) -> Wide
+    requires { 240 < length input.now }
+    ensures { (any : ℕ) → result.high * 2 ^ 64 + result.low
+        ≡ xxh3_128 any (derived_secret seed) input.now }
+{
+    let derived = derived_secret(seed);
+    halves(oneshot_widened(Secret::new(&derived).unwrap(), input, Finalize128))
 }
 
 /// A value of 128 bits as its halves.

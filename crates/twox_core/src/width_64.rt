@@ -106,7 +106,11 @@ pub fn oneshot_long(secret: Secret<'_>, input: &[u8]) -> u64
     ensures { (any : ℕ) → result ≡ xxh3_64 any (secret_bytes secret.entry) input.now }
 {
     if secret.len() == DEFAULT_SECRET_LENGTH {
-        oneshot_of_default_length::<DefaultLength>(secret, input)
+        if is_widened(input) {
+            oneshot_by_eight_lanes(secret, input)
+        } else {
+            oneshot_above_240::<DefaultLength>(secret, input)
+        }
     } else {
         oneshot_long_of_any_length(secret, input)
     }
@@ -121,20 +125,7 @@ fn oneshot_long_of_any_length(secret: Secret<'_>, input: &[u8]) -> u64
     oneshot_above_240::<AnyLength>(secret, input)
 }
 
-// With a secret that is as long as the default one. Each `Caller` has code of its own: see `Algorithm::oneshot_of`.
-#[inline(always)]
-fn oneshot_of_default_length<Caller>(secret: Secret<'_>, input: &[u8]) -> u64
-    requires long { 240 < length input.now }
-    requires all { length (secret_bytes secret) ≡ 192 }
-    ensures { (any : ℕ) → result ≡ xxh3_64 any (secret_bytes secret.entry) input.now }
-{
-    if is_widened(input) {
-        oneshot_by_eight_lanes(secret, input)
-    } else {
-        oneshot_above_240::<Caller>(secret, input)
-    }
-}
-
+// Each `Caller` has code of its own: see `Algorithm::oneshot_of`.
 #[inline(always)]
 #[tactic(auto, using(crate::proofs::ValueLaws::long_64, crate::proofs::EndingFacts::block_low))]
 fn oneshot_above_240<Caller>(secret: Secret<'_>, input: &[u8]) -> u64
@@ -158,7 +149,7 @@ fn oneshot_many(secret: Secret<'_>, input: &[u8]) -> u64
     Algorithm(Kernel {}).oneshot_of::<Finalize64, AnyLength, true>(secret, input, Finalize64)
 }
 
-// By eight lanes, as another tail call, of `oneshot_of_default_length`.
+// By eight lanes, as another tail call, of `oneshot_long`.
 #[inline(never)]
 #[tactic(auto, using(crate::proofs::ValueLaws::long_64, crate::proofs::EndingFacts::taken_low))]
 fn oneshot_by_eight_lanes(secret: Secret<'_>, input: &[u8]) -> u64
@@ -178,6 +169,8 @@ fn oneshot_long_with_seed(seed: u64, input: &[u8]) -> u64
 {
     if seed == DEFAULT_SEED {
         oneshot_long(default_secret(), input)
+    } else if is_widened(input) {
+        oneshot_derived_by_eight_lanes(seed, input)
     } else {
         oneshot_long_derived(seed, input)
     }
@@ -190,7 +183,18 @@ fn oneshot_long_derived(seed: u64, input: &[u8]) -> u64
     ensures { (any : ℕ) → result ≡ xxh3_64 any (derived_secret seed) input.now }
 {
     let secret = derived_secret(seed);
-    oneshot_of_default_length::<Derived>(Secret::new(&secret).unwrap(), input)
+    oneshot_above_240::<Derived>(Secret::new(&secret).unwrap(), input)
+}
+
+// Those that eight lanes take, in code of its own: whoever has fewer bytes then keeps no register for this call.
+#[inline(never)]
+#[tactic(auto, using(crate::proofs::ValueLaws::long_64, crate::proofs::EndingFacts::taken_low))]
+fn oneshot_derived_by_eight_lanes(seed: u64, input: &[u8]) -> u64
+    requires { 240 < length input.now }
+    ensures { (any : ℕ) → result ≡ xxh3_64 any (derived_secret seed) input.now }
+{
+    let derived = derived_secret(seed);
+    oneshot_widened(Secret::new(&derived).unwrap(), input, Finalize64)
 }
 
 /// The value up to 240 bytes, with a secret and a seed.

@@ -90,7 +90,8 @@ fn verdict_of<'n>(
     side: Side<FileDigest<'n>, FileDigest<'n>>,
 ) -> Verdict<'n>
     requires { Ascends rank_digests (items_of kept.now) }
-    ensures { found_of result ≡ with_copy (items_of kept.now) (as_found Moved (digest_side side.entry)) }
+    ensures { found_of result
+        ≡ with_copy (items_of kept.now) (as_found Moved (digest_side side.entry)) }
 {
     match side {
         Side::Line(line) => Verdict::Missing { line },
