@@ -1,14 +1,28 @@
-"""Refusals that this machine remembers: each under a sum of all that it stands on. A run of `rt ci` keeps proofs in the same
-way. Whoever can write into the folder can have an edit pass for refused: `--anew` looks at nothing that was kept."""
+"""Refusals that are remembered: each under a sum of all that it stands on. A run of `rt ci` keeps proofs in the same way.
+This machine remembers in a folder what it has seen refused. The repository remembers in refused.txt what a run with --write
+has, for machines that remember nothing; of that, each run tries a part anew which is drawn by lot. Whoever can write there
+can have an edit pass for refused until it's drawn: `--anew` looks at nothing that was kept."""
 import glob
 import hashlib
 import os
+import random
 import tempfile
 
 from . import kit, source
 
+HERE = os.path.dirname(os.path.abspath(__file__))
 FOLDER = os.path.join(os.environ.get("XDG_CACHE_HOME") or os.path.expanduser("~/.cache"), "twox_hash", "wrong-bodies")
-OWN_FILES = os.path.join(os.path.dirname(os.path.abspath(__file__)), "*.py")
+WRITTEN = os.path.join(HERE, "refused.txt")
+HEAD = "# Refused by `checks/wrong-bodies --write`: an edit, half of the sum of all that its refusal stands on, and why.\n"
+# The part of what the repository remembers that is tried anew.
+DRAWN = 0.1
+# What decides whether an edit is refused. What chooses and tells doesn't.
+JUDGES = ("copies", "edits", "kit", "proofs", "source", "trial")
+
+
+def half(its_sum):
+    """As much of a sum as no two texts share by chance."""
+    return its_sum[:32]
 
 
 class Memory:
@@ -16,11 +30,14 @@ class Memory:
 
     def __init__(self, is_anew=False, keeps=True):
         self.is_anew, self.keeps, self.sums = is_anew, keeps, {}
+        self.written = {} if is_anew else drawn_out(refusals_written())
 
     def recall(self, its_sum):
         """What was said of the edit of this sum when it was refused, or None."""
         path = os.path.join(FOLDER, its_sum)
-        return kit.read(path) if not self.is_anew and os.path.exists(path) else None
+        if not self.is_anew and os.path.exists(path):
+            return kit.read(path)
+        return self.written.get(half(its_sum))
 
     def keep(self, its_sum, said):
         if self.keeps:
@@ -38,7 +55,8 @@ class Memory:
         return sum_of([self.machinery(), edit.name, kit.read(edit.file), *own, *stated])
 
     def machinery(self):
-        return self.known("the kit and this program", lambda: [kit.identity(), *map(kit.read, sorted(glob.glob(OWN_FILES)))])
+        judges = [f"{HERE}/{name}.py" for name in JUDGES]
+        return self.known("the kit and this program", lambda: [kit.identity(), *map(kit.read, judges)])
 
     def bodies(self, crate):
         return self.known(f"bodies of {crate.name}", lambda: [kit.read(it) for it in files_of(crate, "src", "rt")])
@@ -56,6 +74,23 @@ class Memory:
         if name not in self.sums:
             self.sums[name] = sum_of(texts())
         return self.sums[name]
+
+
+def refusals_written():
+    """What the repository remembers: why each edit was refused, by half of its sum."""
+    rows = [line.split(" ", 2) for line in kit.read(WRITTEN).splitlines() if not line.startswith("#")]
+    return {its_sum: why for _, its_sum, why in rows}
+
+
+def drawn_out(refusals):
+    """The refusals but for those that this run tries anew."""
+    lot = random.SystemRandom()
+    return {its_sum: why for its_sum, why in refusals.items() if lot.random() >= DRAWN}
+
+
+def write(rows):
+    """Has the repository remember refusals: (edit, its sum, why)."""
+    kit.write(WRITTEN, HEAD + "".join(f"{name} {half(its_sum)} {why}\n" for name, its_sum, why in sorted(rows)))
 
 
 def files_of(crate, part, ending):

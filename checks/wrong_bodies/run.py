@@ -8,9 +8,8 @@ import sys
 import tempfile
 import time
 
-from . import aims, edits, kit, source
+from . import aims, edits, kit, memory, source
 from .proofs import Built, Heard
-from .memory import Memory
 from .trial import BY_ANSWERS, BY_NAMES, Trial
 
 # Refusals that say little of a contract.
@@ -24,7 +23,9 @@ def main(given):
         if given.unaimed:
             return aims.main(files)
         proofs = Heard(given.jobs) if given.beside_ci else Built(files, given.jobs)
-        trials = try_all(files, proofs, given.jobs, lambda it: tell(it, given.v), Memory(given.anew))
+        trials = try_all(files, proofs, given.jobs, lambda it: tell(it, given.v), memory.Memory(given.anew))
+    if given.write:
+        memory.write(refusals(trials))
     verdicts = [well for trial in trials for well, _ in trial.said.values()]
     used = resource.getrusage(resource.RUSAGE_CHILDREN)
     remembered, said = sum(len(it.remembered) for it in trials), [said for it in trials for _, said in it.said.values()]
@@ -33,6 +34,16 @@ def main(given):
     print(f"{used.ru_utime + used.ru_stime:.0f} seconds of processor time")
     print(f"{verdicts.count(True)} passed, {verdicts.count(False)} failed")
     return 0 if all(verdicts) else 1
+
+
+def refusals(trials):
+    """(edit, its sum, why) of each that was refused."""
+    return [(f"{trial.crate.name}/{edit.name.removesuffix('.edit')}", trial.sums[edit], reason(said))
+            for trial in trials for edit, (well, said) in trial.said.items() if well]
+
+
+def reason(said):
+    return next((words for words in WEAK if words in said), "by a clause's goal")
 
 
 def chosen_crates(given):
@@ -63,13 +74,13 @@ def tell(trial, is_told_all):
     )
 
 
-def try_all(files, proofs, jobs, tell_end, memory):
+def try_all(files, proofs, jobs, tell_end, remembered):
     """Tries the edits of each crate that is proved, as many checks at a time as there is room. Of those that are ready, a
     crate's first check comes before all others, since its edits wait for it; then those of crates that took the longest,
     so that none is left for the end."""
     with tempfile.TemporaryDirectory(prefix="wrong-bodies-") as room, concurrent.futures.ThreadPoolExecutor(jobs) as pool:
         ordered = sorted(files, key=lambda it: -it.count(rb"\n"))
-        trials = [Trial(it, f"{room}/{it.name}", files[it], proofs.stands_for(it), memory) for it in ordered]
+        trials = [Trial(it, f"{room}/{it.name}", files[it], proofs.stands_for(it), remembered) for it in ordered]
         waiting, ready, running = list(trials), [], {}
         while waiting or ready or running or not proofs.is_ended:
             is_last = proofs.is_ended
