@@ -4283,7 +4283,7 @@ twox_core.width_128.oneshot_with_seed_from_65.i4:
 .LBB14_3.i4:
 	cmp	x3, #240
 	b.hi	.LBB14_7.i4
-// %bb.4:                               // %"core::result::Result::unwrap::<#6a3c0e15c84d6dea>.exit210"
+// %bb.4:                               // %"core::result::Result::unwrap::<#6a3c0e15c84d6dea>.exit209"
 	adrp	x0, .Lstatic.0.i4
 	add	x0, x0, :lo12:.Lstatic.0.i4
 	mov	x1, x2
@@ -4469,7 +4469,7 @@ twox_core.width_128.oneshot_with_seed_from_65.i4:
 	mov	x1, x8
 	mov	x2, x3
 	b	twox_core.width_128.oneshot_long_derived.i4
-.LBB14_9.i4:                               // %"core::result::Result::unwrap::<#6a3c0e15c84d6dea>.exit219"
+.LBB14_9.i4:                               // %"core::result::Result::unwrap::<#6a3c0e15c84d6dea>.exit218"
 	adrp	x0, .Lstatic.0.i4
 	add	x0, x0, :lo12:.Lstatic.0.i4
 	mov	w1, #192
@@ -12442,7 +12442,7 @@ twox_rust_4_xxh3_64_with_seed:
 .LBB45_3.i4:
 	cmp	x3, #128
 	b.hi	.LBB45_12.i4
-// %bb.4:                               // %"core::result::Result::unwrap::<#6a3c0e15c84d6dea>.exit55.i.i"
+// %bb.4:                               // %"core::result::Result::unwrap::<#6a3c0e15c84d6dea>.exit54.i.i"
 	mov	x9, #65208
 	mov	x12, #380
 	mov	x15, #54494
@@ -12631,7 +12631,7 @@ twox_rust_4_xxh3_64_with_seed:
 .LBB45_12.i4:
 	cmp	x3, #240
 	b.hi	.LBB45_16.i4
-// %bb.13:                              // %"core::result::Result::unwrap::<#6a3c0e15c84d6dea>.exit371.i.i"
+// %bb.13:                              // %"core::result::Result::unwrap::<#6a3c0e15c84d6dea>.exit369.i.i"
 	adrp	x0, .Lstatic.0.i4
 	add	x0, x0, :lo12:.Lstatic.0.i4
 	add	x4, x8, #8
@@ -12684,7 +12684,7 @@ twox_rust_4_xxh3_64_with_seed:
 	mul	x8, x8, x9
 	eor	x0, x8, x8, lsr #32
 	ret
-.LBB45_19.i4:                              // %"core::result::Result::unwrap::<#6a3c0e15c84d6dea>.exit380.i.i"
+.LBB45_19.i4:                              // %"core::result::Result::unwrap::<#6a3c0e15c84d6dea>.exit378.i.i"
 	adrp	x0, .Lstatic.0.i4
 	add	x0, x0, :lo12:.Lstatic.0.i4
 	mov	w1, #192
