@@ -62,5 +62,5 @@ returns g c =
     let run = c.in-Some.found in
     let on = c.new-files.ensures.shown ∙ c.shows_progress.ensures in
     let watched : PerformsWatched _ g.S.Store g.S.Folders g.S.File.Source g.R.Source g.W.Sink g.E.Sink c.args.store.now c.args.input c.args.out.now c.perform_words.new.out c.args.err.now c.perform_words.new.err c.perform_words.result run.0 names (shows_progress c.args.terminals run.0) =
-        (c.new-files.result, c.watch-input.result, c.new-files.ensures.files, on, c.watch-input.ensures.source, c.watch-input.ensures.shown ∙ on, c.perform_words.ensures) in
+    (c.new-files.result, c.watch-input.result, c.new-files.ensures.files, on, c.watch-input.ensures.source, c.watch-input.ensures.shown ∙ on, c.perform_words.ensures) in
     (program, c.program_of-program.ensures, rw (task ∙ task-reads c.args.terminals program words names asked c.run_asked.result run.0 run.1 c.in-Some.is c.words_behind-names.ensures (sym c.waits_for_terminal.ensures ∙ c.if-waits_for_terminal.false)) watched)
