@@ -180,13 +180,24 @@ def does(program, words, terminals, given, wanted):
     return '' if had == wanted else f'wanted {wanted!r}, found {had!r}'
 
 
-def rows_over(program, short, long):
-    """Each row by its name: what to do, and with what. The files have `hello`, and LONG bytes."""
+def rows_over(program, short, long, lists):
+    """Each row by its name: what to do, and with what. The files have `hello`, and LONG bytes; of the lists one names the
+    long file, and one says a digest of it that is not its own."""
+    (names, digests), folder = lists, os.path.dirname(long)
     of_short, refused = (b'26c7827d889f6da3  stdin\n', b'', 0), (b'', b'Wrong parameters\n', 1)
     return {
         'progress of input': (shows, program, ['-'], OF_INPUT, long),
         'progress of input, -H2': (shows, program, ['-H2', '-'], OF_INPUT, long),
         'progress of a file': (shows, program, ['-H3', long], OF_FILE, short),
+        'progress below a folder': (shows, program, ['-rH3', folder], OF_FILE, short),
+        'progress of the names in a list': (shows, program, ['-H3', '--files-from', names], OF_FILE, short),
+        'progress of an audit': (shows, program, ['--audit', digests, long], OF_FILE, short),
+        'progress of an audit below a folder': (shows, program, ['-r', '--audit', digests, folder], OF_FILE, short),
+        'progress of an audit of the names in a list': (shows, program, ['--audit', '--files-from', digests, names],
+                                                        OF_FILE, short),
+        'no progress below a folder under -q': (shows, program, ['-qrH3', folder], NOTHING, short),
+        'no progress of an audit under -q': (shows, program, ['-q', '--audit', digests, long], NOTHING, short),
+        'no progress of an audit under --status': (shows, program, ['--status', '--audit', digests, long], NOTHING, short),
         'no progress under -q': (shows, program, ['-q', '-'], NOTHING, long),
         'no progress of a file under -q': (shows, program, ['-qH3', long], NOTHING, short),
         'no progress under --status': (shows, program, ['--status', '-'], NOTHING, long),
@@ -205,12 +216,15 @@ def rows_over(program, short, long):
 def rows_on_terminals(program, names=None):
     """The rows, or those of these names: each by its name, with what is wrong, or nothing."""
     with tempfile.TemporaryDirectory() as room:
-        short, long = os.path.join(room, 'short'), os.path.join(room, 'long')
-        with open(short, 'wb') as file:
-            file.write(b'hello')
+        os.mkdir(os.path.join(room, 'folder'))
+        long = os.path.join(room, 'folder', 'long')
         with open(long, 'wb') as file:
             file.truncate(LONG)
-        for name, (check, *given) in rows_over(program, short, long).items():
+        short, names_list, digests = (os.path.join(room, name) for name in ('short', 'names', 'digests'))
+        for path, text in ((short, 'hello'), (names_list, f'{long}\n'), (digests, f'XXH3 ({long}) = 0123456789abcdef\n')):
+            with open(path, 'w', encoding='ascii') as file:
+                file.write(text)
+        for name, (check, *given) in rows_over(program, short, long, (names_list, digests)).items():
             if names is None or name in names:
                 yield name, check(*given)
 
@@ -218,8 +232,12 @@ def rows_on_terminals(program, names=None):
 # Programs that do one thing wrong with the real one, and the rows that have to notice it.
 PLANTED_ON_TERMINALS = {
     'a line that nobody wants': ('echo seen >&2; exec "$REAL" "$@"', {
-        'no progress under -q', 'no progress of a file under -q', 'no progress under --status', 'no progress of a short file',
-        'no progress into a file'}),
+        'no progress under -q', 'no progress of a file under -q', 'no progress under --status',
+        'no progress of a short file', 'no progress below a folder under -q', 'no progress of an audit under -q',
+        'no progress of an audit under --status', 'no progress into a file'}),
+    'no line at all': ('exec "$REAL" "$@" 2>/dev/null', {
+        'progress of input', 'progress of a file', 'progress below a folder', 'progress of the names in a list',
+        'progress of an audit', 'progress of an audit below a folder', 'progress of an audit of the names in a list'}),
     'a line that comes late': ('"$REAL" "$@"; status=$?; sleep 0.3; echo late >&2; exit $status', {
         'no progress under -q', 'no progress of a file under -q', 'no progress under --status'}),
     'a rate that no machine has': ('printf "2048 MiB, 4000000000 MiB/s, 0 s left" >&2', {'the rate and the time left'}),

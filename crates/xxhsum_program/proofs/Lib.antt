@@ -13,5 +13,5 @@ mod SaidFacts
 mod StopFacts
 pub mod ToldFacts
 pub mod ToldLineFacts
-mod WatchedFacts
-mod WatchedListFacts
+pub mod WatchedFacts
+pub mod WatchedListFacts

@@ -18,7 +18,7 @@ use Rattle.xxhsum_line.specs.Parts.{Lacks}
 use Rattle.xxhsum_line.proofs.LackFacts.{at_place, lacks_before, lacks_both, lacks_by_place}
 use Rattle.xxhsum_program.specs.declared.lines.Lines.{Lines}
 use Rattle.xxhsum_program.specs.declared.lines.Next.TheVariants as Variant
-use Rattle.xxhsum_program.specs.LinesView.{HasRead, IsAtEnd, IsBeforeLineFeed, IsHeld, IsNext, IsRead, IsTaken, ReadsBehind, StopsAt, line_of, most_reads_left, waiting}
+use Rattle.xxhsum_program.specs.LinesView.{HasRead, IsAtEnd, IsBeforeLineFeed, IsHeld, IsNext, IsTaken, ReadsBehind, StopsAt, line_of, most_reads_left, waiting}
 use Rattle.xxhsum_program.specs.ListLines.{FailsAfter, end_piece}
 
 -- ---- parts of what waits

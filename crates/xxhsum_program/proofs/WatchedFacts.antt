@@ -32,7 +32,7 @@ inner-on reading most pieces old new (Err WriteFailed) (count, read) = (count, i
 inner-on reading most pieces old new (Err ReadFailed) (count, (met, read, failed)) = (count, (source_of met, inner-pieces reading old met pieces read, failed))
 inner-on reading most pieces old new (Err TooLong) (count, read) = (count, inner-pieces reading old new pieces read)
 
-inner-reads : {R E T : Type 0} (reading : SourceRules R) (most : ℕ) (pieces : List (List ℕ)) (old new : Watched R E) (read : Result T DigestError) → ReadsTo (watched_reading reading) most pieces old new read → ReadsTo reading most pieces (source_of old) (source_of new) read
+pub inner-reads : {R E T : Type 0} (reading : SourceRules R) (most : ℕ) (pieces : List (List ℕ)) (old new : Watched R E) (read : Result T DigestError) → ReadsTo (watched_reading reading) most pieces old new read → ReadsTo reading most pieces (source_of old) (source_of new) read
 inner-reads reading most pieces old new read (some, on, long) = (some, inner-on reading most pieces old new read on, long)
 
 pub inner-value : {S F T : Type 0} (E : Type 0) (opening : StoreRules S F) (reading : SourceRules F) (files : WatchedFiles S T) (kind : Kind) (name : List ℕ) (value : ℕ) → IsValueOf (watched_opening {E = E} opening) (watched_reading reading) files kind name value → IsValueOf opening reading (files_of files) kind name value
@@ -48,7 +48,7 @@ inner-none E opening reading files name (Why.Unopened refusal) none = none
 inner-none E opening reading files name Why.ReadFailed none = inner-fails E opening reading files name ReadFailed none
 inner-none E opening reading files name Why.TooLong none = inner-fails E opening reading files name TooLong none
 
-inner-comes : {S F T : Type 0} (E : Type 0) (opening : StoreRules S F) (reading : SourceRules F) (files : WatchedFiles S T) (kind : Kind) (name : List ℕ) (outcome : Outcome) → Comes (watched_opening {E = E} opening) (watched_reading reading) files kind name outcome → Comes opening reading (files_of files) kind name outcome
+pub inner-comes : {S F T : Type 0} (E : Type 0) (opening : StoreRules S F) (reading : SourceRules F) (files : WatchedFiles S T) (kind : Kind) (name : List ℕ) (outcome : Outcome) → Comes (watched_opening {E = E} opening) (watched_reading reading) files kind name outcome → Comes opening reading (files_of files) kind name outcome
 inner-comes E opening reading files kind name (Digested value) comes = (comes.0, inner-value E opening reading files kind name value comes.1)
 inner-comes E opening reading files kind name IsDirectory comes = comes
 inner-comes E opening reading files kind name (Unread reason) comes = (comes.0, inner-none E opening reading files name reason comes.1)

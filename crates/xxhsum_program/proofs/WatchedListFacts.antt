@@ -34,7 +34,7 @@ inner-finding E opening reading files is_little line (Proper name found) (short,
 
 -- ---- the reads of a list
 
-inner-lines : {R E : Type 0} (reading : SourceRules R) (list : Watched R E) (has_ended : Bool) (lines : List (List ℕ)) (rest : List ℕ) → ReadsLines (watched_reading reading) list has_ended lines rest → ReadsLines reading (source_of list) has_ended lines rest
+pub inner-lines : {R E : Type 0} (reading : SourceRules R) (list : Watched R E) (has_ended : Bool) (lines : List (List ℕ)) (rest : List ℕ) → ReadsLines (watched_reading reading) list has_ended lines rest → ReadsLines reading (source_of list) has_ended lines rest
 inner-lines reading list has_ended lines rest (pieces, end, some, read, has) =
     (pieces, source_of end, some, inner-pieces reading list end (pieces ++ end_piece has_ended) read, has)
 
@@ -44,7 +44,7 @@ inner-after reading list bytes (pieces, met, some, read, inl failed, are) =
 inner-after reading list bytes (pieces, met, some, read, inr (end, failing), are) =
     (pieces, source_of met, some, inner-pieces reading list met pieces read, inr (source_of end, failing), are)
 
-inner-ends : {R E : Type 0} (reading : SourceRules R) (list : Watched R E) (lines : List (List ℕ)) (end : ListEnd) → EndsAs (watched_reading reading) list lines end → EndsAs reading (source_of list) lines end
+pub inner-ends : {R E : Type 0} (reading : SourceRules R) (list : Watched R E) (lines : List (List ℕ)) (end : ListEnd) → EndsAs (watched_reading reading) list lines end → EndsAs reading (source_of list) lines end
 inner-ends reading list lines Whole ends = inner-lines reading list _ lines _ ends
 inner-ends reading list lines TooMany ((has_ended, rest, reads), most) =
     ((has_ended, rest, inner-lines reading list has_ended lines rest reads), most)

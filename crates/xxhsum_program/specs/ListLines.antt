@@ -1,5 +1,5 @@
 -- The lines of a list, and reads of a list that break off.
-use Rattle.std.specs.Prelude.{◌≡◌, ◌⊎◌, ℕ, ◌-◌, ◌<◌, ◌≤◌, ◌^◌, Bool, true, List, [], ◌∷◌, ◌++◌, length, if◌then◌else◌}
+use Rattle.std.specs.Prelude.{◌≡◌, ◌⊎◌, ℕ, ◌-◌, ◌<◌, ◌≤◌, ◌^◌, Bool, true, List, [], ◌∷◌, length, if◌then◌else◌}
 use Rattle.std.specs.List.{concat}
 use Rattle.xxh_io.specs.Pieces.{Pieces, NoneEmpty}
 use Rattle.xxh_io.specs.Rules.{SourceRules}

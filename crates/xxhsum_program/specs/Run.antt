@@ -9,12 +9,8 @@ use Rattle.xxhsum_program.specs.declared.stop.Stop.{Stop}
 use Rattle.xxhsum_program.specs.declared.stop.Stop.TheVariants.{WriteFailed, OutOfMemory}
 use Rattle.xxhsum_program.specs.CheckList.{SaysList, SaysLists}
 use Rattle.xxhsum_program.specs.HashNames.{SaysInput, SaysNames}
-use Rattle.xxhsum_program.specs.declared.watched.Watched.{Watched}
-use Rattle.xxhsum_program.specs.declared.watched.WatchedFiles.{WatchedFiles}
-use Rattle.xxhsum_program.specs.Progress.{is_shown}
-use Rattle.xxhsum_program.specs.Task.{Reads, Task, Tells, Walks, has_none}
+use Rattle.xxhsum_program.specs.Task.{Reads, Task, Tells}
 use Rattle.xxhsum_program.specs.Told.{TellsOn}
-use Rattle.xxhsum_program.specs.Watched.{files_of, meter_of, shows_reads, source_of, watched_opening, watched_reading}
 use Rattle.xxhsum_files.specs.Rules.{StoreRules}
 
 abbrev pub style_of : Options → Style
@@ -42,25 +38,12 @@ PerformsAs opening reading input_reading writing telling store options names sou
     false =
     SaysNames opening reading writing telling store options.kind (style_of options) names w_old w_new e_old e_new result
 
--- the same over files and an input that are watched, whose reads are shown on a screen T or not
-unfoldable pub PerformsWatched : {S F R W E : Type 0} → (T : Type 0) → StoreRules S F → SourceRules F → SourceRules R
-    → SinkRules W → SinkRules E → S → R → W → W → E → E → Result Bool Stop → Options → List (List ℕ) → Bool → Type 0
-PerformsWatched {S} {F} {R} T opening reading input_reading writing telling store input w_old w_new e_old e_new result
-    options names shows =
-    (files : WatchedFiles S T) × (source : Watched R T) × (files_of files ≡ store)
-    × (shows_reads files ≡ shows) × (source_of source ≡ input) × (is_shown (meter_of source) ≡ shows)
-    × PerformsAs {F = Watched F T} (watched_opening opening) (watched_reading reading)
-    (watched_reading input_reading) writing telling files options names source w_old w_new e_old e_new result
-    options.checks (has_none names)
-
--- a text is told, or files are read as `performs` says, or over a tree as `walks` says
-abbrev pub DoesTask : {W E : Type 0} → (Options → List (List ℕ) → Bool → Type 0) → (Options → List (List ℕ) → Type 0)
-    → SinkRules E → Task → W → W → E → E → Result Bool Stop → Type 0
-DoesTask performs walks telling (Tells text good) w_old w_new e_old e_new result =
+-- a text is told, or files are read as `performs` says
+abbrev pub DoesTask : {W E : Type 0} → (Options → List (List ℕ) → Bool → Type 0) → SinkRules E → Task → W → W → E → E
+    → Result Bool Stop → Type 0
+DoesTask performs telling (Tells text good) w_old w_new e_old e_new result =
     (result ≡ Ok good) × (w_new ≡ w_old) × TellsOn telling text e_old e_new
-DoesTask performs walks telling (Reads options names shows) w_old w_new e_old e_new result =
-    performs options names shows
-DoesTask performs walks telling (Walks options names) w_old w_new e_old e_new result = walks options names
+DoesTask performs telling (Reads options words shows) w_old w_new e_old e_new result = performs options words shows
 
 -- ---- the end
 

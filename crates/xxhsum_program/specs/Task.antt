@@ -13,12 +13,11 @@ use Rattle.xxhsum_words.specs.declared.options.Asked.{Asked}
 use Rattle.xxhsum_words.specs.declared.options.Asked.TheVariants.{Run, Benchmark, Version, Help, WrongOption, NulsInList, WalkBesideLists, WalkOfNothing, InputBesideNames, NumberTooLarge}
 use Rattle.xxhsum_words.specs.declared.options.Options.{Options}
 
--- a text is told, and the answer is this; or files are digested, or lists checked, and their reads are shown or not; or the
--- run is one over a tree
+-- a text is told, and the answer is this; or files are read by the options and the words behind them, and their reads are
+-- shown or not
 pub data Task : Type 0 where
   Tells : List ℕ → Bool → Task
   Reads : Options → List (List ℕ) → Bool → Task
-  Walks : Options → List (List ℕ) → Task
 
 -- the name by which the program was called
 abbrev pub IsProgram : List (List ℕ) → List ℕ → Type 0
@@ -47,10 +46,10 @@ has_none names = nat_eq (length names) 0
 abbrev pub is_tree : Options → Bool
 is_tree options = options.audits || options.walks || are_listed options.names_from
 
--- with no name the input is read, which is no terminal unless that is asked for
+-- with no name the input is read, which is no terminal unless that, or a tree, is asked for
 abbrev pub waits_for_terminal : Terminals → Options → List (List ℕ) → Bool
 waits_for_terminal terminals options names =
-    has_none names && not options.takes_terminal && terminals.input
+    has_none names && not (is_tree options) && not options.takes_terminal && terminals.input
 
 -- what is told where no run is asked for, and whether all is well then
 abbrev pub answer_text : List ℕ → List (List ℕ) → Asked → List ℕ
@@ -97,10 +96,8 @@ run_asked NumberTooLarge = None
 -- the task of a run with these options and names
 abbrev pub task_of_run : Terminals → List ℕ → Options → List (List ℕ) → Task
 task_of_run terminals program options names =
-    if is_tree options then Walks options names
-    else (if waits_for_terminal terminals options names
-    then Tells (wrong_text (codes "Wrong parameters") program) false
-    else Reads options names (shows_progress terminals options))
+    if waits_for_terminal terminals options names then Tells (wrong_text (codes "Wrong parameters") program) false
+    else Reads options names (shows_progress terminals options)
 
 abbrev pub task_from : Terminals → List ℕ → List (List ℕ) → Asked → Option (Options × ℕ) → Task
 task_from terminals program words asked None = Tells (answer_text program words asked) (is_well asked)

@@ -8,7 +8,7 @@ use Rattle.xxhsum_program.specs.declared.progress.Meter.{Meter}
 use Rattle.xxhsum_program.specs.declared.watched.Watched.{Watched}
 use Rattle.xxhsum_program.specs.declared.watched.WatchedFiles.{WatchedFiles}
 use Rattle.xxhsum_program.specs.Progress.{ShowsSometime, bytes_expected, bytes_read, is_shown}
-use Rattle.xxhsum_files.specs.Rules.{StoreRules}
+use Rattle.xxhsum_files.specs.Rules.{FolderRules, StoreRules}
 
 -- what gives the bytes
 abbrev pub source_of : {R E : Type 0} → Watched R E → R
@@ -59,4 +59,12 @@ watched_opening opening = record {
   refuses = λ files name why. opening.refuses (files_of files) name why;
   holds_directory = λ files name answer. opening.holds_directory (files_of files) name answer;
   sizes = λ files name size. opening.sizes (files_of files) name size;
+}
+
+-- and their folders those of the folders
+abbrev pub watched_folders : {S T : Type 0} → FolderRules S → FolderRules (WatchedFiles S T)
+watched_folders folders = record {
+  holds = λ files folder names. folders.holds (files_of files) folder names;
+  closes = λ files folder why. folders.closes (files_of files) folder why;
+  leads = λ files name kind. folders.leads (files_of files) name kind;
 }

@@ -2,7 +2,7 @@
 
 ghost use Rattle.std.specs.Prelude.{◌≡◌, false, Bool, List, ℕ, Option, Result, [], drop, get_or, map, IfSome};
 ghost use Rattle.xxhsum_program.specs.Joined.{joined};
-ghost use Rattle.xxhsum_program.specs.Run.{PerformsAs, PerformsWatched, end_text, status_of, stop_text, style_of};
+ghost use Rattle.xxhsum_program.specs.Run.{PerformsAs, end_text, status_of, stop_text, style_of};
 ghost use Rattle.xxhsum_program.specs.Task.{IsProgram, answer_text, has_none, is_tree, is_well, run_asked, shows_progress, usage_text, waits_for_terminal, wrong_text};
 ghost use Rattle.xxhsum_program.specs.Told.{TellsOn};
 ghost use Rattle.xxhsum_program.specs.declared.stop.Stop.{Stop};
@@ -10,12 +10,9 @@ ghost use Rattle.xxhsum_program.specs.declared.stop.Stop.{Stop};
 use crate::arguments::last_part;
 use crate::check::{check_list, check_lists};
 use crate::hash::{hash_input, hash_names};
-use crate::progress::{Meter, time_of};
-use crate::screen::Ticks;
 use crate::stop::Stop;
 use crate::tell::{tell, tell_line};
 use crate::usage::{ABOUT, BEFORE, BEHIND, NO_BENCHMARK, TITLE, tell_options};
-use crate::watched::{Watched, WatchedFiles};
 use std::alloc::Global;
 use xxh_io::ends::{Sink, Source};
 use xxhsum_files::store::Store;
@@ -81,8 +78,8 @@ pub fn arguments_behind_name(args: &[Vec<u8>]) -> &[Vec<u8>]
     }
 }
 
-/// Whether a run over a tree is asked for: an audit, the files below folders, or names that stand in lists of names.
-pub fn is_tree(options: Options) -> bool
+// Whether a run over a tree is asked for: an audit, the files below folders, or names that stand in lists of names.
+fn is_tree(options: Options) -> bool
     ensures { result ≡ is_tree options }
 {
     options.audits || options.walks || options.names_from.are_listed()
@@ -99,7 +96,7 @@ pub fn shows_progress(terminals: Terminals, options: Options) -> bool
 pub fn waits_for_terminal(terminals: Terminals, options: Options, names: &[Vec<u8>]) -> bool
     ensures { result ≡ waits_for_terminal terminals options (map (λ name. name.items) names.now) }
 {
-    has_none(names) && !options.takes_terminal && terminals.input
+    has_none(names) && !is_tree(options) && !options.takes_terminal && terminals.input
 }
 
 /// Writes what is asked for where that is no run, and returns whether all is well. Of a run nothing is written.
@@ -192,46 +189,15 @@ fn tell_usage<E: Sink>(program: &[u8], err: &mut E)
     tell(BEHIND, err);
 }
 
-/// Digests the files of the names, or checks the lists of these names. Progress is shown on the screen, which is
-/// standard error too, or not. Returns whether all went well.
+/// Digests the files of the names, or checks the lists of these names. Returns whether all went well.
 ///
 /// The caller shows that neither the input nor the output has failed.
 ///
 /// # Errors
 ///
 /// [`Stop::WriteFailed`] where a write to the output fails, and [`Stop::OutOfMemory`] where memory runs out.
-#[tactic(auto, unfolding(crate::specs::Run::PerformsWatched))]
-pub fn perform_watched<S, R, W, E, T>(
-    alloc: Global,
-    store: &S,
-    options: Options,
-    names: &[Vec<u8>],
-    shows: bool,
-    input: R,
-    out: &mut W,
-    err: &mut E,
-    screen: T,
-) -> Result<bool, Stop>
-where
-    S: Store,
-    R: Source + Drop,
-    W: Output,
-    E: Sink,
-    T: Sink + Ticks + Copy + Drop,
-    requires reader { R.has_failed input ≡ false }
-    requires writer { W.has_failed out.old ≡ false }
-    ensures { PerformsWatched T S.Store S.File.Source R.Source W.Sink E.Sink store.now input
-        out.old out.new err.old err.new result options (map (λ name. name.items) names.now) shows }
-{
-    let files = WatchedFiles::new(store, screen, shows);
-    let meter = Meter::new(screen, shows, None, time_of(&screen, shows));
-    let input = Watched::new(input, meter);
-    perform(alloc, &files, options, names, input, out, err)
-}
-
-// Digests the files of the names, or checks them as lists.
 #[tactic(auto, unfolding(crate::specs::Run::PerformsAs))]
-fn perform<S, R, W, E>(
+pub fn perform<S, R, W, E>(
     alloc: Global,
     store: &S,
     options: Options,

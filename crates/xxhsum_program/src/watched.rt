@@ -2,6 +2,7 @@
 
 ghost use Rattle.std.specs.Prelude.{◌≡◌, ◌<◌, ◌≤◌, false, List, ℕ, Bool, Option, Result, length, take, is_err, IfOk, OnErr};
 ghost use Rattle.xxh_io.specs.Pieces.{Pieces};
+ghost use Rattle.xxhsum_program.specs.Progress.{bytes_expected, bytes_read, is_shown};
 ghost use Rattle.xxhsum_program.specs.Watched.{IsFresh, ShowsRead, files_of, meter_of, shows_reads, source_of};
 ghost use Rattle.xxh_io.specs.declared.kind.Kind.{Kind};
 ghost use Rattle.xxhsum_program.specs.CheckList.{ChecksLists, FindsLines, ListOutcome};
@@ -16,7 +17,9 @@ ghost use Rattle.xxhsum_words.specs.declared.options.Options.{Options};
 
 use crate::progress::{Meter, time_of};
 use crate::screen::Ticks;
+use std::alloc::Global;
 use xxh_io::ends::{Failed, Sink, Source};
+use xxhsum_files::folders::{FolderError, Folders, PathKind};
 use xxhsum_files::refusal::Refusal;
 use xxhsum_files::store::Store;
 
@@ -90,6 +93,17 @@ impl<'a, S: Store, W: Sink + Ticks + Copy + Drop> WatchedFiles<'a, S, W> {
 }
 
 impl<S: Store, W: Sink + Ticks + Copy + Drop> WatchedFiles<'_, S, W> {
+    /// This source, watched as the files are. Its size is not known.
+    pub fn watch<R: Source>(&self, source: R) -> Watched<R, W>
+        ensures source { source_of result ≡ source }
+        ensures shown { is_shown (meter_of result) ≡ shows_reads self.now }
+        ensures unread { bytes_read (meter_of result) ≡ 0 }
+        ensures size { bytes_expected (meter_of result) ≡ None }
+    {
+        let started = time_of(&self.screen, self.is_on);
+        Watched::new(source, Meter::new(self.screen, self.is_on, None, started))
+    }
+
     // A meter for the file of this name.
     fn meter_of(&self, name: &[u8]) -> Meter<W>
         ensures { IsFresh S.Store self.now name.now result }
@@ -129,6 +143,22 @@ impl<S: Store, W: Sink + Ticks + Copy + Drop> Store for WatchedFiles<'_, S, W> {
             Ok(file) => { Ok(Watched::new(file, self.meter_of(name))) }
             Err(refusal) => Err(refusal),
         }
+    }
+}
+
+impl<S: Folders, W> Folders for WatchedFiles<'_, S, W> {
+    ghost holds = { λ files folder names. S.holds (files_of files) folder names };
+
+    ghost closes = { λ files folder why. S.closes (files_of files) folder why };
+
+    ghost leads = { λ files name kind. S.leads (files_of files) name kind };
+
+    fn kind_of(&self, name: &[u8]) -> PathKind {
+        self.files.kind_of(name)
+    }
+
+    fn names_in(&self, alloc: Global, folder: &[u8]) -> Result<Vec<Vec<u8>>, FolderError> {
+        self.files.names_in(alloc, folder)
     }
 }
 

@@ -1,5 +1,5 @@
 -- An audit that is good.
-use Rattle.std.proofs.Common.{◌≡◌, ℕ, Bool, true, false, ◌&&◌, List, [], ◌∷◌, Option, Some, None, map, refl, sym, ap, subst, ◌∙◌, inl, inr, Ok, Err}
+use Rattle.std.proofs.Common.{◌≡◌, ℕ, Bool, true, false, ◌&&◌, List, [], ◌∷◌, Option, Some, None, refl, sym, ap, subst, ◌∙◌, inl, inr, Ok}
 use Rattle.std.proofs.lemmas.List.Sorted.{IsPermutation-sym}
 use Rattle.xxh_io.specs.declared.kind.Kind.{Kind}
 use Rattle.xxh_io.specs.Rules.{SinkRules, SourceRules}
@@ -9,7 +9,7 @@ use Rattle.xxhsum_audit.proofs.TurnFacts.{by_turns}
 use Rattle.xxhsum_audit.specs.declared.side.Side.{Side}
 use Rattle.xxhsum_audit.specs.declared.side.Side.TheVariants.{Line, Name, Both}
 use Rattle.xxhsum_audit.specs.Found.{Changed, Copied, Found, Missing, Moved, New, Same}
-use Rattle.xxhsum_audit.specs.Item.{IsAmong, Item, Says, bare, kind_of, name_of, path_of, value_of}
+use Rattle.xxhsum_audit.specs.Item.{IsAmong, Item, Says, kind_of, name_of, path_of, value_of}
 use Rattle.xxhsum_audit.specs.Side.{by_path, compare_to_name}
 use Rattle.xxhsum_files.specs.Rules.{StoreRules}
 use Rattle.xxhsum_program.specs.Outcomes.{Comes, IsValueOf, is_digested}
@@ -18,7 +18,7 @@ use Rattle.xxhsum_program.specs.declared.outcome.Outcome.TheVariants.{Digested, 
 use Rattle.xxhsum_tree.specs.AuditLaws.{AuditMeansEqual, IsFileOf}
 use Rattle.xxhsum_tree.specs.Audits.{AuditsItems, AuditsSides, AuditsUnlessTwice}
 use Rattle.xxhsum_tree.specs.Report.{are_same}
-use Rattle.xxhsum_tree.specs.Rows.{AreRows, Come, Gone, Met, Row, are_read, digest_of, kept_in, kept_of, seen_in, seen_of}
+use Rattle.xxhsum_tree.specs.Rows.{AreRows, Come, Gone, Met, Row, are_read, kept_in, seen_in}
 use Rattle.xxhsum_words.specs.declared.options.Options.{Options}
 
 both-true : (a b : Bool) → true ≡ (a && b) → (a ≡ true) × (b ≡ true)

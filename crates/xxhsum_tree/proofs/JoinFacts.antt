@@ -16,7 +16,7 @@ use Rattle.xxhsum_audit.specs.Side.{against, beside, by_path, compare_to_name, i
 use Rattle.xxhsum_files.specs.Rules.{StoreRules}
 use Rattle.xxhsum_program.specs.declared.outcome.Outcome.{Outcome}
 use Rattle.xxhsum_program.specs.declared.outcome.Outcome.TheVariants.{Digested, IsDirectory, Unread}
-use Rattle.xxhsum_tree.specs.Rows.{AreRows, Come, Gone, IsRow, Met, Row, first_in, kept_in, seen_in}
+use Rattle.xxhsum_tree.specs.Rows.{AreRows, Come, Gone, Met, Row, first_in, kept_in, seen_in}
 
 -- ---- what stands first
 

@@ -7,3 +7,6 @@ mod RowFacts
 mod SaidFacts
 mod WalkFacts
 mod VisitFacts
+mod WatchedAuditFacts
+mod WatchedRunFacts
+mod WatchedTextFacts

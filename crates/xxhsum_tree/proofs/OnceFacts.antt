@@ -1,5 +1,5 @@
 -- A path stands once in a walk.
-use Rattle.std.proofs.Common.{◌≡◌, ◌≢◌, ◌⊎◌, ℕ, ◌<◌, ◌-◌, ◌+◌, ◌&&◌, true, false, List, [], ◌∷◌, ◌++◌, append-nil, append_assoc, codes, drop, length, map, nat_eq, refl, sym, ap, subst, inl, inr, arith, ◌∙◌}
+use Rattle.std.proofs.Common.{◌≡◌, ◌≢◌, ◌⊎◌, ℕ, ◌<◌, ◌-◌, ◌&&◌, true, false, List, [], ◌∷◌, ◌++◌, append-nil, append_assoc, codes, drop, length, map, nat_eq, refl, sym, ap, subst, inl, inr, arith, ◌∙◌}
 use Rattle.std.proofs.lemmas.Bool.{cond-false}
 use Rattle.std.proofs.lemmas.Bool.Decides.{nat_tests}
 use Rattle.std.proofs.lemmas.List.{append_cancel_left, drop_at, length_push}
@@ -7,7 +7,7 @@ use Rattle.std.proofs.lemmas.List.Sorted.{IsPermutation-cons, IsPermutation-midd
 use Rattle.std.specs.Cmp.Lexicographic.{pointwise}
 use Rattle.std.specs.List.{ends_with}
 use Rattle.std.specs.List.Sorted.{IsPermutation}
-use Rattle.xxhsum_audit.proofs.AmongFacts.{among_either, among_left, among_permutation, among_right}
+use Rattle.xxhsum_audit.proofs.AmongFacts.{among_either, among_permutation}
 use Rattle.xxhsum_audit.specs.Item.{IsAmong}
 use Rattle.xxhsum_files.specs.Rules.{FolderRules, StoreRules}
 use Rattle.xxhsum_line.proofs.LackFacts.{first_same, lacks_not, lacks_right}

@@ -1,5 +1,5 @@
 -- What lines say, where one more comes.
-use Rattle.std.proofs.Common.{◌≡◌, ◌≤◌, ℕ, Bool, List, [], ◌∷◌, ◌++◌, append-nil, append_assoc, length, refl, sym, ap, ◌∙◌, subst, true}
+use Rattle.std.proofs.Common.{◌≤◌, ℕ, Bool, List, [], ◌∷◌, ◌++◌, append-nil, append_assoc, length, refl, sym, ap, ◌∙◌, subst, true}
 use Rattle.xxhsum_audit.specs.Item.{Item}
 use Rattle.xxhsum_audit.specs.List.{SayAll, SaysOne, TakesLine}
 use Rattle.xxhsum_program.proofs.EachFacts.{all-push}

@@ -1,4 +1,4 @@
--- A run over a tree, by its options and words.
+-- A run by its options and words.
 use Rattle.std.proofs.Common.{◌≡◌, ℕ, Bool, true, false, List, ◌∷◌, subst, sym, MatchBool}
 use Rattle.std.specs.declared.result.Result.{Result}
 use Rattle.xxh_io.specs.Rules.{SinkRules, SourceRules}
@@ -6,8 +6,9 @@ use Rattle.xxhsum_files.specs.Rules.{FolderRules, StoreRules}
 use Rattle.xxhsum_program.specs.CheckList.{SaysLists}
 use Rattle.xxhsum_program.specs.HashNames.{SaysNames}
 use Rattle.xxhsum_program.specs.Run.{PerformsAs, style_of}
+use Rattle.xxhsum_program.specs.Task.{has_none}
 use Rattle.xxhsum_program.specs.declared.stop.Stop.{Stop}
-use Rattle.xxhsum_tree.specs.Run.{AuditsWords, Walks, WalksFolders, WalksNames}
+use Rattle.xxhsum_tree.specs.Run.{AuditsWords, PerformsWords, WalksFolders, WalksNames}
 use Rattle.xxhsum_words.specs.Options.{are_listed}
 use Rattle.xxhsum_words.specs.declared.options.Options.{Options}
 
@@ -39,14 +40,21 @@ module _ {S F R W E : Type 0} (opening : StoreRules S F) (folders : FolderRules 
       (subst (λ b. AuditsWords opening folders reading input_reading writing telling store input w_old w_new e_old e_new result options (list ∷ names) b listed) (sym does)
       (subst (λ b. AuditsWords opening folders reading input_reading writing telling store input w_old w_new e_old e_new result options (list ∷ names) does_walk b) (sym is) audits))
 
-  pub walks-audit : (words : List (List ℕ)) → options.audits ≡ true → AuditsWords opening folders reading input_reading writing telling store input w_old w_new e_old e_new result options words options.walks (are_listed options.names_from) → Walks opening folders reading input_reading writing telling store input w_old w_new e_old e_new result options words
-  unfolding Walks
+  pub walks-audit : (words : List (List ℕ)) → options.audits ≡ true → AuditsWords opening folders reading input_reading writing telling store input w_old w_new e_old e_new result options words options.walks (are_listed options.names_from) → PerformsWords opening folders reading input_reading writing telling store input w_old w_new e_old e_new result options words
+  unfolding PerformsWords
   walks-audit words is audits = matched _ _ options.audits is audits
 
-  pub walks-folders : (words : List (List ℕ)) → options.audits ≡ false → options.walks ≡ true → WalksFolders opening folders reading writing telling store options words w_old w_new e_old e_new result → Walks opening folders reading input_reading writing telling store input w_old w_new e_old e_new result options words
-  unfolding Walks
+  pub walks-folders : (words : List (List ℕ)) → options.audits ≡ false → options.walks ≡ true → WalksFolders opening folders reading writing telling store options words w_old w_new e_old e_new result → PerformsWords opening folders reading input_reading writing telling store input w_old w_new e_old e_new result options words
+  unfolding PerformsWords
   walks-folders words is does walks = missed _ _ options.audits is (matched _ _ options.walks does walks)
 
-  pub walks-names : (words : List (List ℕ)) → options.audits ≡ false → options.walks ≡ false → WalksNames opening reading input_reading writing telling store input w_old w_new e_old e_new result options words → Walks opening folders reading input_reading writing telling store input w_old w_new e_old e_new result options words
-  unfolding Walks
-  walks-names words is does walks = missed _ _ options.audits is (missed _ _ options.walks does walks)
+  pub walks-names : (words : List (List ℕ)) → options.audits ≡ false → options.walks ≡ false → are_listed options.names_from ≡ true → WalksNames opening reading input_reading writing telling store input w_old w_new e_old e_new result options words → PerformsWords opening folders reading input_reading writing telling store input w_old w_new e_old e_new result options words
+  unfolding PerformsWords
+  walks-names words is does listed walks =
+      missed _ _ options.audits is (missed _ _ options.walks does (matched _ _ (are_listed options.names_from) listed walks))
+
+  pub takes-words : (words : List (List ℕ)) → options.audits ≡ false → options.walks ≡ false → are_listed options.names_from ≡ false
+      → PerformsAs opening reading input_reading writing telling store options words input w_old w_new e_old e_new result options.checks (has_none words) → PerformsWords opening folders reading input_reading writing telling store input w_old w_new e_old e_new result options words
+  unfolding PerformsWords
+  takes-words words is does listed performs =
+      missed _ _ options.audits is (missed _ _ options.walks does (missed _ _ (are_listed options.names_from) listed performs))

@@ -1,5 +1,5 @@
 -- What an audit means that is good.
-use Rattle.std.specs.Prelude.{◌≡◌, ℕ, Bool, true, List}
+use Rattle.std.specs.Prelude.{◌≡◌, ℕ, true, List}
 use Rattle.std.specs.declared.result.Result.TheVariants.{Ok}
 use Rattle.xxh_io.specs.Rules.{SinkRules, SourceRules}
 use Rattle.xxhsum_audit.specs.Item.{IsAmong, Item, bare, kind_of, path_of, value_of}

@@ -3,11 +3,12 @@
 ghost use Rattle.std.specs.Prelude.{◌≡◌, false, Bool, List, ℕ, Option, Some, Result, drop, map, IfSome};
 ghost use Rattle.xxhsum_program.specs.Arguments.{AreArguments};
 ghost use Rattle.xxhsum_program.specs.Finish.{Finishes};
-ghost use Rattle.xxhsum_program.specs.Run.{PerformsWatched, end_text, status_of};
+ghost use Rattle.xxhsum_program.specs.Run.{end_text, status_of};
 ghost use Rattle.xxhsum_program.specs.Told.{TellsOn};
 ghost use Rattle.xxhsum_program.specs.declared.stop.Stop.{Stop};
-ghost use Rattle.xxhsum_tree.specs.Run.{AuditsBelow, AuditsWords, DoesArguments, Walks, WalksFolders, WalksNames, all_well};
+ghost use Rattle.xxhsum_tree.specs.Run.{AuditsBelow, AuditsWords, DoesArguments, PerformsWatched, PerformsWords, WalksFolders, WalksNames, all_well};
 ghost use Rattle.xxhsum_words.specs.Options.{are_listed};
+ghost use Rattle.xxhsum_words.specs.declared.options.Options.{Options};
 
 use crate::audit::audit_names;
 use crate::names::names_listed;
@@ -21,13 +22,14 @@ use xxhsum_program::arguments::{Arguments, all_arguments};
 use xxhsum_program::check::check_lists;
 use xxhsum_program::hash::hash_names;
 use xxhsum_program::process::{
-    Terminals, arguments_behind_name, conclude, is_tree, perform_watched, program_of, run_asked,
-    shows_progress, style_of, tell_answer, tell_wrong, waits_for_terminal,
+    Terminals, arguments_behind_name, conclude, perform, program_of, run_asked, shows_progress,
+    style_of, tell_answer, tell_wrong, waits_for_terminal,
 };
 use xxhsum_program::say::finish;
 use xxhsum_program::screen::Ticks;
 use xxhsum_program::stop::Stop;
 use xxhsum_program::tell::tell;
+use xxhsum_program::watched::WatchedFiles;
 use xxhsum_words::name::default_kind;
 use xxhsum_words::options::{Options, asked_by, words_behind};
 
@@ -57,10 +59,8 @@ where
     requires writer { W.has_failed out.old ≡ false }
     ensures { (args : Option (List (List ℕ))) × (done ended : Result Bool Stop) × (met : W)
         × (told : E) × IfSome args (AreArguments A.holds A.ends arguments.now)
-        × DoesArguments (PerformsWatched T S.Store S.File.Source R.Source W.Sink E.Sink store.now
-        input out.old met err.old told done)
-        (Walks S.Store S.Folders S.File.Source R.Source W.Sink E.Sink store.now input
-        out.old met err.old told done)
+        × DoesArguments (PerformsWatched T S.Store S.Folders S.File.Source R.Source W.Sink E.Sink
+        store.now input out.old met err.old told done)
         E.Sink terminals args out.old met err.old told done
         × Finishes W.Sink W.held W.has_lost done met out.new ended
         × TellsOn E.Sink (end_text ended) told err.new
@@ -94,10 +94,8 @@ where
     T: Sink + Ticks + Copy + Drop,
     requires reader { R.has_failed input ≡ false }
     requires writer { W.has_failed out.old ≡ false }
-    ensures { DoesArguments (PerformsWatched T S.Store S.File.Source R.Source W.Sink E.Sink
-        store.now input out.old out.new err.old err.new result)
-        (Walks S.Store S.Folders S.File.Source R.Source W.Sink E.Sink store.now input
-        out.old out.new err.old err.new result)
+    ensures { DoesArguments (PerformsWatched T S.Store S.Folders S.File.Source R.Source W.Sink
+        E.Sink store.now input out.old out.new err.old err.new result)
         E.Sink terminals (Some (map (λ argument. argument.items) args.now))
         out.old out.new err.old err.new result }
 {
@@ -109,19 +107,17 @@ where
     };
     let (options, place) = found;
     let names = words_behind(words, place);
-    if is_tree(options) {
-        return walk(alloc, store, options, names, input, out, err);
-    }
     if waits_for_terminal(terminals, options, names) {
         tell_wrong(&[b"Wrong parameters"], program, err);
         return Ok(false);
     }
-    let shows = shows_progress(terminals, options);
-    perform_watched(alloc, store, options, names, shows, input, out, err, screen)
+    let files = WatchedFiles::new(store, screen, shows_progress(terminals, options));
+    let input = files.watch(input);
+    perform_words(alloc, &files, options, names, input, out, err)
 }
 
-// Audits the names, digests the files below folders, or digests or checks the names that stand in lists of names.
-fn walk<S: Store + Folders, R: Source + Drop, W: Output, E: Sink>(
+// Audits the words, digests the files below folders, or digests or checks the words or the names in lists of names.
+fn perform_words<S: Store + Folders, R: Source + Drop, W: Output, E: Sink>(
     alloc: Global,
     store: &S,
     options: Options,
@@ -132,7 +128,7 @@ fn walk<S: Store + Folders, R: Source + Drop, W: Output, E: Sink>(
 ) -> Result<bool, Stop>
     requires reader { R.has_failed input ≡ false }
     requires writer { W.has_failed out.old ≡ false }
-    ensures { Walks S.Store S.Folders S.File.Source R.Source W.Sink E.Sink store.now input
+    ensures { PerformsWords S.Store S.Folders S.File.Source R.Source W.Sink E.Sink store.now input
         out.old out.new err.old err.new result options (map (λ word. word.items) words.now) }
 {
     if options.audits {
@@ -141,7 +137,10 @@ fn walk<S: Store + Folders, R: Source + Drop, W: Output, E: Sink>(
     if options.walks {
         return walk_folders(alloc, store, options, words, out, err);
     }
-    walk_names(alloc, store, options, words, input, out, err)
+    if options.names_from.are_listed() {
+        return walk_names(alloc, store, options, words, input, out, err);
+    }
+    perform(alloc, store, options, words, input, out, err)
 }
 
 // Audits names against the list that the first argument names.
@@ -267,3 +266,14 @@ fn walk_names<S: Store, R: Source + Drop, W: Output, E: Sink>(
         err,
     )
 }
+
+/// A law, with nothing to run: what a run does over watched files and a watched input it does over the files and the input
+/// themselves.
+pub fn watched_runs<S: Store + Folders, R: Source, W: Sink, E: Sink, T>()
+    ensures { (store : S) (input : R) (w_old w_new : W) (e_old e_new : E) (done : Result Bool Stop)
+        → (options : Options) (words : List (List ℕ)) (shows : Bool)
+        → PerformsWatched T S.Store S.Folders S.File.Source R.Source W.Sink E.Sink store input
+        w_old w_new e_old e_new done options words shows
+        → PerformsWords S.Store S.Folders S.File.Source R.Source W.Sink E.Sink store input
+        w_old w_new e_old e_new done options words }
+{}

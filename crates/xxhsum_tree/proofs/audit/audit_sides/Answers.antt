@@ -1,13 +1,10 @@
-use Rattle.std.proofs.Common.{Ok, Err, false, [], ap, inr, refl, subst, sym, ◌∙◌}
+use Rattle.std.proofs.Common.{Ok, Err, false, ap, subst, sym, ◌∙◌}
 use Rattle.xxhsum_audit.specs.Found.{founds_of}
 use Rattle.xxhsum_audit.specs.Item.{items_of, texts_of}
-use Rattle.xxhsum_audit.specs.Side.{by_path}
-use Rattle.xxhsum_program.specs.declared.stop.Stop.TheVariants.{OutOfMemory}
 use Rattle.xxhsum_tree.specs.Report.{PrintsReport, are_same}
 use Rattle.xxhsum_program.proofs.HashFacts.{is-err}
 use Rattle.xxhsum_tree.proofs.ReportFacts.{report-stops, stop-answers}
 use Rattle.xxhsum_tree.proofs.RowFacts.{answers-all, answers-not-same, says-audit}
-use Rattle.xxhsum_program.proofs.ToldFacts.{tells-nothing}
 use Rattle.xxhsum_tree.proofs.audit.audit_sides.Goals as goal
 
 pub returns-in_err-print_report : goal.returns-in_err-print_report

@@ -4,10 +4,9 @@ use Rattle.xxhsum_audit.specs.Found.{New, met}
 use Rattle.xxhsum_audit.specs.Item.{Says, item_of}
 use Rattle.xxhsum_audit.specs.Side.{path_side}
 use Rattle.xxhsum_program.proofs.ToldFacts.{tells-nothing}
-use Rattle.xxhsum_program.specs.Outcomes.{is_digested}
 use Rattle.xxhsum_program.specs.declared.outcome.Outcome.TheVariants.{Digested}
 use Rattle.xxhsum_tree.specs.Digests.{AddsRow}
-use Rattle.xxhsum_tree.specs.Rows.{Come, Gone, IsRow, Met, digest_of}
+use Rattle.xxhsum_tree.specs.Rows.{Come, Gone, IsRow, Met}
 use Rattle.xxhsum_tree.proofs.RowFacts.{grows-come, grows-gone, grows-met, grows-nothing, not-digested}
 use Rattle.xxhsum_tree.proofs.digests.add_side.Goals as goal
 

@@ -5,7 +5,8 @@ use Rattle.xxhsum_words.specs.Options.{asked_of}
 use Rattle.xxhsum_words.specs.declared.options.Asked.{Asked}
 use Rattle.xxhsum_words.specs.declared.options.Options.{Options}
 use Rattle.xxhsum_program.specs.declared.process.Terminals.{Terminals}
-use Rattle.xxhsum_program.specs.Task.{Reads, Tells, Walks, answer_text, is_tree, is_well, run_asked, shows_progress, task_from, task_of, waits_for_terminal, wrong_text}
+use Rattle.xxhsum_program.specs.Task.{Reads, Tells, answer_text, is_well, run_asked, shows_progress, task_from, task_of, waits_for_terminal, wrong_text}
+use Rattle.xxhsum_tree.specs.Run.{PerformsWatched}
 use Rattle.xxhsum_tree.proofs.run.run_arguments.Goals as goal
 
 -- What the words ask for is the task.
@@ -17,20 +18,17 @@ task-is terminals program arguments words kind asked run same kinds is runs = rw
 task-told : (terminals : Terminals) (program : List ℕ) (words : List (List ℕ)) (asked : Asked) (run : Option (Options × ℕ)) → run ≡ None → task_from terminals program words asked run ≡ Tells (answer_text program words asked) (is_well asked)
 task-told terminals program words asked run is = rw is refl
 
--- where a run is asked for, by whether it is one over a tree and waits for a terminal
+-- where a run is asked for, by whether it waits for a terminal
 module _ (terminals : Terminals) (program : List ℕ) (words names : List (List ℕ)) (asked : Asked) (run : Option (Options × ℕ)) (options : Options) (place : ℕ) (is : run ≡ Some (options, place)) (same : names ≡ drop place words) where
-  task-walks : is_tree options ≡ true → task_from terminals program words asked run ≡ Walks options names
-  task-walks tree = rw (is, tree, same) refl
-
-  task-waits : is_tree options ≡ false → waits_for_terminal terminals options names ≡ true → task_from terminals program words asked run ≡ Tells (wrong_text (codes "Wrong parameters") program) false
-  task-waits tree waits =
+  task-waits : waits_for_terminal terminals options names ≡ true → task_from terminals program words asked run ≡ Tells (wrong_text (codes "Wrong parameters") program) false
+  task-waits waits =
       let still : waits_for_terminal terminals options (drop place words) ≡ true = rw same at waits in
-      rw (is, tree, still) refl
+      rw (is, still) refl
 
-  task-reads : is_tree options ≡ false → waits_for_terminal terminals options names ≡ false → task_from terminals program words asked run ≡ Reads options names (shows_progress terminals options)
-  task-reads tree waits =
+  task-reads : waits_for_terminal terminals options names ≡ false → task_from terminals program words asked run ≡ Reads options names (shows_progress terminals options)
+  task-reads waits =
       let still : waits_for_terminal terminals options (drop place words) ≡ false = rw same at waits in
-      rw (is, tree, still, same) refl
+      rw (is, still, same) refl
 
 pub returns-in_default : goal.returns-in_default
 returns-in_default g c =
@@ -41,17 +39,6 @@ returns-in_default g c =
     let task = task-is c.args.terminals program arguments words c.default_kind.result asked c.run_asked.result c.arguments_behind_name-words.ensures c.default_kind.ensures c.asked_by-asked.ensures c.run_asked.ensures in
     (program, c.program_of-program.ensures, rw (task ∙ task-told c.args.terminals program words asked c.run_asked.result c.in_default.is) (ap Ok c.tell_answer.ensures.well, refl, c.tell_answer.ensures.tells))
 
-pub returns-then-is_tree : goal.returns-then-is_tree
-returns-then-is_tree g c =
-    let arguments = map (λ argument. argument.items) c.args.args.now in
-    let program = c.program_of-program.result.now in
-    let words = map (λ word. word.items) c.arguments_behind_name-words.result.now in
-    let asked = c.asked_by-asked.result in
-    let task = task-is c.args.terminals program arguments words c.default_kind.result asked c.run_asked.result c.arguments_behind_name-words.ensures c.default_kind.ensures c.asked_by-asked.ensures c.run_asked.ensures in
-    let names = map (λ name. name.items) c.words_behind-names.result.now in
-    let run = c.in-Some.found in
-    (program, c.program_of-program.ensures, rw (task ∙ task-walks c.args.terminals program words names asked c.run_asked.result run.0 run.1 c.in-Some.is c.words_behind-names.ensures (sym c.is_tree.ensures ∙ c.if-is_tree.true)) c.walk.ensures)
-
 pub returns-then-waits_for_terminal : goal.returns-then-waits_for_terminal
 returns-then-waits_for_terminal g c =
     let arguments = map (λ argument. argument.items) c.args.args.now in
@@ -61,9 +48,10 @@ returns-then-waits_for_terminal g c =
     let task = task-is c.args.terminals program arguments words c.default_kind.result asked c.run_asked.result c.arguments_behind_name-words.ensures c.default_kind.ensures c.asked_by-asked.ensures c.run_asked.ensures in
     let names = map (λ name. name.items) c.words_behind-names.result.now in
     let run = c.in-Some.found in
-    (program, c.program_of-program.ensures, rw (task ∙ task-waits c.args.terminals program words names asked c.run_asked.result run.0 run.1 c.in-Some.is c.words_behind-names.ensures (sym c.is_tree.ensures ∙ c.if-is_tree.false) (sym c.waits_for_terminal.ensures ∙ c.if-waits_for_terminal.true)) (refl, refl, c.tell_wrong.ensures))
+    (program, c.program_of-program.ensures, rw (task ∙ task-waits c.args.terminals program words names asked c.run_asked.result run.0 run.1 c.in-Some.is c.words_behind-names.ensures (sym c.waits_for_terminal.ensures ∙ c.if-waits_for_terminal.true)) (refl, refl, c.tell_wrong.ensures))
 
 pub returns : goal.returns
+unfolding PerformsWatched
 returns g c =
     let arguments = map (λ argument. argument.items) c.args.args.now in
     let program = c.program_of-program.result.now in
@@ -72,4 +60,7 @@ returns g c =
     let task = task-is c.args.terminals program arguments words c.default_kind.result asked c.run_asked.result c.arguments_behind_name-words.ensures c.default_kind.ensures c.asked_by-asked.ensures c.run_asked.ensures in
     let names = map (λ name. name.items) c.words_behind-names.result.now in
     let run = c.in-Some.found in
-    (program, c.program_of-program.ensures, rw (task ∙ task-reads c.args.terminals program words names asked c.run_asked.result run.0 run.1 c.in-Some.is c.words_behind-names.ensures (sym c.is_tree.ensures ∙ c.if-is_tree.false) (sym c.waits_for_terminal.ensures ∙ c.if-waits_for_terminal.false)) (rw c.shows_progress-shows.ensures at c.perform_watched.ensures))
+    let on = c.new-files.ensures.shown ∙ c.shows_progress.ensures in
+    let watched : PerformsWatched _ g.S.Store g.S.Folders g.S.File.Source g.R.Source g.W.Sink g.E.Sink c.args.store.now c.args.input c.args.out.now c.perform_words.new.out c.args.err.now c.perform_words.new.err c.perform_words.result run.0 names (shows_progress c.args.terminals run.0) =
+    (c.new-files.result, c.watch-input.result, c.new-files.ensures.files, on, c.watch-input.ensures.source, c.watch-input.ensures.shown ∙ on, c.perform_words.ensures) in
+    (program, c.program_of-program.ensures, rw (task ∙ task-reads c.args.terminals program words names asked c.run_asked.result run.0 run.1 c.in-Some.is c.words_behind-names.ensures (sym c.waits_for_terminal.ensures ∙ c.if-waits_for_terminal.false)) watched)

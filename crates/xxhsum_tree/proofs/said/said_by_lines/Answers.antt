@@ -1,4 +1,4 @@
-use Rattle.std.proofs.Common.{◌≡◌, ◌+◌, ◌≤◌, ◌∷◌, ◌++◌, [], ap, arith, inl, inr, length, map, refl, subst, true, false}
+use Rattle.std.proofs.Common.{◌+◌, ◌∷◌, ◌++◌, [], ap, arith, inl, inr, length, map, refl, subst, true, false}
 use Rattle.std.proofs.lemmas.List.{length_push}
 use Rattle.xxhsum_audit.specs.List.{TakesLine, said_by}
 use Rattle.xxhsum_program.proofs.CheckFacts.{breaks-endless, breaks-failed, ends-well, some-read, stands-line, stands-new}

@@ -1,4 +1,4 @@
-use Rattle.std.proofs.Common.{◌∙◌, sym, ap, [], refl, subst}
+use Rattle.std.proofs.Common.{◌∙◌, sym, [], refl, subst}
 use Rattle.xxhsum_line.specs.Meaning.{Means}
 use Rattle.xxhsum_program.specs.Findings.{Ignored, Improper, IsFinding, Proper, TooLong}
 use Rattle.xxhsum_program.specs.LinesView.{IsGiven}

@@ -1,4 +1,4 @@
-use Rattle.std.proofs.Common.{◌≡◌, ◌+◌, ◌-◌, ◌^◌, ◌∷◌, ◌++◌, [], length, Some, Err, refl, sym, ap, subst, ◌∙◌, append-nil, arith}
+use Rattle.std.proofs.Common.{◌≡◌, ◌+◌, ◌-◌, ◌^◌, ◌∷◌, ◌++◌, [], length, Some, refl, sym, ap, ◌∙◌, append-nil, arith}
 use Rattle.std.proofs.lemmas.List.{length_push}
 use Rattle.xxh_io.proofs.WriteFacts.{Took-join}
 use Rattle.xxhsum_program.specs.Findings.{IsFinding, count_one, no_findings, report_of, with_broken_end}
