@@ -176,7 +176,7 @@ A peer's time over ours: 1 is level, more is faster. A cell is the median over h
 #TWOX_HASH
 ## The library for C, by C's names
 
-The time of Debian's `libxxhash.so.0` over that of ours at x86-64-v3, both in one process.
+The time of Debian's `libxxhash.so.0` over that of ours, of which the loader takes x86-64-v4 here, both in one process.
 
 #SHARED
 #DISPATCH
