@@ -121,7 +121,7 @@ def drawn(cpu, places, draw):
             ways += swapped(x, cpu.program.sections[section][x.end])
         what, instructions = draw.choice(ways)
         if all(is_form(y, cpu.name) for y in instructions) and instructions != [x]:
-            text = f"{section[6:]} {written(x)}: {what} {'; '.join(map(written, instructions))}"
+            text = f"{section[6:]} {written(x)}: {what} {'; '.join(map(written, instructions))} (at {at:#x})"
             yield (section, at), text, instructions
 
 

@@ -32,9 +32,11 @@ LEFT_OUT = ("3-64", "both", 136), ("3-128", "secret", 136)
 # With --all, of XXH3: bytes for which the texts have loops of their own, and long pieces from each place in a block.
 FAR = [("3-64", "default", None, 31_744), ("3-64", "secret", 136, 31_800), ("3-128", "secret", 192, 31_744),
        ("3-128", "seed", None, 32_700)]
-LONGEST_SHORT, BUFFERED = 300, 512
-NEAR_TO = 10_000                  # bytes up to which a request has others near to it
 LONG_STREAMS = [(2700 + 131 * k, 600 + 64 * k) for k in range(16)]
+# Of changes that these don't notice: bytes up to which a request has others near to it, and further requests: each short
+# length, and each number of stripes of two blocks.
+NEAR_TO, BUFFERED, LENGTHS = 10_000, 512, [*range(300), *range(300, 2400, 61)]
+OTHER_SECRETS = [(2200, 195), (3300, 193), (5000, 140), (16_000, 184), (32_000, 195)]
 
 
 # ---- requests
@@ -172,13 +174,15 @@ def near(asked, entries, draw, count):
 
 
 def further(asked, entries):
-    """Of each hash of some requests one-shots of each short length, and streams that fill the buffer by each number of
-    bytes, and leave each number in it."""
+    """Of each hash of some requests one-shots of LENGTHS and with other secrets, and streams that fill the buffer by each
+    number of bytes, and leave each number in it."""
     kinds = {(one.hash_name, one.cuts is None): one for one in (question.request for question in asked)}
     for (hash_name, is_once), one in kinds.items():
-        for n, *cuts in [(n,) for n in range(LONGEST_SHORT)] if is_once else further_streams(one_shots.is_plain(hash_name)):
+        for n, *cuts in [(n,) for n in LENGTHS] if is_once else further_streams(one_shots.is_plain(hash_name)):
             yield OfRequest(Request(hash_name, one.kind, n, one.secret_length, one.fixed_seed, None if is_once else cuts),
                             entries)
+        for n, secret in OTHER_SECRETS if is_once and one.secret_length else ():
+            yield OfRequest(Request(hash_name, one.kind, n, secret), entries)
 
 
 def further_streams(is_plain):
@@ -221,11 +225,10 @@ def by_induction(program, asked, section):
             found.setdefault((one.hash_name, one.cuts is None), functools.partial(
                 plain_length if one.cuts is None else plain_update, one.hash_name))
         elif one.cuts is not None:
-            for name in (xxh3_updates.UPDATES, xxh3_updates.DIGESTS):
-                found[name] = functools.partial(xxh3_stream, name)
+            found.update({ask: ask for ask in (xxh3_reset, xxh3_update, xxh3_digest)})
         elif one.length > 240:
-            found.setdefault(one.secret_length is None, functools.partial(
-                long_one_shot if one.secret_length is None else any_secret_of, one.hash_name, one.kind))
+            for ask in (long_one_shot,) if one.secret_length is None else (own_secret, any_secret_of):
+                found.setdefault(ask, functools.partial(ask, one.hash_name, one.kind))
     for summary in TAKING:
         if program.functions.get(summary.name, (None,))[0] == section:
             found[summary.name] = functools.partial(stripes_taken, summary.name)
@@ -236,9 +239,9 @@ TAKING = xxh3_updates.TAKE, xxh3_updates.TAKE_MANY, xxh3_updates.TAKE_BLOCKS, xx
 
 
 def case_of(cases, k):
-    """One of CASES that are spread over all."""
+    """One of CASES that are spread over all, from the first to the last."""
     cases = list(cases)
-    return cases[k * len(cases) // CASES]
+    return cases[k * (len(cases) - 1) // (CASES - 1)]
 
 
 def plain_update(name, k, cpu):
@@ -258,8 +261,23 @@ def any_secret_of(name, way, k, cpu):
     case_of(any_secret.AnySecret(cpu).questions(way, name[2:]), k)()
 
 
-def xxh3_stream(what, k, cpu):
-    case_of(xxh3_updates.Xxh3Updates(cpu).questions()[what], k)()
+def own_secret(name, way, k, cpu):
+    every_length.EveryLength(cpu, f"{name}:{way}").show(case_of(every_length.of_secret(), k))
+
+
+def xxh3_reset(k, cpu):
+    proof = xxh3_updates.Xxh3Updates(cpu)
+    proof.reset(*case_of(proof.resets(), k))
+
+
+def xxh3_update(k, cpu):
+    proof = xxh3_updates.Xxh3Updates(cpu)
+    proof.update(*case_of(proof.all_updates(), k))
+
+
+def xxh3_digest(k, cpu):
+    proof = xxh3_updates.Xxh3Updates(cpu)
+    proof.digest(*case_of(proof.digests(), k), k % 2, xxh3_updates.WIDTHS[k // 2 % 2])
 
 
 def stripes_taken(name, k, cpu):
