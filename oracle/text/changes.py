@@ -33,7 +33,7 @@ ALIKE = [("je", "jne"), ("jb", "jbe"), ("ja", "jae"), ("jb", "jae"), ("sete", "s
 # ---- what becomes of a change
 
 def outcome(cpu, instructions, asked, draw, entries, more):
-    """By some questions that run it, by requests near to them, and by `more` where none of these notices it."""
+    """By the requests that run it and others near to them, and by `more` ways to ask where none of these notices it."""
     before = [cpu.program.sections[x.section][x.at] for x in instructions]
     requests = [question for question in asked if question.request]
     few = draw.sample(requests[:MOST], min(FEWEST, len(requests[:MOST])))
@@ -41,9 +41,8 @@ def outcome(cpu, instructions, asked, draw, entries, more):
         for x in instructions:
             cpu.change(x)
         told = (ask(cpu) for ask in itertools.chain(
-            (question.twice for question in itertools.chain(
-                requests, near(requests, entries, draw, NEAR), further(requests, entries))),
-            (question.over_symbols for question in itertools.chain(few, more()))))
+            (question.twice for question in itertools.chain(requests, near(requests, entries, draw, NEAR))),
+            (question.over_symbols for question in few), more))
         return next(filter(None, told), UNNOTICED)
     finally:
         for x in before:
@@ -150,6 +149,16 @@ def is_equal(text, known):
     return any(all(word in text for word in words.split(" & ")) for words in known)
 
 
+def more_ways(cpu, asked, entries, is_all, section):
+    """Of a change in a section: the calls among some questions, and with --all further requests and inductions."""
+    requests = [question for question in asked if question.request]
+    yield from (question.over_symbols for question in asked if not question.request)
+    if is_all:
+        yield from (question.twice for question in further(requests, entries))
+    if is_all and section:
+        yield from (question.over_symbols for question in by_induction(cpu.program, requests, section))
+
+
 def noticed(name, program, count, is_all, word="", part=0):
     """(changes that were tried in functions with a word in their names, what there is to say of those that weren't
     noticed): so many, of a draw of their own."""
@@ -172,16 +181,9 @@ def noticed_of(cpu, changes, count, known, is_all, word="", others=OTHERS, part=
     for place, text, instructions in itertools.islice(one_by_one, count):
         reached = [question for k, question in enumerate(asked) if found[place] >> k & 1]
         has_reason = is_equal(text, known)
-        more = functools.partial(others_of, cpu, reached, place[0], is_all and others == OTHERS)
-        what = outcome(cpu, instructions, reached, order, entries, list if has_reason else more)
+        more = () if has_reason else more_ways(cpu, reached, entries, is_all, place[0] if others == OTHERS else None)
+        what = outcome(cpu, instructions, reached, order, entries, more)
         tried += 1
         if what.startswith((CRASH, "WrongRule")) or (what == UNNOTICED) != has_reason:
             bad.append(f"{what}{', and has a reason' if has_reason else ''}: {text}")
     return tried, bad
-
-
-def others_of(cpu, asked, section, is_by_induction):
-    """The calls among some questions that compare by themselves, and inductions."""
-    calls = [question for question in asked if not question.request]
-    return calls + by_induction(cpu.program, [question for question in asked if question.request], section) \
-        if is_by_induction else calls
