@@ -16,7 +16,7 @@ from .values import address, arithmetic, bits, low
 WIDTHS = {"XXH32": 32, "XXH64": 64, "XXH128": 128}
 SHORTEST, LONGEST_KEPT = 136, 256       # bytes of a secret: that a call takes, that a state keeps
 # Of a state of XXH3: where parts of it lie, and the bytes of its buffer.
-PLACE, WAITING, TOTAL, SECRET_LENGTH, BUFFERED = 0x40, 0x290, 0x298, 0x2b8, 512
+PLACE, COUNTED, WAITING, TOTAL, SECRET_LENGTH, BUFFERED = 0x40, 0x88, 0x290, 0x298, 0x2b8, 512
 MOST_NODES = 500_000                    # between two cases
 LIMITS = {32: (1 << 32) - 1, 64: (1 << 64) - 1}
 
@@ -160,6 +160,24 @@ def out_of_range(cpu):
                 state.store(at, 8, plus(v, low_end))
                 refused(cpu, hash_name, state)
                 count += 1
+    return count
+
+
+def counters_stay(cpu):
+    """A counter of bytes or of stripes that is 2 ^ 64 - 1 stays so."""
+    count, most = 0, LIMITS[64]
+    for hash_name, places in (("32", [0x14]), ("64", [0x18]), ("3-64", [TOTAL, COUNTED]), ("3-128", [TOTAL, COUNTED])):
+        for n in (5, 40, 200, 600, 3000):
+            state = new_state(cpu, hash_name)
+            request = Request(hash_name, "seed" if one_shots.is_plain(hash_name) else "default", 0)
+            expect_answer(reset(cpu, request, state), OK)
+            expect_answer(update(cpu, hash_name, state, Input("m", 5)), OK)
+            for at in places:
+                state.store(at, 8, most)
+            expect_answer(update(cpu, hash_name, state, Input("m", n)), OK)
+            for at in places:
+                expect(f"XXH{hash_name}, a counter after {n} bytes", state.load(at, 8), most)
+            count += 1
     return count
 
 

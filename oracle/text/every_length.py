@@ -140,10 +140,14 @@ class EveryLength:
     def __init__(self, cpu, kind):
         self.cpu, self.told, self.kind = cpu, {}, kind
         self.hash_name, _, self.way = kind.partition(":")
-        self.forget()
+        self.read()
 
     def forget(self):
         nodes.forget()
+        self.read()
+
+    def read(self):
+        """The definition's texts."""
         suppositions.clear()
         self.texts = definition.program().run(traced=suppositions)
 

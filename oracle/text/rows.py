@@ -328,6 +328,7 @@ def call_rows(texts, is_all):
             of("copies of states", 3, calls.copies), of("freed states are refused", 4, calls.forgotten),
             of_streams("streams: memory without the mark of a reset", 8, calls.without_mark),
             of_streams("streams: states of XXH3 that no call leaves", 10, calls.out_of_range),
+            of_streams("streams: counters that stay at 2^64 - 1", 20, calls.counters_stay),
             of_streams("streams: secrets that a state doesn't keep", 80, calls.refused_resets),
             of_streams("streams: null pieces of no bytes", 20, calls.updates_of_nothing),
             of_streams("null inputs and secrets of no bytes", 14, calls.null_pointers),
@@ -347,11 +348,20 @@ def machine_rows(texts, others, is_all):
     return [counted(f"the table of instructions beside the processor{without}", forms - 40,
                     functools.partial(beside_processor, [*texts.values(), *others.values()], is_all)),
             counted("wrong texts of each kind are refused", len(planted.WRONG), planted.refused),
-            *(counted(f"changes of one instruction, {name}", changes.MANY if is_all else changes.FEW,
-                      functools.partial(changes.noticed, name, program, is_all))
-              for name, program in before_v4(texts).items()),
-            counted(f"changes of one instruction in the widened functions of {V4}", changes.MANY if is_all else changes.SOME,
-                    functools.partial(changes.noticed, V4, texts[V4], is_all, "widened"))]
+            *change_rows(texts, is_all)]
+
+
+def change_rows(texts, is_all):
+    """Changes of one instruction; with --all in parts, each with a draw of its own."""
+    parts = changes.PARTS_OF_MANY if is_all else 1
+    for name, program in texts.items():
+        is_v4 = name.endswith(V4)
+        title = f"changes of one instruction{' in the widened functions of' if is_v4 else ','} {name}"
+        count = changes.MANY // parts if is_all else changes.SOME if is_v4 else changes.FEW
+        for part in range(parts):
+            words = f", part {part + 1} of {parts}" if is_all else ""
+            yield counted(title + words, count, functools.partial(changes.noticed, name, program, count, is_all,
+                                                                  "widened" if is_v4 else "", part))
 
 
 def beside_processor(programs, is_all):

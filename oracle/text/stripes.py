@@ -16,6 +16,7 @@ from terms.polynomials import is_same as is_same_number
 
 from .induction import Family, Proof, cells_of, moved, same
 from .memory import ENTRY
+from .values import Address
 
 # Stripes that are taken one after another: from a place on, how many, and where that leads.
 Part = collections.namedtuple("Part", "start turns end")
@@ -216,6 +217,7 @@ class Summary:
     def call(self, cpu, family, source, secret):
         *records, stripes, length, own, own_length = (cpu.registers[name] for name in self.registers(cpu))
         stack, floor = cpu.frame()
+        self.expect("the places", all(isinstance(x, Address) for x in (*records, stripes, own)))
         self.expect("the stack", floor % 16 == 0 and floor >= LEAST_ENTRY)
         (room, first), (memory, place) = records[0].place(), records[-1].place()
         if not self.is_in_place:
