@@ -6,6 +6,7 @@ import glob
 import hashlib
 import os
 import random
+import re
 import tempfile
 
 from . import kit, source
@@ -77,9 +78,8 @@ class Memory:
 
 
 def refusals_written():
-    """What the repository remembers: why each edit was refused, by half of its sum."""
-    rows = [line.split(" ", 2) for line in kit.read(WRITTEN).splitlines() if not line.startswith("#")]
-    return {its_sum: why for _, its_sum, why in rows}
+    """What the repository remembers: why each edit was refused, by half of its sum. What is no such line says nothing."""
+    return dict(re.findall(r"^\S+ ([0-9a-f]{32}) (.+)$", kit.read(WRITTEN), re.M))
 
 
 def drawn_out(refusals):
