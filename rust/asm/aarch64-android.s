@@ -4481,41 +4481,41 @@ twox_core.width_128.oneshot_with_seed_from_65.i4:
 	.section	.rodata.cst16,"aM",@progbits,16
 	.p2align	4, 0x0
 .LCPI15_0.i4:
-	.xword	-2623469361688619810
-	.xword	2262974939099578482
-.LCPI15_1.i4:
 	.xword	-4734510112055689544
 	.xword	2066345149520216444
+.LCPI15_1.i4:
+	.xword	-2623469361688619810
+	.xword	2262974939099578482
 .LCPI15_2.i4:
-	.xword	-8204357891075471176
-	.xword	5487137525590930912
-.LCPI15_3.i4:
 	.xword	8711581037947681227
 	.xword	2410270004345854594
+.LCPI15_3.i4:
+	.xword	-8204357891075471176
+	.xword	5487137525590930912
 .LCPI15_4.i4:
-	.xword	5690594596133299313
-	.xword	-2833645246901970632
-.LCPI15_5.i4:
 	.xword	-3818837453329782724
 	.xword	-6688317018830679928
+.LCPI15_5.i4:
+	.xword	5690594596133299313
+	.xword	-2833645246901970632
 .LCPI15_6.i4:
-	.xword	3556072174620004746
-	.xword	7238261902898274248
-.LCPI15_7.i4:
 	.xword	4554437623014685352
 	.xword	2111919702937427193
+.LCPI15_7.i4:
+	.xword	3556072174620004746
+	.xword	7238261902898274248
 .LCPI15_8.i4:
-	.xword	5321830579834785047
-	.xword	-7032137544937171245
-.LCPI15_9.i4:
 	.xword	-4329134394285701654
 	.xword	-1485321483350670907
+.LCPI15_9.i4:
+	.xword	5321830579834785047
+	.xword	-7032137544937171245
 .LCPI15_10.i4:
-	.xword	2883454493032893253
-	.xword	9097354517224871855
-.LCPI15_11.i4:
 	.xword	-242834301215959509
 	.xword	-3588858202114426737
+.LCPI15_11.i4:
+	.xword	2883454493032893253
+	.xword	9097354517224871855
 .LCPI15_12.i4:
 	.xword	2870177450012600261
 	.xword	2654435761
@@ -4540,77 +4540,73 @@ twox_core.width_128.oneshot_long_derived.i4:
 	.cfi_startproc
 	sub	sp, sp, #288
 	.cfi_def_cfa_offset 288
-	movi	v0.2d, #0000000000000000
-	movi	v1.2d, #0000000000000000
+	fmov	d0, x0
+	adrp	x8, .LCPI15_0.i4
+	adrp	x9, .LCPI15_1.i4
+	ldr	q2, [x9, :lo12:.LCPI15_1.i4]
 	adrp	x9, .LCPI15_3.i4
-	ldr	q2, [x9, :lo12:.LCPI15_3.i4]
-	adrp	x9, .LCPI15_7.i4
-	adrp	x8, .LCPI15_1.i4
-	ldr	q4, [x9, :lo12:.LCPI15_7.i4]
-	adrp	x9, .LCPI15_2.i4
-	adrp	x10, .LCPI15_4.i4
-	ldr	q6, [x9, :lo12:.LCPI15_2.i4]
-	ldr	q16, [x10, :lo12:.LCPI15_4.i4]
 	mov	x3, x2
-	mov	v1.d[0], x0
-	mov	v0.d[1], x0
+	ldr	q4, [x9, :lo12:.LCPI15_3.i4]
 	mov	x2, x1
 	stp	d15, d14, [sp, #192]
 	.cfi_offset 78, -88
 	.cfi_offset 79, -96
+	neg	v1.2d, v0.2d
 	stp	d13, d12, [sp, #208]
 	.cfi_offset 76, -72
 	.cfi_offset 77, -80
 	stp	d11, d10, [sp, #224]
 	.cfi_offset 74, -56
 	.cfi_offset 75, -64
-	sub	v0.2d, v1.2d, v0.2d
-	ldr	q1, [x8, :lo12:.LCPI15_1.i4]
-	adrp	x8, .LCPI15_5.i4
-	ldr	q3, [x8, :lo12:.LCPI15_5.i4]
-	adrp	x8, .LCPI15_0.i4
 	stp	d9, d8, [sp, #240]
 	.cfi_offset 72, -40
 	.cfi_offset 73, -48
+	zip1	v0.2d, v0.2d, v1.2d
+	ldr	q1, [x8, :lo12:.LCPI15_0.i4]
+	adrp	x8, .LCPI15_2.i4
+	ldr	q3, [x8, :lo12:.LCPI15_2.i4]
+	adrp	x8, .LCPI15_4.i4
 	stp	x29, x30, [sp, #256]
 	.cfi_offset 29, -32
 	.cfi_offset 30, -24
-	add	x29, sp, #256
-	mov	v7.16b, v0.16b
-	add	v2.2d, v0.2d, v2.2d
-	add	v5.2d, v0.2d, v4.2d
-	ldr	q4, [x8, :lo12:.LCPI15_0.i4]
-	add	v1.2d, v0.2d, v1.2d
-	add	v3.2d, v0.2d, v3.2d
-	adrp	x8, .LCPI15_9.i4
+	ldr	q5, [x8, :lo12:.LCPI15_4.i4]
+	adrp	x8, .LCPI15_5.i4
 	str	x28, [sp, #272]
 	.cfi_offset 28, -16
-	mov	v7.d[0], x0
-	ldr	q17, [x8, :lo12:.LCPI15_9.i4]
+	ldr	q6, [x8, :lo12:.LCPI15_5.i4]
 	adrp	x8, .LCPI15_6.i4
-	add	v6.2d, v7.2d, v6.2d
-	add	v18.2d, v7.2d, v4.2d
-	add	v4.2d, v0.2d, v17.2d
-	stp	q1, q18, [sp]
-	ldr	q1, [x8, :lo12:.LCPI15_6.i4]
+	add	x29, sp, #256
+	add	v2.2d, v0.2d, v2.2d
+	ldr	q7, [x8, :lo12:.LCPI15_6.i4]
+	adrp	x8, .LCPI15_7.i4
+	add	v1.2d, v0.2d, v1.2d
+	ldr	q16, [x8, :lo12:.LCPI15_7.i4]
 	adrp	x8, .LCPI15_8.i4
-	stp	q2, q6, [sp, #32]
-	add	v2.2d, v7.2d, v16.2d
-	add	v1.2d, v7.2d, v1.2d
-	stp	q3, q2, [sp, #64]
-	ldr	q3, [x8, :lo12:.LCPI15_8.i4]
+	add	v4.2d, v0.2d, v4.2d
+	ldr	q17, [x8, :lo12:.LCPI15_8.i4]
+	add	v3.2d, v0.2d, v3.2d
+	adrp	x8, .LCPI15_9.i4
+	add	v5.2d, v0.2d, v5.2d
+	add	v7.2d, v0.2d, v7.2d
+	stp	q1, q2, [sp]
+	add	v2.2d, v0.2d, v6.2d
+	ldr	q1, [x8, :lo12:.LCPI15_9.i4]
 	adrp	x8, .LCPI15_11.i4
-	ldr	q16, [x8, :lo12:.LCPI15_11.i4]
-	adrp	x8, .LCPI15_10.i4
-	stp	q5, q1, [sp, #96]
-	ldr	q17, [x8, :lo12:.LCPI15_10.i4]
-	add	v5.2d, v7.2d, v3.2d
-	lsr	x8, x3, #10
+	stp	q3, q4, [sp, #32]
 	add	v6.2d, v0.2d, v16.2d
-	add	v7.2d, v7.2d, v17.2d
+	add	v4.2d, v0.2d, v1.2d
+	ldr	q1, [x8, :lo12:.LCPI15_11.i4]
+	adrp	x8, .LCPI15_10.i4
+	stp	q5, q2, [sp, #64]
+	ldr	q2, [x8, :lo12:.LCPI15_10.i4]
+	add	v5.2d, v0.2d, v17.2d
+	stp	q7, q6, [sp, #96]
+	add	v6.2d, v0.2d, v1.2d
+	lsr	x8, x3, #10
+	add	v7.2d, v0.2d, v2.2d
 	cmp	x8, #30
-	stp	q4, q5, [sp, #128]
-	stp	q6, q7, [sp, #160]
+	stp	q5, q4, [sp, #128]
+	stp	q7, q6, [sp, #160]
 	b.hi	.LBB15_3.i4
 	adrp	x10, .LCPI15_12.i4
 	cmp	x3, #1025
@@ -4759,16 +4755,16 @@ twox_core.width_128.oneshot_long_derived.i4:
 	b.ne	.LBB15_6.i4
 // %bb.7:                               // %"twox_core::xxhash3::stripes::blocks::process_block::<#2bc6bd144304b2fb>.exit.i"
 	ushr	v16.2d, v2.2d, #47
-	eor	v2.16b, v5.16b, v2.16b
+	eor	v2.16b, v4.16b, v2.16b
 	adrp	x13, .LCPI15_16.i4
 	ushr	v17.2d, v3.2d, #47
-	eor	v3.16b, v4.16b, v3.16b
+	eor	v3.16b, v5.16b, v3.16b
 	ldr	q20, [x13, :lo12:.LCPI15_16.i4]
 	ushr	v18.2d, v0.2d, #47
-	eor	v0.16b, v7.16b, v0.16b
+	eor	v0.16b, v6.16b, v0.16b
 	mov	w13, #31153
 	ushr	v19.2d, v1.2d, #47
-	eor	v1.16b, v6.16b, v1.16b
+	eor	v1.16b, v7.16b, v1.16b
 	movk	w13, #40503, lsl #16
 	eor	v16.16b, v2.16b, v16.16b
 	eor	v17.16b, v3.16b, v17.16b
@@ -6893,41 +6889,41 @@ twox_exports.stream_3.finish_far.2.i4:
 	.section	.rodata.cst16,"aM",@progbits,16
 	.p2align	4, 0x0
 .LCPI21_0.i4:
-	.xword	-2623469361688619810
-	.xword	2262974939099578482
-.LCPI21_1.i4:
 	.xword	-4734510112055689544
 	.xword	2066345149520216444
+.LCPI21_1.i4:
+	.xword	-2623469361688619810
+	.xword	2262974939099578482
 .LCPI21_2.i4:
-	.xword	-8204357891075471176
-	.xword	5487137525590930912
-.LCPI21_3.i4:
 	.xword	8711581037947681227
 	.xword	2410270004345854594
+.LCPI21_3.i4:
+	.xword	-8204357891075471176
+	.xword	5487137525590930912
 .LCPI21_4.i4:
-	.xword	5690594596133299313
-	.xword	-2833645246901970632
-.LCPI21_5.i4:
 	.xword	-3818837453329782724
 	.xword	-6688317018830679928
+.LCPI21_5.i4:
+	.xword	5690594596133299313
+	.xword	-2833645246901970632
 .LCPI21_6.i4:
-	.xword	3556072174620004746
-	.xword	7238261902898274248
-.LCPI21_7.i4:
 	.xword	4554437623014685352
 	.xword	2111919702937427193
+.LCPI21_7.i4:
+	.xword	3556072174620004746
+	.xword	7238261902898274248
 .LCPI21_8.i4:
-	.xword	5321830579834785047
-	.xword	-7032137544937171245
-.LCPI21_9.i4:
 	.xword	-4329134394285701654
 	.xword	-1485321483350670907
+.LCPI21_9.i4:
+	.xword	5321830579834785047
+	.xword	-7032137544937171245
 .LCPI21_10.i4:
-	.xword	2883454493032893253
-	.xword	9097354517224871855
-.LCPI21_11.i4:
 	.xword	-242834301215959509
 	.xword	-3588858202114426737
+.LCPI21_11.i4:
+	.xword	2883454493032893253
+	.xword	9097354517224871855
 .LCPI21_12.i4:
 	.xword	2870177450012600261
 	.xword	2654435761
@@ -6952,77 +6948,73 @@ twox_core.width_64.oneshot_long_derived.i4:
 	.cfi_startproc
 	sub	sp, sp, #288
 	.cfi_def_cfa_offset 288
-	movi	v0.2d, #0000000000000000
-	movi	v1.2d, #0000000000000000
+	fmov	d0, x0
+	adrp	x8, .LCPI21_0.i4
+	adrp	x9, .LCPI21_1.i4
+	ldr	q2, [x9, :lo12:.LCPI21_1.i4]
 	adrp	x9, .LCPI21_3.i4
-	ldr	q2, [x9, :lo12:.LCPI21_3.i4]
-	adrp	x9, .LCPI21_7.i4
-	adrp	x8, .LCPI21_1.i4
-	ldr	q4, [x9, :lo12:.LCPI21_7.i4]
-	adrp	x9, .LCPI21_2.i4
-	adrp	x10, .LCPI21_4.i4
-	ldr	q6, [x9, :lo12:.LCPI21_2.i4]
-	ldr	q16, [x10, :lo12:.LCPI21_4.i4]
 	mov	x3, x2
-	mov	v1.d[0], x0
-	mov	v0.d[1], x0
+	ldr	q4, [x9, :lo12:.LCPI21_3.i4]
 	mov	x2, x1
 	stp	d15, d14, [sp, #192]
 	.cfi_offset 78, -88
 	.cfi_offset 79, -96
+	neg	v1.2d, v0.2d
 	stp	d13, d12, [sp, #208]
 	.cfi_offset 76, -72
 	.cfi_offset 77, -80
 	stp	d11, d10, [sp, #224]
 	.cfi_offset 74, -56
 	.cfi_offset 75, -64
-	sub	v0.2d, v1.2d, v0.2d
-	ldr	q1, [x8, :lo12:.LCPI21_1.i4]
-	adrp	x8, .LCPI21_5.i4
-	ldr	q3, [x8, :lo12:.LCPI21_5.i4]
-	adrp	x8, .LCPI21_0.i4
 	stp	d9, d8, [sp, #240]
 	.cfi_offset 72, -40
 	.cfi_offset 73, -48
+	zip1	v0.2d, v0.2d, v1.2d
+	ldr	q1, [x8, :lo12:.LCPI21_0.i4]
+	adrp	x8, .LCPI21_2.i4
+	ldr	q3, [x8, :lo12:.LCPI21_2.i4]
+	adrp	x8, .LCPI21_4.i4
 	stp	x29, x30, [sp, #256]
 	.cfi_offset 29, -32
 	.cfi_offset 30, -24
-	add	x29, sp, #256
-	mov	v7.16b, v0.16b
-	add	v2.2d, v0.2d, v2.2d
-	add	v5.2d, v0.2d, v4.2d
-	ldr	q4, [x8, :lo12:.LCPI21_0.i4]
-	add	v1.2d, v0.2d, v1.2d
-	add	v3.2d, v0.2d, v3.2d
-	adrp	x8, .LCPI21_9.i4
+	ldr	q5, [x8, :lo12:.LCPI21_4.i4]
+	adrp	x8, .LCPI21_5.i4
 	str	x28, [sp, #272]
 	.cfi_offset 28, -16
-	mov	v7.d[0], x0
-	ldr	q17, [x8, :lo12:.LCPI21_9.i4]
+	ldr	q6, [x8, :lo12:.LCPI21_5.i4]
 	adrp	x8, .LCPI21_6.i4
-	add	v6.2d, v7.2d, v6.2d
-	add	v18.2d, v7.2d, v4.2d
-	add	v4.2d, v0.2d, v17.2d
-	stp	q1, q18, [sp]
-	ldr	q1, [x8, :lo12:.LCPI21_6.i4]
+	add	x29, sp, #256
+	add	v2.2d, v0.2d, v2.2d
+	ldr	q7, [x8, :lo12:.LCPI21_6.i4]
+	adrp	x8, .LCPI21_7.i4
+	add	v1.2d, v0.2d, v1.2d
+	ldr	q16, [x8, :lo12:.LCPI21_7.i4]
 	adrp	x8, .LCPI21_8.i4
-	stp	q2, q6, [sp, #32]
-	add	v2.2d, v7.2d, v16.2d
-	add	v1.2d, v7.2d, v1.2d
-	stp	q3, q2, [sp, #64]
-	ldr	q3, [x8, :lo12:.LCPI21_8.i4]
+	add	v4.2d, v0.2d, v4.2d
+	ldr	q17, [x8, :lo12:.LCPI21_8.i4]
+	add	v3.2d, v0.2d, v3.2d
+	adrp	x8, .LCPI21_9.i4
+	add	v5.2d, v0.2d, v5.2d
+	add	v7.2d, v0.2d, v7.2d
+	stp	q1, q2, [sp]
+	add	v2.2d, v0.2d, v6.2d
+	ldr	q1, [x8, :lo12:.LCPI21_9.i4]
 	adrp	x8, .LCPI21_11.i4
-	ldr	q16, [x8, :lo12:.LCPI21_11.i4]
-	adrp	x8, .LCPI21_10.i4
-	stp	q5, q1, [sp, #96]
-	ldr	q17, [x8, :lo12:.LCPI21_10.i4]
-	add	v5.2d, v7.2d, v3.2d
-	lsr	x8, x3, #10
+	stp	q3, q4, [sp, #32]
 	add	v6.2d, v0.2d, v16.2d
-	add	v7.2d, v7.2d, v17.2d
+	add	v4.2d, v0.2d, v1.2d
+	ldr	q1, [x8, :lo12:.LCPI21_11.i4]
+	adrp	x8, .LCPI21_10.i4
+	stp	q5, q2, [sp, #64]
+	ldr	q2, [x8, :lo12:.LCPI21_10.i4]
+	add	v5.2d, v0.2d, v17.2d
+	stp	q7, q6, [sp, #96]
+	add	v6.2d, v0.2d, v1.2d
+	lsr	x8, x3, #10
+	add	v7.2d, v0.2d, v2.2d
 	cmp	x8, #30
-	stp	q4, q5, [sp, #128]
-	stp	q6, q7, [sp, #160]
+	stp	q5, q4, [sp, #128]
+	stp	q7, q6, [sp, #160]
 	b.hi	.LBB21_3.i4
 	adrp	x10, .LCPI21_12.i4
 	cmp	x3, #1025
@@ -7171,16 +7163,16 @@ twox_core.width_64.oneshot_long_derived.i4:
 	b.ne	.LBB21_6.i4
 // %bb.7:                               // %"twox_core::xxhash3::stripes::blocks::process_block::<#2bc6bd144304b2fb>.exit.i"
 	ushr	v16.2d, v2.2d, #47
-	eor	v2.16b, v5.16b, v2.16b
+	eor	v2.16b, v4.16b, v2.16b
 	adrp	x13, .LCPI21_16.i4
 	ushr	v17.2d, v3.2d, #47
-	eor	v3.16b, v4.16b, v3.16b
+	eor	v3.16b, v5.16b, v3.16b
 	ldr	q20, [x13, :lo12:.LCPI21_16.i4]
 	ushr	v18.2d, v0.2d, #47
-	eor	v0.16b, v7.16b, v0.16b
+	eor	v0.16b, v6.16b, v0.16b
 	mov	w13, #31153
 	ushr	v19.2d, v1.2d, #47
-	eor	v1.16b, v6.16b, v1.16b
+	eor	v1.16b, v7.16b, v1.16b
 	movk	w13, #40503, lsl #16
 	eor	v16.16b, v2.16b, v16.16b
 	eor	v17.16b, v3.16b, v17.16b
@@ -8834,41 +8826,41 @@ twox_rust.xxh64.write_far.i4:
 	.section	.rodata.cst16,"aM",@progbits,16
 	.p2align	4, 0x0
 .LCPI28_0.i4:
-	.xword	-2623469361688619810
-	.xword	2262974939099578482
-.LCPI28_1.i4:
 	.xword	-4734510112055689544
 	.xword	2066345149520216444
+.LCPI28_1.i4:
+	.xword	-2623469361688619810
+	.xword	2262974939099578482
 .LCPI28_2.i4:
-	.xword	-8204357891075471176
-	.xword	5487137525590930912
-.LCPI28_3.i4:
 	.xword	8711581037947681227
 	.xword	2410270004345854594
+.LCPI28_3.i4:
+	.xword	-8204357891075471176
+	.xword	5487137525590930912
 .LCPI28_4.i4:
-	.xword	5690594596133299313
-	.xword	-2833645246901970632
-.LCPI28_5.i4:
 	.xword	-3818837453329782724
 	.xword	-6688317018830679928
+.LCPI28_5.i4:
+	.xword	5690594596133299313
+	.xword	-2833645246901970632
 .LCPI28_6.i4:
-	.xword	3556072174620004746
-	.xword	7238261902898274248
-.LCPI28_7.i4:
 	.xword	4554437623014685352
 	.xword	2111919702937427193
+.LCPI28_7.i4:
+	.xword	3556072174620004746
+	.xword	7238261902898274248
 .LCPI28_8.i4:
-	.xword	5321830579834785047
-	.xword	-7032137544937171245
-.LCPI28_9.i4:
 	.xword	-4329134394285701654
 	.xword	-1485321483350670907
+.LCPI28_9.i4:
+	.xword	5321830579834785047
+	.xword	-7032137544937171245
 .LCPI28_10.i4:
-	.xword	2883454493032893253
-	.xword	9097354517224871855
-.LCPI28_11.i4:
 	.xword	-242834301215959509
 	.xword	-3588858202114426737
+.LCPI28_11.i4:
+	.xword	2883454493032893253
+	.xword	9097354517224871855
 	.section	.text.twox_rust_4_derive_secret,"ax",@progbits
 	.hidden	twox_rust_4_derive_secret
 	.weak	twox_rust_4_derive_secret
@@ -8876,55 +8868,51 @@ twox_rust.xxh64.write_far.i4:
 	.type	twox_rust_4_derive_secret,@function
 twox_rust_4_derive_secret:
 	.cfi_startproc
-	movi	v0.2d, #0000000000000000
-	movi	v1.2d, #0000000000000000
-	adrp	x8, .LCPI28_1.i4
-	adrp	x9, .LCPI28_3.i4
-	adrp	x10, .LCPI28_4.i4
-	ldr	q2, [x9, :lo12:.LCPI28_3.i4]
-	adrp	x9, .LCPI28_7.i4
-	ldr	q16, [x10, :lo12:.LCPI28_4.i4]
-	ldr	q4, [x9, :lo12:.LCPI28_7.i4]
-	adrp	x9, .LCPI28_2.i4
-	mov	v1.d[0], x1
-	mov	v0.d[1], x1
-	ldr	q7, [x9, :lo12:.LCPI28_2.i4]
-	sub	v0.2d, v1.2d, v0.2d
-	ldr	q1, [x8, :lo12:.LCPI28_1.i4]
-	adrp	x8, .LCPI28_5.i4
-	ldr	q3, [x8, :lo12:.LCPI28_5.i4]
+	fmov	d0, x1
 	adrp	x8, .LCPI28_0.i4
-	ldr	q6, [x8, :lo12:.LCPI28_0.i4]
-	adrp	x8, .LCPI28_9.i4
-	mov	v5.16b, v0.16b
-	add	v1.2d, v0.2d, v1.2d
-	ldr	q17, [x8, :lo12:.LCPI28_9.i4]
+	adrp	x9, .LCPI28_1.i4
+	ldr	q2, [x9, :lo12:.LCPI28_1.i4]
+	adrp	x9, .LCPI28_3.i4
+	ldr	q4, [x9, :lo12:.LCPI28_3.i4]
+	neg	v1.2d, v0.2d
+	zip1	v0.2d, v0.2d, v1.2d
+	ldr	q1, [x8, :lo12:.LCPI28_0.i4]
+	adrp	x8, .LCPI28_2.i4
+	ldr	q3, [x8, :lo12:.LCPI28_2.i4]
+	adrp	x8, .LCPI28_4.i4
+	ldr	q5, [x8, :lo12:.LCPI28_4.i4]
+	adrp	x8, .LCPI28_5.i4
+	ldr	q6, [x8, :lo12:.LCPI28_5.i4]
 	adrp	x8, .LCPI28_6.i4
-	add	v3.2d, v0.2d, v3.2d
-	add	v4.2d, v0.2d, v4.2d
 	add	v2.2d, v0.2d, v2.2d
-	mov	v5.d[0], x1
-	add	v6.2d, v5.2d, v6.2d
-	add	v16.2d, v5.2d, v16.2d
-	add	v7.2d, v5.2d, v7.2d
-	stp	q1, q6, [x0]
-	ldr	q1, [x8, :lo12:.LCPI28_6.i4]
+	add	v1.2d, v0.2d, v1.2d
+	ldr	q7, [x8, :lo12:.LCPI28_6.i4]
+	adrp	x8, .LCPI28_7.i4
+	add	v5.2d, v0.2d, v5.2d
+	add	v4.2d, v0.2d, v4.2d
+	ldr	q16, [x8, :lo12:.LCPI28_7.i4]
 	adrp	x8, .LCPI28_8.i4
-	stp	q2, q7, [x0, #32]
-	add	v2.2d, v0.2d, v17.2d
-	add	v1.2d, v5.2d, v1.2d
-	stp	q3, q16, [x0, #64]
-	ldr	q3, [x8, :lo12:.LCPI28_8.i4]
+	add	v3.2d, v0.2d, v3.2d
+	stp	q1, q2, [x0]
+	add	v2.2d, v0.2d, v6.2d
+	ldr	q17, [x8, :lo12:.LCPI28_8.i4]
+	adrp	x8, .LCPI28_9.i4
+	ldr	q1, [x8, :lo12:.LCPI28_9.i4]
 	adrp	x8, .LCPI28_11.i4
-	add	v3.2d, v5.2d, v3.2d
-	stp	q4, q1, [x0, #96]
-	ldr	q4, [x8, :lo12:.LCPI28_11.i4]
+	stp	q3, q4, [x0, #32]
+	stp	q5, q2, [x0, #64]
+	ldr	q2, [x8, :lo12:.LCPI28_11.i4]
 	adrp	x8, .LCPI28_10.i4
 	ldr	q6, [x8, :lo12:.LCPI28_10.i4]
-	add	v0.2d, v0.2d, v4.2d
-	stp	q2, q3, [x0, #128]
-	add	v1.2d, v5.2d, v6.2d
-	stp	q0, q1, [x0, #160]
+	add	v4.2d, v0.2d, v16.2d
+	add	v3.2d, v0.2d, v7.2d
+	add	v1.2d, v0.2d, v1.2d
+	add	v5.2d, v0.2d, v17.2d
+	add	v2.2d, v0.2d, v2.2d
+	add	v0.2d, v0.2d, v6.2d
+	stp	q3, q4, [x0, #96]
+	stp	q5, q1, [x0, #128]
+	stp	q0, q2, [x0, #160]
 	ret
 	.cfi_endproc
 .Lfunc_end28.i4:

@@ -4499,41 +4499,41 @@ Lloh33:
 	.section	__TEXT,__literal16,16byte_literals
 	.p2align	4, 0x0
 lCPI15_0:
-	.quad	-2623469361688619810
-	.quad	2262974939099578482
-lCPI15_1:
 	.quad	-4734510112055689544
 	.quad	2066345149520216444
+lCPI15_1:
+	.quad	-2623469361688619810
+	.quad	2262974939099578482
 lCPI15_2:
-	.quad	-8204357891075471176
-	.quad	5487137525590930912
-lCPI15_3:
 	.quad	8711581037947681227
 	.quad	2410270004345854594
+lCPI15_3:
+	.quad	-8204357891075471176
+	.quad	5487137525590930912
 lCPI15_4:
-	.quad	5690594596133299313
-	.quad	-2833645246901970632
-lCPI15_5:
 	.quad	-3818837453329782724
 	.quad	-6688317018830679928
+lCPI15_5:
+	.quad	5690594596133299313
+	.quad	-2833645246901970632
 lCPI15_6:
-	.quad	3556072174620004746
-	.quad	7238261902898274248
-lCPI15_7:
 	.quad	4554437623014685352
 	.quad	2111919702937427193
+lCPI15_7:
+	.quad	3556072174620004746
+	.quad	7238261902898274248
 lCPI15_8:
-	.quad	5321830579834785047
-	.quad	-7032137544937171245
-lCPI15_9:
 	.quad	-4329134394285701654
 	.quad	-1485321483350670907
+lCPI15_9:
+	.quad	5321830579834785047
+	.quad	-7032137544937171245
 lCPI15_10:
-	.quad	2883454493032893253
-	.quad	9097354517224871855
-lCPI15_11:
 	.quad	-242834301215959509
 	.quad	-3588858202114426737
+lCPI15_11:
+	.quad	2883454493032893253
+	.quad	9097354517224871855
 lCPI15_12:
 	.quad	2870177450012600261
 	.quad	2654435761
@@ -4557,102 +4557,98 @@ _twox_core.width_128.oneshot_long_derived.i4:
 	.cfi_startproc
 	sub	sp, sp, #288
 	.cfi_def_cfa_offset 288
-	movi.2d	v0, #0000000000000000
-	movi.2d	v1, #0000000000000000
+	fmov	d0, x0
 Lloh34:
-	adrp	x9, lCPI15_3@PAGE
+	adrp	x8, lCPI15_0@PAGE
 Lloh35:
-	ldr	q2, [x9, lCPI15_3@PAGEOFF]
+	adrp	x9, lCPI15_1@PAGE
 Lloh36:
-	adrp	x9, lCPI15_7@PAGE
+	ldr	q2, [x9, lCPI15_1@PAGEOFF]
 Lloh37:
-	adrp	x8, lCPI15_1@PAGE
-Lloh38:
-	ldr	q4, [x9, lCPI15_7@PAGEOFF]
-Lloh39:
-	adrp	x9, lCPI15_2@PAGE
-Lloh40:
-	adrp	x10, lCPI15_4@PAGE
-Lloh41:
-	ldr	q6, [x9, lCPI15_2@PAGEOFF]
-Lloh42:
-	ldr	q16, [x10, lCPI15_4@PAGEOFF]
+	adrp	x9, lCPI15_3@PAGE
 	mov	x3, x2
-	mov.d	v1[0], x0
-	mov.d	v0[1], x0
+Lloh38:
+	ldr	q4, [x9, lCPI15_3@PAGEOFF]
 	mov	x2, x1
 	stp	d15, d14, [sp, #192]
 	.cfi_offset 78, -88
 	.cfi_offset 79, -96
+	neg.2d	v1, v0
 	stp	d13, d12, [sp, #208]
 	.cfi_offset 76, -72
 	.cfi_offset 77, -80
 	stp	d11, d10, [sp, #224]
 	.cfi_offset 74, -56
 	.cfi_offset 75, -64
-	sub.2d	v0, v1, v0
-Lloh43:
-	ldr	q1, [x8, lCPI15_1@PAGEOFF]
-Lloh44:
-	adrp	x8, lCPI15_5@PAGE
-Lloh45:
-	ldr	q3, [x8, lCPI15_5@PAGEOFF]
-Lloh46:
-	adrp	x8, lCPI15_0@PAGE
 	stp	d9, d8, [sp, #240]
 	.cfi_offset 72, -40
 	.cfi_offset 73, -48
+	zip1.2d	v0, v0, v1
+Lloh39:
+	ldr	q1, [x8, lCPI15_0@PAGEOFF]
+Lloh40:
+	adrp	x8, lCPI15_2@PAGE
+Lloh41:
+	ldr	q3, [x8, lCPI15_2@PAGEOFF]
+Lloh42:
+	adrp	x8, lCPI15_4@PAGE
 	stp	x28, x27, [sp, #256]
+Lloh43:
 	.cfi_offset 27, -24
 	.cfi_offset 28, -32
-	mov.16b	v7, v0
-	add.2d	v2, v0, v2
-	add.2d	v5, v0, v4
-Lloh47:
-	ldr	q4, [x8, lCPI15_0@PAGEOFF]
-	add.2d	v1, v0, v1
-	add.2d	v3, v0, v3
-Lloh48:
-	adrp	x8, lCPI15_9@PAGE
+	ldr	q5, [x8, lCPI15_4@PAGEOFF]
+Lloh44:
+	adrp	x8, lCPI15_5@PAGE
 	stp	x29, x30, [sp, #272]
+Lloh45:
 	.cfi_offset 29, -16
 	.cfi_offset 30, -8
-	add	x29, sp, #272
-	mov.d	v7[0], x0
-Lloh49:
-	ldr	q17, [x8, lCPI15_9@PAGEOFF]
-Lloh50:
+	ldr	q6, [x8, lCPI15_5@PAGEOFF]
+Lloh46:
 	adrp	x8, lCPI15_6@PAGE
-	add.2d	v6, v7, v6
-	add.2d	v18, v7, v4
-	add.2d	v4, v0, v17
-	stp	q1, q18, [sp]
-Lloh51:
-	ldr	q1, [x8, lCPI15_6@PAGEOFF]
-Lloh52:
+	add	x29, sp, #272
+	add.2d	v2, v0, v2
+Lloh47:
+	ldr	q7, [x8, lCPI15_6@PAGEOFF]
+Lloh48:
+	adrp	x8, lCPI15_7@PAGE
+	add.2d	v1, v0, v1
+Lloh49:
+	ldr	q16, [x8, lCPI15_7@PAGEOFF]
+Lloh50:
 	adrp	x8, lCPI15_8@PAGE
-	stp	q2, q6, [sp, #32]
-	add.2d	v2, v7, v16
-	add.2d	v1, v7, v1
-	stp	q3, q2, [sp, #64]
+	add.2d	v4, v0, v4
+Lloh51:
+	ldr	q17, [x8, lCPI15_8@PAGEOFF]
+	add.2d	v3, v0, v3
+Lloh52:
+	adrp	x8, lCPI15_9@PAGE
+	add.2d	v5, v0, v5
+	add.2d	v7, v0, v7
+	stp	q1, q2, [sp]
+	add.2d	v2, v0, v6
 Lloh53:
-	ldr	q3, [x8, lCPI15_8@PAGEOFF]
+	ldr	q1, [x8, lCPI15_9@PAGEOFF]
 Lloh54:
 	adrp	x8, lCPI15_11@PAGE
+	stp	q3, q4, [sp, #32]
+	add.2d	v6, v0, v16
+	add.2d	v4, v0, v1
 Lloh55:
-	ldr	q16, [x8, lCPI15_11@PAGEOFF]
+	ldr	q1, [x8, lCPI15_11@PAGEOFF]
 Lloh56:
 	adrp	x8, lCPI15_10@PAGE
-	stp	q5, q1, [sp, #96]
+	stp	q5, q2, [sp, #64]
 Lloh57:
-	ldr	q17, [x8, lCPI15_10@PAGEOFF]
-	add.2d	v5, v7, v3
+	ldr	q2, [x8, lCPI15_10@PAGEOFF]
+	add.2d	v5, v0, v17
+	stp	q7, q6, [sp, #96]
+	add.2d	v6, v0, v1
 	lsr	x8, x3, #10
-	add.2d	v6, v0, v16
-	add.2d	v7, v7, v17
+	add.2d	v7, v0, v2
 	cmp	x8, #30
-	stp	q4, q5, [sp, #128]
-	stp	q6, q7, [sp, #160]
+	stp	q5, q4, [sp, #128]
+	stp	q7, q6, [sp, #160]
 	b.hi	LBB15_3.i4
 	adrp	x10, lCPI15_12@PAGE
 	cmp	x3, #1025
@@ -4801,18 +4797,18 @@ LBB15_6.i4:
 	b.ne	LBB15_6.i4
 ; %bb.7:                                ; %"twox_core::xxhash3::stripes::blocks::process_block::<#2bc6bd144304b2fb>.exit.i"
 	ushr.2d	v16, v2, #47
-	eor.16b	v2, v5, v2
+	eor.16b	v2, v4, v2
 Lloh58:
 	adrp	x13, lCPI15_16@PAGE
 	ushr.2d	v17, v3, #47
-	eor.16b	v3, v4, v3
+	eor.16b	v3, v5, v3
 Lloh59:
 	ldr	q20, [x13, lCPI15_16@PAGEOFF]
 	ushr.2d	v18, v0, #47
-	eor.16b	v0, v7, v0
+	eor.16b	v0, v6, v0
 	mov	w13, #31153
 	ushr.2d	v19, v1, #47
-	eor.16b	v1, v6, v1
+	eor.16b	v1, v7, v1
 	movk	w13, #40503, lsl #16
 	eor.16b	v16, v2, v16
 	eor.16b	v17, v3, v17
@@ -5033,14 +5029,15 @@ LBB15_12.i4:                               ; %"twox_core::width_128::oneshot_abo
 	.loh AdrpLdr	Lloh46, Lloh47
 	.loh AdrpAdrp	Lloh44, Lloh46
 	.loh AdrpLdr	Lloh44, Lloh45
-	.loh AdrpLdr	Lloh40, Lloh42
-	.loh AdrpLdr	Lloh39, Lloh41
-	.loh AdrpAdrp	Lloh37, Lloh44
-	.loh AdrpLdr	Lloh37, Lloh43
-	.loh AdrpAdrp	Lloh36, Lloh39
-	.loh AdrpLdr	Lloh36, Lloh38
-	.loh AdrpAdrp	Lloh34, Lloh36
-	.loh AdrpLdr	Lloh34, Lloh35
+	.loh AdrpAdrp	Lloh42, Lloh44
+	.loh AdrpLdr	Lloh42, Lloh43
+	.loh AdrpAdrp	Lloh40, Lloh42
+	.loh AdrpLdr	Lloh40, Lloh41
+	.loh AdrpLdr	Lloh37, Lloh38
+	.loh AdrpAdrp	Lloh35, Lloh37
+	.loh AdrpLdr	Lloh35, Lloh36
+	.loh AdrpAdrp	Lloh34, Lloh40
+	.loh AdrpLdr	Lloh34, Lloh39
 	.loh AdrpLdr	Lloh58, Lloh59
 	.p2align	2
 _twox_core.width_64.impl_129_to_240_bytes.i4:
@@ -6979,41 +6976,41 @@ LBB20_32.i4:                               ; %"twox_core::xxhash3::streaming::co
 	.section	__TEXT,__literal16,16byte_literals
 	.p2align	4, 0x0
 lCPI21_0:
-	.quad	-2623469361688619810
-	.quad	2262974939099578482
-lCPI21_1:
 	.quad	-4734510112055689544
 	.quad	2066345149520216444
+lCPI21_1:
+	.quad	-2623469361688619810
+	.quad	2262974939099578482
 lCPI21_2:
-	.quad	-8204357891075471176
-	.quad	5487137525590930912
-lCPI21_3:
 	.quad	8711581037947681227
 	.quad	2410270004345854594
+lCPI21_3:
+	.quad	-8204357891075471176
+	.quad	5487137525590930912
 lCPI21_4:
-	.quad	5690594596133299313
-	.quad	-2833645246901970632
-lCPI21_5:
 	.quad	-3818837453329782724
 	.quad	-6688317018830679928
+lCPI21_5:
+	.quad	5690594596133299313
+	.quad	-2833645246901970632
 lCPI21_6:
-	.quad	3556072174620004746
-	.quad	7238261902898274248
-lCPI21_7:
 	.quad	4554437623014685352
 	.quad	2111919702937427193
+lCPI21_7:
+	.quad	3556072174620004746
+	.quad	7238261902898274248
 lCPI21_8:
-	.quad	5321830579834785047
-	.quad	-7032137544937171245
-lCPI21_9:
 	.quad	-4329134394285701654
 	.quad	-1485321483350670907
+lCPI21_9:
+	.quad	5321830579834785047
+	.quad	-7032137544937171245
 lCPI21_10:
-	.quad	2883454493032893253
-	.quad	9097354517224871855
-lCPI21_11:
 	.quad	-242834301215959509
 	.quad	-3588858202114426737
+lCPI21_11:
+	.quad	2883454493032893253
+	.quad	9097354517224871855
 lCPI21_12:
 	.quad	2870177450012600261
 	.quad	2654435761
@@ -7037,102 +7034,98 @@ _twox_core.width_64.oneshot_long_derived.i4:
 	.cfi_startproc
 	sub	sp, sp, #288
 	.cfi_def_cfa_offset 288
-	movi.2d	v0, #0000000000000000
-	movi.2d	v1, #0000000000000000
+	fmov	d0, x0
 Lloh78:
-	adrp	x9, lCPI21_3@PAGE
+	adrp	x8, lCPI21_0@PAGE
 Lloh79:
-	ldr	q2, [x9, lCPI21_3@PAGEOFF]
+	adrp	x9, lCPI21_1@PAGE
 Lloh80:
-	adrp	x9, lCPI21_7@PAGE
+	ldr	q2, [x9, lCPI21_1@PAGEOFF]
 Lloh81:
-	adrp	x8, lCPI21_1@PAGE
-Lloh82:
-	ldr	q4, [x9, lCPI21_7@PAGEOFF]
-Lloh83:
-	adrp	x9, lCPI21_2@PAGE
-Lloh84:
-	adrp	x10, lCPI21_4@PAGE
-Lloh85:
-	ldr	q6, [x9, lCPI21_2@PAGEOFF]
-Lloh86:
-	ldr	q16, [x10, lCPI21_4@PAGEOFF]
+	adrp	x9, lCPI21_3@PAGE
 	mov	x3, x2
-	mov.d	v1[0], x0
-	mov.d	v0[1], x0
+Lloh82:
+	ldr	q4, [x9, lCPI21_3@PAGEOFF]
 	mov	x2, x1
 	stp	d15, d14, [sp, #192]
 	.cfi_offset 78, -88
 	.cfi_offset 79, -96
+	neg.2d	v1, v0
 	stp	d13, d12, [sp, #208]
 	.cfi_offset 76, -72
 	.cfi_offset 77, -80
 	stp	d11, d10, [sp, #224]
 	.cfi_offset 74, -56
 	.cfi_offset 75, -64
-	sub.2d	v0, v1, v0
-Lloh87:
-	ldr	q1, [x8, lCPI21_1@PAGEOFF]
-Lloh88:
-	adrp	x8, lCPI21_5@PAGE
-Lloh89:
-	ldr	q3, [x8, lCPI21_5@PAGEOFF]
-Lloh90:
-	adrp	x8, lCPI21_0@PAGE
 	stp	d9, d8, [sp, #240]
 	.cfi_offset 72, -40
 	.cfi_offset 73, -48
+	zip1.2d	v0, v0, v1
+Lloh83:
+	ldr	q1, [x8, lCPI21_0@PAGEOFF]
+Lloh84:
+	adrp	x8, lCPI21_2@PAGE
+Lloh85:
+	ldr	q3, [x8, lCPI21_2@PAGEOFF]
+Lloh86:
+	adrp	x8, lCPI21_4@PAGE
 	stp	x28, x27, [sp, #256]
+Lloh87:
 	.cfi_offset 27, -24
 	.cfi_offset 28, -32
-	mov.16b	v7, v0
-	add.2d	v2, v0, v2
-	add.2d	v5, v0, v4
-Lloh91:
-	ldr	q4, [x8, lCPI21_0@PAGEOFF]
-	add.2d	v1, v0, v1
-	add.2d	v3, v0, v3
-Lloh92:
-	adrp	x8, lCPI21_9@PAGE
+	ldr	q5, [x8, lCPI21_4@PAGEOFF]
+Lloh88:
+	adrp	x8, lCPI21_5@PAGE
 	stp	x29, x30, [sp, #272]
+Lloh89:
 	.cfi_offset 29, -16
 	.cfi_offset 30, -8
-	add	x29, sp, #272
-	mov.d	v7[0], x0
-Lloh93:
-	ldr	q17, [x8, lCPI21_9@PAGEOFF]
-Lloh94:
+	ldr	q6, [x8, lCPI21_5@PAGEOFF]
+Lloh90:
 	adrp	x8, lCPI21_6@PAGE
-	add.2d	v6, v7, v6
-	add.2d	v18, v7, v4
-	add.2d	v4, v0, v17
-	stp	q1, q18, [sp]
-Lloh95:
-	ldr	q1, [x8, lCPI21_6@PAGEOFF]
-Lloh96:
+	add	x29, sp, #272
+	add.2d	v2, v0, v2
+Lloh91:
+	ldr	q7, [x8, lCPI21_6@PAGEOFF]
+Lloh92:
+	adrp	x8, lCPI21_7@PAGE
+	add.2d	v1, v0, v1
+Lloh93:
+	ldr	q16, [x8, lCPI21_7@PAGEOFF]
+Lloh94:
 	adrp	x8, lCPI21_8@PAGE
-	stp	q2, q6, [sp, #32]
-	add.2d	v2, v7, v16
-	add.2d	v1, v7, v1
-	stp	q3, q2, [sp, #64]
+	add.2d	v4, v0, v4
+Lloh95:
+	ldr	q17, [x8, lCPI21_8@PAGEOFF]
+	add.2d	v3, v0, v3
+Lloh96:
+	adrp	x8, lCPI21_9@PAGE
+	add.2d	v5, v0, v5
+	add.2d	v7, v0, v7
+	stp	q1, q2, [sp]
+	add.2d	v2, v0, v6
 Lloh97:
-	ldr	q3, [x8, lCPI21_8@PAGEOFF]
+	ldr	q1, [x8, lCPI21_9@PAGEOFF]
 Lloh98:
 	adrp	x8, lCPI21_11@PAGE
+	stp	q3, q4, [sp, #32]
+	add.2d	v6, v0, v16
+	add.2d	v4, v0, v1
 Lloh99:
-	ldr	q16, [x8, lCPI21_11@PAGEOFF]
+	ldr	q1, [x8, lCPI21_11@PAGEOFF]
 Lloh100:
 	adrp	x8, lCPI21_10@PAGE
-	stp	q5, q1, [sp, #96]
+	stp	q5, q2, [sp, #64]
 Lloh101:
-	ldr	q17, [x8, lCPI21_10@PAGEOFF]
-	add.2d	v5, v7, v3
+	ldr	q2, [x8, lCPI21_10@PAGEOFF]
+	add.2d	v5, v0, v17
+	stp	q7, q6, [sp, #96]
+	add.2d	v6, v0, v1
 	lsr	x8, x3, #10
-	add.2d	v6, v0, v16
-	add.2d	v7, v7, v17
+	add.2d	v7, v0, v2
 	cmp	x8, #30
-	stp	q4, q5, [sp, #128]
-	stp	q6, q7, [sp, #160]
+	stp	q5, q4, [sp, #128]
+	stp	q7, q6, [sp, #160]
 	b.hi	LBB21_3.i4
 	adrp	x10, lCPI21_12@PAGE
 	cmp	x3, #1025
@@ -7281,18 +7274,18 @@ LBB21_6.i4:
 	b.ne	LBB21_6.i4
 ; %bb.7:                                ; %"twox_core::xxhash3::stripes::blocks::process_block::<#2bc6bd144304b2fb>.exit.i"
 	ushr.2d	v16, v2, #47
-	eor.16b	v2, v5, v2
+	eor.16b	v2, v4, v2
 Lloh102:
 	adrp	x13, lCPI21_16@PAGE
 	ushr.2d	v17, v3, #47
-	eor.16b	v3, v4, v3
+	eor.16b	v3, v5, v3
 Lloh103:
 	ldr	q20, [x13, lCPI21_16@PAGEOFF]
 	ushr.2d	v18, v0, #47
-	eor.16b	v0, v7, v0
+	eor.16b	v0, v6, v0
 	mov	w13, #31153
 	ushr.2d	v19, v1, #47
-	eor.16b	v1, v6, v1
+	eor.16b	v1, v7, v1
 	movk	w13, #40503, lsl #16
 	eor.16b	v16, v2, v16
 	eor.16b	v17, v3, v17
@@ -7472,14 +7465,15 @@ LBB21_12.i4:                               ; %"twox_core::width_64::oneshot_abov
 	.loh AdrpLdr	Lloh90, Lloh91
 	.loh AdrpAdrp	Lloh88, Lloh90
 	.loh AdrpLdr	Lloh88, Lloh89
-	.loh AdrpLdr	Lloh84, Lloh86
-	.loh AdrpLdr	Lloh83, Lloh85
-	.loh AdrpAdrp	Lloh81, Lloh88
-	.loh AdrpLdr	Lloh81, Lloh87
-	.loh AdrpAdrp	Lloh80, Lloh83
-	.loh AdrpLdr	Lloh80, Lloh82
-	.loh AdrpAdrp	Lloh78, Lloh80
-	.loh AdrpLdr	Lloh78, Lloh79
+	.loh AdrpAdrp	Lloh86, Lloh88
+	.loh AdrpLdr	Lloh86, Lloh87
+	.loh AdrpAdrp	Lloh84, Lloh86
+	.loh AdrpLdr	Lloh84, Lloh85
+	.loh AdrpLdr	Lloh81, Lloh82
+	.loh AdrpAdrp	Lloh79, Lloh81
+	.loh AdrpLdr	Lloh79, Lloh80
+	.loh AdrpAdrp	Lloh78, Lloh84
+	.loh AdrpLdr	Lloh78, Lloh83
 	.loh AdrpLdr	Lloh102, Lloh103
 	.p2align	2
 _twox_exports.stream_3.write_far.i4:
@@ -8947,41 +8941,41 @@ LBB27_37.i4:
 	.section	__TEXT,__literal16,16byte_literals
 	.p2align	4, 0x0
 lCPI28_0:
-	.quad	-2623469361688619810
-	.quad	2262974939099578482
-lCPI28_1:
 	.quad	-4734510112055689544
 	.quad	2066345149520216444
+lCPI28_1:
+	.quad	-2623469361688619810
+	.quad	2262974939099578482
 lCPI28_2:
-	.quad	-8204357891075471176
-	.quad	5487137525590930912
-lCPI28_3:
 	.quad	8711581037947681227
 	.quad	2410270004345854594
+lCPI28_3:
+	.quad	-8204357891075471176
+	.quad	5487137525590930912
 lCPI28_4:
-	.quad	5690594596133299313
-	.quad	-2833645246901970632
-lCPI28_5:
 	.quad	-3818837453329782724
 	.quad	-6688317018830679928
+lCPI28_5:
+	.quad	5690594596133299313
+	.quad	-2833645246901970632
 lCPI28_6:
-	.quad	3556072174620004746
-	.quad	7238261902898274248
-lCPI28_7:
 	.quad	4554437623014685352
 	.quad	2111919702937427193
+lCPI28_7:
+	.quad	3556072174620004746
+	.quad	7238261902898274248
 lCPI28_8:
-	.quad	5321830579834785047
-	.quad	-7032137544937171245
-lCPI28_9:
 	.quad	-4329134394285701654
 	.quad	-1485321483350670907
+lCPI28_9:
+	.quad	5321830579834785047
+	.quad	-7032137544937171245
 lCPI28_10:
-	.quad	2883454493032893253
-	.quad	9097354517224871855
-lCPI28_11:
 	.quad	-242834301215959509
 	.quad	-3588858202114426737
+lCPI28_11:
+	.quad	2883454493032893253
+	.quad	9097354517224871855
 	.section	__TEXT,__text,regular,pure_instructions
 	.private_extern	_twox_rust_4_derive_secret
 	.globl	_twox_rust_4_derive_secret
@@ -8989,79 +8983,75 @@ lCPI28_11:
 	.p2align	2
 _twox_rust_4_derive_secret:
 	.cfi_startproc
-	movi.2d	v0, #0000000000000000
-	movi.2d	v1, #0000000000000000
+	fmov	d0, x1
 Lloh106:
-	adrp	x8, lCPI28_1@PAGE
+	adrp	x8, lCPI28_0@PAGE
 Lloh107:
-	adrp	x9, lCPI28_3@PAGE
+	adrp	x9, lCPI28_1@PAGE
 Lloh108:
-	adrp	x10, lCPI28_4@PAGE
+	ldr	q2, [x9, lCPI28_1@PAGEOFF]
 Lloh109:
-	ldr	q2, [x9, lCPI28_3@PAGEOFF]
+	adrp	x9, lCPI28_3@PAGE
 Lloh110:
-	adrp	x9, lCPI28_7@PAGE
+	ldr	q4, [x9, lCPI28_3@PAGEOFF]
+	neg.2d	v1, v0
+	zip1.2d	v0, v0, v1
 Lloh111:
-	ldr	q16, [x10, lCPI28_4@PAGEOFF]
+	ldr	q1, [x8, lCPI28_0@PAGEOFF]
 Lloh112:
-	ldr	q4, [x9, lCPI28_7@PAGEOFF]
+	adrp	x8, lCPI28_2@PAGE
 Lloh113:
-	adrp	x9, lCPI28_2@PAGE
-	mov.d	v1[0], x1
-	mov.d	v0[1], x1
+	ldr	q3, [x8, lCPI28_2@PAGEOFF]
 Lloh114:
-	ldr	q7, [x9, lCPI28_2@PAGEOFF]
-	sub.2d	v0, v1, v0
+	adrp	x8, lCPI28_4@PAGE
 Lloh115:
-	ldr	q1, [x8, lCPI28_1@PAGEOFF]
+	ldr	q5, [x8, lCPI28_4@PAGEOFF]
 Lloh116:
 	adrp	x8, lCPI28_5@PAGE
 Lloh117:
-	ldr	q3, [x8, lCPI28_5@PAGEOFF]
+	ldr	q6, [x8, lCPI28_5@PAGEOFF]
 Lloh118:
-	adrp	x8, lCPI28_0@PAGE
-Lloh119:
-	ldr	q6, [x8, lCPI28_0@PAGEOFF]
-Lloh120:
-	adrp	x8, lCPI28_9@PAGE
-	mov.16b	v5, v0
-	add.2d	v1, v0, v1
-Lloh121:
-	ldr	q17, [x8, lCPI28_9@PAGEOFF]
-Lloh122:
 	adrp	x8, lCPI28_6@PAGE
-	add.2d	v3, v0, v3
-	add.2d	v4, v0, v4
 	add.2d	v2, v0, v2
-	mov.d	v5[0], x1
-	add.2d	v6, v5, v6
-	add.2d	v16, v5, v16
-	add.2d	v7, v5, v7
-	stp	q1, q6, [x0]
-Lloh123:
-	ldr	q1, [x8, lCPI28_6@PAGEOFF]
-Lloh124:
+	add.2d	v1, v0, v1
+Lloh119:
+	ldr	q7, [x8, lCPI28_6@PAGEOFF]
+Lloh120:
+	adrp	x8, lCPI28_7@PAGE
+	add.2d	v5, v0, v5
+	add.2d	v4, v0, v4
+Lloh121:
+	ldr	q16, [x8, lCPI28_7@PAGEOFF]
+Lloh122:
 	adrp	x8, lCPI28_8@PAGE
-	stp	q2, q7, [x0, #32]
-	add.2d	v2, v0, v17
-	add.2d	v1, v5, v1
-	stp	q3, q16, [x0, #64]
+	add.2d	v3, v0, v3
+	stp	q1, q2, [x0]
+	add.2d	v2, v0, v6
+Lloh123:
+	ldr	q17, [x8, lCPI28_8@PAGEOFF]
+Lloh124:
+	adrp	x8, lCPI28_9@PAGE
 Lloh125:
-	ldr	q3, [x8, lCPI28_8@PAGEOFF]
+	ldr	q1, [x8, lCPI28_9@PAGEOFF]
 Lloh126:
 	adrp	x8, lCPI28_11@PAGE
-	add.2d	v3, v5, v3
-	stp	q4, q1, [x0, #96]
+	stp	q3, q4, [x0, #32]
+	stp	q5, q2, [x0, #64]
 Lloh127:
-	ldr	q4, [x8, lCPI28_11@PAGEOFF]
+	ldr	q2, [x8, lCPI28_11@PAGEOFF]
 Lloh128:
 	adrp	x8, lCPI28_10@PAGE
 Lloh129:
 	ldr	q6, [x8, lCPI28_10@PAGEOFF]
-	add.2d	v0, v0, v4
-	stp	q2, q3, [x0, #128]
-	add.2d	v1, v5, v6
-	stp	q0, q1, [x0, #160]
+	add.2d	v4, v0, v16
+	add.2d	v3, v0, v7
+	add.2d	v1, v0, v1
+	add.2d	v5, v0, v17
+	add.2d	v2, v0, v2
+	add.2d	v0, v0, v6
+	stp	q3, q4, [x0, #96]
+	stp	q5, q1, [x0, #128]
+	stp	q0, q2, [x0, #160]
 	ret
 	.cfi_endproc
 	.loh AdrpLdr	Lloh128, Lloh129
@@ -9077,14 +9067,15 @@ Lloh129:
 	.loh AdrpLdr	Lloh118, Lloh119
 	.loh AdrpAdrp	Lloh116, Lloh118
 	.loh AdrpLdr	Lloh116, Lloh117
-	.loh AdrpLdr	Lloh113, Lloh114
-	.loh AdrpAdrp	Lloh110, Lloh113
-	.loh AdrpLdr	Lloh110, Lloh112
-	.loh AdrpLdr	Lloh108, Lloh111
-	.loh AdrpAdrp	Lloh107, Lloh110
-	.loh AdrpLdr	Lloh107, Lloh109
-	.loh AdrpAdrp	Lloh106, Lloh116
-	.loh AdrpLdr	Lloh106, Lloh115
+	.loh AdrpAdrp	Lloh114, Lloh116
+	.loh AdrpLdr	Lloh114, Lloh115
+	.loh AdrpAdrp	Lloh112, Lloh114
+	.loh AdrpLdr	Lloh112, Lloh113
+	.loh AdrpLdr	Lloh109, Lloh110
+	.loh AdrpAdrp	Lloh107, Lloh109
+	.loh AdrpLdr	Lloh107, Lloh108
+	.loh AdrpAdrp	Lloh106, Lloh112
+	.loh AdrpLdr	Lloh106, Lloh111
 	.private_extern	_twox_rust_4_interface
 	.globl	_twox_rust_4_interface
 	.weak_definition	_twox_rust_4_interface

@@ -4343,84 +4343,80 @@ twox_core.width_128.oneshot_long_derived.i4:
 	.cfi_startproc
 	sub sp, sp, #0x120
 	.cfi_def_cfa_offset 288
-	movi v0.2d, #0x0
-	movi v1.2d, #0x0
+	fmov d0, x0
+	adrp x8, .L57_150.i4
+	adrp x9, .L57_160.i4
+	ldr q2, [x9, #:lo12:.L57_160.i4]
 	adrp x9, .L57_180.i4
-	ldr q2, [x9, #:lo12:.L57_180.i4]
-	adrp x9, .L57_1c0.i4
-	adrp x8, .L57_160.i4
-	ldr q4, [x9, #:lo12:.L57_1c0.i4]
-	adrp x9, .L57_170.i4
-	adrp x10, .L57_190.i4
-	ldr q6, [x9, #:lo12:.L57_170.i4]
-	ldr q16, [x10, #:lo12:.L57_190.i4]
 	mov x3, x2
-	mov v1.d[0], x0
-	mov v0.d[1], x0
+	ldr q4, [x9, #:lo12:.L57_180.i4]
 	mov x2, x1
 	stp d15, d14, [sp, #192]
 	.cfi_offset 78, -88
 	.cfi_offset 79, -96
+	neg v1.2d, v0.2d
 	stp d13, d12, [sp, #208]
 	.cfi_offset 76, -72
 	.cfi_offset 77, -80
 	stp d11, d10, [sp, #224]
 	.cfi_offset 74, -56
 	.cfi_offset 75, -64
-	sub v0.2d, v1.2d, v0.2d
-	ldr q1, [x8, #:lo12:.L57_160.i4]
-	adrp x8, .L57_1a0.i4
-	ldr q3, [x8, #:lo12:.L57_1a0.i4]
-	adrp x8, .L57_150.i4
 	stp d9, d8, [sp, #240]
 	.cfi_offset 72, -40
 	.cfi_offset 73, -48
+	zip1 v0.2d, v0.2d, v1.2d
+	ldr q1, [x8, #:lo12:.L57_150.i4]
+	adrp x8, .L57_170.i4
+	ldr q3, [x8, #:lo12:.L57_170.i4]
+	adrp x8, .L57_190.i4
 	stp x29, x30, [sp, #256]
 	.cfi_offset 29, -32
 	.cfi_offset 30, -24
-	add x29, sp, #0x100
-	mov v7.16b, v0.16b
-	add v2.2d, v0.2d, v2.2d
-	add v5.2d, v0.2d, v4.2d
-	ldr q4, [x8, #:lo12:.L57_150.i4]
-	add v1.2d, v0.2d, v1.2d
-	add v3.2d, v0.2d, v3.2d
-	adrp x8, .L57_1e0.i4
+	ldr q5, [x8, #:lo12:.L57_190.i4]
+	adrp x8, .L57_1a0.i4
 	str x28, [sp, #272]
 	.cfi_offset 28, -16
-	mov v7.d[0], x0
-	ldr q17, [x8, #:lo12:.L57_1e0.i4]
+	ldr q6, [x8, #:lo12:.L57_1a0.i4]
 	adrp x8, .L57_1b0.i4
-	add v6.2d, v7.2d, v6.2d
-	add v18.2d, v7.2d, v4.2d
-	add v4.2d, v0.2d, v17.2d
-	stp q1, q18, [sp]
-	ldr q1, [x8, #:lo12:.L57_1b0.i4]
+	add x29, sp, #0x100
+	add v2.2d, v0.2d, v2.2d
+	ldr q7, [x8, #:lo12:.L57_1b0.i4]
+	adrp x8, .L57_1c0.i4
+	add v1.2d, v0.2d, v1.2d
+	ldr q16, [x8, #:lo12:.L57_1c0.i4]
 	adrp x8, .L57_1d0.i4
-	stp q2, q6, [sp, #32]
-	add v2.2d, v7.2d, v16.2d
-	add v1.2d, v7.2d, v1.2d
-	stp q3, q2, [sp, #64]
-	ldr q3, [x8, #:lo12:.L57_1d0.i4]
+	add v4.2d, v0.2d, v4.2d
+	ldr q17, [x8, #:lo12:.L57_1d0.i4]
+	add v3.2d, v0.2d, v3.2d
+	adrp x8, .L57_1e0.i4
+	add v5.2d, v0.2d, v5.2d
+	add v7.2d, v0.2d, v7.2d
+	stp q1, q2, [sp]
+	add v2.2d, v0.2d, v6.2d
+	ldr q1, [x8, #:lo12:.L57_1e0.i4]
 	adrp x8, .L57_200.i4
-	ldr q16, [x8, #:lo12:.L57_200.i4]
-	adrp x8, .L57_1f0.i4
-	stp q5, q1, [sp, #96]
-	ldr q17, [x8, #:lo12:.L57_1f0.i4]
-	add v5.2d, v7.2d, v3.2d
-	lsr x8, x3, #10
+	stp q3, q4, [sp, #32]
 	add v6.2d, v0.2d, v16.2d
-	add v7.2d, v7.2d, v17.2d
+	add v4.2d, v0.2d, v1.2d
+	ldr q1, [x8, #:lo12:.L57_200.i4]
+	adrp x8, .L57_1f0.i4
+	stp q5, q2, [sp, #64]
+	ldr q2, [x8, #:lo12:.L57_1f0.i4]
+	add v5.2d, v0.2d, v17.2d
+	stp q7, q6, [sp, #96]
+	add v6.2d, v0.2d, v1.2d
+	lsr x8, x3, #10
+	add v7.2d, v0.2d, v2.2d
 	cmp x8, #0x1e
-	stp q4, q5, [sp, #128]
-	stp q6, q7, [sp, #160]
-	b.hi .L16_140.i4
+	stp q5, q4, [sp, #128]
+	stp q7, q6, [sp, #160]
+	b.hi .L16_130.i4
 	adrp x10, .L57_210.i4
 	cmp x3, #0x401
 	adrp x13, .L57_220.i4
 	adrp x12, .L57_230.i4
 	adrp x11, .L57_240.i4
-	b.cs .L16_150.i4
+	b.cs .L16_140.i4
 	ldr q0, [x10, #:lo12:.L57_210.i4]
 	ldr q1, [x13, #:lo12:.L57_220.i4]
 	mov x8, #0xffffffffffffffff
@@ -4431,14 +4427,14 @@ twox_core.width_128.oneshot_long_derived.i4:
 	add x9, x2, x3
 	lsr x10, x8, #6
 	mov x8, sp
-	cbnz x10, .L16_3d0.i4
-	b .L16_458.i4
-.L16_140.i4:
+	cbnz x10, .L16_3c0.i4
+	b .L16_448.i4
+.L16_130.i4:
 	mov x0, sp
 	mov w1, #0xc0
 	bl twox_core.width_128.oneshot_many.i4
-	b .L16_628.i4
-.L16_150.i4:
+	b .L16_618.i4
+.L16_140.i4:
 	sub x8, x3, #0x1
 	ldr q0, [x10, #:lo12:.L57_210.i4]
 	ldr q1, [x13, #:lo12:.L57_220.i4]
@@ -4449,12 +4445,12 @@ twox_core.width_128.oneshot_long_derived.i4:
 	mov x9, xzr
 	add x11, x2, #0x80
 	add x12, x12, #0x20
-.L16_178.i4:
+.L16_168.i4:
 	mov x16, x12
 	mov w13, #0x4
 	mov x14, x11
 	mov x15, x12
-.L16_188.i4:
+.L16_178.i4:
 	ldp q16, q17, [x16, #-32]
 	subs x13, x13, #0x1
 	ldp q21, q19, [x14, #-128]
@@ -4559,18 +4555,18 @@ twox_core.width_128.oneshot_long_derived.i4:
 	umlal v3.2d, v17.2s, v24.2s
 	umlal v0.2d, v23.2s, v20.2s
 	umlal v1.2d, v19.2s, v18.2s
-	b.ne .L16_188.i4
+	b.ne .L16_178.i4
 	ushr v16.2d, v2.2d, #47
-	eor v2.16b, v5.16b, v2.16b
+	eor v2.16b, v4.16b, v2.16b
 	adrp x13, .L57_250.i4
 	ushr v17.2d, v3.2d, #47
-	eor v3.16b, v4.16b, v3.16b
+	eor v3.16b, v5.16b, v3.16b
 	ldr q20, [x13, #:lo12:.L57_250.i4]
 	ushr v18.2d, v0.2d, #47
-	eor v0.16b, v7.16b, v0.16b
+	eor v0.16b, v6.16b, v0.16b
 	mov w13, #0x79b1
 	ushr v19.2d, v1.2d, #47
-	eor v1.16b, v6.16b, v1.16b
+	eor v1.16b, v7.16b, v1.16b
 	movk w13, #0x9e37, lsl #16
 	eor v16.16b, v2.16b, v16.16b
 	eor v17.16b, v3.16b, v17.16b
@@ -4592,7 +4588,7 @@ twox_core.width_128.oneshot_long_derived.i4:
 	umlal v3.2d, v17.2s, v21.2s
 	umlal v0.2d, v18.2s, v21.2s
 	umlal v1.2d, v19.2s, v21.2s
-	b.ne .L16_178.i4
+	b.ne .L16_168.i4
 	and x8, x8, #0xfffffffffffffc00
 	add x12, x2, x8
 	mvn x8, x8
@@ -4600,12 +4596,12 @@ twox_core.width_128.oneshot_long_derived.i4:
 	add x9, x2, x3
 	lsr x10, x8, #6
 	mov x8, sp
-	cbz x10, .L16_458.i4
-.L16_3d0.i4:
+	cbz x10, .L16_448.i4
+.L16_3c0.i4:
 	mov x11, sp
 	add x12, x12, #0x20
 	add x11, x11, #0x20
-.L16_3dc.i4:
+.L16_3cc.i4:
 	ldp q4, q5, [x12, #-32]
 	subs x10, x10, #0x1
 	ldp q6, q7, [x11, #-32]
@@ -4636,8 +4632,8 @@ twox_core.width_128.oneshot_long_derived.i4:
 	umlal v2.2d, v5.2s, v19.2s
 	umlal v0.2d, v6.2s, v16.2s
 	umlal v1.2d, v7.2s, v17.2s
-	b.ne .L16_3dc.i4
-.L16_458.i4:
+	b.ne .L16_3cc.i4
+.L16_448.i4:
 	ldur q4, [x9, #-64]
 	ldur q5, [sp, #121]
 	mov x5, #0xca87
@@ -4754,7 +4750,7 @@ twox_core.width_128.oneshot_long_derived.i4:
 	mul x8, x8, x11
 	eor x0, x9, x9, lsr #32
 	eor x1, x8, x8, lsr #32
-.L16_628.i4:
+.L16_618.i4:
 	ldp x29, x30, [sp, #256]
 	.cfi_restore 29
 	.cfi_restore 30
@@ -6628,84 +6624,80 @@ twox_core.width_64.oneshot_long_derived.i4:
 	.cfi_startproc
 	sub sp, sp, #0x120
 	.cfi_def_cfa_offset 288
-	movi v0.2d, #0x0
-	movi v1.2d, #0x0
+	fmov d0, x0
+	adrp x8, .L57_350.i4
+	adrp x9, .L57_360.i4
+	ldr q2, [x9, #:lo12:.L57_360.i4]
 	adrp x9, .L57_380.i4
-	ldr q2, [x9, #:lo12:.L57_380.i4]
-	adrp x9, .L57_3c0.i4
-	adrp x8, .L57_360.i4
-	ldr q4, [x9, #:lo12:.L57_3c0.i4]
-	adrp x9, .L57_370.i4
-	adrp x10, .L57_390.i4
-	ldr q6, [x9, #:lo12:.L57_370.i4]
-	ldr q16, [x10, #:lo12:.L57_390.i4]
 	mov x3, x2
-	mov v1.d[0], x0
-	mov v0.d[1], x0
+	ldr q4, [x9, #:lo12:.L57_380.i4]
 	mov x2, x1
 	stp d15, d14, [sp, #192]
 	.cfi_offset 78, -88
 	.cfi_offset 79, -96
+	neg v1.2d, v0.2d
 	stp d13, d12, [sp, #208]
 	.cfi_offset 76, -72
 	.cfi_offset 77, -80
 	stp d11, d10, [sp, #224]
 	.cfi_offset 74, -56
 	.cfi_offset 75, -64
-	sub v0.2d, v1.2d, v0.2d
-	ldr q1, [x8, #:lo12:.L57_360.i4]
-	adrp x8, .L57_3a0.i4
-	ldr q3, [x8, #:lo12:.L57_3a0.i4]
-	adrp x8, .L57_350.i4
 	stp d9, d8, [sp, #240]
 	.cfi_offset 72, -40
 	.cfi_offset 73, -48
+	zip1 v0.2d, v0.2d, v1.2d
+	ldr q1, [x8, #:lo12:.L57_350.i4]
+	adrp x8, .L57_370.i4
+	ldr q3, [x8, #:lo12:.L57_370.i4]
+	adrp x8, .L57_390.i4
 	stp x29, x30, [sp, #256]
 	.cfi_offset 29, -32
 	.cfi_offset 30, -24
-	add x29, sp, #0x100
-	mov v7.16b, v0.16b
-	add v2.2d, v0.2d, v2.2d
-	add v5.2d, v0.2d, v4.2d
-	ldr q4, [x8, #:lo12:.L57_350.i4]
-	add v1.2d, v0.2d, v1.2d
-	add v3.2d, v0.2d, v3.2d
-	adrp x8, .L57_3e0.i4
+	ldr q5, [x8, #:lo12:.L57_390.i4]
+	adrp x8, .L57_3a0.i4
 	str x28, [sp, #272]
 	.cfi_offset 28, -16
-	mov v7.d[0], x0
-	ldr q17, [x8, #:lo12:.L57_3e0.i4]
+	ldr q6, [x8, #:lo12:.L57_3a0.i4]
 	adrp x8, .L57_3b0.i4
-	add v6.2d, v7.2d, v6.2d
-	add v18.2d, v7.2d, v4.2d
-	add v4.2d, v0.2d, v17.2d
-	stp q1, q18, [sp]
-	ldr q1, [x8, #:lo12:.L57_3b0.i4]
+	add x29, sp, #0x100
+	add v2.2d, v0.2d, v2.2d
+	ldr q7, [x8, #:lo12:.L57_3b0.i4]
+	adrp x8, .L57_3c0.i4
+	add v1.2d, v0.2d, v1.2d
+	ldr q16, [x8, #:lo12:.L57_3c0.i4]
 	adrp x8, .L57_3d0.i4
-	stp q2, q6, [sp, #32]
-	add v2.2d, v7.2d, v16.2d
-	add v1.2d, v7.2d, v1.2d
-	stp q3, q2, [sp, #64]
-	ldr q3, [x8, #:lo12:.L57_3d0.i4]
+	add v4.2d, v0.2d, v4.2d
+	ldr q17, [x8, #:lo12:.L57_3d0.i4]
+	add v3.2d, v0.2d, v3.2d
+	adrp x8, .L57_3e0.i4
+	add v5.2d, v0.2d, v5.2d
+	add v7.2d, v0.2d, v7.2d
+	stp q1, q2, [sp]
+	add v2.2d, v0.2d, v6.2d
+	ldr q1, [x8, #:lo12:.L57_3e0.i4]
 	adrp x8, .L57_400.i4
-	ldr q16, [x8, #:lo12:.L57_400.i4]
-	adrp x8, .L57_3f0.i4
-	stp q5, q1, [sp, #96]
-	ldr q17, [x8, #:lo12:.L57_3f0.i4]
-	add v5.2d, v7.2d, v3.2d
-	lsr x8, x3, #10
+	stp q3, q4, [sp, #32]
 	add v6.2d, v0.2d, v16.2d
-	add v7.2d, v7.2d, v17.2d
+	add v4.2d, v0.2d, v1.2d
+	ldr q1, [x8, #:lo12:.L57_400.i4]
+	adrp x8, .L57_3f0.i4
+	stp q5, q2, [sp, #64]
+	ldr q2, [x8, #:lo12:.L57_3f0.i4]
+	add v5.2d, v0.2d, v17.2d
+	stp q7, q6, [sp, #96]
+	add v6.2d, v0.2d, v1.2d
+	lsr x8, x3, #10
+	add v7.2d, v0.2d, v2.2d
 	cmp x8, #0x1e
-	stp q4, q5, [sp, #128]
-	stp q6, q7, [sp, #160]
-	b.hi .L22_140.i4
+	stp q5, q4, [sp, #128]
+	stp q7, q6, [sp, #160]
+	b.hi .L22_130.i4
 	adrp x10, .L57_410.i4
 	cmp x3, #0x401
 	adrp x13, .L57_420.i4
 	adrp x12, .L57_430.i4
 	adrp x11, .L57_440.i4
-	b.cs .L22_150.i4
+	b.cs .L22_140.i4
 	ldr q0, [x10, #:lo12:.L57_410.i4]
 	ldr q1, [x13, #:lo12:.L57_420.i4]
 	mov x8, #0xffffffffffffffff
@@ -6716,14 +6708,14 @@ twox_core.width_64.oneshot_long_derived.i4:
 	add x9, x2, x3
 	lsr x10, x8, #6
 	mov x8, sp
-	cbnz x10, .L22_3d0.i4
-	b .L22_458.i4
-.L22_140.i4:
+	cbnz x10, .L22_3c0.i4
+	b .L22_448.i4
+.L22_130.i4:
 	mov x0, sp
 	mov w1, #0xc0
 	bl twox_core.width_64.oneshot_many.i4
-	b .L22_584.i4
-.L22_150.i4:
+	b .L22_574.i4
+.L22_140.i4:
 	sub x8, x3, #0x1
 	ldr q0, [x10, #:lo12:.L57_410.i4]
 	ldr q1, [x13, #:lo12:.L57_420.i4]
@@ -6734,12 +6726,12 @@ twox_core.width_64.oneshot_long_derived.i4:
 	mov x9, xzr
 	add x11, x2, #0x80
 	add x12, x12, #0x20
-.L22_178.i4:
+.L22_168.i4:
 	mov x16, x12
 	mov w13, #0x4
 	mov x14, x11
 	mov x15, x12
-.L22_188.i4:
+.L22_178.i4:
 	ldp q16, q17, [x16, #-32]
 	subs x13, x13, #0x1
 	ldp q21, q19, [x14, #-128]
@@ -6844,18 +6836,18 @@ twox_core.width_64.oneshot_long_derived.i4:
 	umlal v3.2d, v17.2s, v24.2s
 	umlal v0.2d, v23.2s, v20.2s
 	umlal v1.2d, v19.2s, v18.2s
-	b.ne .L22_188.i4
+	b.ne .L22_178.i4
 	ushr v16.2d, v2.2d, #47
-	eor v2.16b, v5.16b, v2.16b
+	eor v2.16b, v4.16b, v2.16b
 	adrp x13, .L57_450.i4
 	ushr v17.2d, v3.2d, #47
-	eor v3.16b, v4.16b, v3.16b
+	eor v3.16b, v5.16b, v3.16b
 	ldr q20, [x13, #:lo12:.L57_450.i4]
 	ushr v18.2d, v0.2d, #47
-	eor v0.16b, v7.16b, v0.16b
+	eor v0.16b, v6.16b, v0.16b
 	mov w13, #0x79b1
 	ushr v19.2d, v1.2d, #47
-	eor v1.16b, v6.16b, v1.16b
+	eor v1.16b, v7.16b, v1.16b
 	movk w13, #0x9e37, lsl #16
 	eor v16.16b, v2.16b, v16.16b
 	eor v17.16b, v3.16b, v17.16b
@@ -6877,7 +6869,7 @@ twox_core.width_64.oneshot_long_derived.i4:
 	umlal v3.2d, v17.2s, v21.2s
 	umlal v0.2d, v18.2s, v21.2s
 	umlal v1.2d, v19.2s, v21.2s
-	b.ne .L22_178.i4
+	b.ne .L22_168.i4
 	and x8, x8, #0xfffffffffffffc00
 	add x12, x2, x8
 	mvn x8, x8
@@ -6885,12 +6877,12 @@ twox_core.width_64.oneshot_long_derived.i4:
 	add x9, x2, x3
 	lsr x10, x8, #6
 	mov x8, sp
-	cbz x10, .L22_458.i4
-.L22_3d0.i4:
+	cbz x10, .L22_448.i4
+.L22_3c0.i4:
 	mov x11, sp
 	add x12, x12, #0x20
 	add x11, x11, #0x20
-.L22_3dc.i4:
+.L22_3cc.i4:
 	ldp q4, q5, [x12, #-32]
 	subs x10, x10, #0x1
 	ldp q6, q7, [x11, #-32]
@@ -6921,8 +6913,8 @@ twox_core.width_64.oneshot_long_derived.i4:
 	umlal v2.2d, v5.2s, v19.2s
 	umlal v0.2d, v6.2s, v16.2s
 	umlal v1.2d, v7.2s, v17.2s
-	b.ne .L22_3dc.i4
-.L22_458.i4:
+	b.ne .L22_3cc.i4
+.L22_448.i4:
 	ldur q4, [x9, #-64]
 	ldur q5, [sp, #121]
 	ldur q7, [x8, #137]
@@ -6998,7 +6990,7 @@ twox_core.width_64.oneshot_long_derived.i4:
 	movk x9, #0x1656, lsl #48
 	mul x8, x8, x9
 	eor x0, x8, x8, lsr #32
-.L22_584.i4:
+.L22_574.i4:
 	ldp x29, x30, [sp, #256]
 	.cfi_restore 29
 	.cfi_restore 30
@@ -8467,55 +8459,51 @@ twox_rust.xxh64.write_far.i4:
 	.type twox_rust_4_derive_secret,@function
 twox_rust_4_derive_secret:
 	.cfi_startproc
-	movi v0.2d, #0x0
-	movi v1.2d, #0x0
-	adrp x8, .L57_490.i4
-	adrp x9, .L57_4b0.i4
-	adrp x10, .L57_4c0.i4
-	ldr q2, [x9, #:lo12:.L57_4b0.i4]
-	adrp x9, .L57_4f0.i4
-	ldr q16, [x10, #:lo12:.L57_4c0.i4]
-	ldr q4, [x9, #:lo12:.L57_4f0.i4]
-	adrp x9, .L57_4a0.i4
-	mov v1.d[0], x1
-	mov v0.d[1], x1
-	ldr q7, [x9, #:lo12:.L57_4a0.i4]
-	sub v0.2d, v1.2d, v0.2d
-	ldr q1, [x8, #:lo12:.L57_490.i4]
-	adrp x8, .L57_4d0.i4
-	ldr q3, [x8, #:lo12:.L57_4d0.i4]
+	fmov d0, x1
 	adrp x8, .L57_480.i4
-	ldr q6, [x8, #:lo12:.L57_480.i4]
-	adrp x8, .L57_510.i4
-	mov v5.16b, v0.16b
-	add v1.2d, v0.2d, v1.2d
-	ldr q17, [x8, #:lo12:.L57_510.i4]
+	adrp x9, .L57_490.i4
+	ldr q2, [x9, #:lo12:.L57_490.i4]
+	adrp x9, .L57_4b0.i4
+	ldr q4, [x9, #:lo12:.L57_4b0.i4]
+	neg v1.2d, v0.2d
+	zip1 v0.2d, v0.2d, v1.2d
+	ldr q1, [x8, #:lo12:.L57_480.i4]
+	adrp x8, .L57_4a0.i4
+	ldr q3, [x8, #:lo12:.L57_4a0.i4]
+	adrp x8, .L57_4c0.i4
+	ldr q5, [x8, #:lo12:.L57_4c0.i4]
+	adrp x8, .L57_4d0.i4
+	ldr q6, [x8, #:lo12:.L57_4d0.i4]
 	adrp x8, .L57_4e0.i4
-	add v3.2d, v0.2d, v3.2d
-	add v4.2d, v0.2d, v4.2d
 	add v2.2d, v0.2d, v2.2d
-	mov v5.d[0], x1
-	add v6.2d, v5.2d, v6.2d
-	add v16.2d, v5.2d, v16.2d
-	add v7.2d, v5.2d, v7.2d
-	stp q1, q6, [x0]
-	ldr q1, [x8, #:lo12:.L57_4e0.i4]
+	add v1.2d, v0.2d, v1.2d
+	ldr q7, [x8, #:lo12:.L57_4e0.i4]
+	adrp x8, .L57_4f0.i4
+	add v5.2d, v0.2d, v5.2d
+	add v4.2d, v0.2d, v4.2d
+	ldr q16, [x8, #:lo12:.L57_4f0.i4]
 	adrp x8, .L57_500.i4
-	stp q2, q7, [x0, #32]
-	add v2.2d, v0.2d, v17.2d
-	add v1.2d, v5.2d, v1.2d
-	stp q3, q16, [x0, #64]
-	ldr q3, [x8, #:lo12:.L57_500.i4]
+	add v3.2d, v0.2d, v3.2d
+	stp q1, q2, [x0]
+	add v2.2d, v0.2d, v6.2d
+	ldr q17, [x8, #:lo12:.L57_500.i4]
+	adrp x8, .L57_510.i4
+	ldr q1, [x8, #:lo12:.L57_510.i4]
 	adrp x8, .L57_530.i4
-	add v3.2d, v5.2d, v3.2d
-	stp q4, q1, [x0, #96]
-	ldr q4, [x8, #:lo12:.L57_530.i4]
+	stp q3, q4, [x0, #32]
+	stp q5, q2, [x0, #64]
+	ldr q2, [x8, #:lo12:.L57_530.i4]
 	adrp x8, .L57_520.i4
 	ldr q6, [x8, #:lo12:.L57_520.i4]
-	add v0.2d, v0.2d, v4.2d
-	stp q2, q3, [x0, #128]
-	add v1.2d, v5.2d, v6.2d
-	stp q0, q1, [x0, #160]
+	add v4.2d, v0.2d, v16.2d
+	add v3.2d, v0.2d, v7.2d
+	add v1.2d, v0.2d, v1.2d
+	add v5.2d, v0.2d, v17.2d
+	add v2.2d, v0.2d, v2.2d
+	add v0.2d, v0.2d, v6.2d
+	stp q3, q4, [x0, #96]
+	stp q5, q1, [x0, #128]
+	stp q0, q2, [x0, #160]
 	ret
 	.cfi_endproc
 	.size twox_rust_4_derive_secret,.-twox_rust_4_derive_secret
@@ -13499,29 +13487,29 @@ twox_rust_4_xxh64_write:
 .L57_140.i4:
 	.quad 0x9e3779b100000000,0x9e3779b100000000
 .L57_150.i4:
-	.quad 0xdb979083e96dd4de,0x1f67b3b7a4a44072
-.L57_160.i4:
 	.quad 0xbe4ba423396cfeb8,0x1cad21f72c81017c
+.L57_160.i4:
+	.quad 0xdb979083e96dd4de,0x1f67b3b7a4a44072
 .L57_170.i4:
-	.quad 0x8e2443f7744608b8,0x4c263a81e69035e0
-.L57_180.i4:
 	.quad 0x78e5c0cc4ee679cb,0x2172ffcc7dd05a82
+.L57_180.i4:
+	.quad 0x8e2443f7744608b8,0x4c263a81e69035e0
 .L57_190.i4:
-	.quad 0x4ef90da297486471,0xd8acdea946ef1938
-.L57_1a0.i4:
 	.quad 0xcb00c391bb52283c,0xa32e531b8b65d088
+.L57_1a0.i4:
+	.quad 0x4ef90da297486471,0xd8acdea946ef1938
 .L57_1b0.i4:
-	.quad 0x3159b4cd4be0518a,0x647378d9c97e9fc8
-.L57_1c0.i4:
 	.quad 0x3f349ce33f76faa8,0x1d4f0bc7c7bbdcf9
+.L57_1c0.i4:
+	.quad 0x3159b4cd4be0518a,0x647378d9c97e9fc8
 .L57_1d0.i4:
-	.quad 0x49daf0b751dd0d17,0x9e68d429265516d3
-.L57_1e0.i4:
 	.quad 0xc3ebd33483acc5ea,0xeb6313faffa081c5
+.L57_1e0.i4:
+	.quad 0x49daf0b751dd0d17,0x9e68d429265516d3
 .L57_1f0.i4:
-	.quad 0x280416958f3acb45,0x7e404bbbcafbd7af
-.L57_200.i4:
 	.quad 0xfca1477d58be162b,0xce31d07ad1b8f88f
+.L57_200.i4:
+	.quad 0x280416958f3acb45,0x7e404bbbcafbd7af
 .L57_210.i4:
 	.quad 0x27d4eb2f165667c5,0x9e3779b1
 .L57_220.i4:
@@ -13563,29 +13551,29 @@ twox_rust_4_xxh64_write:
 .L57_340.i4:
 	.quad 0x9e3779b100000000,0x9e3779b100000000
 .L57_350.i4:
-	.quad 0xdb979083e96dd4de,0x1f67b3b7a4a44072
-.L57_360.i4:
 	.quad 0xbe4ba423396cfeb8,0x1cad21f72c81017c
+.L57_360.i4:
+	.quad 0xdb979083e96dd4de,0x1f67b3b7a4a44072
 .L57_370.i4:
-	.quad 0x8e2443f7744608b8,0x4c263a81e69035e0
-.L57_380.i4:
 	.quad 0x78e5c0cc4ee679cb,0x2172ffcc7dd05a82
+.L57_380.i4:
+	.quad 0x8e2443f7744608b8,0x4c263a81e69035e0
 .L57_390.i4:
-	.quad 0x4ef90da297486471,0xd8acdea946ef1938
-.L57_3a0.i4:
 	.quad 0xcb00c391bb52283c,0xa32e531b8b65d088
+.L57_3a0.i4:
+	.quad 0x4ef90da297486471,0xd8acdea946ef1938
 .L57_3b0.i4:
-	.quad 0x3159b4cd4be0518a,0x647378d9c97e9fc8
-.L57_3c0.i4:
 	.quad 0x3f349ce33f76faa8,0x1d4f0bc7c7bbdcf9
+.L57_3c0.i4:
+	.quad 0x3159b4cd4be0518a,0x647378d9c97e9fc8
 .L57_3d0.i4:
-	.quad 0x49daf0b751dd0d17,0x9e68d429265516d3
-.L57_3e0.i4:
 	.quad 0xc3ebd33483acc5ea,0xeb6313faffa081c5
+.L57_3e0.i4:
+	.quad 0x49daf0b751dd0d17,0x9e68d429265516d3
 .L57_3f0.i4:
-	.quad 0x280416958f3acb45,0x7e404bbbcafbd7af
-.L57_400.i4:
 	.quad 0xfca1477d58be162b,0xce31d07ad1b8f88f
+.L57_400.i4:
+	.quad 0x280416958f3acb45,0x7e404bbbcafbd7af
 .L57_410.i4:
 	.quad 0x27d4eb2f165667c5,0x9e3779b1
 .L57_420.i4:
@@ -13601,29 +13589,29 @@ twox_rust_4_xxh64_write:
 .L57_470.i4:
 	.quad 0x9e3779b100000000,0x9e3779b100000000
 .L57_480.i4:
-	.quad 0xdb979083e96dd4de,0x1f67b3b7a4a44072
-.L57_490.i4:
 	.quad 0xbe4ba423396cfeb8,0x1cad21f72c81017c
+.L57_490.i4:
+	.quad 0xdb979083e96dd4de,0x1f67b3b7a4a44072
 .L57_4a0.i4:
-	.quad 0x8e2443f7744608b8,0x4c263a81e69035e0
-.L57_4b0.i4:
 	.quad 0x78e5c0cc4ee679cb,0x2172ffcc7dd05a82
+.L57_4b0.i4:
+	.quad 0x8e2443f7744608b8,0x4c263a81e69035e0
 .L57_4c0.i4:
-	.quad 0x4ef90da297486471,0xd8acdea946ef1938
-.L57_4d0.i4:
 	.quad 0xcb00c391bb52283c,0xa32e531b8b65d088
+.L57_4d0.i4:
+	.quad 0x4ef90da297486471,0xd8acdea946ef1938
 .L57_4e0.i4:
-	.quad 0x3159b4cd4be0518a,0x647378d9c97e9fc8
-.L57_4f0.i4:
 	.quad 0x3f349ce33f76faa8,0x1d4f0bc7c7bbdcf9
+.L57_4f0.i4:
+	.quad 0x3159b4cd4be0518a,0x647378d9c97e9fc8
 .L57_500.i4:
-	.quad 0x49daf0b751dd0d17,0x9e68d429265516d3
-.L57_510.i4:
 	.quad 0xc3ebd33483acc5ea,0xeb6313faffa081c5
+.L57_510.i4:
+	.quad 0x49daf0b751dd0d17,0x9e68d429265516d3
 .L57_520.i4:
-	.quad 0x280416958f3acb45,0x7e404bbbcafbd7af
-.L57_530.i4:
 	.quad 0xfca1477d58be162b,0xce31d07ad1b8f88f
+.L57_530.i4:
+	.quad 0x280416958f3acb45,0x7e404bbbcafbd7af
 .L57_540.i4:
 	.quad 0xc2b2ae3d,0x9e3779b185ebca87
 .L57_550.i4:

@@ -3820,12 +3820,9 @@ twox_core.width_128.oneshot_long_derived.i4_v3:
 	.seh_endprologue
 	vmovq	%rcx, %xmm0
 	vpbroadcastq	%xmm0, %ymm0
-	vmovq	%xmm0, %xmm1
-	vpslldq	$8, %xmm0, %xmm2
-	vpsubq	%ymm2, %ymm1, %ymm1
-	vpblendd	$48, %ymm0, %ymm1, %ymm0
-	vinserti128	$1, %xmm1, %ymm0, %ymm1
-	vpblendd	$192, %ymm1, %ymm0, %ymm0
+	vpxor	%xmm1, %xmm1, %xmm1
+	vpsubq	%ymm0, %ymm1, %ymm1
+	vpunpckhqdq	%ymm1, %ymm0, %ymm0
 	vpaddq	.LCPI15_0.i4_v3(%rip), %ymm0, %ymm1
 	vpaddq	.LCPI15_1.i4_v3(%rip), %ymm0, %ymm4
 	vpaddq	.LCPI15_2.i4_v3(%rip), %ymm0, %ymm5
@@ -5588,12 +5585,9 @@ twox_core.width_64.oneshot_long_derived.i4_v3:
 	.seh_endprologue
 	vmovq	%rcx, %xmm0
 	vpbroadcastq	%xmm0, %ymm0
-	vmovq	%xmm0, %xmm1
-	vpslldq	$8, %xmm0, %xmm2
-	vpsubq	%ymm2, %ymm1, %ymm1
-	vpblendd	$48, %ymm0, %ymm1, %ymm0
-	vinserti128	$1, %xmm1, %ymm0, %ymm1
-	vpblendd	$192, %ymm1, %ymm0, %ymm0
+	vpxor	%xmm1, %xmm1, %xmm1
+	vpsubq	%ymm0, %ymm1, %ymm1
+	vpunpckhqdq	%ymm1, %ymm0, %ymm0
 	vpaddq	.LCPI21_0.i4_v3(%rip), %ymm0, %ymm1
 	vpaddq	.LCPI21_1.i4_v3(%rip), %ymm0, %ymm4
 	vpaddq	.LCPI21_2.i4_v3(%rip), %ymm0, %ymm5
@@ -7344,12 +7338,9 @@ twox_rust.xxh64.write_far.i4_v3:
 twox_rust_4_derive_secret_v3:
 	vmovq	%rsi, %xmm0
 	vpbroadcastq	%xmm0, %ymm0
-	vmovq	%xmm0, %xmm1
-	vpslldq	$8, %xmm0, %xmm2
-	vpsubq	%ymm2, %ymm1, %ymm1
-	vpblendd	$48, %ymm0, %ymm1, %ymm0
-	vinserti128	$1, %xmm1, %ymm0, %ymm1
-	vpblendd	$192, %ymm1, %ymm0, %ymm0
+	vpxor	%xmm1, %xmm1, %xmm1
+	vpsubq	%ymm0, %ymm1, %ymm1
+	vpunpckhqdq	%ymm1, %ymm0, %ymm0
 	vpaddq	.LCPI28_0.i4_v3(%rip), %ymm0, %ymm1
 	vpaddq	.LCPI28_1.i4_v3(%rip), %ymm0, %ymm2
 	vpaddq	.LCPI28_2.i4_v3(%rip), %ymm0, %ymm3
