@@ -21,10 +21,10 @@ use crate::tell::tell_line;
 use itoa::Buffer;
 use std::alloc::{AllocError, Global};
 use xxh_io::ends::{Sink, Source};
+use xxh_io::waiting::Waiting;
 use xxhsum_files::store::Store;
 use xxhsum_line::entry::{Meaning, meaning_of};
 use xxhsum_output::output::Output;
-use xxhsum_output::waiting::Waiting;
 use xxhsum_words::options::Options;
 
 /// Counts of the lines of a list, by what was found of them.
