@@ -1,5 +1,5 @@
 -- A line that is written in two parts, of which either may be refused.
-use Rattle.std.proofs.Common.{◌≡◌, ◌≢◌, ℕ, List, [], ◌∷◌, ◌++◌, Bool, true, false, Ok, Err, IfErr, codes, decimal, nat_eq, ◌||◌, refl, if◌then◌else◌, arith, append-nil, ap, ◌∙◌, Result}
+use Rattle.std.proofs.Common.{◌≡◌, ◌≢◌, ℕ, List, [], ◌∷◌, ◌++◌, Bool, true, false, Ok, Err, IfErr, codes, nat_eq, ◌||◌, refl, if◌then◌else◌, arith, append-nil, ap, ◌∙◌, Result}
 use Rattle.xxhsum_program.specs.Prelude.{Options, OutOfMemory, Report, SinkRules, Stop, Took, WriteFailed, concat, one_line}
 use Rattle.xxh_io.proofs.WriteFacts.{Refused-join, Refused-more, Took-join}
 use Rattle.xxhsum_program.specs.Lines.{PrintsLine}

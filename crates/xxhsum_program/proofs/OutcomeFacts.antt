@@ -1,6 +1,6 @@
 -- Names and their outcomes, where one more comes.
-use Rattle.std.proofs.Common.{◌≡◌, ◌&&◌, ℕ, List, [], ◌∷◌, ◌++◌, sym, ap, subst, ◌∙◌, append-nil, append_assoc, Ok, Err, Result}
-use Rattle.xxhsum_program.specs.Prelude.{EachHas, Options, Outcome, SinkRules, Stop, Took}
+use Rattle.std.proofs.Common.{◌≡◌, ℕ, List, [], ◌∷◌, ◌++◌, sym, ap, subst, ◌∙◌, append-nil, append_assoc, Ok, Err, Result}
+use Rattle.xxhsum_program.specs.Prelude.{EachHas, SinkRules, Stop, Took}
 use Rattle.xxh_io.proofs.WriteFacts.{Refused-join, Took-join}
 use Rattle.xxhsum_program.specs.declared.stop.Stop.TheVariants as Stopped
 use Rattle.xxhsum_program.specs.Lines.{PrintsLines, lines_of}

@@ -1,5 +1,5 @@
 -- The check of a list: each of its lines is found once, in their order.
-use Rattle.std.specs.Prelude.{◌≡◌, ◌⊎◌, ℕ, ◌-◌, ◌^◌, Bool, true, false, ◌&&◌, List, [], ◌∷◌, ◌++◌, Option, Some, None, length, Result, Ok, Err}
+use Rattle.std.specs.Prelude.{◌≡◌, ◌⊎◌, ℕ, ◌-◌, ◌^◌, Bool, true, false, List, [], ◌∷◌, ◌++◌, Option, Some, None, length, Result, Ok, Err}
 use Rattle.std.specs.List.{list_all}
 use Rattle.xxhsum_program.specs.Prelude.{AllByRecursion, EachHas, Lacks, NoneEmpty, Options, OutOfMemory, Pieces, Refusal, Refused, Report, SinkRules, SourceRules, Stop, StoreRules, TellsOn, Took, WriteFailed, concat}
 use Rattle.xxhsum_program.specs.Findings.{Finding, IsFinding, count_one}

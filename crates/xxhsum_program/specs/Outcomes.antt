@@ -1,5 +1,5 @@
 -- What becomes of the names of a hashing run.
-use Rattle.std.specs.Prelude.{◌≡◌, ◌&&◌, ℕ, Bool, true, false, List, [], ◌∷◌, codes, Result, Ok, Err}
+use Rattle.std.specs.Prelude.{◌≡◌, ℕ, Bool, true, false, List, codes, Result, Ok, Err}
 use Rattle.std.specs.List.{list_all}
 use Rattle.xxhsum_program.specs.Prelude.{Digested, IsDirectory, Kind, Outcome, Reason, SourceRules, StoreRules, Unread, concat}
 use Rattle.xxh_io.specs.declared.error.DigestError.{DigestError}

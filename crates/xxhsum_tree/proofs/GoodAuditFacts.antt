@@ -1,5 +1,5 @@
 -- An audit that is good.
-use Rattle.std.proofs.Common.{◌≡◌, ℕ, Bool, true, false, ◌&&◌, List, [], ◌∷◌, Option, Some, None, refl, sym, ap, subst, ◌∙◌, inl, inr, Ok}
+use Rattle.std.proofs.Common.{◌≡◌, ℕ, true, List, [], ◌∷◌, Option, Some, None, refl, sym, ap, subst, ◌∙◌, inl, inr, Ok}
 use Rattle.std.proofs.lemmas.List.Sorted.{IsPermutation-sym}
 use Rattle.xxhsum_tree.specs.Prelude.{Digested, IsDirectory, Kind, Options, Outcome, SinkRules, SourceRules, StoreRules, Unread}
 use Rattle.xxhsum_audit.proofs.AmongFacts.{among_permutation}

@@ -20,7 +20,7 @@ use Rattle.xxhsum_tree.proofs.JoinFacts.{is-audit}
 use Rattle.xxhsum_tree.specs.Audits.{AnswersAudit, AuditsSides}
 use Rattle.xxhsum_tree.specs.Digests.{DigestsRows, Grows}
 use Rattle.xxhsum_tree.specs.Report.{PrintsReport, are_same}
-use Rattle.xxhsum_tree.specs.Rows.{AreRows, IsRow, Row, are_read, digest_of, first_in, first_of, is_read, kept_in, kind_of_new, seen_in}
+use Rattle.xxhsum_tree.specs.Rows.{AreRows, IsRow, Row, are_read, digest_of, first_in, first_of, kept_in, kind_of_new, seen_in}
 
 pub rows-more : {S F : Type 0} (opening : StoreRules S F) (reading : SourceRules F) (store : S) (kind : Kind) (sides : List (Side Item (List ℕ))) (rows : List Row) (side : Side Item (List ℕ)) (row : Row) → AreRows opening reading store kind sides rows → IsRow opening reading store kind side row → AreRows opening reading store kind (sides ++ side ∷ []) (rows ++ row ∷ [])
 rows-more opening reading store kind [] rows side row none is =

@@ -1,5 +1,5 @@
 -- The names that stand in lists of names.
-use Rattle.std.specs.Prelude.{◌≡◌, ℕ, List, [], ◌∷◌, ◌++◌}
+use Rattle.std.specs.Prelude.{◌≡◌, ℕ, List, ◌++◌}
 use Rattle.xxhsum_tree.specs.Prelude.{SourceRules, StoreRules}
 use Rattle.xxhsum_audit.specs.List.{GiveAll}
 use Rattle.xxhsum_audit.specs.Parts.{ArePartsOf}

@@ -1,5 +1,5 @@
 -- Lines and names side by side, and what became of the names.
-use Rattle.std.specs.Prelude.{◌≡◌, ℕ, Bool, true, ◌&&◌, List, [], ◌∷◌, ◌++◌, map, flat_map}
+use Rattle.std.specs.Prelude.{◌≡◌, ℕ, Bool, true, List, [], ◌∷◌, ◌++◌, map, flat_map}
 use Rattle.std.specs.List.{list_all}
 use Rattle.xxhsum_tree.specs.Prelude.{Digested, IsDirectory, Kind, Outcome, SinkRules, SourceRules, StoreRules, TellsOn, Unread}
 use Rattle.xxhsum_audit.specs.declared.side.Side.{Side}

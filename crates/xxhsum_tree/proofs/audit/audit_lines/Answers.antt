@@ -1,4 +1,4 @@
-use Rattle.std.proofs.Common.{◌≡◌, ℕ, Bool, true, false, List, Option, Some, None, Ok, codes, refl, inl, sym, ap, subst, ◌∙◌, Result}
+use Rattle.std.proofs.Common.{◌≡◌, ℕ, Bool, true, false, List, Option, Some, None, codes, refl, inl, sym, ap, subst, ◌∙◌}
 use Rattle.xxhsum_tree.specs.Prelude.{SinkRules, TellsOn}
 use Rattle.std.proofs.lemmas.List.{map-id}
 use Rattle.xxhsum_audit.proofs.TwiceFacts.{rises}
