@@ -1,7 +1,6 @@
 -- Pieces between ends that tell their bytes.
-use Rattle.std.proofs.Common.{ℕ, List, [], ◌∷◌, subst, sym}
+use Rattle.std.proofs.Common.{ℕ, List, [], ◌∷◌, subst, sym, Option}
 use Rattle.std.specs.List.{concat}
-use Rattle.std.specs.declared.option.Option.{Option}
 use Rattle.std.specs.Io.KnownBytes.{Appends, Consumes}
 use Rattle.std.proofs.KnownBytes.{Appends-nil, Appends-trans, Consumes-nil, Consumes-trans}
 use Rattle.xxh_io.specs.Pieces.{Pieces}

@@ -1,6 +1,5 @@
 -- A run that answers the status 0 had no fault, and told none.
-use Rattle.std.proofs.Common.{◌≡◌, Ok, Err, refl}
-use Rattle.std.specs.declared.result.Result.{Result}
+use Rattle.std.proofs.Common.{◌≡◌, Ok, Err, refl, Result}
 use Rattle.xxh_io.specs.declared.fault.Fault.{Fault}
 use Rattle.xxh_io.specs.declared.fault.Fault.TheVariants.{Usage, BadSeed, BadSize, BadState, OutOfMemory, Digest}
 use Rattle.xxh_io.specs.Process.{EndsAs}

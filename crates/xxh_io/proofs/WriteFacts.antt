@@ -1,15 +1,13 @@
 -- What was written, where more is written after it.
-use Rattle.std.proofs.Common.{◌≡◌, ℕ, ◌<◌, List, [], ◌∷◌, ◌++◌, length, sym, ap, ◌∙◌, subst, append_assoc, length-append, arith, Ok, Err, IfErr}
+use Rattle.std.proofs.Common.{◌≡◌, ℕ, ◌<◌, List, [], ◌∷◌, ◌++◌, length, sym, ap, ◌∙◌, subst, append_assoc, length-append, arith, Ok, Err, IfErr, Result, IsErr}
 use Rattle.std.specs.List.{concat}
-use Rattle.std.specs.declared.result.Result.{Result}
-use Rattle.std.specs.Result.{IsErr}
 use Rattle.std.proofs.lemmas.List.Folds.{concat-append}
 use Rattle.xxh_io.specs.declared.error.DigestError.{DigestError}
 use Rattle.xxh_io.specs.declared.error.DigestError.TheVariants.{ReadFailed, WriteFailed, TooLong}
 use Rattle.xxh_io.specs.Pieces.{Pieces}
 use Rattle.xxh_io.specs.Rules.{SinkRules}
 use Rattle.xxh_io.specs.Digest.{Writes, Took, Refused}
-use Rattle.xxh_io.specs.LineBuffer.{Gathers}
+use Rattle.xxh_io.specs.Waiting.{Gathers}
 
 Pieces-append : {S : Type 0} (step : S → List ℕ → S → Type 0) (old mid new : S) (ps qs : List (List ℕ)) → Pieces step old ps mid → Pieces step mid qs new → Pieces step old (ps ++ qs) new
 Pieces-append step old mid new [] qs led more = subst (λ s. Pieces step s qs new) led more
@@ -52,9 +50,9 @@ never-too-long {T} result only is =
     let same : TooLong ≡ WriteFailed = subst (λ (r : Result T DigestError). IfErr r (λ e. e ≡ WriteFailed)) is only in
     cc
 
--- ---- lines that are gathered
+-- ---- bytes that are gathered
 
--- more lines after those that are gathered
+-- more bytes after those that are gathered
 pub Gathers-push : {W : Type 0} (writing : SinkRules W) (a b before after : List ℕ) (old mid new : W) → Gathers writing a old mid before → Gathers writing (before ++ b) mid new after → Gathers writing (a ++ b) old new after
 Gathers-push writing a b before after old mid new first second =
     let whole : first.0 ++ second.0 ++ after ≡ a ++ b =

@@ -1,6 +1,5 @@
 -- What clauses read of a buffered reader.
-use Rattle.std.specs.Prelude.{ℕ, List, slice_range}
-use Rattle.std.specs.declared.option.Option.{Option}
+use Rattle.std.specs.Prelude.{ℕ, List, slice_range, Option}
 use Rattle.std.specs.Io.KnownBytes.{prepend_known}
 use Rattle.xxh_io.specs.declared.buffered.Buffered.{Buffered}
 

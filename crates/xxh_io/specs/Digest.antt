@@ -1,8 +1,6 @@
 -- What a digest has read and written by the time that it answers.
-use Rattle.std.specs.Prelude.{◌≡◌, ◌↔◌, ℕ, ◌<◌, List, [], ◌∷◌, ◌++◌, length}
+use Rattle.std.specs.Prelude.{◌≡◌, ◌↔◌, ℕ, ◌<◌, List, [], ◌∷◌, ◌++◌, length, Result, Ok, Err}
 use Rattle.std.specs.List.{concat}
-use Rattle.std.specs.declared.result.Result.{Result}
-use Rattle.std.specs.declared.result.Result.TheVariants.{Ok, Err}
 use Rattle.xxh_io.specs.declared.error.DigestError.{DigestError}
 use Rattle.xxh_io.specs.declared.error.DigestError.TheVariants.{ReadFailed, WriteFailed, TooLong}
 use Rattle.xxh_io.specs.Pieces.{Pieces, NoneEmpty, IsProperBeginning}

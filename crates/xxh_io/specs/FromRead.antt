@@ -1,6 +1,5 @@
 -- What clauses read of a standard reader as a source.
-use Rattle.std.specs.Prelude.{Bool, ◌≡◌, ℕ, List, length}
-use Rattle.std.specs.declared.option.Option.{Option}
+use Rattle.std.specs.Prelude.{Bool, ◌≡◌, ℕ, List, length, Option}
 use Rattle.std.specs.Io.KnownBytes.{Consumes, IsAtEnd}
 use Rattle.xxh_io.specs.declared.from_read.FromRead.{FromRead}
 

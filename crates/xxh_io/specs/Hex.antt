@@ -1,6 +1,5 @@
 -- Numbers in hexadecimal, as bytes of ASCII text.
-use Rattle.std.proofs.Common.{zero, suc}
-use Rattle.std.specs.Prelude.{ℕ, ◌+◌, ◌-◌, ◌*◌, ◌/◌, ◌%◌, List, [], ◌∷◌, ◌++◌, nat_lt, if◌then◌else◌}
+use Rattle.std.proofs.Common.{zero, suc, ℕ, ◌+◌, ◌-◌, ◌*◌, ◌/◌, ◌%◌, List, [], ◌∷◌, ◌++◌, nat_lt, if◌then◌else◌}
 
 -- the lower-case digit of a number below 16: '0' is 48, and 'a' is 87 + 10
 abbrev pub hex_digit : ℕ → ℕ

@@ -6,9 +6,9 @@ pub mod FromRead
 pub mod FromWrite
 pub mod Hex
 pub mod Kind
-pub mod LineBuffer
 pub mod Pieces
 pub mod Process
 pub mod Rules
 pub mod Script
 pub mod Tells
+pub mod Waiting

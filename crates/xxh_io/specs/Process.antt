@@ -1,10 +1,8 @@
 -- What the program does with the arguments of its process.
-use Rattle.std.specs.Prelude.{◌≡◌, ◌≢◌, ℕ, List, drop, map, IfErr}
+use Rattle.std.specs.Prelude.{◌≡◌, ◌≢◌, ℕ, List, drop, map, IfErr, Result, Ok, Err}
 use Rattle.std.specs.Borrow.{Bor}
 use Rattle.std.specs.declared.io.ErrorKind.{ErrorKind}
 use Rattle.std.specs.declared.io.ErrorKind.TheVariants.{InvalidData}
-use Rattle.std.specs.declared.result.Result.{Result}
-use Rattle.std.specs.declared.result.Result.TheVariants.{Ok, Err}
 use Rattle.xxh_io.specs.declared.error.DigestError.TheVariants.{WriteFailed}
 use Rattle.xxh_io.specs.declared.fault.Fault.{Fault}
 use Rattle.xxh_io.specs.declared.fault.Fault.TheVariants.{Usage, OutOfMemory, Digest}

@@ -1,7 +1,5 @@
 -- What is told on an end, how the program tells a fault, and its exit status.
-use Rattle.std.specs.Prelude.{◌≡◌, ℕ, List, is_err, IfErr}
-use Rattle.std.specs.declared.result.Result.{Result}
-use Rattle.std.specs.declared.result.Result.TheVariants.{Ok, Err}
+use Rattle.std.specs.Prelude.{◌≡◌, ℕ, List, is_err, IfErr, Result, Ok, Err}
 use Rattle.xxh_io.specs.declared.error.DigestError.{DigestError}
 use Rattle.xxh_io.specs.declared.error.DigestError.TheVariants.{WriteFailed}
 use Rattle.xxh_io.specs.declared.fault.Fault.{Fault}

@@ -1,7 +1,10 @@
-//! Numbers in hexadecimal.
+//! Numbers in hexadecimal, and lines of them.
 
 ghost use Rattle.std.specs.Prelude.{◌≡◌, ◌<◌, ◌^◌, length};
-ghost use Rattle.xxh_io.specs.Hex.{hex_digit, hex_digits, hex_value};
+ghost use Rattle.xxh_io.specs.Hex.{hex_digit, hex_digits, hex_value, offset_line};
+
+/// How many bytes a block's line has: 16 digits, a space, 32 digits and a line feed.
+pub const LINE: usize = 50;
 
 // The lower-case digit of a number below 16.
 fn digit(n: u8) -> u8
@@ -22,4 +25,15 @@ pub fn write_digits(value: u128, out: &mut [u8])
         out[i] = digit((rest % 16) as u8);
         rest /= 16;
     }
+}
+
+/// The line of a block that begins at this offset and has this value.
+pub fn offset_line(offset: u64, value: u128) -> [u8; LINE]
+    ensures { result ≡ offset_line offset value }
+{
+    let mut line = [b'\n'; LINE];
+    write_digits(u128::from(offset), &mut line[..16]);
+    line[16] = b' ';
+    write_digits(value, &mut line[17..49]);
+    line
 }

@@ -12,7 +12,7 @@ pub mod from_read;
 pub mod from_write;
 pub mod hex;
 pub mod kind;
-pub mod line_buffer;
 pub mod script_sink;
 pub mod script_source;
+pub mod waiting;
 pub mod write;

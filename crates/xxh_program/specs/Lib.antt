@@ -5,12 +5,12 @@ pub use Rattle.xxh_io.specs.Fault
 pub use Rattle.xxh_io.specs.FromRead
 pub use Rattle.xxh_io.specs.FromWrite
 pub use Rattle.xxh_io.specs.Hex
-pub use Rattle.xxh_io.specs.LineBuffer
 pub use Rattle.xxh_io.specs.Pieces
 pub use Rattle.xxh_io.specs.Process
 pub use Rattle.xxh_io.specs.Rules
 pub use Rattle.xxh_io.specs.Script
 pub use Rattle.xxh_io.specs.Tells
+pub use Rattle.xxh_io.specs.Waiting
 pub mod BlockEnds
 pub mod BlockState
 pub mod Blocks

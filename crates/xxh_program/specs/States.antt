@@ -1,8 +1,6 @@
 -- What `save` and `resume` do: they print the saved text of the input's hasher, and go on from one.
-use Rattle.std.specs.Prelude.{◌≡◌, ◌⊎◌, ◌-◌, ◌^◌, ℕ, List, [], ◌∷◌, ◌++◌, Option, Some}
+use Rattle.std.specs.Prelude.{◌≡◌, ◌⊎◌, ◌-◌, ◌^◌, ℕ, List, [], ◌∷◌, ◌++◌, Option, Some, Result, Ok, Err}
 use Rattle.std.specs.List.{concat}
-use Rattle.std.specs.declared.result.Result.{Result}
-use Rattle.std.specs.declared.result.Result.TheVariants.{Ok, Err}
 use Rattle.twox_hash.specs.Xxh32.{xxh32}
 use Rattle.twox_hash.specs.Xxh64.{xxh64}
 use Rattle.twox_hash.specs.Record32

@@ -8,15 +8,19 @@ use xxh_io::from_write::FromWrite;
 use xxhsum_files::system::SystemFiles;
 use xxhsum_output::whole_lines::WholeLines;
 use xxhsum_program::arguments::ProcessArguments;
-use xxhsum_program::process::Terminals;
+use xxhsum_program::process::{Console, Terminals};
 use xxhsum_program::screen::Screen;
 use xxhsum_tree::run::run;
 
 // Passes the process's arguments, files and streams to the program.
 fn main(rt: HostRuntime) -> ExitCode {
-    let terminals = Terminals {
-        input: rt.stdin().is_terminal(),
-        errors: rt.stderr().is_terminal(),
+    let console = Console {
+        input: FromRead::new(rt.stdin()),
+        terminals: Terminals {
+            input: rt.stdin().is_terminal(),
+            errors: rt.stderr().is_terminal(),
+        },
+        screen: Screen::new(rt.stderr(), &rt),
     };
     // On a terminal each line is written at once.
     let gathers = !rt.stdout().is_terminal();
@@ -24,10 +28,8 @@ fn main(rt: HostRuntime) -> ExitCode {
         rt.alloc(),
         &ProcessArguments::new(&rt),
         &SystemFiles::new(&rt),
-        terminals,
-        FromRead::new(rt.stdin()),
+        console,
         &mut WholeLines::new(FromWrite::new(rt.stdout()), gathers),
         &mut FromWrite::new(rt.stderr()),
-        Screen::new(rt.stderr(), &rt),
     ))
 }

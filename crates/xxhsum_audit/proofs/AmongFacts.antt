@@ -1,8 +1,6 @@
 -- Elements of lists.
-use Rattle.std.proofs.Common.{◌≡◌, ◌⊎◌, ℕ, suc, zero, ◌<◌, List, [], ◌∷◌, ◌++◌, length, get_or, refl, sym, subst, inl, inr, arith}
+use Rattle.std.proofs.Common.{◌≡◌, ◌⊎◌, ℕ, suc, zero, ◌<◌, List, [], ◌∷◌, ◌++◌, length, get_or, refl, sym, subst, inl, inr, arith, Contains, flat_map, IsPermutation}
 use Rattle.std.proofs.lemmas.List.Sorted.{Contains-permutation}
-use Rattle.std.specs.List.{Contains, flat_map}
-use Rattle.std.specs.List.Sorted.{IsPermutation}
 use Rattle.xxhsum_audit.specs.Item.{IsAmong}
 
 to_contains : {X : Type 0} (xs : List X) (x : X) → IsAmong xs x → Contains xs x

@@ -1,7 +1,5 @@
 -- Pairs by name and by digest are right, and by digest no partner is left.
-use Rattle.std.proofs.Common.{◌≡◌, false, List, [], ◌∷◌, refl, sym, subst, inl, inr}
-use Rattle.std.specs.declared.cmp.Ordering.{Ordering}
-use Rattle.std.specs.declared.cmp.Ordering.TheVariants.{Less, Equal, Greater}
+use Rattle.std.proofs.Common.{◌≡◌, false, List, [], ◌∷◌, refl, sym, subst, inl, inr, Ordering, Less, Equal, Greater}
 use Rattle.std.specs.Ordering.{is_lt, ordering_then}
 use Rattle.xxhsum_audit.proofs.FoundFacts.{Covers, by_founds, met_is, met_pair, moved_pair}
 use Rattle.xxhsum_audit.proofs.OrderFacts.{back, digests_exact, digests_tied, digests_total, eq_false, eq_true, less_upto, lines_exact}

@@ -1,8 +1,6 @@
 -- What an audit comes to of which all is the same.
-use Rattle.std.proofs.Common.{◌≡◌, List, inl, inr, refl, sym, subst}
+use Rattle.std.proofs.Common.{◌≡◌, List, inl, inr, refl, sym, subst, flat_map, IsPermutation}
 use Rattle.std.proofs.lemmas.List.Sorted.{IsPermutation-sym}
-use Rattle.std.specs.List.{flat_map}
-use Rattle.std.specs.List.Sorted.{IsPermutation}
 use Rattle.xxhsum_audit.proofs.AmongFacts.{among_flat_map, among_permutation, from_flat_map}
 use Rattle.xxhsum_audit.specs.Found.{Found, Same, line_in, name_in}
 use Rattle.xxhsum_audit.specs.Item.{IsAmong, Item}

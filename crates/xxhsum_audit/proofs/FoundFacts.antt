@@ -1,9 +1,6 @@
 -- What is found of lines and names side by side, by induction.
-use Rattle.std.proofs.Common.{◌≡◌, Bool, true, false, List, [], ◌∷◌, ◌++◌, map, refl, sym, ap, subst, ◌∙◌}
+use Rattle.std.proofs.Common.{◌≡◌, Bool, true, false, List, [], ◌∷◌, ◌++◌, map, refl, sym, ap, subst, ◌∙◌, Ordering, Less, Equal, Greater, is_eq}
 use Rattle.std.proofs.lemmas.Bool.{cond-true, cond-false}
-use Rattle.std.specs.declared.cmp.Ordering.{Ordering}
-use Rattle.std.specs.declared.cmp.Ordering.TheVariants.{Less, Equal, Greater}
-use Rattle.std.specs.Ordering.{is_eq}
 use Rattle.xxhsum_audit.proofs.TurnFacts.{by_turns}
 use Rattle.xxhsum_audit.specs.declared.side.Side.{Side}
 use Rattle.xxhsum_audit.specs.Audit.{as_found}

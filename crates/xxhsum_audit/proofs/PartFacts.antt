@@ -11,9 +11,6 @@ pub record Stands (end : ℕ) (bytes : List ℕ) (parts : List (List ℕ)) (left
   pub lack : (part : List ℕ) → IsAmong parts part → Lacks end part
   pub whole : bytes ≡ ended end parts ++ left
 
-pub stands_none : (end : ℕ) (bytes : List ℕ) → Stands end bytes [] bytes
-stands_none end bytes = record { lack = λ part h. absurd h; whole = refl }
-
 lacks_push : (end : ℕ) (parts : List (List ℕ)) (part : List ℕ) → ((p : List ℕ) → IsAmong parts p → Lacks end p) → Lacks end part
     → (p : List ℕ) → IsAmong (parts ++ part ∷ []) p → Lacks end p
 lacks_push end parts part lack here p h =

@@ -1,7 +1,5 @@
 -- What stands alone side by side has no partner.
-use Rattle.std.proofs.Common.{◌≡◌, ◌≢◌, ℕ, List, [], ◌∷◌, ◌++◌, append-nil, refl, sym, ap, subst, ◌∙◌, inl, inr}
-use Rattle.std.specs.List.{flat_map}
-use Rattle.std.specs.declared.cmp.Ordering.TheVariants.{Less, Equal, Greater}
+use Rattle.std.proofs.Common.{◌≡◌, ◌≢◌, ℕ, List, [], ◌∷◌, ◌++◌, append-nil, refl, sym, ap, subst, ◌∙◌, inl, inr, flat_map, Less, Equal, Greater}
 use Rattle.xxhsum_audit.proofs.AmongFacts.{among_either, among_left, among_right}
 use Rattle.xxhsum_audit.proofs.FoundFacts.{Covers, by_founds, met_is, met_pair}
 use Rattle.xxhsum_audit.proofs.OrderFacts.{back, lines_exact, lines_total, paths_tied}

@@ -1,7 +1,5 @@
 -- Lines and names side by side, by induction.
-use Rattle.std.proofs.Common.{◌≡◌, ℕ, List, [], ◌∷◌, map, length, refl, sym, ap, subst, ◌∙◌, arith}
-use Rattle.std.specs.declared.cmp.Ordering.{Ordering}
-use Rattle.std.specs.declared.cmp.Ordering.TheVariants.{Less, Equal, Greater}
+use Rattle.std.proofs.Common.{◌≡◌, ℕ, List, [], ◌∷◌, map, length, refl, sym, ap, subst, ◌∙◌, arith, Ordering, Less, Equal, Greater}
 use Rattle.xxhsum_audit.specs.declared.side.Side.{Side}
 use Rattle.xxhsum_audit.specs.declared.side.Side.TheVariants.{Line, Name, Both}
 use Rattle.xxhsum_audit.specs.Side.{IsFirst, against, beside, in_turn}

@@ -1,7 +1,5 @@
 -- What holds of an audit.
-use Rattle.std.specs.Prelude.{ℕ, ◌≡◌, ◌+◌, false, List, length}
-use Rattle.std.specs.List.{count_by}
-use Rattle.std.specs.List.Sorted.{IsPermutation}
+use Rattle.std.specs.Prelude.{ℕ, ◌≡◌, ◌+◌, false, List, length, count_by, IsPermutation}
 use Rattle.std.specs.Ordering.{is_lt}
 use Rattle.xxhsum_audit.specs.declared.verdict.Class.TheVariants as Of
 use Rattle.xxhsum_audit.specs.Audit.{IsAudit, IsTwice}

@@ -15,11 +15,15 @@ SaysOne is_little text [] = is_comment text ≡ true
 SaysOne is_little text (item ∷ []) = line.Says is_little text (kind_of item) (value_of item) (name_of item)
 SaysOne is_little text (item ∷ next ∷ items) = ⊥
 
--- what lines say, one after another
+-- what texts give, one after another
+abbrev pub GiveAll : {X : Type 0} → (List ℕ → List X → Type 0) → List (List ℕ) → List X → Type 0
+GiveAll gives [] all = all ≡ []
+GiveAll {X} gives (text ∷ texts) all =
+    (front rest : List X) × (all ≡ front ++ rest) × gives text front × GiveAll gives texts rest
+
+-- what lines say
 abbrev pub SayAll : Bool → List (List ℕ) → List Item → Type 0
-SayAll is_little [] items = items ≡ []
-SayAll is_little (text ∷ lines) items =
-    (front rest : List Item) × (items ≡ front ++ rest) × SaysOne is_little text front × SayAll is_little lines rest
+SayAll is_little lines items = GiveAll (SaysOne is_little) lines items
 
 -- what a line says stands behind what was said before; or it says nothing, and is no comment
 abbrev pub TakesLine : Bool → List ℕ → List Item → List Item → Bool → Type 0

@@ -1,6 +1,5 @@
 -- Bytes that are cut at each byte of one value.
-use Rattle.std.specs.Prelude.{ℕ, ◌≡◌, ◌⊎◌, ◌<◌, List, [], ◌∷◌, ◌++◌, length}
-use Rattle.std.specs.List.{flat_map}
+use Rattle.std.specs.Prelude.{ℕ, ◌≡◌, ◌⊎◌, ◌<◌, List, [], ◌∷◌, ◌++◌, length, flat_map}
 use Rattle.xxhsum_line.specs.Parts.{Lacks}
 use Rattle.xxhsum_audit.specs.Item.{IsAmong}
 

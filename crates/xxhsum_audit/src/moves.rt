@@ -31,7 +31,8 @@ pub struct Compared<'n> {
 /// `AllocError` where memory runs out.
 pub fn verdicts<'n>(alloc: Global, compared: Compared<'n>) -> Result<Vec<Verdict<'n>>, AllocError>
     ensures { IfOk result (λ found. HasMoves (founds_of compared.entry.settled.items)
-        (items_of compared.entry.gone.items) (items_of compared.entry.come.items) (founds_of found.items)) }
+        (items_of compared.entry.gone.items) (items_of compared.entry.come.items)
+        (founds_of found.items)) }
 {
     let Compared {
         settled,

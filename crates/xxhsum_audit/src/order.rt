@@ -39,7 +39,7 @@ pub fn compare_paths(a: &[u8], b: &[u8]) -> Ordering
     bare(a).cmp(bare(b))
 }
 
-// The same, and where they tie by all their bytes.
+// How two names stand in order: those that lead to one place by all their bytes.
 fn rank_names(a: &[u8], b: &[u8]) -> Ordering
     ensures { result ≡ rank_names a.now b.now }
 {
@@ -61,7 +61,7 @@ pub fn compare_digests(a: FileDigest<'_>, b: FileDigest<'_>) -> Ordering
     }
 }
 
-// The same, and where they tie by their names.
+// How two digests stand in order: those of one algorithm and value by their names.
 fn rank_digests(a: FileDigest<'_>, b: FileDigest<'_>) -> Ordering
     ensures { result ≡ rank_digests (item_of a.entry) (item_of b.entry) }
 {

@@ -46,7 +46,8 @@ pub fn first_by_path<'n>(
     names: &[&'n [u8]],
 ) -> Option<Side<FileDigest<'n>, &'n [u8]>>
     ensures { MatchOption result (path_sides lines.now names.now ≡ [])
-        (λ side. IsFirst path_sides lines.now names.now (path_side side) (lines_of side) (names_of side)) }
+        (λ side. IsFirst path_sides lines.now names.now
+        (path_side side) (lines_of side) (names_of side)) }
 {
     match (lines.split_first(), names.split_first()) {
         (None, None) => None,
@@ -66,7 +67,8 @@ pub(crate) fn first_by_digest<'n>(
     come: &[FileDigest<'n>],
 ) -> Option<Side<FileDigest<'n>, FileDigest<'n>>>
     ensures { MatchOption result (digest_sides gone.now come.now ≡ [])
-        (λ side. IsFirst digest_sides gone.now come.now (digest_side side) (lines_of side) (names_of side)) }
+        (λ side. IsFirst digest_sides gone.now come.now
+        (digest_side side) (lines_of side) (names_of side)) }
 {
     match (gone.split_first(), come.split_first()) {
         (None, None) => None,

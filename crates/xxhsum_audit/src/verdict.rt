@@ -1,7 +1,6 @@
 //! The verdict of an audit on a line, on a name, or on both.
 
-ghost use Rattle.std.specs.Prelude.{◌≡◌};
-ghost use Rattle.std.specs.List.{count_by};
+ghost use Rattle.std.specs.Prelude.{◌≡◌, count_by};
 ghost use Rattle.xxhsum_audit.specs.Found.{class_of, found_of, founds_of, is_of_class, met};
 ghost use Rattle.xxhsum_audit.specs.Item.{item_of};
 

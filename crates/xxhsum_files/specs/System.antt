@@ -1,6 +1,5 @@
 -- What clauses say of the system's files: which bytes they have is not known here.
-use Rattle.std.specs.Prelude.{◌≡◌, Bool, ℕ, List, Option, pos}
-use Rattle.std.specs.Str.{IsUtf8}
+use Rattle.std.specs.Prelude.{◌≡◌, Bool, ℕ, List, Option, pos, IsUtf8}
 use Rattle.xxhsum_files.specs.Refusal.{refusal_code}
 use Rattle.xxh_io.specs.declared.from_read.FromRead.{FromRead}
 use Rattle.xxhsum_files.specs.declared.folders.PathKind.{PathKind}

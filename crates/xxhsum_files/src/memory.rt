@@ -1,7 +1,6 @@
 //! Files in memory, for tests: a table of names and of the sources that they lead to.
 
-ghost use Rattle.std.specs.Prelude.{◌≡◌, None};
-ghost use Rattle.std.specs.Option.{option_copied};
+ghost use Rattle.std.specs.Prelude.{◌≡◌, None, option_copied};
 ghost use Rattle.xxhsum_files.specs.Memory.{entries_of, entry_named, is_directory_named, LeadsTo, RefusedFor};
 
 use crate::refusal::{MISSING, Refusal};

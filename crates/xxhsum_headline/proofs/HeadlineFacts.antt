@@ -1,20 +1,14 @@
 -- What a run over names and the check of a list come to.
-use Rattle.std.proofs.Common.{◌≡◌, ℕ, Bool, true, false, List, [], ◌∷◌, ◌++◌, Option, Some, None, inl, inr, refl, sym, ap, ◌∙◌, subst, append-nil, codes}
-use Rattle.std.specs.Prelude.{◌↔◌}
-use Rattle.std.specs.List.{concat}
-use Rattle.std.specs.declared.result.Result.{Result}
-use Rattle.std.specs.declared.result.Result.TheVariants.{Ok, Err}
-use Rattle.xxh_io.specs.Digest.{Took}
-use Rattle.xxh_io.specs.Rules.{SourceRules, SinkRules}
-use Rattle.xxh_io.specs.declared.kind.Kind.{Kind}
-use Rattle.xxhsum_files.specs.Rules.{StoreRules}
+use Rattle.std.proofs.Common.{◌≡◌, ℕ, Bool, true, false, List, [], ◌∷◌, ◌++◌, Option, Some, None, inl, inr, refl, sym, ap, ◌∙◌, subst, append-nil, codes, ◌↔◌, Result, Ok, Err}
+use Rattle.xxhsum_program.specs.Prelude.{AllByRecursion, EachHas, Kind, Options, Shape, SinkRules, SourceRules, StoreRules, Style, TellsOn, Took, concat}
+use Rattle.xxhsum_program.specs.declared.outcome.Outcome.{Outcome}
+use Rattle.xxhsum_program.specs.declared.outcome.Outcome.TheVariants.{Digested, IsDirectory, Unread}
+use Rattle.xxhsum_program.specs.declared.stop.Stop.{Stop}
+use Rattle.xxhsum_program.specs.declared.stop.Stop.TheVariants.{OutOfMemory, WriteFailed}
 use Rattle.xxhsum_headline.specs.Headline.{IsLineOrMessage, PrintsBeginning}
 use Rattle.xxhsum_line.specs.Laws.{PrintedIsOneLine, ToldIsOneLine}
 use Rattle.xxhsum_line.specs.Printed.{text_of}
-use Rattle.xxhsum_line.specs.declared.printed.Shape.{Shape}
-use Rattle.xxhsum_line.specs.declared.printed.Style.{Style}
 use Rattle.xxhsum_program.specs.CheckList.{EndsAs, SaysList}
-use Rattle.xxhsum_program.specs.EachHas.{EachHas}
 use Rattle.xxhsum_program.specs.Findings.{Finding}
 use Rattle.xxhsum_program.specs.GoodList.{GoodMeansEqual, IsWell}
 use Rattle.xxhsum_program.specs.HashNames.{SaysNames}
@@ -23,13 +17,6 @@ use Rattle.xxhsum_program.specs.ListEnd.{ListEnd}
 use Rattle.xxhsum_program.specs.Outcomes.{Comes, are_digested, reason_text}
 use Rattle.xxhsum_program.specs.Run.{status_of}
 use Rattle.xxhsum_program.specs.Said.{printed_list}
-use Rattle.xxhsum_program.specs.Told.{TellsOn}
-use Rattle.xxhsum_program.specs.declared.outcome.Outcome.{Outcome}
-use Rattle.xxhsum_program.specs.declared.outcome.Outcome.TheVariants.{Digested, IsDirectory, Unread}
-use Rattle.xxhsum_program.specs.declared.stop.Stop.{Stop}
-use Rattle.xxhsum_program.specs.declared.stop.Stop.TheVariants.{WriteFailed, OutOfMemory}
-use Rattle.xxhsum_words.specs.declared.options.Options.{Options}
-use Rattle.std.specs.List.{AllByRecursion}
 
 pub status : (done : Result Bool Stop) → (status_of done ≡ 0) ↔ (done ≡ Ok true)
 status (Ok true) = (λ _. refl, λ _. refl)

@@ -1,12 +1,9 @@
 -- The words of the headline.
 use Rattle.std.specs.Prelude.{◌≡◌, ◌⊎◌, ℕ, List, [], ◌++◌}
-use Rattle.xxh_io.specs.Digest.{Took}
-use Rattle.xxh_io.specs.Rules.{SinkRules}
-use Rattle.xxh_io.specs.declared.kind.Kind.{Kind}
-use Rattle.xxhsum_line.specs.Laws.{IsOneLine}
-use Rattle.xxhsum_line.specs.declared.printed.Shape.{Shape}
-use Rattle.xxhsum_program.specs.Lines.{printed_line, told_line}
+use Rattle.xxhsum_program.specs.Prelude.{Kind, Shape, SinkRules, Took}
 use Rattle.xxhsum_program.specs.declared.outcome.Outcome.{Outcome}
+use Rattle.xxhsum_line.specs.Laws.{IsOneLine}
+use Rattle.xxhsum_program.specs.Lines.{printed_line, told_line}
 
 -- one line on standard output and no message, or one message on standard error and no line
 abbrev pub IsLineOrMessage : Kind → Shape → List ℕ → Outcome → Type 0

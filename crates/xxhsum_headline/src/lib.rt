@@ -3,21 +3,18 @@
 //! files and any ends, and is proved from the public contracts of the crates `xxhsum_*`.
 #![tactic(auto)]
 
-ghost use Rattle.std.specs.Prelude.{◌≡◌, ◌↔◌, ◌++◌, Bool, List, ℕ, Option, Result, true, codes};
+ghost use Rattle.std.specs.Prelude.{◌≡◌, ◌↔◌, ◌++◌, Bool, List, ℕ, Option, Result, true, codes, IsPermutation};
 ghost use Rattle.std.specs.List.{AllByRecursion, flat_map};
-ghost use Rattle.std.specs.List.Sorted.{IsPermutation};
-ghost use Rattle.xxh_io.specs.Digest.{Took};
-ghost use Rattle.xxh_io.specs.declared.kind.Kind.{Kind};
+ghost use Rattle.xxhsum_program.specs.Prelude.{EachHas, Kind, Options, Shape, Style, TellsOn, Took};
+ghost use Rattle.xxhsum_program.specs.declared.outcome.Outcome.{Outcome};
+ghost use Rattle.xxhsum_program.specs.declared.stop.Stop.{Stop};
 ghost use Rattle.xxhsum_audit.specs.Audit.{IsAudit};
 ghost use Rattle.xxhsum_audit.specs.Item.{HasSameDigest, IsAmong, Item};
 ghost use Rattle.xxhsum_audit.specs.Laws.{IsKept, IsRight};
 ghost use Rattle.xxhsum_audit.specs.Found.{Copied, Found, Missing, New, Same, line_in, name_in};
 ghost use Rattle.xxhsum_headline.specs.Headline.{IsLineOrMessage, PrintsBeginning};
 ghost use Rattle.xxhsum_line.specs.Entry.{Says};
-ghost use Rattle.xxhsum_line.specs.declared.printed.Shape.{Shape};
-ghost use Rattle.xxhsum_line.specs.declared.printed.Style.{Style};
 ghost use Rattle.xxhsum_program.specs.CheckList.{EndsAs, SaysList};
-ghost use Rattle.xxhsum_program.specs.EachHas.{EachHas};
 ghost use Rattle.xxhsum_program.specs.Findings.{Finding, IsFinding};
 ghost use Rattle.xxhsum_program.specs.GoodList.{IsWell};
 ghost use Rattle.xxhsum_program.specs.HashNames.{SaysNames};
@@ -27,10 +24,6 @@ ghost use Rattle.xxhsum_program.specs.Outcomes.{Comes, IsValueOf, are_digested};
 ghost use Rattle.xxhsum_program.specs.PrintedIsGood.{PrintedIsGood};
 ghost use Rattle.xxhsum_program.specs.Run.{status_of};
 ghost use Rattle.xxhsum_program.specs.Said.{named_text, printed_finding, printed_list};
-ghost use Rattle.xxhsum_program.specs.Told.{TellsOn};
-ghost use Rattle.xxhsum_program.specs.declared.outcome.Outcome.{Outcome};
-ghost use Rattle.xxhsum_program.specs.declared.stop.Stop.{Stop};
-ghost use Rattle.xxhsum_words.specs.declared.options.Options.{Options};
 
 use xxh_io::ends::{Sink, Source};
 use xxhsum_audit::laws::laws_of_audits;

@@ -1,6 +1,5 @@
 -- Escaped names: what they mean, and which bytes they lack.
-use Rattle.std.proofs.Common.{◌≡◌, ◌≢◌, ◌⊎◌, ℕ, ◌+◌, ◌*◌, ◌<◌, ◌≤◌, Bool, true, false, ◌||◌, nat_eq, List, [], ◌∷◌, ◌++◌, length, take, get_or, Option, Some, None, refl, sym, ap, ◌∙◌, inl, inr, append-nil, append_assoc, length-append, arith}
-use Rattle.std.specs.Option.{option_and_then}
+use Rattle.std.proofs.Common.{◌≡◌, ◌≢◌, ◌⊎◌, ℕ, ◌+◌, ◌*◌, ◌<◌, ◌≤◌, Bool, true, false, ◌||◌, nat_eq, List, [], ◌∷◌, ◌++◌, length, take, get_or, Option, Some, None, refl, sym, ap, ◌∙◌, inl, inr, append-nil, append_assoc, length-append, arith, option_and_then}
 use Rattle.std.proofs.lemmas.Bool.{cases_eq, cond-false, ne_eqb, or_parts}
 use Rattle.std.proofs.lemmas.List.{take_more}
 use Rattle.xxhsum_line.proofs.LackFacts.{lacks_both}

@@ -4,10 +4,6 @@ use Rattle.std.proofs.lemmas.List.{drop_more, take-append-drop, length-take-le, 
 use Rattle.std.proofs.lemmas.Bool.Decides.{eqb_tells}
 use Rattle.xxhsum_line.specs.Parts.{Lacks, up_to_nul, without_return}
 
-pub lacks_left : (b : ℕ) (x y : List ℕ) → Lacks b (x ++ y) → Lacks b x
-lacks_left b [] y h = tt
-lacks_left b (c ∷ x) y h = (h.0, lacks_left b x y h.1)
-
 pub lacks_right : (b : ℕ) (x y : List ℕ) → Lacks b (x ++ y) → Lacks b y
 lacks_right b [] y h = h
 lacks_right b (c ∷ x) y h = lacks_right b x y h.1

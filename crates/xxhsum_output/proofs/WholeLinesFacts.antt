@@ -1,10 +1,9 @@
 -- Lines that are gathered, and what the sink behind them has of them.
-use Rattle.std.proofs.Common.{◌≡◌, ◌⊎◌, ℕ, ◌<◌, Bool, true, false, List, [], ◌∷◌, ◌++◌, length, refl, sym, ap, subst, ◌∙◌, inl, inr, append-nil, append_assoc, Ok, Err, IfOk, OnErr, is_err}
+use Rattle.std.proofs.Common.{◌≡◌, ◌⊎◌, ℕ, ◌<◌, Bool, true, false, List, [], ◌∷◌, ◌++◌, length, refl, sym, ap, subst, ◌∙◌, inl, inr, append-nil, append_assoc, Ok, Err, IfOk, OnErr, is_err, Result}
 use Rattle.std.specs.List.{concat}
-use Rattle.std.specs.declared.result.Result.{Result}
 use Rattle.xxh_io.specs.declared.ends.Failed.{Failed}
 use Rattle.xxh_io.specs.Digest.{Refused, Took}
-use Rattle.xxh_io.specs.LineBuffer.{Gathers}
+use Rattle.xxh_io.specs.Waiting.{Gathers}
 use Rattle.xxh_io.specs.Pieces.{Pieces}
 use Rattle.xxh_io.specs.Rules.{SinkRules}
 use Rattle.xxhsum_output.specs.WholeLines.{Passes, Reaches, RefusesLine, TakesPiece, behind, waiting_lines}

@@ -2,8 +2,7 @@
 use Rattle.std.specs.Prelude.{◌≡◌, ◌⊎◌, ℕ, Bool, true, false, List, [], ◌++◌}
 use Rattle.xxhsum_output.specs.declared.whole_lines.WholeLines.{WholeLines}
 use Rattle.xxh_io.specs.Digest.{Refused, Took}
-use Rattle.xxh_io.specs.LineBuffer.{Gathers}
-use Rattle.xxhsum_output.specs.Waiting.{waiting_bytes}
+use Rattle.xxh_io.specs.Waiting.{Gathers, waiting_bytes}
 use Rattle.xxh_io.specs.Rules.{SinkRules}
 
 -- the sink behind it

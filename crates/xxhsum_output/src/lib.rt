@@ -2,5 +2,4 @@
 #![tactic(auto)]
 
 pub mod output;
-pub mod waiting;
 pub mod whole_lines;

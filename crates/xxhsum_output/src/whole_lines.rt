@@ -4,8 +4,8 @@ ghost use Rattle.std.specs.Prelude.{◌≡◌, ◌≤◌, [], false, List, ℕ, 
 ghost use Rattle.xxh_io.specs.Digest.{Refused, Took};
 
 use crate::output::Output;
-use crate::waiting::Waiting;
 use xxh_io::ends::{Failed, Sink};
+use xxh_io::waiting::Waiting;
 
 /// The most bytes that wait.
 pub const MOST_WAITING: usize = 4096;
@@ -24,7 +24,7 @@ pub struct WholeLines<W> {
 
 impl<W: Sink> WholeLines<W> {
     ghost use Rattle.std.specs.Prelude.{◌<◌, take};
-    ghost use Rattle.xxhsum_output.specs.Waiting.{waiting_count};
+    ghost use Rattle.xxh_io.specs.Waiting.{waiting_count};
     ghost use Rattle.xxhsum_output.specs.WholeLines.{Reaches, RefusesLine, TakesLine, behind, waiting_lines};
     ghost use Rattle.xxhsum_output.specs.declared.whole_lines.WholeLines.{WholeLines};
 

@@ -1,10 +1,6 @@
 -- Findings of lines, and how a list ends behind them.
 use Rattle.std.proofs.Common.{◌≡◌, ◌⊎◌, ℕ, Bool, true, List, [], ◌∷◌, ◌++◌, refl, sym, ap, subst, ◌∙◌, inl, inr, append-nil, append_assoc}
-use Rattle.std.specs.List.{AllByRecursion, concat}
-use Rattle.xxh_io.specs.Pieces.{Pieces}
-use Rattle.xxh_io.specs.Rules.{SourceRules}
-use Rattle.xxhsum_line.specs.Parts.{Lacks}
-use Rattle.xxhsum_program.specs.declared.check.Report.{Report}
+use Rattle.xxhsum_program.specs.Prelude.{AllByRecursion, Lacks, Pieces, Report, SourceRules, concat}
 use Rattle.xxhsum_program.specs.declared.lines.Lines.{Lines}
 use Rattle.xxhsum_program.specs.declared.lines.Next.TheVariants as Variant
 use Rattle.xxhsum_program.specs.CheckList.{EndsAs, EndsInLine, EndsWell, HasLines, ReadsSome, with_line_feeds}

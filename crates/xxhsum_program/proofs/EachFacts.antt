@@ -1,8 +1,8 @@
 -- Names or lines and what each has, where one more comes.
 use Rattle.std.proofs.Common.{◌≡◌, ℕ, ◌+◌, ◌<◌, ◌&&◌, Bool, true, false, List, [], ◌∷◌, ◌++◌, length, map, take, drop, get_or, refl, sym, ap, ◌∙◌, take-append-drop}
+use Rattle.std.specs.List.{list_all}
 use Rattle.std.proofs.lemmas.List.{drop_more, map-append, take_more}
-use Rattle.std.specs.List.{AllByRecursion}
-use Rattle.xxhsum_program.specs.EachHas.{EachHas}
+use Rattle.xxhsum_program.specs.Prelude.{AllByRecursion, EachHas}
 
 pub EachHas-push : {T : Type 0} (has : List ℕ → T → Type 0) (lines : List (List ℕ)) (xs : List T) (line : List ℕ) (x : T) → EachHas has lines xs → has line x → EachHas has (lines ++ line ∷ []) (xs ++ x ∷ [])
 EachHas-push has [] [] line x each more = (more, tt)
@@ -33,3 +33,15 @@ and-assoc false b c = refl
 pub and-true : (a : Bool) → (a && true) ≡ a
 and-true true = refl
 and-true false = refl
+
+pub list_all-push : {A : Type 0} (test : A → Bool) (xs : List A) (x : A) → list_all test (xs ++ x ∷ []) ≡ (list_all test xs && test x)
+list_all-push test [] x = and-true (test x)
+list_all-push test (y ∷ ys) x = ap (λ b. test y && b) (list_all-push test ys x) ∙ and-assoc (test y) (list_all test ys) (test x)
+
+pub and-false : (a : Bool) → false ≡ (a && false)
+and-false true = refl
+and-false false = refl
+
+pub both-true : (a b : Bool) → (a && b) ≡ true → (a ≡ true) × (b ≡ true)
+both-true true b is = (refl, is)
+both-true false b is = let no : ⊥ = cc in absurd no

@@ -1,14 +1,8 @@
 -- A report with none different, none unread and none too long is one of lines that are well.
 use Rattle.std.proofs.Common.{◌≡◌, ◌&&◌, ℕ, Bool, true, false, List, [], ◌∷◌, Some, None, refl, arith, if◌then◌else◌, inl, inr}
-use Rattle.std.specs.List.{AllByRecursion}
-use Rattle.xxh_io.specs.Rules.{SourceRules}
-use Rattle.xxhsum_files.specs.Rules.{StoreRules}
-use Rattle.xxhsum_words.specs.declared.options.Options.{Options}
-use Rattle.xxhsum_program.specs.declared.check.Report.{Report}
+use Rattle.xxhsum_program.specs.Prelude.{AllByRecursion, EachHas, Options, Reason, Report, SourceRules, StoreRules}
 use Rattle.xxhsum_program.specs.declared.entry.Found.TheVariants.{Same, Different, Unread}
-use Rattle.xxhsum_program.specs.declared.outcome.Reason.{Reason}
 use Rattle.xxhsum_program.specs.declared.outcome.Reason.TheVariants as Why
-use Rattle.xxhsum_program.specs.EachHas.{EachHas}
 use Rattle.xxhsum_program.specs.Findings.{Finding, Ignored, Improper, IsFinding, Proper, TooLong, add_up, count_one, no_findings, one_more}
 use Rattle.xxhsum_program.specs.GoodList.{GoodMeansEqual, IsPassedOver, IsWell}
 use Rattle.xxhsum_program.specs.ListEnd.{ListEnd, Whole, TooMany, Endless, FailedRead, report_at}

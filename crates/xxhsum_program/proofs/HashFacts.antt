@@ -1,21 +1,9 @@
 -- A hashing run that stops, over any names, outcomes and lines.
-use Rattle.std.proofs.Common.{◌≡◌, ℕ, ◌+◌, Bool, List, [], ◌∷◌, ◌++◌, length, refl, sym, ap, ◌∙◌, subst, append-nil, append_assoc, length-append, arith, Ok, Err}
-use Rattle.std.specs.List.{concat}
-use Rattle.std.specs.declared.result.Result.{Result}
-use Rattle.std.specs.Result.{IsErrAnd}
-use Rattle.xxh_io.specs.Digest.{Took, Refused}
+use Rattle.std.proofs.Common.{◌≡◌, ℕ, ◌+◌, Bool, List, [], ◌∷◌, ◌++◌, length, refl, sym, ap, ◌∙◌, subst, append-nil, append_assoc, length-append, arith, Ok, Err, Result, IsErrAnd}
+use Rattle.xxhsum_program.specs.Prelude.{Digested, EachHas, IsDirectory, Kind, OutOfMemory, Outcome, Refused, SinkRules, Stop, Style, TellsOn, Took, Unread, WriteFailed, concat}
 use Rattle.xxh_io.proofs.WriteFacts.{Refused-join}
-use Rattle.xxh_io.specs.declared.kind.Kind.{Kind}
-use Rattle.xxh_io.specs.Rules.{SinkRules}
-use Rattle.xxhsum_line.specs.declared.printed.Style.{Style}
-use Rattle.xxhsum_program.specs.declared.outcome.Outcome.{Outcome}
-use Rattle.xxhsum_program.specs.declared.outcome.Outcome.TheVariants.{Digested, IsDirectory, Unread}
-use Rattle.xxhsum_program.specs.declared.stop.Stop.{Stop}
-use Rattle.xxhsum_program.specs.declared.stop.Stop.TheVariants.{WriteFailed, OutOfMemory}
 use Rattle.xxhsum_program.specs.Lines.{PrintsLine, PrintsLines, lines_of, told_line, written_line}
-use Rattle.xxhsum_program.specs.EachHas.{EachHas}
 use Rattle.xxhsum_program.specs.HashNames.{EndsWith}
-use Rattle.xxhsum_program.specs.Told.{TellsOn}
 use Rattle.xxhsum_program.proofs.EachFacts.{EachHas-push}
 use Rattle.xxhsum_program.proofs.OutcomeFacts.{lines-push}
 

@@ -1,15 +1,7 @@
 -- A line that is written in two parts, of which either may be refused.
-use Rattle.std.proofs.Common.{◌≡◌, ◌≢◌, ℕ, List, [], ◌∷◌, ◌++◌, Bool, true, false, Ok, Err, IfErr, codes, decimal, nat_eq, ◌||◌, refl, if◌then◌else◌, arith, append-nil, ap, ◌∙◌}
-use Rattle.std.specs.List.{concat}
-use Rattle.std.specs.declared.result.Result.{Result}
-use Rattle.xxh_io.specs.Digest.{Took}
-use Rattle.xxh_io.specs.Rules.{SinkRules}
+use Rattle.std.proofs.Common.{◌≡◌, ◌≢◌, ℕ, List, [], ◌∷◌, ◌++◌, Bool, true, false, Ok, Err, IfErr, codes, nat_eq, ◌||◌, refl, if◌then◌else◌, arith, append-nil, ap, ◌∙◌, Result}
+use Rattle.xxhsum_program.specs.Prelude.{Options, OutOfMemory, Report, SinkRules, Stop, Took, WriteFailed, concat, one_line}
 use Rattle.xxh_io.proofs.WriteFacts.{Refused-join, Refused-more, Took-join}
-use Rattle.xxhsum_line.specs.Escapes.{one_line}
-use Rattle.xxhsum_words.specs.declared.options.Options.{Options}
-use Rattle.xxhsum_program.specs.declared.check.Report.{Report}
-use Rattle.xxhsum_program.specs.declared.stop.Stop.{Stop}
-use Rattle.xxhsum_program.specs.declared.stop.Stop.TheVariants.{WriteFailed, OutOfMemory}
 use Rattle.xxhsum_program.specs.Lines.{PrintsLine}
 use Rattle.xxhsum_program.specs.ListEnd.{FailedRead}
 use Rattle.xxhsum_program.specs.Said.{count_text, printed_summary, told_break, told_of_line, told_summary, unverified_line, unverified_text}
@@ -27,9 +19,6 @@ pub line-join : {W T : Type 0} (writing : SinkRules W) (a b : List ℕ) (old mid
 line-join writing a b old mid new (Ok x) took only prints = Took-join writing a b old mid new took prints
 line-join writing a b old mid new (Err WriteFailed) took only prints = Refused-join writing a b old mid new took prints
 line-join writing a b old mid new (Err OutOfMemory) took only prints = cc
-
-pub count-is : (count : ℕ) (one more word : List ℕ) → count ≢ 0 → word ≡ (if nat_eq count 1 then one else more) → count_text count one more ≡ decimal count ++ word
-count-is count one more word some is = rw is (grind arith)
 
 one-of : (count : ℕ) (silent : Bool) (text : List ℕ) → count ≢ 0 → silent ≡ false → (if nat_eq count 0 || silent then [] else text) ≡ text
 one-of count silent text some speaks = rw speaks (grind arith)

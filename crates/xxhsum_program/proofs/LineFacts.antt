@@ -1,9 +1,6 @@
 -- What waits of a list, where bytes are taken from it or come behind it.
-use Rattle.std.proofs.Common.{◌≡◌, ℕ, ◌+◌, ◌-◌, ◌<◌, ◌≤◌, ◌^◌, Bool, true, false, List, [], ◌∷◌, ◌++◌, length, length-append, take, drop, slice_range, slice_index, nat_eq, refl, sym, ap, ◌∙◌, subst, inl, inr, Some, None, Ok, Err, arith, append-nil, append_assoc, rules, if◌then◌else◌}
+use Rattle.std.proofs.Common.{◌≡◌, ℕ, ◌+◌, ◌-◌, ◌<◌, ◌≤◌, ◌^◌, Bool, true, false, List, [], ◌∷◌, ◌++◌, length, length-append, take, drop, slice_range, slice_index, nat_eq, refl, sym, ap, ◌∙◌, subst, inl, inr, Some, None, Ok, Err, arith, append-nil, append_assoc, rules, if◌then◌else◌, IsErrAnd, Option, Result}
 use Rattle.std.specs.List.{concat, copy_within}
-use Rattle.std.specs.Result.{IsErrAnd}
-use Rattle.std.specs.declared.option.Option.{Option}
-use Rattle.std.specs.declared.result.Result.{Result}
 use Rattle.std.proofs.lemmas.Bool.Decides.{eqb_tells}
 use Rattle.std.proofs.lemmas.List.{take-take, take_at, take-append-le, drop-take, drop-drop, length-take-le, nil_from_length}
 use Rattle.std.proofs.lemmas.List.Edits.{length-between}
@@ -11,10 +8,8 @@ use Rattle.std.proofs.Math.Seq.{take-append-add}
 use borrow.Rule.Slice.PartMut.{put_mid}
 use Rattle.memchr.specs.Find.{IsFirstByte, is_byte}
 use Rattle.xxh_io.specs.declared.ends.Failed.{Failed}
-use Rattle.xxh_io.specs.Pieces.{Pieces, NoneEmpty}
-use Rattle.xxh_io.specs.Rules.{SourceRules}
+use Rattle.xxhsum_program.specs.Prelude.{Lacks, NoneEmpty, Pieces, SourceRules}
 use Rattle.xxh_io.proofs.PieceFacts.{Pieces-push, NoneEmpty-push, concat-push}
-use Rattle.xxhsum_line.specs.Parts.{Lacks}
 use Rattle.xxhsum_line.proofs.LackFacts.{at_place, lacks_before, lacks_both, lacks_by_place}
 use Rattle.xxhsum_program.specs.declared.lines.Lines.{Lines}
 use Rattle.xxhsum_program.specs.declared.lines.Next.TheVariants as Variant

@@ -1,10 +1,8 @@
 -- A line that says "NAME: OK" is said of a file that has the line's value alone.
 use Rattle.std.proofs.Common.{◌≡◌, ◌≢◌, ◌+◌, ℕ, Bool, true, false, List, [], ◌∷◌, ◌++◌, refl, sym, ap, ◌∙◌, subst, arith, codes, decimal, drop, length, if◌then◌else◌}
-use Rattle.std.specs.List.{concat}
+use Rattle.xxhsum_program.specs.Prelude.{Found, SourceRules, StoreRules, concat}
 use Rattle.std.proofs.lemmas.List.{append_assoc, append_cancel_right, length_push, same_from_push}
 use Rattle.std.proofs.lemmas.Option.{same_Some}
-use Rattle.xxh_io.specs.Rules.{SourceRules}
-use Rattle.xxhsum_files.specs.Rules.{StoreRules}
 use Rattle.xxhsum_line.specs.Entry.{Says}
 use Rattle.xxhsum_line.specs.Escapes.{escaped, mark_of, needs_escape, one_line, unescaped}
 use Rattle.xxhsum_line.specs.Laws.{EscapeIsUndone, PlainNamesStay}
@@ -13,7 +11,6 @@ use Rattle.xxhsum_program.specs.Found.{IsFound}
 use Rattle.xxhsum_program.specs.GoodList.{OkMeansEqual}
 use Rattle.xxhsum_program.specs.Outcomes.{IsValueOf, reason_text}
 use Rattle.xxhsum_program.specs.Said.{found_text, is_silent, named_text}
-use Rattle.xxhsum_program.specs.declared.entry.Found.{Found}
 use Rattle.xxhsum_program.specs.declared.entry.Found.TheVariants.{Same, Different, Unread}
 
 -- ---- one line is that of one text, and of some

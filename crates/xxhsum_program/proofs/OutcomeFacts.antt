@@ -1,18 +1,9 @@
 -- Names and their outcomes, where one more comes.
-use Rattle.std.proofs.Common.{◌≡◌, ◌&&◌, ℕ, List, [], ◌∷◌, ◌++◌, sym, ap, subst, ◌∙◌, append-nil, append_assoc, Ok, Err}
-use Rattle.std.specs.declared.result.Result.{Result}
-use Rattle.xxh_io.specs.Digest.{Took}
+use Rattle.std.proofs.Common.{◌≡◌, ℕ, List, [], ◌∷◌, ◌++◌, sym, ap, subst, ◌∙◌, append-nil, append_assoc, Ok, Err, Result}
+use Rattle.xxhsum_program.specs.Prelude.{EachHas, SinkRules, Stop, Took}
 use Rattle.xxh_io.proofs.WriteFacts.{Refused-join, Took-join}
-use Rattle.xxh_io.specs.Rules.{SinkRules}
-use Rattle.xxhsum_program.specs.declared.outcome.Outcome.{Outcome}
-use Rattle.xxhsum_program.specs.Outcomes.{are_digested, is_digested}
-use Rattle.xxhsum_words.specs.declared.options.Options.{Options}
-use Rattle.xxhsum_program.specs.CheckList.{ListOutcome, are_good, is_good_outcome}
-use Rattle.xxhsum_program.specs.declared.stop.Stop.{Stop}
 use Rattle.xxhsum_program.specs.declared.stop.Stop.TheVariants as Stopped
 use Rattle.xxhsum_program.specs.Lines.{PrintsLines, lines_of}
-use Rattle.xxhsum_program.specs.EachHas.{EachHas}
-use Rattle.xxhsum_program.proofs.EachFacts.{and-assoc, and-true}
 
 pub lines-push : {T : Type 0} (comes : List ℕ → T → Type 0) (line : List ℕ → T → List ℕ) (names : List (List ℕ)) (outcomes : List T) (name : List ℕ) (outcome : T) → EachHas comes names outcomes → lines_of line (names ++ name ∷ []) (outcomes ++ outcome ∷ []) ≡ lines_of line names outcomes ++ line name outcome
 lines-push comes line [] [] name outcome each = append-nil (line name outcome)
@@ -20,10 +11,6 @@ lines-push comes line [] (o ∷ os) name outcome each = absurd each
 lines-push comes line (n ∷ ns) [] name outcome each = absurd each
 lines-push comes line (n ∷ ns) (o ∷ os) name outcome each =
     ap (λ bytes. line n o ++ bytes) (lines-push comes line ns os name outcome each.1) ∙ sym (append_assoc (line n o) (lines_of line ns os) (line name outcome))
-
-pub are_digested-push : (outcomes : List Outcome) (outcome : Outcome) → are_digested (outcomes ++ outcome ∷ []) ≡ (are_digested outcomes && is_digested outcome)
-are_digested-push [] outcome = and-true (is_digested outcome)
-are_digested-push (o ∷ os) outcome = ap (λ b. is_digested o && b) (are_digested-push os outcome) ∙ and-assoc (is_digested o) (are_digested os) (is_digested outcome)
 
 -- ---- what is printed of them
 
@@ -36,9 +23,3 @@ prints-join writing a b old mid new (Ok x) took prints = Took-join writing a b o
 prints-join writing a b old mid new (Err Stopped.WriteFailed) took prints =
     Refused-join writing a b old mid new took prints
 prints-join writing a b old mid new (Err Stopped.OutOfMemory) took prints = Took-join writing a b old mid new took prints
-
--- ---- lists
-
-pub are_good-push : (options : Options) (outcomes : List ListOutcome) (outcome : ListOutcome) → are_good options (outcomes ++ outcome ∷ []) ≡ (are_good options outcomes && is_good_outcome options outcome)
-are_good-push options [] outcome = and-true (is_good_outcome options outcome)
-are_good-push options (o ∷ os) outcome = ap (λ b. is_good_outcome options o && b) (are_good-push options os outcome) ∙ and-assoc (is_good_outcome options o) (are_good options os) (is_good_outcome options outcome)

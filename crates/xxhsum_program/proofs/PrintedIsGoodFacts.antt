@@ -1,14 +1,9 @@
 -- What a hashing run prints is a good list while the files stay as they are.
-use Rattle.std.proofs.Common.{◌≡◌, ℕ, ◌+◌, ◌<◌, Bool, true, false, List, [], ◌∷◌, ◌++◌, length, refl, sym, ap, subst, ◌∙◌, arith, ◌^◌}
+use Rattle.std.proofs.Common.{◌≡◌, ℕ, ◌+◌, ◌<◌, Bool, true, false, List, [], ◌∷◌, ◌++◌, length, refl, sym, ap, subst, ◌∙◌, arith, ◌^◌, nat_eq, nat_lt}
 use Rattle.std.proofs.lemmas.Bool.Decides.{nat_tests}
-use Rattle.std.specs.List.{AllByRecursion, concat}
+use Rattle.xxhsum_program.specs.Prelude.{AllByRecursion, Digested, EachHas, Found, IsDirectory, Kind, Options, Outcome, Report, Shape, SourceRules, StoreRules, Unread, concat}
 use Rattle.xxh_io.specs.Kind.{digits_of}
-use Rattle.std.specs.Prelude.{nat_eq, nat_lt}
-use Rattle.xxh_io.specs.declared.kind.Kind.{Kind}
-use Rattle.xxh_io.specs.Rules.{SourceRules}
 use Rattle.xxhsum_line.specs.Printed.{line_of}
-use Rattle.xxhsum_line.specs.declared.printed.Shape.{Shape}
-use Rattle.xxhsum_program.specs.EachHas.{EachHas}
 use Rattle.xxhsum_program.specs.Findings.{Finding, Proper, add_up, no_findings, one_more}
 use Rattle.xxhsum_program.specs.Lines.{lines_of, printed_line}
 use Rattle.xxhsum_program.specs.ListEnd.{report_at}
@@ -16,16 +11,10 @@ use Rattle.xxhsum_program.specs.Outcomes.{Comes}
 use Rattle.xxhsum_program.specs.PrintedIsGood.{FilesStay, IsName, PrintedIsGood, entries_of}
 use Rattle.xxhsum_program.specs.PrintedList.{AreListed, AreFindingsOf, Holds, Listed, printed_list}
 use Rattle.xxhsum_program.specs.Report.{is_good, is_unverified, passes}
-use Rattle.xxhsum_words.specs.declared.options.Options.{Options}
-use Rattle.xxhsum_program.specs.declared.check.Report.{Report}
-use Rattle.xxhsum_program.specs.declared.entry.Found.{Found}
 use Rattle.xxhsum_program.specs.declared.entry.Found.TheVariants.{Same, Different}
 use Rattle.xxhsum_program.specs.declared.entry.Found.TheVariants as Is
-use Rattle.xxhsum_program.specs.declared.outcome.Outcome.{Outcome}
-use Rattle.xxhsum_program.specs.declared.outcome.Outcome.TheVariants.{Digested, IsDirectory, Unread}
 use Rattle.xxhsum_program.proofs.PrintedListFacts.{checks_printed, short_names_fit}
 use Rattle.xxh_program.proofs.ValueFacts.{value-lt}
-use Rattle.xxhsum_files.specs.Rules.{StoreRules}
 
 -- the lines that are printed are those of the entries
 printed_text : (kind : Kind) (shape : Shape) (names : List (List ℕ)) (outcomes : List Outcome)

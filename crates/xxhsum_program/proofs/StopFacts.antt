@@ -1,23 +1,14 @@
 -- The check of a list, at the lines where it stops and at its end.
-use Rattle.std.proofs.Common.{◌≡◌, ℕ, ◌+◌, Bool, true, false, List, [], ◌∷◌, ◌++◌, length, Option, Some, None, Ok, Err, refl, sym, subst, append-nil, inl}
-use Rattle.std.specs.declared.result.Result.{Result}
-use Rattle.xxh_io.specs.Digest.{Took, Refused}
-use Rattle.xxh_io.specs.Rules.{SourceRules, SinkRules}
+use Rattle.std.proofs.Common.{◌≡◌, ℕ, ◌+◌, Bool, true, false, List, [], ◌∷◌, ◌++◌, length, Option, Some, None, Ok, Err, refl, sym, subst, append-nil, inl, Result}
+use Rattle.xxhsum_program.specs.Prelude.{EachHas, Found, Options, OutOfMemory, Refused, Report, SinkRules, SourceRules, Stop, TellsOn, Took, WriteFailed}
 use Rattle.xxh_io.proofs.WriteFacts.{Refused-join, Took-join}
-use Rattle.xxhsum_words.specs.declared.options.Options.{Options}
-use Rattle.xxhsum_program.specs.declared.check.Report.{Report}
-use Rattle.xxhsum_program.specs.declared.entry.Found.{Found}
 use Rattle.xxhsum_program.specs.declared.lines.Lines.{Lines}
-use Rattle.xxhsum_program.specs.declared.stop.Stop.{Stop}
-use Rattle.xxhsum_program.specs.declared.stop.Stop.TheVariants.{WriteFailed, OutOfMemory}
 use Rattle.xxhsum_program.specs.CheckList.{AnswersList, AnswersOutcome, Checked, ChecksLine, FindsLines, ReportsLines}
-use Rattle.xxhsum_program.specs.EachHas.{EachHas}
 use Rattle.xxhsum_program.specs.Findings.{Finding, Proper, count_proper}
 use Rattle.xxhsum_program.specs.Lines.{PrintsLine, PrintsLines}
 use Rattle.xxhsum_program.specs.ListEnd.{ListEnd}
 use Rattle.xxhsum_program.specs.Report.{passes}
 use Rattle.xxhsum_program.specs.Said.{found_text, is_silent, numbered, printed_finding, printed_list, summary_text, told_break, told_finding, told_lines, told_list, told_summary}
-use Rattle.xxhsum_program.specs.Told.{TellsOn}
 use Rattle.xxhsum_program.proofs.CheckFacts.{Stands, some-read}
 use Rattle.xxhsum_program.proofs.EachFacts.{EachHas-push}
 use Rattle.xxhsum_program.proofs.SaidFacts.{numbered-push}

@@ -1,13 +1,11 @@
 -- What was told, where more is told after it.
-use Rattle.std.proofs.Common.{◌≡◌, ◌↔◌, ℕ, Bool, true, false, List, [], ◌++◌, refl, sym, ap, subst, append-nil, append_assoc, is_err, Ok, Err, IfErr}
-use Rattle.std.specs.declared.result.Result.{Result}
+use Rattle.std.proofs.Common.{◌≡◌, ◌↔◌, ℕ, Bool, true, false, List, [], ◌++◌, refl, sym, ap, subst, append-nil, append_assoc, is_err, Ok, Err, IfErr, Result}
 use Rattle.xxh_io.specs.declared.error.DigestError.{DigestError}
 use Rattle.xxh_io.specs.declared.error.DigestError.TheVariants.{ReadFailed, WriteFailed, TooLong}
 use Rattle.xxh_io.specs.Digest.{Writes}
-use Rattle.xxh_io.specs.Rules.{SinkRules}
+use Rattle.xxhsum_program.specs.Prelude.{SinkRules, TellsOn}
 use Rattle.xxh_io.specs.Tells.{Told}
 use Rattle.xxh_io.proofs.WriteFacts.{Writes-join, Refused-more}
-use Rattle.xxhsum_program.specs.Told.{TellsOn}
 
 -- a sink that has failed takes nothing more
 pub Told-failed : {E : Type 0} (telling : SinkRules E) (a b : List ℕ) (old new : E) → telling.has_failed new ≡ true → Told telling a old new → Told telling (a ++ b) old new

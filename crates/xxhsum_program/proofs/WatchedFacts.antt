@@ -1,25 +1,13 @@
 -- What is said of watched sources and files, said of what they watch.
-use Rattle.std.proofs.Common.{ℕ, Bool, List, [], ◌∷◌, ◌++◌, ap}
-use Rattle.std.specs.declared.result.Result.{Result}
-use Rattle.std.specs.declared.result.Result.TheVariants.{Ok, Err}
+use Rattle.std.proofs.Common.{ℕ, Bool, List, [], ◌∷◌, ◌++◌, ap, Result, Ok, Err}
 use Rattle.xxh_io.specs.declared.error.DigestError.{DigestError}
 use Rattle.xxh_io.specs.declared.error.DigestError.TheVariants.{ReadFailed, WriteFailed, TooLong}
-use Rattle.xxh_io.specs.declared.kind.Kind.{Kind}
+use Rattle.xxhsum_program.specs.Prelude.{Digested, EachHas, IsDirectory, Kind, Outcome, Pieces, Reason, SourceRules, Stop, StoreRules, Unread, Watched, WatchedFiles}
 use Rattle.xxh_io.specs.Digest.{ReadsOn, ReadsTo}
-use Rattle.xxh_io.specs.Pieces.{Pieces}
-use Rattle.xxh_io.specs.Rules.{SourceRules}
-use Rattle.xxhsum_program.specs.declared.outcome.Outcome.{Outcome}
-use Rattle.xxhsum_program.specs.declared.outcome.Outcome.TheVariants.{Digested, IsDirectory, Unread}
-use Rattle.xxhsum_program.specs.declared.outcome.Reason.{Reason}
 use Rattle.xxhsum_program.specs.declared.outcome.Reason.TheVariants as Why
-use Rattle.xxhsum_program.specs.declared.stop.Stop.{Stop}
-use Rattle.xxhsum_program.specs.EachHas.{EachHas}
 use Rattle.xxhsum_program.specs.HashNames.{HashesNames}
 use Rattle.xxhsum_program.specs.Outcomes.{Comes, FailsOn, HasNoValue, IsValueOf}
-use Rattle.xxhsum_files.specs.Rules.{StoreRules}
 use Rattle.xxhsum_program.specs.Watched.{files_of, source_of, watched_opening, watched_reading}
-use Rattle.xxhsum_program.specs.declared.watched.Watched.{Watched}
-use Rattle.xxhsum_program.specs.declared.watched.WatchedFiles.{WatchedFiles}
 
 pub inner-pieces : {R E : Type 0} (reading : SourceRules R) (old new : Watched R E) (pieces : List (List ℕ)) → Pieces (watched_reading {E = E} reading).gives old pieces new → Pieces reading.gives (source_of old) pieces (source_of new)
 inner-pieces reading old new [] is = ap source_of is

@@ -1,22 +1,14 @@
 -- What is found of watched lists is found of what they watch.
-use Rattle.std.proofs.Common.{ℕ, Bool, List, ◌++◌, Option, Some, None, inl, inr}
-use Rattle.std.specs.declared.result.Result.{Result}
-use Rattle.xxh_io.specs.declared.kind.Kind.{Kind}
-use Rattle.xxh_io.specs.Rules.{SourceRules}
-use Rattle.xxhsum_program.specs.declared.entry.Found.{Found}
+use Rattle.std.proofs.Common.{ℕ, Bool, List, ◌++◌, Option, Some, None, inl, inr, Result}
+use Rattle.xxhsum_program.specs.Prelude.{Found, Kind, Options, SourceRules, Stop, StoreRules, Watched, WatchedFiles}
 use Rattle.xxhsum_program.specs.declared.entry.Found.TheVariants.{Same, Different, Unread}
-use Rattle.xxhsum_program.specs.declared.stop.Stop.{Stop}
 use Rattle.xxhsum_program.specs.CheckList.{Checked, ChecksLists, EndsAs, FindsLines, IsListOutcome, ListOutcome, MeetsLines, ReadsLines, Unopened}
 use Rattle.xxhsum_program.specs.Findings.{Finding, Ignored, Improper, IsFinding, Proper, TooLong}
 use Rattle.xxhsum_program.specs.Found.{IsFound}
 use Rattle.xxhsum_program.specs.ListEnd.{ListEnd, Whole, TooMany, Endless, FailedRead}
 use Rattle.xxhsum_program.specs.ListLines.{FailsAfter, end_piece}
 use Rattle.xxhsum_program.proofs.WatchedFacts.{each-other, inner-none, inner-pieces, inner-value}
-use Rattle.xxhsum_files.specs.Rules.{StoreRules}
-use Rattle.xxhsum_words.specs.declared.options.Options.{Options}
 use Rattle.xxhsum_program.specs.Watched.{files_of, source_of, watched_opening, watched_reading}
-use Rattle.xxhsum_program.specs.declared.watched.Watched.{Watched}
-use Rattle.xxhsum_program.specs.declared.watched.WatchedFiles.{WatchedFiles}
 
 -- ---- a finding
 

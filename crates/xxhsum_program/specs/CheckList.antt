@@ -1,26 +1,13 @@
 -- The check of a list: each of its lines is found once, in their order.
-use Rattle.std.specs.Prelude.{◌≡◌, ◌⊎◌, ℕ, ◌-◌, ◌^◌, Bool, true, false, ◌&&◌, List, [], ◌∷◌, ◌++◌, Option, Some, None, length}
-use Rattle.std.specs.List.{AllByRecursion, concat}
-use Rattle.std.specs.declared.result.Result.{Result}
-use Rattle.std.specs.declared.result.Result.TheVariants.{Ok, Err}
-use Rattle.xxh_io.specs.Digest.{Refused, Took}
-use Rattle.xxh_io.specs.Pieces.{Pieces, NoneEmpty}
-use Rattle.xxh_io.specs.Rules.{SourceRules, SinkRules}
-use Rattle.xxhsum_files.specs.declared.refusal.Refusal.{Refusal}
-use Rattle.xxhsum_files.specs.Rules.{StoreRules}
-use Rattle.xxhsum_line.specs.Parts.{Lacks}
-use Rattle.xxhsum_words.specs.declared.options.Options.{Options}
-use Rattle.xxhsum_program.specs.declared.check.Report.{Report}
-use Rattle.xxhsum_program.specs.declared.stop.Stop.{Stop}
-use Rattle.xxhsum_program.specs.declared.stop.Stop.TheVariants.{WriteFailed, OutOfMemory}
-use Rattle.xxhsum_program.specs.EachHas.{EachHas}
+use Rattle.std.specs.Prelude.{◌≡◌, ◌⊎◌, ℕ, ◌-◌, ◌^◌, Bool, true, false, List, [], ◌∷◌, ◌++◌, Option, Some, None, length, Result, Ok, Err}
+use Rattle.std.specs.List.{list_all}
+use Rattle.xxhsum_program.specs.Prelude.{AllByRecursion, EachHas, Lacks, NoneEmpty, Options, OutOfMemory, Pieces, Refusal, Refused, Report, SinkRules, SourceRules, Stop, StoreRules, TellsOn, Took, WriteFailed, concat}
 use Rattle.xxhsum_program.specs.Findings.{Finding, IsFinding, count_one}
 use Rattle.xxhsum_program.specs.Lines.{PrintsUnlessFailed, lines_of}
 use Rattle.xxhsum_program.specs.ListEnd.{ListEnd, Whole, TooMany, Endless, FailedRead, report_at}
 use Rattle.xxhsum_program.specs.ListLines.{FailsAfter, IsEndless, IsLastLine, end_piece}
 use Rattle.xxhsum_program.specs.Report.{passes}
 use Rattle.xxhsum_program.specs.Said.{printed_finding, printed_list, told_finding, told_list, told_refusal}
-use Rattle.xxhsum_program.specs.Told.{TellsOn}
 
 -- lines, each with its line feed
 abbrev pub with_line_feeds : List (List ℕ) → List ℕ
@@ -151,8 +138,7 @@ is_good_outcome options (Checked findings end) = is_good_list options findings e
 is_good_outcome options (Unopened refusal) = false
 
 abbrev pub are_good : Options → List ListOutcome → Bool
-are_good options [] = true
-are_good options (outcome ∷ outcomes) = is_good_outcome options outcome && are_good options outcomes
+are_good options outcomes = list_all (is_good_outcome options) outcomes
 
 -- an answer is that of this list; without one its check has stopped
 abbrev pub AnswersOutcome : Options → ListOutcome → Result Bool Stop → Type 0

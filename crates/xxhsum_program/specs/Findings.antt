@@ -1,15 +1,11 @@
 -- What is found of the lines of a list, and the report that it adds up to.
 use Rattle.std.specs.Prelude.{◌≡◌, ℕ, ◌+◌, ◌-◌, ◌≤◌, ◌^◌, Bool, true, false, ◌&&◌, List, [], ◌∷◌, length, min, if◌then◌else◌}
 use Rattle.xxhsum_line.specs.Entry.{Says, SaysNothing, is_comment}
-use Rattle.xxh_io.specs.declared.kind.Kind.{Kind}
-use Rattle.xxh_io.specs.Rules.{SourceRules}
-use Rattle.xxhsum_program.specs.declared.check.Report.{Report}
-use Rattle.xxhsum_program.specs.declared.entry.Found.{Found}
+use Rattle.xxhsum_program.specs.Prelude.{Found, Kind, Report, SourceRules, StoreRules}
 use Rattle.xxhsum_program.specs.declared.entry.Found.TheVariants.{Same, Different, Unread}
 use Rattle.xxhsum_program.specs.Found.{IsFound}
 use Rattle.xxhsum_program.specs.ListLines.{IsTooLong}
 use Rattle.xxhsum_program.specs.Outcomes.{has_no_file}
-use Rattle.xxhsum_files.specs.Rules.{StoreRules}
 
 -- a line is a comment, or malformed, or too long to be checked, or names a file that was found like this
 pub data Finding : Type 0 where

@@ -1,11 +1,6 @@
 -- The end of a run, at which all that was printed is written.
-use Rattle.std.specs.Prelude.{◌≡◌, ℕ, Bool, true, false, List, []}
-use Rattle.std.specs.declared.result.Result.{Result}
-use Rattle.std.specs.declared.result.Result.TheVariants.{Ok, Err}
-use Rattle.xxh_io.specs.Digest.{Took}
-use Rattle.xxh_io.specs.Rules.{SinkRules}
-use Rattle.xxhsum_program.specs.declared.stop.Stop.{Stop}
-use Rattle.xxhsum_program.specs.declared.stop.Stop.TheVariants.{WriteFailed}
+use Rattle.std.specs.Prelude.{◌≡◌, ℕ, Bool, true, false, List, [], Result, Ok, Err}
+use Rattle.xxhsum_program.specs.Prelude.{SinkRules, Stop, Took, WriteFailed}
 
 -- what a run comes to by whether some of its output was lost
 abbrev pub end_after : Bool → Result Bool Stop → Result Bool Stop

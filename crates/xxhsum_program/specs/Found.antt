@@ -1,11 +1,8 @@
 -- How the file of a line is, beside what the line says.
 use Rattle.std.specs.Prelude.{◌≢◌, ℕ, Bool, false, ◌&&◌, List}
-use Rattle.xxh_io.specs.declared.kind.Kind.{Kind}
-use Rattle.xxh_io.specs.Rules.{SourceRules}
-use Rattle.xxhsum_program.specs.declared.entry.Found.{Found}
+use Rattle.xxhsum_program.specs.Prelude.{Found, Kind, SourceRules, StoreRules}
 use Rattle.xxhsum_program.specs.declared.entry.Found.TheVariants.{Same, Different, Unread}
 use Rattle.xxhsum_program.specs.Outcomes.{HasNoValue, IsValueOf, has_no_file}
-use Rattle.xxhsum_files.specs.Rules.{StoreRules}
 
 -- the file of this name has this value of this kind, or another one, or none
 abbrev pub IsFound : {S F : Type 0} → StoreRules S F → SourceRules F → S → Kind → ℕ → List ℕ → Found → Type 0

@@ -1,13 +1,8 @@
 -- What a good list says of its files, and what a line that says OK does.
 use Rattle.std.specs.Prelude.{◌≡◌, ◌⊎◌, ℕ, Bool, true, List, Option, codes}
-use Rattle.std.specs.List.{AllByRecursion}
-use Rattle.xxh_io.specs.declared.kind.Kind.{Kind}
-use Rattle.xxh_io.specs.Rules.{SourceRules}
+use Rattle.xxhsum_program.specs.Prelude.{AllByRecursion, Kind, Options, Refusal, SourceRules, StoreRules}
 use Rattle.xxhsum_files.specs.Refusal.{is_missing}
-use Rattle.xxhsum_files.specs.Rules.{StoreRules}
-use Rattle.xxhsum_files.specs.declared.refusal.Refusal.{Refusal}
 use Rattle.xxhsum_line.specs.Entry.{Says, SaysNothing, is_comment}
-use Rattle.xxhsum_words.specs.declared.options.Options.{Options}
 use Rattle.xxhsum_program.specs.CheckList.{FindsLines, MeetsLines, is_good_list}
 use Rattle.xxhsum_program.specs.Findings.{Finding, IsFinding}
 use Rattle.xxhsum_program.specs.ListEnd.{ListEnd}

@@ -1,22 +1,12 @@
 -- A hashing run over names: one outcome a name, in their order.
-use Rattle.std.specs.Prelude.{◌≡◌, ℕ, Bool, List, [], ◌++◌, is_ok, IfOk}
-use Rattle.std.specs.List.{concat}
-use Rattle.std.specs.declared.result.Result.{Result}
-use Rattle.std.specs.declared.result.Result.TheVariants.{Ok, Err}
-use Rattle.xxh_io.specs.declared.kind.Kind.{Kind}
+use Rattle.std.specs.Prelude.{◌≡◌, ℕ, Bool, List, [], ◌++◌, is_ok, IfOk, Result, Ok, Err}
+use Rattle.xxhsum_program.specs.Prelude.{EachHas, Kind, Outcome, SinkRules, SourceRules, Stop, StoreRules, Style, TellsOn, concat}
 use Rattle.xxh_io.specs.declared.error.DigestError.{DigestError}
 use Rattle.xxh_io.specs.Digest.{ReadsTo}
-use Rattle.xxh_io.specs.Rules.{SourceRules, SinkRules}
 use Rattle.xxh_program.specs.Kind.{value_of}
 use Rattle.xxh_program.specs.States.{most_reads}
-use Rattle.xxhsum_line.specs.declared.printed.Style.{Style}
-use Rattle.xxhsum_program.specs.declared.outcome.Outcome.{Outcome}
-use Rattle.xxhsum_program.specs.declared.stop.Stop.{Stop}
-use Rattle.xxhsum_program.specs.EachHas.{EachHas}
 use Rattle.xxhsum_program.specs.Outcomes.{Comes, are_digested}
 use Rattle.xxhsum_program.specs.Lines.{PrintsLine, PrintsLines, lines_of, printed_input, told_input, told_line, written_line}
-use Rattle.xxhsum_program.specs.Told.{TellsOn}
-use Rattle.xxhsum_files.specs.Rules.{StoreRules}
 
 -- Where the run came to its end, no name is left, and the answer is whether each has a value. Only a write that failed
 -- or want of memory keeps it from there: no reason of a `Stop` is another.

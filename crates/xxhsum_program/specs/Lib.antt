@@ -12,6 +12,7 @@ pub mod LinesView
 pub mod ListEnd
 pub mod ListLines
 pub mod Outcomes
+pub mod Prelude
 pub mod PrintedIsGood
 pub mod PrintedList
 pub mod Progress

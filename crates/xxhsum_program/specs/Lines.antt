@@ -1,22 +1,9 @@
 -- The lines of the names, and what was written of them.
-use Rattle.std.specs.Prelude.{◌≡◌, ◌⊎◌, ℕ, true, List, [], ◌∷◌, ◌++◌, codes}
-use Rattle.std.specs.List.{concat}
-use Rattle.std.specs.declared.result.Result.{Result}
-use Rattle.std.specs.declared.result.Result.TheVariants.{Ok, Err}
+use Rattle.std.specs.Prelude.{◌≡◌, ◌⊎◌, ℕ, true, List, [], ◌∷◌, ◌++◌, codes, Result, Ok, Err}
+use Rattle.xxhsum_program.specs.Prelude.{Digested, IsDirectory, Kind, OutOfMemory, Outcome, Reason, Refused, Shape, SinkRules, Stop, Style, Took, Unread, WriteFailed, concat, one_line}
 use Rattle.xxh_io.specs.declared.error.DigestError.{DigestError}
-use Rattle.xxh_io.specs.declared.kind.Kind.{Kind}
-use Rattle.xxh_io.specs.Digest.{Took, Refused}
-use Rattle.xxh_io.specs.Rules.{SinkRules}
-use Rattle.xxhsum_line.specs.declared.printed.Shape.{Shape}
-use Rattle.xxhsum_line.specs.declared.printed.Style.{Style}
-use Rattle.xxhsum_line.specs.Escapes.{one_line}
 use Rattle.xxhsum_line.specs.Printed.{line_of, styled_line}
-use Rattle.xxhsum_program.specs.declared.outcome.Outcome.{Outcome}
-use Rattle.xxhsum_program.specs.declared.outcome.Outcome.TheVariants.{Digested, IsDirectory, Unread}
-use Rattle.xxhsum_program.specs.declared.outcome.Reason.{Reason}
 use Rattle.xxhsum_program.specs.declared.outcome.Reason.TheVariants as Why
-use Rattle.xxhsum_program.specs.declared.stop.Stop.{Stop}
-use Rattle.xxhsum_program.specs.declared.stop.Stop.TheVariants.{WriteFailed, OutOfMemory}
 use Rattle.xxhsum_program.specs.Outcomes.{reason_of, reason_text}
 
 -- the line of a name on standard output: that of its value
@@ -25,7 +12,7 @@ printed_line kind shape name (Digested value) = line_of kind shape value name
 printed_line kind shape name IsDirectory = []
 printed_line kind shape name (Unread reason) = []
 
--- the same in any style, which is that of a line feed or of a NUL
+-- the line of a name in any style, which is that of a line feed or of a NUL
 abbrev pub written_line : Kind → Style → List ℕ → Outcome → List ℕ
 written_line kind style name (Digested value) = styled_line kind style value name
 written_line kind style name IsDirectory = []

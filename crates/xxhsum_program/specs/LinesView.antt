@@ -1,13 +1,8 @@
 -- What the reader of a list's lines is seen as: the bytes that wait, the line that came last, and what was read.
-use Rattle.std.specs.Prelude.{◌≡◌, ◌⊎◌, ℕ, ◌+◌, ◌-◌, ◌<◌, ◌≤◌, Bool, true, List, [], ◌∷◌, ◌++◌, MatchBool, Option, Some, None, length, slice_range, if◌then◌else◌}
+use Rattle.std.specs.Prelude.{◌≡◌, ◌⊎◌, ℕ, ◌+◌, ◌-◌, ◌<◌, ◌≤◌, Bool, true, List, [], ◌∷◌, ◌++◌, MatchBool, Option, Some, None, length, slice_range, if◌then◌else◌, Result, Ok, Err}
 use Rattle.std.specs.Borrow.{Bor}
-use Rattle.std.specs.List.{concat}
-use Rattle.std.specs.declared.result.Result.{Result}
-use Rattle.std.specs.declared.result.Result.TheVariants.{Ok, Err}
+use Rattle.xxhsum_program.specs.Prelude.{Lacks, NoneEmpty, Pieces, SourceRules, concat}
 use Rattle.xxh_io.specs.declared.ends.Failed.{Failed}
-use Rattle.xxh_io.specs.Pieces.{Pieces, NoneEmpty}
-use Rattle.xxh_io.specs.Rules.{SourceRules}
-use Rattle.xxhsum_line.specs.Parts.{Lacks}
 use Rattle.xxhsum_program.specs.declared.lines.Lines.{Lines}
 use Rattle.xxhsum_program.specs.declared.lines.Next.{Next}
 use Rattle.xxhsum_program.specs.declared.lines.Next.TheVariants as Variant

@@ -1,9 +1,6 @@
 -- The lines of a list, and reads of a list that break off.
 use Rattle.std.specs.Prelude.{◌≡◌, ◌⊎◌, ℕ, ◌-◌, ◌<◌, ◌≤◌, ◌^◌, Bool, true, List, [], ◌∷◌, length, if◌then◌else◌}
-use Rattle.std.specs.List.{concat}
-use Rattle.xxh_io.specs.Pieces.{Pieces, NoneEmpty}
-use Rattle.xxh_io.specs.Rules.{SourceRules}
-use Rattle.xxhsum_line.specs.Parts.{Lacks}
+use Rattle.xxhsum_program.specs.Prelude.{Lacks, NoneEmpty, Pieces, SourceRules, concat}
 
 -- what stands behind the last line feed of a list is a line where there is some
 abbrev pub IsLastLine : List ℕ → Type 0

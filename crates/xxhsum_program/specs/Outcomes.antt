@@ -1,20 +1,13 @@
 -- What becomes of the names of a hashing run.
-use Rattle.std.specs.Prelude.{◌≡◌, ◌&&◌, ℕ, Bool, true, false, List, [], ◌∷◌, codes}
-use Rattle.std.specs.List.{concat}
-use Rattle.std.specs.declared.result.Result.{Result}
-use Rattle.std.specs.declared.result.Result.TheVariants.{Ok, Err}
+use Rattle.std.specs.Prelude.{◌≡◌, ℕ, Bool, true, false, List, codes, Result, Ok, Err}
+use Rattle.std.specs.List.{list_all}
+use Rattle.xxhsum_program.specs.Prelude.{Digested, IsDirectory, Kind, Outcome, Reason, SourceRules, StoreRules, Unread, concat}
 use Rattle.xxh_io.specs.declared.error.DigestError.{DigestError}
 use Rattle.xxh_io.specs.declared.error.DigestError.TheVariants.{ReadFailed, WriteFailed, TooLong}
-use Rattle.xxh_io.specs.declared.kind.Kind.{Kind}
 use Rattle.xxh_io.specs.Digest.{ReadsTo}
-use Rattle.xxh_io.specs.Rules.{SourceRules}
 use Rattle.xxh_program.specs.Kind.{value_of}
 use Rattle.xxh_program.specs.States.{most_reads}
 use Rattle.xxhsum_files.specs.Refusal.{is_missing, refusal_text}
-use Rattle.xxhsum_files.specs.Rules.{StoreRules}
-use Rattle.xxhsum_program.specs.declared.outcome.Outcome.{Outcome}
-use Rattle.xxhsum_program.specs.declared.outcome.Outcome.TheVariants.{Digested, IsDirectory, Unread}
-use Rattle.xxhsum_program.specs.declared.outcome.Reason.{Reason}
 use Rattle.xxhsum_program.specs.declared.outcome.Reason.TheVariants as Why
 
 -- the name leads to a file that was read to its end, and this is the hash of what its reads gave
@@ -71,5 +64,4 @@ is_digested (Unread reason) = false
 
 -- whether each of them has
 abbrev pub are_digested : List Outcome → Bool
-are_digested [] = true
-are_digested (outcome ∷ outcomes) = is_digested outcome && are_digested outcomes
+are_digested outcomes = list_all is_digested outcomes

@@ -1,22 +1,12 @@
 -- What a hashing run prints, and the check of it over the same files.
 use Rattle.std.specs.Prelude.{◌≡◌, ℕ, ◌-◌, ◌<◌, ◌≤◌, ◌^◌, true, List, Some, [], ◌∷◌, length}
-use Rattle.std.specs.List.{AllByRecursion}
-use Rattle.xxh_io.specs.declared.kind.Kind.{Kind}
-use Rattle.xxh_io.specs.Rules.{SourceRules}
-use Rattle.xxhsum_line.specs.Parts.{Lacks}
-use Rattle.xxhsum_line.specs.declared.printed.Shape.{Shape}
-use Rattle.xxhsum_words.specs.declared.options.Options.{Options}
+use Rattle.xxhsum_program.specs.Prelude.{AllByRecursion, Digested, EachHas, IsDirectory, Kind, Lacks, Options, Outcome, Reason, Shape, SourceRules, StoreRules, Unread}
 use Rattle.xxhsum_program.specs.CheckList.{FindsLines, is_good_list}
-use Rattle.xxhsum_program.specs.EachHas.{EachHas}
 use Rattle.xxhsum_program.specs.Findings.{Finding, IsFinding}
 use Rattle.xxhsum_program.specs.Lines.{lines_of, printed_line}
 use Rattle.xxhsum_program.specs.ListEnd.{ListEnd}
 use Rattle.xxhsum_program.specs.Outcomes.{Comes, HasNoValue, IsValueOf}
 use Rattle.xxhsum_program.specs.PrintedList.{Holds, Listed}
-use Rattle.xxhsum_program.specs.declared.outcome.Outcome.{Outcome}
-use Rattle.xxhsum_program.specs.declared.outcome.Outcome.TheVariants.{Digested, IsDirectory, Unread}
-use Rattle.xxhsum_program.specs.declared.outcome.Reason.{Reason}
-use Rattle.xxhsum_files.specs.Rules.{StoreRules}
 
 -- the entries of the lines that are printed: those of the names with a value
 abbrev pub entries_of : Kind → Shape → List (List ℕ) → List Outcome → List Listed

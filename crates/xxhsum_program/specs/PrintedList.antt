@@ -1,22 +1,14 @@
 -- A list whose lines were printed: which lines are found in it, and what they say.
 use Rattle.std.specs.Prelude.{◌≡◌, ℕ, ◌-◌, ◌<◌, ◌≤◌, ◌^◌, Bool, true, false, List, Some, [], ◌∷◌, ◌++◌, length, map}
-use Rattle.std.specs.List.{AllByRecursion, concat}
+use Rattle.xxhsum_program.specs.Prelude.{AllByRecursion, EachHas, Found, Kind, Lacks, NoneEmpty, Pieces, Shape, SourceRules, StoreRules, concat}
 use Rattle.xxh_io.specs.Kind.{digits_of}
-use Rattle.xxh_io.specs.declared.kind.Kind.{Kind}
-use Rattle.xxh_io.specs.Pieces.{Pieces, NoneEmpty}
-use Rattle.xxh_io.specs.Rules.{SourceRules}
 use Rattle.xxhsum_line.specs.Entry.{Says, is_comment}
-use Rattle.xxhsum_line.specs.Parts.{Lacks}
 use Rattle.xxhsum_line.specs.Printed.{line_of, text_of}
-use Rattle.xxhsum_line.specs.declared.printed.Shape.{Shape}
 use Rattle.xxhsum_program.specs.CheckList.{EndsWell, FindsLines, HasLines, ReadsLines, ReadsSome}
 use Rattle.xxhsum_program.specs.ListEnd.{ListEnd, Whole}
-use Rattle.xxhsum_program.specs.EachHas.{EachHas}
 use Rattle.xxhsum_program.specs.Findings.{Finding, IsFinding, Proper}
 use Rattle.xxhsum_program.specs.Found.{IsFound}
 use Rattle.xxhsum_program.specs.ListLines.{CantRead, FailsAfter}
-use Rattle.xxhsum_program.specs.declared.entry.Found.{Found}
-use Rattle.xxhsum_files.specs.Rules.{StoreRules}
 
 -- more than 32,767 bytes, of which the first 32,767 have no line feed
 abbrev pub BeginsTooLong : List ℕ → Type 0

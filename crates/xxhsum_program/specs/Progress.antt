@@ -1,9 +1,7 @@
 -- What is shown of the reading of a long file.
 use Rattle.std.specs.Prelude.{◌≡◌, ℕ, ◌+◌, ◌-◌, ◌*◌, ◌^◌, ◌/◌, Bool, true, false, List, [], ◌∷◌, ◌++◌, Option, Some, None, codes, decimal, if◌then◌else◌, max, min, nat_eq, nat_lt}
-use Rattle.std.specs.List.{concat}
+use Rattle.xxhsum_program.specs.Prelude.{SinkRules, TellsOn, concat}
 use Rattle.xxhsum_program.specs.declared.progress.Meter.{Meter}
-use Rattle.xxhsum_program.specs.Told.{TellsOn}
-use Rattle.xxh_io.specs.Rules.{SinkRules}
 
 -- where a meter shows what it counts
 abbrev pub end_of : {E : Type 0} → Meter E → E
@@ -84,6 +82,6 @@ Shows telling count now old new =
     × TellsOn telling (shown_text (is_shown old) (bytes_expected old) (now - begun old) (bytes_read old) count)
     (end_of old) (end_of new)
 
--- the same by some time
+-- a read is shown by some time that the clock gave
 abbrev pub ShowsSometime : {E : Type 0} → SinkRules E → ℕ → Meter E → Meter E → Type 0
 ShowsSometime telling count old new = (now : ℕ) × Shows telling count now old new

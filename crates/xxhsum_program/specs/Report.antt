@@ -1,7 +1,6 @@
 -- Whether a list is good.
 use Rattle.std.specs.Prelude.{Bool, ◌&&◌, ◌||◌, not, nat_eq, nat_lt}
-use Rattle.xxhsum_program.specs.declared.check.Report.{Report}
-use Rattle.xxhsum_words.specs.declared.options.Options.{Options}
+use Rattle.xxhsum_program.specs.Prelude.{Options, Report}
 
 -- it has a proper line, each file was read and has its value, its end was reached, and, where the check is strict, no
 -- line is improper

@@ -1,17 +1,9 @@
 -- What the program does with its task, and its exit status.
-use Rattle.std.specs.Prelude.{◌≡◌, ℕ, Bool, true, false, List, [], codes}
-use Rattle.std.specs.declared.result.Result.{Result}
-use Rattle.std.specs.declared.result.Result.TheVariants.{Ok, Err}
-use Rattle.xxh_io.specs.Rules.{SourceRules, SinkRules}
-use Rattle.xxhsum_line.specs.declared.printed.Style.{Style}
-use Rattle.xxhsum_words.specs.declared.options.Options.{Options}
-use Rattle.xxhsum_program.specs.declared.stop.Stop.{Stop}
-use Rattle.xxhsum_program.specs.declared.stop.Stop.TheVariants.{WriteFailed, OutOfMemory}
+use Rattle.std.specs.Prelude.{◌≡◌, ℕ, Bool, true, false, List, [], codes, Result, Ok, Err}
+use Rattle.xxhsum_program.specs.Prelude.{Options, OutOfMemory, SinkRules, SourceRules, Stop, StoreRules, Style, TellsOn, WriteFailed}
 use Rattle.xxhsum_program.specs.CheckList.{SaysList, SaysLists}
 use Rattle.xxhsum_program.specs.HashNames.{SaysInput, SaysNames}
 use Rattle.xxhsum_program.specs.Task.{Reads, Task, Tells}
-use Rattle.xxhsum_program.specs.Told.{TellsOn}
-use Rattle.xxhsum_files.specs.Rules.{StoreRules}
 
 abbrev pub style_of : Options → Style
 style_of options = record {

@@ -1,13 +1,8 @@
 -- What the check of a list says: the texts on both ends, by the options and by what was found. Each is one line, whatever
 -- names stand in it, and lines are numbered from 1.
 use Rattle.std.specs.Prelude.{ℕ, ◌+◌, Bool, List, [], ◌∷◌, ◌++◌, Option, Some, None, ◌||◌, codes, decimal, length, nat_eq, if◌then◌else◌}
-use Rattle.std.specs.List.{concat}
-use Rattle.xxhsum_files.specs.declared.refusal.Refusal.{Refusal}
+use Rattle.xxhsum_program.specs.Prelude.{Found, Options, Refusal, Report, concat, one_line}
 use Rattle.xxhsum_files.specs.Refusal.{refusal_text}
-use Rattle.xxhsum_line.specs.Escapes.{one_line}
-use Rattle.xxhsum_words.specs.declared.options.Options.{Options}
-use Rattle.xxhsum_program.specs.declared.check.Report.{Report}
-use Rattle.xxhsum_program.specs.declared.entry.Found.{Found}
 use Rattle.xxhsum_program.specs.declared.entry.Found.TheVariants.{Same, Different, Unread}
 use Rattle.xxhsum_program.specs.Findings.{Finding, Ignored, Improper, Proper, TooLong, report_of}
 use Rattle.xxhsum_program.specs.ListEnd.{ListEnd, Whole, TooMany, Endless, FailedRead, report_at}

@@ -1,17 +1,15 @@
 -- What the arguments ask the program to do.
 use Rattle.std.specs.Prelude.{◌≡◌, ℕ, Bool, true, false, ◌&&◌, ◌||◌, not, List, [], ◌∷◌, ◌++◌, Option, Some, None, codes, drop, get_or, length, nat_eq, if◌then◌else◌}
-use Rattle.std.specs.List.{concat}
+use Rattle.xxhsum_program.specs.Prelude.{Options, concat, one_line}
 use Rattle.xxhsum_program.specs.declared.process.Terminals.{Terminals}
 use Rattle.xxhsum_program.specs.declared.usage.TheConstants.{ABOUT, BEFORE, BEHIND, NO_BENCHMARK, TITLE}
 use Rattle.xxhsum_program.specs.Arguments.{IsLastPart}
-use Rattle.xxhsum_line.specs.Escapes.{one_line}
 use Rattle.xxhsum_words.specs.Name.{kind_of_program}
 use Rattle.xxhsum_words.specs.Options.{are_listed, asked_of}
 use Rattle.xxhsum_words.specs.Table.{rows_text}
 use Rattle.xxhsum_words.specs.declared.table.TheConstants.{ROWS}
 use Rattle.xxhsum_words.specs.declared.options.Asked.{Asked}
 use Rattle.xxhsum_words.specs.declared.options.Asked.TheVariants.{Run, Benchmark, Version, Help, WrongOption, NulsInList, WalkBesideLists, WalkOfNothing, InputBesideNames, NumberTooLarge}
-use Rattle.xxhsum_words.specs.declared.options.Options.{Options}
 
 -- a text is told, and the answer is this; or files are read by the options and the words behind them, and their reads are
 -- shown or not
@@ -31,7 +29,7 @@ usage_text program =
     ++ one_line (concat (codes "Usage: " ∷ program ∷ codes " [OPTION].. [FILE].." ∷ []))
     ++ BEFORE.now ++ rows_text ROWS ++ BEHIND.now
 
--- the same behind a line that says what is wrong with the words
+-- how the program is used, behind a line that says what is wrong with the words
 abbrev pub wrong_text : List ℕ → List ℕ → List ℕ
 wrong_text line program = one_line line ++ codes "\n" ++ usage_text program
 

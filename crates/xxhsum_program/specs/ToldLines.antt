@@ -1,10 +1,7 @@
 -- That what is told of a name, of a line or of a list is one line, whatever names stand in it.
 use Rattle.std.specs.Prelude.{◌≡◌, ◌⊎◌, ℕ, List, []}
-use Rattle.xxhsum_files.specs.declared.refusal.Refusal.{Refusal}
+use Rattle.xxhsum_program.specs.Prelude.{Options, Outcome, Refusal, Report}
 use Rattle.xxhsum_line.specs.Laws.{IsOneLine}
-use Rattle.xxhsum_words.specs.declared.options.Options.{Options}
-use Rattle.xxhsum_program.specs.declared.check.Report.{Report}
-use Rattle.xxhsum_program.specs.declared.outcome.Outcome.{Outcome}
 use Rattle.xxhsum_program.specs.Findings.{Finding}
 use Rattle.xxhsum_program.specs.Lines.{told_line}
 use Rattle.xxhsum_program.specs.ListEnd.{ListEnd}

@@ -1,14 +1,9 @@
 -- A source or a store whose reads are shown.
-use Rattle.std.specs.Prelude.{◌≡◌, ℕ, Bool, List, Option, None, MatchBool}
-use Rattle.std.specs.declared.result.Result.{Result}
-use Rattle.std.specs.declared.result.Result.TheVariants.{Ok, Err}
+use Rattle.std.specs.Prelude.{◌≡◌, ℕ, Bool, List, Option, None, MatchBool, Result, Ok, Err}
 use Rattle.xxh_io.specs.declared.ends.Failed.{Failed}
-use Rattle.xxh_io.specs.Rules.{SourceRules, SinkRules}
+use Rattle.xxhsum_program.specs.Prelude.{FolderRules, SinkRules, SourceRules, StoreRules, Watched, WatchedFiles}
 use Rattle.xxhsum_program.specs.declared.progress.Meter.{Meter}
-use Rattle.xxhsum_program.specs.declared.watched.Watched.{Watched}
-use Rattle.xxhsum_program.specs.declared.watched.WatchedFiles.{WatchedFiles}
 use Rattle.xxhsum_program.specs.Progress.{ShowsSometime, bytes_expected, bytes_read, is_shown}
-use Rattle.xxhsum_files.specs.Rules.{FolderRules, StoreRules}
 
 -- what gives the bytes
 abbrev pub source_of : {R E : Type 0} → Watched R E → R

@@ -1,7 +1,7 @@
 //! Lists of checksum lines, and whether their files are as the lines say.
 
 ghost use Rattle.std.specs.Prelude.{◌≡◌, ◌<◌, ◌≤◌, [], true, List, ℕ, Option, false, length, map, nat_eq, IfErr, IfOk, if◌then◌else◌};
-ghost use Rattle.xxh_io.specs.Digest.{Took};
+ghost use Rattle.xxhsum_program.specs.Prelude.{TellsOn, Took};
 ghost use Rattle.xxhsum_program.specs.CheckList.{AnswersList, AnswersOutcome, ChecksLine, FindsLines, IsListOutcome, ListOutcome, ReportsLines, SaysList, SaysLists, printed_outcome, told_outcome};
 ghost use Rattle.xxhsum_program.specs.Finish.{IsWritten};
 ghost use Rattle.xxhsum_program.specs.Findings.{Finding, Improper, IsFinding, TooLong, count_one, count_proper, no_findings, with_broken_end};
@@ -10,9 +10,9 @@ ghost use Rattle.xxhsum_program.specs.LinesView.{IsGiven};
 ghost use Rattle.xxhsum_program.specs.ListEnd.{FailedRead, ListEnd};
 ghost use Rattle.xxhsum_program.specs.Report.{is_good, is_unverified, passes};
 ghost use Rattle.xxhsum_program.specs.Said.{count_text, found_text, is_silent, numbered, printed_finding, printed_list, printed_summary, summary_text, told_break, told_finding, told_lines, told_list, told_of_line, told_summary, too_long_text, unread_text, unverified_line, unverified_text};
-ghost use Rattle.xxhsum_program.specs.Told.{TellsOn};
 
 use crate::entry::{Found, compare};
+use crate::job::Job;
 use crate::lines::{Lines, Next};
 use crate::outcome::OFFERED;
 use crate::say::{line_of, print, release, say_line};
@@ -21,10 +21,10 @@ use crate::tell::tell_line;
 use itoa::Buffer;
 use std::alloc::{AllocError, Global};
 use xxh_io::ends::{Sink, Source};
+use xxh_io::waiting::Waiting;
 use xxhsum_files::store::Store;
 use xxhsum_line::entry::{Meaning, meaning_of};
 use xxhsum_output::output::Output;
-use xxhsum_output::waiting::Waiting;
 use xxhsum_words::options::Options;
 
 /// Counts of the lines of a list, by what was found of them.
@@ -76,7 +76,7 @@ impl Report {
         }
     }
 
-    // The same report, of a list that breaks off.
+    // This report, of a list that breaks off.
     fn with_broken_end(self) -> Report
         ensures { result ≡ with_broken_end self }
     {
@@ -111,6 +111,13 @@ impl Report {
     {
         self.is_good(options.is_strict) && !self.is_unverified(options.ignores_missing)
     }
+}
+
+// A line of a list. One that has no text is too long.
+#[derive(Clone, Copy)]
+struct ListLine<'a> {
+    number: u64,
+    text: Option<&'a [u8]>,
 }
 
 // What the check of a list needs.
@@ -182,19 +189,21 @@ impl<S: Store> ListCheck<'_, S> {
                     return Ok(report.with_broken_end());
                 }
                 Next::Line => {
-                    self.check_line(lines.line(), number, &mut report, &mut buf, out, err)?;
+                    let line = ListLine {
+                        number,
+                        text: lines.line(),
+                    };
+                    self.check_line(line, &mut report, &mut buf, out, err)?;
                 }
             }
         }
         Ok(report)
     }
 
-    // Compares the file that `line` names, counts the line and prints the result. A comment isn't counted. A `line`
-    // that is `None` is too long.
+    // Compares the file that `line` names, counts the line and prints the result. A comment isn't counted.
     fn check_line<W: Output, E: Sink>(
         &self,
-        line: Option<&[u8]>,
-        number: u64,
+        line: ListLine<'_>,
         report: &mut Report,
         buf: &mut [u8],
         out: &mut W,
@@ -202,21 +211,21 @@ impl<S: Store> ListCheck<'_, S> {
     ) -> Result<(), Stop>
         requires room { 0 < length buf.old }
         requires writer { W.has_failed out.old ≡ false }
-        ensures checks { (text : List ℕ) → IsGiven text line.entry → ChecksLine
+        ensures checks { (text : List ℕ) → IsGiven text line.entry.text → ChecksLine
             (IsFinding S.Store S.File.Source self.now.store.now self.now.options.is_little_endian
-            text) W.Sink E.Sink self.now.options self.now.name.now number
+            text) W.Sink E.Sink self.now.options self.now.name.now line.entry.number
             report.old report.new out.old out.new err.old err.new result }
         ensures works { IfOk result (λ _. W.has_failed out.new ≡ false) }
     {
-        let Some(line) = line else {
-            self.count_too_long(number, report, out, err);
+        let Some(text) = line.text else {
+            self.count_too_long(line.number, report, out, err);
             return Ok(());
         };
-        let entry = match meaning_of(self.alloc, line, self.options.is_little_endian)? {
+        let entry = match meaning_of(self.alloc, text, self.options.is_little_endian)? {
             Meaning::Entry(entry) => entry,
             Meaning::Comment => return Ok(()),
             Meaning::Malformed => {
-                self.count_improper(number, report, out, err);
+                self.count_improper(line.number, report, out, err);
                 return Ok(());
             }
         };
@@ -225,7 +234,7 @@ impl<S: Store> ListCheck<'_, S> {
         if is_silent(self.options, &found) {
             return Ok(());
         }
-        self.say_found(number, &entry.name, &found, out)
+        self.say_found(line.number, &entry.name, &found, out)
     }
 
     // Counts a malformed line, and reports it under `--warn`.
@@ -521,24 +530,22 @@ fn word_for<'a>(count: u64, one: &'a [u8], more: &'a [u8]) -> &'a [u8]
 /// [`Stop::WriteFailed`] where a write to standard output fails, or one had failed before; [`Stop::OutOfMemory`] where
 /// there is no memory for a line: at once. What was found before it is printed.
 pub fn check_list<S: Store, R: Source + Drop, W: Output, E: Sink>(
-    alloc: Global,
-    store: &S,
-    options: Options,
+    job: &Job<'_, S>,
     name: &[u8],
     source: R,
     out: &mut W,
     err: &mut E,
 ) -> Result<bool, Stop>
-    ensures { SaysList S.Store S.File.Source R.Source W.Sink E.Sink store.now options name.now
-        source out.old out.new err.old err.new result }
+    ensures { SaysList S.Store S.File.Source R.Source W.Sink E.Sink job.now.store.now
+        job.now.options name.now source out.old out.new err.old err.new result }
 {
     if out.failed() {
         return Err(Stop::WriteFailed);
     }
     let list = ListCheck {
-        alloc,
-        store,
-        options,
+        alloc: job.alloc,
+        store: job.store,
+        options: job.options,
         name,
     };
     list.check(source, out, err)
@@ -546,27 +553,27 @@ pub fn check_list<S: Store, R: Source + Drop, W: Output, E: Sink>(
 
 // Checks the list `name`. One that can't be opened is reported, and isn't good.
 fn check_named<S: Store, W: Output, E: Sink>(
-    alloc: Global,
-    store: &S,
-    options: Options,
+    job: &Job<'_, S>,
     name: &[u8],
     out: &mut W,
     err: &mut E,
 ) -> Result<bool, Stop>
     requires { W.has_failed out.old ≡ false }
     ensures checks { (outcome : ListOutcome)
-        × IsListOutcome S.Store S.File.Source store.now options.is_little_endian name.now outcome
-        × AnswersOutcome options outcome result
-        × PrintsLines W.Sink (printed_outcome options name.now outcome) out.old out.new result
-        × TellsOn E.Sink (told_outcome options name.now outcome) err.old err.new }
+        × IsListOutcome S.Store S.File.Source job.now.store.now job.now.options.is_little_endian
+        name.now outcome
+        × AnswersOutcome job.now.options outcome result
+        × PrintsLines W.Sink (printed_outcome job.now.options name.now outcome)
+        out.old out.new result
+        × TellsOn E.Sink (told_outcome job.now.options name.now outcome) err.old err.new }
     ensures works { IfOk result (λ _. W.has_failed out.new ≡ false) }
 {
-    match store.open(name) {
+    match job.store.open(name) {
         Ok(file) => {
             let list = ListCheck {
-                alloc,
-                store,
-                options,
+                alloc: job.alloc,
+                store: job.store,
+                options: job.options,
                 name,
             };
             list.check(file, out, err)
@@ -588,14 +595,12 @@ fn check_named<S: Store, W: Output, E: Sink>(
 ///
 /// As [`check_list`], at once: the lists before are checked, and those after are not opened.
 pub fn check_lists<S: Store, W: Output, E: Sink>(
-    alloc: Global,
-    store: &S,
-    options: Options,
+    job: &Job<'_, S>,
     names: &[Vec<u8>],
     out: &mut W,
     err: &mut E,
 ) -> Result<bool, Stop>
-    ensures { SaysLists S.Store S.File.Source W.Sink E.Sink store.now options
+    ensures { SaysLists S.Store S.File.Source W.Sink E.Sink job.now.store.now job.now.options
         (map (λ name. name.items) names.now) out.old out.new err.old err.new result }
 {
     if out.failed() {
@@ -603,7 +608,7 @@ pub fn check_lists<S: Store, W: Output, E: Sink>(
     }
     let mut all = true;
     for name in names {
-        let good = check_named(alloc, store, options, name, out, err)?;
+        let good = check_named(job, name, out, err)?;
         all = all && good;
     }
     Ok(all)

@@ -5,19 +5,21 @@ ghost use Rattle.xxhsum_program.specs.Finish.{IsWritten};
 ghost use Rattle.xxhsum_program.specs.HashNames.{SaysInput, SaysNames};
 ghost use Rattle.xxhsum_program.specs.Lines.{PrintsLine, told_line, written_line};
 ghost use Rattle.xxhsum_program.specs.Outcomes.{is_digested};
+ghost use Rattle.xxhsum_program.specs.Run.{style_of};
 ghost use Rattle.xxhsum_program.specs.Told.{TellsOn};
 
+use crate::job::Job;
 use crate::outcome::{MAX_READS, OFFERED, Outcome, Reason, outcome_of};
 use crate::say::{print, release};
 use crate::stop::Stop;
 use crate::tell::tell_line;
 use std::alloc::Global;
 use xxh_io::ends::{Sink, Source};
-use xxh_io::kind::Kind;
 use xxh_program::program::value_of_source;
 use xxhsum_files::store::Store;
-use xxhsum_line::printed::{Style, styled_line};
+use xxhsum_line::printed::{Shape, Style, styled_line};
 use xxhsum_output::output::Output;
+use xxhsum_words::options::Options;
 
 /// Writes the digest line of each named file, in order, and reports the names that have none, because they are
 /// directories, can't be opened or can't be read to their end. Returns whether all have one.
@@ -29,10 +31,7 @@ use xxhsum_output::output::Output;
 /// [`Stop::WriteFailed`] where a write of a line fails, and [`Stop::OutOfMemory`] where there is no memory for a line:
 /// at once, and the names after it are not opened. The lines before it are written. Nothing else stops it.
 pub fn hash_names<S: Store, W: Output, E: Sink>(
-    alloc: Global,
-    store: &S,
-    kind: Kind,
-    style: Style,
+    job: &Job<'_, S>,
     names: &[Vec<u8>],
     out: &mut W,
     err: &mut E,
@@ -41,14 +40,15 @@ pub fn hash_names<S: Store, W: Output, E: Sink>(
 
     // There is one outcome a name, in their order; standard output has the lines of those that have a value, and
     // standard error those of the others.
-    ensures { SaysNames S.Store S.File.Source W.Sink E.Sink store.now kind style
-        (map (λ name. name.items) names.now) out.old out.new err.old err.new result }
+    ensures { SaysNames S.Store S.File.Source W.Sink E.Sink job.now.store.now job.now.options.kind
+        (style_of job.now.options) (map (λ name. name.items) names.now)
+        out.old out.new err.old err.new result }
 {
     let mut buf = [0; OFFERED];
     let mut all = true;
     for name in names {
-        let outcome = outcome_of(store, kind, name, &mut buf);
-        print_outcome(alloc, kind, style, name, &outcome, out)?;
+        let outcome = outcome_of(job.store, job.options.kind, name, &mut buf);
+        print_outcome(job.alloc, job.options, name, &outcome, out)?;
         tell_outcome(name, &outcome, err);
         all = all && outcome.is_digested();
     }
@@ -65,8 +65,7 @@ pub fn hash_names<S: Store, W: Output, E: Sink>(
 /// [`Stop::WriteFailed`] where a write of the line fails, and [`Stop::OutOfMemory`] where there is no memory for it.
 pub fn hash_input<R: Source, W: Output, E: Sink>(
     alloc: Global,
-    kind: Kind,
-    style: Style,
+    options: Options,
     name: &[u8],
     input: &mut R,
     out: &mut W,
@@ -74,12 +73,12 @@ pub fn hash_input<R: Source, W: Output, E: Sink>(
 ) -> Result<bool, Stop>
     requires reader { R.has_failed input.old ≡ false }
     requires writer { W.has_failed out.old ≡ false }
-    ensures { SaysInput R.Source W.Sink E.Sink kind style name.now input.old input.new
-        out.old out.new err.old err.new result }
+    ensures { SaysInput R.Source W.Sink E.Sink options.kind (style_of options) name.now
+        input.old input.new out.old out.new err.old err.new result }
 {
-    match value_of_source(kind, 0, MAX_READS, input, &mut [0; OFFERED]) {
+    match value_of_source(options.kind, 0, MAX_READS, input, &mut [0; OFFERED]) {
         Ok(value) => {
-            let line = styled_line(alloc, kind, style, value, name)?;
+            let line = styled_line(alloc, options.kind, style_of(options), value, name)?;
             print(&line, out)?;
             Ok(true)
         }
@@ -95,27 +94,39 @@ pub fn hash_input<R: Source, W: Output, E: Sink>(
 // follows.
 fn print_outcome<W: Output>(
     alloc: Global,
-    kind: Kind,
-    style: Style,
+    options: Options,
     name: &[u8],
     outcome: &Outcome,
     out: &mut W,
 ) -> Result<(), Stop>
     requires { W.has_failed out.old ≡ false }
-    ensures prints { PrintsLine W.Sink (written_line kind style name.now outcome.now)
-        out.old out.new result }
+    ensures prints { PrintsLine W.Sink
+        (written_line options.kind (style_of options) name.now outcome.now) out.old out.new result }
     ensures written { is_digested outcome.now ≡ false → IsWritten W.held W.has_lost out.new }
     ensures works { IfOk result (λ _. W.has_failed out.new ≡ false) }
 {
     match outcome {
         Outcome::Digested { value } => {
-            let line = styled_line(alloc, kind, style, *value, name)?;
+            let line = styled_line(alloc, options.kind, style_of(options), *value, name)?;
             print(&line, out)
         }
         Outcome::IsDirectory | Outcome::Unread { .. } => {
             release(out);
             Ok(())
         }
+    }
+}
+
+// The style of lines by the options.
+fn style_of(options: Options) -> Style
+    ensures { result ≡ style_of options }
+{
+    Style {
+        shape: Shape {
+            is_tagged: options.is_tagged,
+            is_little: options.is_little_endian,
+        },
+        ends_in_nul: options.ends_in_nul,
     }
 }
 

@@ -7,6 +7,7 @@ pub mod check;
 mod entry;
 pub mod good_lists;
 pub mod hash;
+pub mod job;
 pub mod lines;
 pub mod outcome;
 pub mod printed_lists;

@@ -2,21 +2,19 @@
 
 ghost use Rattle.std.specs.Prelude.{◌≡◌, false, Bool, List, ℕ, Option, Result, [], drop, get_or, map, IfSome};
 ghost use Rattle.xxhsum_program.specs.Joined.{joined};
-ghost use Rattle.xxhsum_program.specs.Run.{PerformsAs, end_text, status_of, stop_text, style_of};
+ghost use Rattle.xxhsum_program.specs.Run.{PerformsAs, end_text, status_of, stop_text};
 ghost use Rattle.xxhsum_program.specs.Task.{IsProgram, answer_text, has_none, is_tree, is_well, run_asked, shows_progress, usage_text, waits_for_terminal, wrong_text};
-ghost use Rattle.xxhsum_program.specs.Told.{TellsOn};
-ghost use Rattle.xxhsum_program.specs.declared.stop.Stop.{Stop};
+ghost use Rattle.xxhsum_program.specs.Prelude.{Stop, TellsOn};
 
 use crate::arguments::last_part;
 use crate::check::{check_list, check_lists};
 use crate::hash::{hash_input, hash_names};
+use crate::job::Job;
 use crate::stop::Stop;
 use crate::tell::{tell, tell_line};
 use crate::usage::{ABOUT, BEFORE, BEHIND, NO_BENCHMARK, TITLE, tell_options};
-use std::alloc::Global;
 use xxh_io::ends::{Sink, Source};
 use xxhsum_files::store::Store;
-use xxhsum_line::printed::{Shape, Style};
 use xxhsum_output::output::Output;
 use xxhsum_words::options::{Asked, Options};
 
@@ -34,6 +32,17 @@ pub struct Terminals {
     pub input: bool,
     /// Standard error.
     pub errors: bool,
+}
+
+/// What the program has of where it was called: its input, and what it is to know of terminals.
+#[derive(Drop)]
+pub struct Console<R, T> {
+    /// Standard input.
+    pub input: R,
+    /// Which of the standard streams are terminals.
+    pub terminals: Terminals,
+    /// Where progress is shown, which is standard error too.
+    pub screen: T,
 }
 
 /// The options of the run that is asked for, and the index of the argument at which its names begin.
@@ -198,9 +207,7 @@ fn tell_usage<E: Sink>(program: &[u8], err: &mut E)
 /// [`Stop::WriteFailed`] where a write to the output fails, and [`Stop::OutOfMemory`] where memory runs out.
 #[tactic(auto, unfolding(crate::specs::Run::PerformsAs))]
 pub fn perform<S, R, W, E>(
-    alloc: Global,
-    store: &S,
-    options: Options,
+    job: &Job<'_, S>,
     names: &[Vec<u8>],
     input: R,
     out: &mut W,
@@ -214,34 +221,21 @@ where
     requires reader { R.has_failed input ≡ false }
     requires writer { W.has_failed out.old ≡ false }
     ensures { let given = map (λ name. name.items) names.now in
-        PerformsAs S.Store S.File.Source R.Source W.Sink E.Sink store.now options given input
-        out.old out.new err.old err.new result options.checks (has_none given) }
+        PerformsAs S.Store S.File.Source R.Source W.Sink E.Sink job.now.store.now job.now.options
+        given input out.old out.new err.old err.new result job.now.options.checks
+        (has_none given) }
 {
     let mut input = input;
-    if options.checks {
+    if job.options.checks {
         if has_none(names) {
-            return check_list(alloc, store, options, INPUT, input, out, err);
+            return check_list(job, INPUT, input, out, err);
         }
-        return check_lists(alloc, store, options, names, out, err);
+        return check_lists(job, names, out, err);
     }
-    let style = style_of(options);
     if has_none(names) {
-        return hash_input(alloc, options.kind, style, INPUT, &mut input, out, err);
+        return hash_input(job.alloc, job.options, INPUT, &mut input, out, err);
     }
-    hash_names(alloc, store, options.kind, style, names, out, err)
-}
-
-/// The style of lines by the options.
-pub fn style_of(options: Options) -> Style
-    ensures { result ≡ style_of options }
-{
-    Style {
-        shape: Shape {
-            is_tagged: options.is_tagged,
-            is_little: options.is_little_endian,
-        },
-        ends_in_nul: options.ends_in_nul,
-    }
+    hash_names(job, names, out, err)
 }
 
 fn has_none(names: &[Vec<u8>]) -> bool

@@ -23,7 +23,7 @@ const CLEARED: &[u8] = b"\r\x1b[K";
 // one line, however narrow the terminal is.
 const ONE_ROW: &[u8] = b"\x1b[?7l";
 
-// The same on again, and the cursor at the line's beginning.
+// DECAWM on again, and the cursor at the line's beginning.
 const ENDED: &[u8] = b"\x1b[?7h\r";
 
 /// Counts the bytes read of a file, and shows them at each 64 MiB, with the rate and, where the size is known, the time
@@ -60,13 +60,7 @@ impl<E: Sink> Meter<E> {
     pub fn into_end(self) -> E
         ensures { result ≡ end_of self }
     {
-        let Meter {
-            end,
-            is_on: _,
-            count: _,
-            size: _,
-            started: _,
-        } = self;
+        let Meter { end, .. } = self;
         end
     }
 

@@ -1,9 +1,8 @@
 //! Lines on standard output, of which none may be lost.
 
 ghost use Rattle.std.specs.Prelude.{◌≡◌, ◌++◌, [], false, Bool, Result, IfOk, IfErr};
-ghost use Rattle.xxh_io.specs.Digest.{Took};
+ghost use Rattle.xxhsum_program.specs.Prelude.{Took, one_line};
 ghost use Rattle.xxhsum_program.specs.Finish.{Finishes, IsWritten};
-ghost use Rattle.xxhsum_line.specs.Escapes.{one_line};
 ghost use Rattle.xxhsum_program.specs.Joined.{joined};
 ghost use Rattle.xxhsum_program.specs.Lines.{PrintsLine};
 

@@ -1,19 +1,13 @@
 //! Sources and stores whose reads are shown, and which give just what they give without.
 
 ghost use Rattle.std.specs.Prelude.{◌≡◌, ◌<◌, ◌≤◌, false, List, ℕ, Bool, Option, Result, length, take, is_err, IfOk, OnErr};
-ghost use Rattle.xxh_io.specs.Pieces.{Pieces};
+ghost use Rattle.xxhsum_program.specs.Prelude.{Kind, Options, Outcome, Pieces, Stop, Watched, WatchedFiles};
 ghost use Rattle.xxhsum_program.specs.Progress.{bytes_expected, bytes_read, is_shown};
 ghost use Rattle.xxhsum_program.specs.Watched.{IsFresh, ShowsRead, files_of, meter_of, shows_reads, source_of};
-ghost use Rattle.xxh_io.specs.declared.kind.Kind.{Kind};
 ghost use Rattle.xxhsum_program.specs.CheckList.{ChecksLists, FindsLines, ListOutcome};
 ghost use Rattle.xxhsum_program.specs.Findings.{Finding, IsFinding};
 ghost use Rattle.xxhsum_program.specs.ListEnd.{ListEnd};
 ghost use Rattle.xxhsum_program.specs.HashNames.{HashesNames};
-ghost use Rattle.xxhsum_program.specs.declared.outcome.Outcome.{Outcome};
-ghost use Rattle.xxhsum_program.specs.declared.stop.Stop.{Stop};
-ghost use Rattle.xxhsum_program.specs.declared.watched.Watched.{Watched};
-ghost use Rattle.xxhsum_program.specs.declared.watched.WatchedFiles.{WatchedFiles};
-ghost use Rattle.xxhsum_words.specs.declared.options.Options.{Options};
 
 use crate::progress::{Meter, time_of};
 use crate::screen::Ticks;

@@ -6,19 +6,11 @@ use xxh_io::kind::Kind;
 use xxh_io::script_sink::ScriptSink;
 use xxh_io::script_source::ScriptSource;
 use xxhsum_files::memory::{MemoryEntry, MemoryFiles};
-use xxhsum_line::printed::{Shape, Style};
 use xxhsum_program::check::{check_list, check_lists};
 use xxhsum_program::hash::{hash_input, hash_names};
+use xxhsum_program::job::Job;
 use xxhsum_program::stop::Stop;
-use xxhsum_words::options::{Asked, asked_by};
-
-const PLAIN: Style = Style {
-    shape: Shape {
-        is_tagged: false,
-        is_little: false,
-    },
-    ends_in_nul: false,
-};
+use xxhsum_words::options::{Asked, Options, asked_by};
 
 const LIST: &[u8] =
     b"26c7827d889f6da3  a\ndeadbeefdeadbeef  b\nnonsense\n0123456789abcdef  gone\nXXH3 (b) = d30345fef8ac3570";
@@ -49,10 +41,19 @@ fn names(alloc: Global, all: &[&[u8]]) -> Result<Vec<Vec<u8>>, AllocError> {
     Ok(names)
 }
 
+fn options(kind: Kind, words: &[Vec<u8>]) -> Result<Options, AllocError> {
+    match asked_by(kind, words) {
+        Asked::Run { options, .. } => Ok(options),
+        _ => Err(AllocError),
+    }
+}
+
 #[test]
 fn each_name_has_its_line(rt: HostRuntime) -> Result<(), AllocError> {
     let entries = entries();
+    let files = MemoryFiles::new(&entries);
     let names = names(rt.alloc(), &[b"a", b"b", b"d", b"gone"])?;
+    let options = options(Kind::X64, &names)?;
     for (refuses, told) in [
         (
             0,
@@ -63,15 +64,12 @@ fn each_name_has_its_line(rt: HostRuntime) -> Result<(), AllocError> {
     ] {
         let mut out = ScriptSink::<99>::new(9, 0);
         let mut err = ScriptSink::<99>::new(99, refuses);
-        let all = hash_names(
-            rt.alloc(),
-            &MemoryFiles::new(&entries),
-            Kind::X64,
-            PLAIN,
-            &names,
-            &mut out,
-            &mut err,
-        );
+        let job = Job {
+            alloc: rt.alloc(),
+            store: &files,
+            options,
+        };
+        let all = hash_names(&job, &names, &mut out, &mut err);
         assert!(rt; all == Ok(false));
         assert!(rt; out.bytes() == b"26c7827d889f6da3  a\n2d83aaba506794c4  b\n".as_slice());
         assert!(rt; err.bytes() == told);
@@ -83,7 +81,9 @@ fn each_name_has_its_line(rt: HostRuntime) -> Result<(), AllocError> {
 #[test]
 fn a_failed_write_alone_stops_the_run(rt: HostRuntime) -> Result<(), AllocError> {
     let entries = entries();
+    let files = MemoryFiles::new(&entries);
     let names = names(rt.alloc(), &[b"a", b"bad", b"b"])?;
+    let options = options(Kind::X64, &names)?;
     for (write_fails, answer, printed) in [
         (
             0,
@@ -94,15 +94,12 @@ fn a_failed_write_alone_stops_the_run(rt: HostRuntime) -> Result<(), AllocError>
     ] {
         let mut out = ScriptSink::<99>::new(9, write_fails);
         let mut err = ScriptSink::<99>::new(99, 0);
-        let all = hash_names(
-            rt.alloc(),
-            &MemoryFiles::new(&entries),
-            Kind::X64,
-            PLAIN,
-            &names,
-            &mut out,
-            &mut err,
-        );
+        let job = Job {
+            alloc: rt.alloc(),
+            store: &files,
+            options,
+        };
+        let all = hash_names(&job, &names, &mut out, &mut err);
         assert!(rt; all == answer);
         assert!(rt; out.bytes() == printed);
         if write_fails == 0 {
@@ -113,14 +110,8 @@ fn a_failed_write_alone_stops_the_run(rt: HostRuntime) -> Result<(), AllocError>
 }
 
 #[test]
-fn standard_input_has_its_line(rt: HostRuntime) {
-    let style = Style {
-        shape: Shape {
-            is_tagged: true,
-            is_little: false,
-        },
-        ends_in_nul: false,
-    };
+fn standard_input_has_its_line(rt: HostRuntime) -> Result<(), AllocError> {
+    let options = options(Kind::X32, &names(rt.alloc(), &[b"--tag"])?)?;
     for (read_fails, printed, told) in [
         (0, b"XXH32 (stdin) = fb0077f9\n".as_slice(), b"".as_slice()),
         (
@@ -134,8 +125,7 @@ fn standard_input_has_its_line(rt: HostRuntime) {
         let mut err = ScriptSink::<99>::new(99, 0);
         let all = hash_input(
             rt.alloc(),
-            Kind::X32,
-            style,
+            options,
             b"stdin",
             &mut input,
             &mut out,
@@ -145,44 +135,29 @@ fn standard_input_has_its_line(rt: HostRuntime) {
         assert!(rt; out.bytes() == printed);
         assert!(rt; err.bytes() == told);
     }
+    Ok(())
 }
 
 #[test]
 fn a_list_is_checked(rt: HostRuntime) -> Result<(), AllocError> {
     let entries = entries();
-    let words = names(rt.alloc(), &[b"-c", b"-w"])?;
-    let Asked::Run {
+    let files = MemoryFiles::new(&entries);
+    let options = options(Kind::X64, &names(rt.alloc(), &[b"-c", b"-w"])?)?;
+    let job = Job {
+        alloc: rt.alloc(),
+        store: &files,
         options,
-        names_from: _,
-    } = asked_by(Kind::X64, &words)
-    else {
-        return Err(AllocError);
     };
     let mut out = ScriptSink::<300>::new(300, 0);
     let mut err = ScriptSink::<99>::new(99, 0);
     let source = ScriptSource::new(LIST, &[7, 999], 0);
-    let good = check_list(
-        rt.alloc(),
-        &MemoryFiles::new(&entries),
-        options,
-        b"L",
-        source,
-        &mut out,
-        &mut err,
-    );
+    let good = check_list(&job, b"L", source, &mut out, &mut err);
     assert!(rt; good == Ok(false));
     assert!(rt; out.bytes() == CHECKED);
     assert!(rt; err.bytes() == b"L:3: Error: Improperly formatted checksum line.\n".as_slice());
     let lists = names(rt.alloc(), &[b"L"])?;
     let mut out = ScriptSink::<300>::new(300, 0);
-    let good = check_lists(
-        rt.alloc(),
-        &MemoryFiles::new(&entries),
-        options,
-        &lists,
-        &mut out,
-        &mut err,
-    );
+    let good = check_lists(&job, &lists, &mut out, &mut err);
     assert!(rt; good == Ok(false));
     assert!(rt; out.bytes() == CHECKED);
     Ok(())

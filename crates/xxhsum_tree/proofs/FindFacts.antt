@@ -1,9 +1,6 @@
 -- What is found, or told not to be there, and what comes of it.
-use Rattle.std.proofs.Common.{◌≡◌, ℕ, List, Option, Some, None, Ok, Err, subst}
-use Rattle.std.specs.declared.result.Result.{Result}
-use Rattle.xxh_io.specs.Rules.{SinkRules}
-use Rattle.xxhsum_program.specs.Told.{TellsOn}
-use Rattle.xxhsum_program.specs.declared.stop.Stop.{Stop}
+use Rattle.std.proofs.Common.{◌≡◌, ℕ, List, Option, Some, None, Ok, Err, subst, Result}
+use Rattle.xxhsum_tree.specs.Prelude.{SinkRules, Stop, TellsOn}
 use Rattle.xxhsum_tree.specs.Finds.{Finds}
 
 -- what is found is something else too, and so is what is told

@@ -1,8 +1,7 @@
 -- An audit that is good.
-use Rattle.std.proofs.Common.{◌≡◌, ℕ, Bool, true, false, ◌&&◌, List, [], ◌∷◌, Option, Some, None, refl, sym, ap, subst, ◌∙◌, inl, inr, Ok}
+use Rattle.std.proofs.Common.{◌≡◌, ℕ, true, List, [], ◌∷◌, Option, Some, None, refl, sym, ap, subst, ◌∙◌, inl, inr, Ok}
 use Rattle.std.proofs.lemmas.List.Sorted.{IsPermutation-sym}
-use Rattle.xxh_io.specs.declared.kind.Kind.{Kind}
-use Rattle.xxh_io.specs.Rules.{SinkRules, SourceRules}
+use Rattle.xxhsum_tree.specs.Prelude.{Digested, IsDirectory, Kind, Options, Outcome, SinkRules, SourceRules, StoreRules, Unread}
 use Rattle.xxhsum_audit.proofs.AmongFacts.{among_permutation}
 use Rattle.xxhsum_audit.proofs.EqualFacts.{same_means_equal}
 use Rattle.xxhsum_audit.proofs.TurnFacts.{by_turns}
@@ -11,19 +10,12 @@ use Rattle.xxhsum_audit.specs.declared.side.Side.TheVariants.{Line, Name, Both}
 use Rattle.xxhsum_audit.specs.Found.{Changed, Copied, Found, Missing, Moved, New, Same}
 use Rattle.xxhsum_audit.specs.Item.{IsAmong, Item, Says, kind_of, name_of, path_of, value_of}
 use Rattle.xxhsum_audit.specs.Side.{by_path, compare_to_name}
-use Rattle.xxhsum_files.specs.Rules.{StoreRules}
 use Rattle.xxhsum_program.specs.Outcomes.{Comes, IsValueOf, is_digested}
-use Rattle.xxhsum_program.specs.declared.outcome.Outcome.{Outcome}
-use Rattle.xxhsum_program.specs.declared.outcome.Outcome.TheVariants.{Digested, IsDirectory, Unread}
+use Rattle.xxhsum_program.proofs.EachFacts.{both-true}
 use Rattle.xxhsum_tree.specs.AuditLaws.{AuditMeansEqual, IsFileOf}
 use Rattle.xxhsum_tree.specs.Audits.{AuditsItems, AuditsSides, AuditsUnlessTwice}
 use Rattle.xxhsum_tree.specs.Report.{are_same}
 use Rattle.xxhsum_tree.specs.Rows.{AreRows, Come, Gone, Met, Row, are_read, kept_in, seen_in}
-use Rattle.xxhsum_words.specs.declared.options.Options.{Options}
-
-both-true : (a b : Bool) → true ≡ (a && b) → (a ≡ true) × (b ≡ true)
-both-true true b e = (refl, sym e)
-both-true false b e = let no : ⊥ = cc in absurd no
 
 all-same : (f : List Found) → are_same f ≡ true → (one : Found) → IsAmong f one → (line name : Item) × (one ≡ Same line name)
 all-same [] e one h = absurd h
@@ -97,14 +89,14 @@ module _ {S F : Type 0} (opening : StoreRules S F) (reading : SourceRules F) (st
   read-name : (n : List ℕ) (ls : List Item) (ns : List (List ℕ)) (s : List (Side Item (List ℕ))) → AllRead ls ns s → AllRead ls (n ∷ ns) (Name n ∷ s)
   read-name n ls ns s ih rows are read =
       let whole : Come n are.3.0 ∷ are.1 ≡ rows = ap (λ r. r ∷ are.1) (sym are.3.1) ∙ sym are.2 in
-      let both = both-true (is_digested are.3.0) (are_read are.1) (sym (subst (λ r. are_read r ≡ true) (sym whole) read)) in
+      let both = both-true (is_digested are.3.0) (are_read are.1) (subst (λ r. are_read r ≡ true) (sym whole) read) in
       subst (λ r. AllThere ls (n ∷ ns) r) whole (there-name n ls ns are.1 are.3.0 both.0 are.3.2 (ih are.1 are.4 both.1))
 
   read-both : (l : Item) (n : List ℕ) (ls : List Item) (ns : List (List ℕ)) (s : List (Side Item (List ℕ))) → AllRead ls ns s
       → AllRead (l ∷ ls) (n ∷ ns) (Both l n ∷ s)
   read-both l n ls ns s ih rows are read =
       let whole : Met l n are.3.0 ∷ are.1 ≡ rows = ap (λ r. r ∷ are.1) (sym are.3.1) ∙ sym are.2 in
-      let both = both-true (is_digested are.3.0) (are_read are.1) (sym (subst (λ r. are_read r ≡ true) (sym whole) read)) in
+      let both = both-true (is_digested are.3.0) (are_read are.1) (subst (λ r. are_read r ≡ true) (sym whole) read) in
       subst (λ r. AllThere (l ∷ ls) (n ∷ ns) r) whole (there-both l n ls ns are.1 are.3.0 both.0 are.3.2 (ih are.1 are.4 both.1))
 
   pub all-there : (ls : List Item) (ns : List (List ℕ)) → AllRead ls ns (by_path ls ns)
@@ -136,7 +128,7 @@ module _ {S F W E : Type 0} (opening : StoreRules S F) (reading : SourceRules F)
       → Agree lines asked
   sides-agree lines asked (inr fails) = let no = fails.3 in let none : ⊥ = cc in absurd none
   sides-agree lines asked (inl (rows, found, are, told, audit, prints, answers)) =
-      let both = both-true (are_same found) (are_read rows) answers in
+      let both = both-true (are_same found) (are_read rows) (sym answers) in
       let there = all-there opening reading store _ lines asked rows are both.1 in
       let equal = same_means_equal (kept_in rows) _ found audit (all-same found both.0) in (
         λ line h.

@@ -1,9 +1,7 @@
 -- Rows of lines and names that rise come to what the lines and the digests come to side by side.
-use Rattle.std.proofs.Common.{◌≡◌, ℕ, List, [], ◌∷◌, map, refl, sym, ap, subst, ◌∙◌, inl, inr}
+use Rattle.std.proofs.Common.{◌≡◌, ℕ, List, [], ◌∷◌, map, refl, sym, ap, subst, ◌∙◌, inl, inr, Less, Equal, Greater}
 use Rattle.std.proofs.lemmas.List.Sorted.{IsPermutation-refl}
-use Rattle.std.specs.declared.cmp.Ordering.TheVariants.{Less, Equal, Greater}
-use Rattle.xxh_io.specs.declared.kind.Kind.{Kind}
-use Rattle.xxh_io.specs.Rules.{SourceRules}
+use Rattle.xxhsum_tree.specs.Prelude.{Digested, IsDirectory, Kind, Outcome, SourceRules, StoreRules, Unread}
 use Rattle.xxhsum_audit.proofs.OrderFacts.{ahead, back, paths_total}
 use Rattle.xxhsum_audit.proofs.TurnFacts.{by_turns}
 use Rattle.xxhsum_audit.specs.declared.side.Side.{Side}
@@ -13,9 +11,6 @@ use Rattle.xxhsum_audit.specs.Found.{Found, Missing, New, met}
 use Rattle.xxhsum_audit.specs.Item.{IsAmong, Item, Says, kind_of, name_of}
 use Rattle.xxhsum_audit.specs.Order.{Rises, compare_lines, compare_paths}
 use Rattle.xxhsum_audit.specs.Side.{against, beside, by_path, compare_to_name, in_turn}
-use Rattle.xxhsum_files.specs.Rules.{StoreRules}
-use Rattle.xxhsum_program.specs.declared.outcome.Outcome.{Outcome}
-use Rattle.xxhsum_program.specs.declared.outcome.Outcome.TheVariants.{Digested, IsDirectory, Unread}
 use Rattle.xxhsum_tree.specs.Rows.{AreRows, Come, Gone, Met, Row, first_in, kept_in, seen_in}
 
 -- ---- what stands first

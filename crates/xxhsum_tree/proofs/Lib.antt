@@ -5,8 +5,5 @@ mod OnceFacts
 mod ReportFacts
 mod RowFacts
 mod SaidFacts
-mod WalkFacts
 mod VisitFacts
-mod WatchedAuditFacts
 mod WatchedRunFacts
-mod WatchedTextFacts

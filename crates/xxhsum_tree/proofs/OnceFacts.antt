@@ -1,18 +1,17 @@
 -- A path stands once in a walk.
-use Rattle.std.proofs.Common.{◌≡◌, ◌≢◌, ◌⊎◌, ℕ, ◌<◌, ◌-◌, ◌&&◌, true, false, List, [], ◌∷◌, ◌++◌, append-nil, append_assoc, codes, drop, length, map, nat_eq, refl, sym, ap, subst, inl, inr, arith, ◌∙◌}
+use Rattle.std.proofs.Common.{◌≡◌, ◌≢◌, ◌⊎◌, ℕ, ◌<◌, ◌-◌, ◌&&◌, true, false, List, [], ◌∷◌, ◌++◌, append-nil, append_assoc, codes, drop, length, map, nat_eq, refl, sym, ap, subst, inl, inr, arith, ◌∙◌, IsPermutation}
 use Rattle.std.proofs.lemmas.Bool.{cond-false}
 use Rattle.std.proofs.lemmas.Bool.Decides.{nat_tests}
 use Rattle.std.proofs.lemmas.List.{append_cancel_left, drop_at, length_push}
 use Rattle.std.proofs.lemmas.List.Sorted.{IsPermutation-cons, IsPermutation-middle, IsPermutation-refl, IsPermutation-sym, IsPermutation-trans}
 use Rattle.std.specs.Cmp.Lexicographic.{pointwise}
 use Rattle.std.specs.List.{ends_with}
-use Rattle.std.specs.List.Sorted.{IsPermutation}
 use Rattle.xxhsum_audit.proofs.AmongFacts.{among_either, among_permutation}
 use Rattle.xxhsum_audit.specs.Item.{IsAmong}
-use Rattle.xxhsum_files.specs.Rules.{FolderRules, StoreRules}
 use Rattle.xxhsum_line.proofs.LackFacts.{first_same, lacks_not, lacks_right}
 use Rattle.xxhsum_line.specs.Parts.{Lacks}
-use Rattle.xxhsum_tree.specs.Walk.{Closed, IsSeen, Leaf, Opened, Passed, Place, Seen, Visits, below, below_of, file_of, files_in, given, with_slash}
+use Rattle.xxhsum_tree.proofs.VisitFacts.{from-places, leads-here}
+use Rattle.xxhsum_tree.specs.Walk.{Closed, IsSeen, Leaf, Opened, Passed, Place, Seen, Tree, Visits, below, below_of, file_of, files_in, given, with_slash}
 use Rattle.xxhsum_tree.specs.WalkLaws.{FindsOnce, HoldsNames, IsOnce}
 
 -- ---- a name with no slash behind a folder
@@ -108,18 +107,12 @@ to-front (y ∷ xs) x (inr h) =
 abbrev IsPlain : List ℕ → Type 0
 IsPlain name = (0 < length name) × Lacks 47 name
 
-from-names : (folder : List ℕ) (names : List (List ℕ)) (q : Place) → IsAmong (map (below folder false) names) q
-    → (name : List ℕ) × IsAmong names name × (below folder false name ≡ q)
-from-names folder [] q h = absurd h
-from-names folder (n ∷ names) q (inl e) = (n, inl refl, e)
-from-names folder (n ∷ names) q (inr h) = let there = from-names folder names q h in (there.0, inr there.1, there.2)
-
 names-apart : (folder : List ℕ) (names : List (List ℕ)) → ((name : List ℕ) → IsAmong names name → IsPlain name)
     → ((name : List ℕ) (rest : List (List ℕ)) → IsPermutation names (name ∷ name ∷ rest) → ⊥) → Apart (map (below folder false) names)
 names-apart folder [] plain once = tt
 names-apart folder (n ∷ names) plain once = (
   λ q h path under under'.
-      let there = from-names folder names q h in
+      let there = from-places (below folder false) names q h in
       let m = there.0 in
       let is = plain n (inl refl) in
       let is' = plain m (inr there.1) in
@@ -136,8 +129,8 @@ names-apart folder (n ∷ names) plain once = (
 
 -- ---- a walk
 
-module _ {S F : Type 0} (opening : StoreRules S F) (folders : FolderRules S) (store : S) (holds : HoldsNames folders store) where
-  below-apart : (place : Place) (seen : Seen) → IsSeen opening folders store place seen → Apart (below_of seen)
+module _ (tree : Tree) (holds : HoldsNames tree) where
+  below-apart : (place : Place) (seen : Seen) → IsSeen tree place seen → Apart (below_of seen)
   below-apart place (Leaf name) sees = tt
   below-apart place (Passed name) sees = tt
   below-apart place (Closed name why) sees = tt
@@ -148,41 +141,33 @@ module _ {S F : Type 0} (opening : StoreRules S F) (folders : FolderRules S) (st
       (λ name h. holds.plain (with_slash place.0) found.0 name found.1 (among_permutation ordered found.0 name (IsPermutation-sym found.0 ordered moved) h))
       (λ name rest twice. holds.once (with_slash place.0) found.0 name rest found.1 (IsPermutation-trans found.0 ordered (name ∷ name ∷ rest) moved twice))
 
-  below-under : (place : Place) (seen : Seen) → IsSeen opening folders store place seen → (q : Place) → IsAmong (below_of seen) q
+  below-under : (place : Place) (seen : Seen) → IsSeen tree place seen → (q : Place) → IsAmong (below_of seen) q
       → (path : List ℕ) → Under q.0 path → Under place.0 path
   below-under place (Leaf name) sees q h path under = absurd h
   below-under place (Passed name) sees q h path under = absurd h
   below-under place (Closed name why) sees q h path under = absurd h
   below-under place (Opened folder ordered) sees q h path under =
       let found = sees.1.1 in
-      let there = from-names (with_slash folder) ordered q h in
+      let there = from-places (below (with_slash folder) false) ordered q h in
       let plain = holds.plain (with_slash place.0) found.0 there.0 found.1
       (among_permutation ordered found.0 there.0 (IsPermutation-sym found.0 ordered found.2.0) there.1) in
       subst (λ f. Under f path) sees.1.0
       (under-folder folder there.0 path plain.0 plain.1 (subst (λ p. Under p.0 path) (sym there.2) under))
 
-  next-apart : (place : Place) (places : List Place) (seen : Seen) → IsSeen opening folders store place seen → Apart (place ∷ places)
+  next-apart : (place : Place) (places : List Place) (seen : Seen) → IsSeen tree place seen → Apart (place ∷ places)
       → Apart (below_of seen ++ places)
   next-apart place places seen sees up =
       apart-both (below_of seen) places (below-apart place seen sees) up.1
       (λ p q h k path under under'. up.0 q k path (below-under place seen sees p h path under) under')
 
-  file-is : (place : Place) (seen : Seen) (file : List ℕ) → IsSeen opening folders store place seen → IsAmong (file_of seen) file
-      → file ≡ place.0
-  file-is place (Leaf name) file sees (inl e) = sym e ∙ sees.0
-  file-is place (Leaf name) file sees (inr h) = absurd h
-  file-is place (Passed name) file sees h = absurd h
-  file-is place (Opened name names) file sees h = absurd h
-  file-is place (Closed name why) file sees h = absurd h
-
   -- a file lies under one of the places
-  lies-under : (trace : List Seen) (places left : List Place) (file : List ℕ) → Visits opening folders store places trace left
+  lies-under : (trace : List Seen) (places left : List Place) (file : List ℕ) → Visits tree places trace left
       → IsAmong (files_in trace) file → (place : Place) × IsAmong places place × Under place.0 file
   lies-under [] places left file visits h = absurd h
   lies-under (seen ∷ trace) [] left file visits h = absurd visits
   lies-under (seen ∷ trace) (p ∷ places) left file visits h =
       elim (among_either (file_of seen) (files_in trace) file h) [
-        | inl here ↦ (p, inl refl, inl (file-is p seen file visits.0 here))
+        | inl here ↦ (p, inl refl, inl (leads-here tree p seen file visits.0 here).0)
         | inr there ↦
             let found = lies-under trace (below_of seen ++ places) left file visits.1 there in
             elim (among_either (below_of seen) places found.0 found.1) [
@@ -191,7 +176,7 @@ module _ {S F : Type 0} (opening : StoreRules S F) (folders : FolderRules S) (st
             ]
       ]
 
-  once : (trace : List Seen) (places left : List Place) → Visits opening folders store places trace left → Apart places
+  once : (trace : List Seen) (places left : List Place) → Visits tree places trace left → Apart places
       → IsOnce (files_in trace)
   once [] places left visits up = tt
   once (seen ∷ trace) [] left visits up = absurd visits
@@ -207,6 +192,6 @@ module _ {S F : Type 0} (opening : StoreRules S F) (folders : FolderRules S) (st
       once trace (below_of (Opened folder names) ++ places) left visits.1
       (next-apart p places (Opened folder names) visits.0 up)
 
-pub finds-once : {S F : Type 0} (opening : StoreRules S F) (folders : FolderRules S) → FindsOnce opening folders
-finds-once opening folders store name trace left holds visits =
-    once opening folders store holds trace (given name ∷ []) left visits (λ q h. absurd h, tt)
+pub finds-once : (tree : Tree) → FindsOnce tree
+finds-once tree name trace left holds visits =
+    once tree holds trace (given name ∷ []) left visits (λ q h. absurd h, tt)

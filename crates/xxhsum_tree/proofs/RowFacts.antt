@@ -1,13 +1,9 @@
 -- Rows, where one more comes, and what they come to.
-use Rattle.std.proofs.Common.{◌≡◌, ℕ, Bool, true, false, ◌&&◌, List, [], ◌∷◌, ◌++◌, append-nil, refl, sym, ap, subst, inl, ◌∙◌, Ok, Err}
-use Rattle.std.specs.Result.{IsErr, MatchResult}
+use Rattle.std.proofs.Common.{◌≡◌, ℕ, Bool, true, false, ◌&&◌, List, [], ◌∷◌, ◌++◌, append-nil, refl, sym, ap, subst, inl, ◌∙◌, Ok, Err, IsErr, MatchResult, Result, flat_map}
 use Rattle.std.specs.declared.alloc.AllocError.{AllocError}
-use Rattle.std.specs.declared.result.Result.{Result}
 use Rattle.std.proofs.lemmas.List.{map-append}
 use Rattle.std.proofs.lemmas.List.Concat.{flat_map-append}
-use Rattle.std.specs.List.{flat_map}
-use Rattle.xxh_io.specs.declared.kind.Kind.{Kind}
-use Rattle.xxh_io.specs.Rules.{SinkRules, SourceRules}
+use Rattle.xxhsum_tree.specs.Prelude.{Digested, IsDirectory, Kind, Options, Outcome, SinkRules, SourceRules, Stop, StoreRules, Unread}
 use Rattle.xxhsum_audit.proofs.FoundFacts.{met_is}
 use Rattle.xxhsum_audit.specs.declared.digest.FileDigest.{FileDigest}
 use Rattle.xxhsum_audit.specs.declared.moves.Compared.{Compared}
@@ -18,18 +14,13 @@ use Rattle.xxhsum_audit.specs.Found.{Found, Missing, New, found_of, founds_of, m
 use Rattle.xxhsum_audit.specs.Item.{Item, item_of, items_of}
 use Rattle.xxhsum_audit.specs.Order.{Rises, compare_lines, compare_paths}
 use Rattle.xxhsum_audit.specs.Side.{by_path}
-use Rattle.xxhsum_files.specs.Rules.{StoreRules}
-use Rattle.xxhsum_program.proofs.EachFacts.{and-assoc, and-true}
+use Rattle.xxhsum_program.proofs.EachFacts.{and-false, and-true}
 use Rattle.xxhsum_program.specs.Outcomes.{is_digested}
-use Rattle.xxhsum_program.specs.declared.outcome.Outcome.{Outcome}
-use Rattle.xxhsum_program.specs.declared.outcome.Outcome.TheVariants.{Digested, IsDirectory, Unread}
-use Rattle.xxhsum_program.specs.declared.stop.Stop.{Stop}
 use Rattle.xxhsum_tree.proofs.JoinFacts.{is-audit}
 use Rattle.xxhsum_tree.specs.Audits.{AnswersAudit, AuditsSides}
 use Rattle.xxhsum_tree.specs.Digests.{DigestsRows, Grows}
 use Rattle.xxhsum_tree.specs.Report.{PrintsReport, are_same}
-use Rattle.xxhsum_tree.specs.Rows.{AreRows, IsRow, Row, are_read, digest_of, first_in, first_of, is_read, kept_in, kind_of_new, seen_in}
-use Rattle.xxhsum_words.specs.declared.options.Options.{Options}
+use Rattle.xxhsum_tree.specs.Rows.{AreRows, IsRow, Row, are_read, digest_of, first_in, first_of, kept_in, kind_of_new, seen_in}
 
 pub rows-more : {S F : Type 0} (opening : StoreRules S F) (reading : SourceRules F) (store : S) (kind : Kind) (sides : List (Side Item (List ℕ))) (rows : List Row) (side : Side Item (List ℕ)) (row : Row) → AreRows opening reading store kind sides rows → IsRow opening reading store kind side row → AreRows opening reading store kind (sides ++ side ∷ []) (rows ++ row ∷ [])
 rows-more opening reading store kind [] rows side row none is =
@@ -41,10 +32,6 @@ rows-more opening reading store kind (s ∷ sides) rows side row are is = (
   are.3,
   rows-more opening reading store kind sides are.1 side row are.4 is,
 )
-
-pub read-more : (rows : List Row) (row : Row) → are_read (rows ++ row ∷ []) ≡ (are_read rows && is_read row)
-read-more [] row = and-true (is_read row)
-read-more (r ∷ rows) row = ap (λ x. is_read r && x) (read-more rows row) ∙ and-assoc (is_read r) (are_read rows) (is_read row)
 
 -- what one more comes to stands behind
 pub flat-push : {X A : Type 0} (f : X → List A) (xs : List X) (x : X) → flat_map f (xs ++ x ∷ []) ≡ flat_map f xs ++ f x
@@ -94,10 +81,6 @@ grows-met old new verdict line item is more gone come all = (
       ∙ ap (λ x. items_of old.come.items ++ x) (sym (met_is (λ f. new_in (f ∷ []) ≡ []) line item (λ e. refl) (λ e. refl))),
   all ∙ sym (and-true old.are_all),
 )
-
-and-false : (a : Bool) → false ≡ (a && false)
-and-false true = refl
-and-false false = refl
 
 -- a name with no digest
 pub grows-nothing : (old new : Compared) (found : List Found) (read : Bool) → found ≡ [] → read ≡ false → new.settled ≡ old.settled → new.gone ≡ old.gone → new.come ≡ old.come → new.are_all ≡ false → Grows old new found read

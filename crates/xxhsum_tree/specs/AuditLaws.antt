@@ -1,13 +1,10 @@
 -- What an audit means that is good.
-use Rattle.std.specs.Prelude.{◌≡◌, ℕ, true, List}
-use Rattle.std.specs.declared.result.Result.TheVariants.{Ok}
-use Rattle.xxh_io.specs.Rules.{SinkRules, SourceRules}
+use Rattle.std.specs.Prelude.{◌≡◌, ℕ, true, List, Ok}
+use Rattle.xxhsum_tree.specs.Prelude.{Options, SinkRules, SourceRules, StoreRules}
 use Rattle.xxhsum_audit.specs.Item.{IsAmong, Item, bare, kind_of, path_of, value_of}
-use Rattle.xxhsum_files.specs.Rules.{StoreRules}
 use Rattle.xxhsum_program.specs.Outcomes.{IsValueOf}
 use Rattle.xxhsum_tree.specs.Audits.{Audits}
 use Rattle.xxhsum_tree.specs.Said.{ListSays}
-use Rattle.xxhsum_words.specs.declared.options.Options.{Options}
 
 -- the name leads where the line's does, and reads of its file gave bytes with the line's value
 abbrev pub IsFileOf : {S F : Type 0} → StoreRules S F → SourceRules F → S → Item → List ℕ → Type 0

@@ -1,24 +1,15 @@
 -- An audit of names against the list of a name.
-use Rattle.std.specs.Prelude.{◌≡◌, ◌⊎◌, ℕ, Bool, true, false, ◌&&◌, List, [], ◌∷◌, Option, Some, None, codes}
-use Rattle.std.specs.List.{concat}
-use Rattle.std.specs.declared.result.Result.{Result}
-use Rattle.std.specs.declared.result.Result.TheVariants.{Ok, Err}
-use Rattle.xxh_io.specs.Rules.{SinkRules, SourceRules}
+use Rattle.std.specs.Prelude.{◌≡◌, ◌⊎◌, ℕ, Bool, true, false, ◌&&◌, List, [], ◌∷◌, Option, Some, None, codes, Result, Ok, Err}
+use Rattle.xxhsum_tree.specs.Prelude.{Options, OutOfMemory, SinkRules, SourceRules, Stop, StoreRules, TellsOn, concat, one_line}
 use Rattle.xxhsum_audit.specs.Audit.{IsAudit}
 use Rattle.xxhsum_audit.specs.Found.{Found}
 use Rattle.xxhsum_audit.specs.Item.{Item, names_of}
 use Rattle.xxhsum_audit.specs.Order.{IsOrder, clash_in, rank_lines, rank_names}
 use Rattle.xxhsum_audit.specs.Side.{by_path}
-use Rattle.xxhsum_files.specs.Rules.{StoreRules}
-use Rattle.xxhsum_line.specs.Escapes.{one_line}
-use Rattle.xxhsum_program.specs.declared.stop.Stop.{Stop}
-use Rattle.xxhsum_program.specs.declared.stop.Stop.TheVariants.{OutOfMemory}
-use Rattle.xxhsum_program.specs.Told.{TellsOn}
 use Rattle.xxhsum_tree.specs.Finds.{GoesOn, HasNoRoom, OnlyTells}
 use Rattle.xxhsum_tree.specs.Report.{PrintsReport, are_same}
 use Rattle.xxhsum_tree.specs.Rows.{AreRows, Row, TellsRows, are_read, kept_in, kind_of_new, seen_in, told_in}
 use Rattle.xxhsum_tree.specs.Said.{ListSays, ListSaysNothing}
-use Rattle.xxhsum_words.specs.declared.options.Options.{Options}
 
 -- another name leads where this one does, among what is named first
 abbrev pub twice_text : List ℕ → List ℕ → List ℕ

@@ -1,22 +1,15 @@
 -- How the digests of names are gathered, a side at a time. No public clause speaks of it.
-use Rattle.std.specs.Prelude.{◌≡◌, ℕ, Bool, false, ◌&&◌, List, [], ◌++◌, Option, Some, None}
+use Rattle.std.specs.Prelude.{◌≡◌, ℕ, Bool, false, ◌&&◌, List, [], ◌++◌, Option, Some, None, Result, Ok, Err}
 use Rattle.std.specs.declared.alloc.AllocError.{AllocError}
-use Rattle.std.specs.declared.result.Result.{Result}
-use Rattle.std.specs.declared.result.Result.TheVariants.{Ok, Err}
-use Rattle.xxh_io.specs.declared.kind.Kind.{Kind}
-use Rattle.xxh_io.specs.Rules.{SinkRules, SourceRules}
+use Rattle.xxhsum_tree.specs.Prelude.{Digested, Kind, Outcome, SinkRules, SourceRules, StoreRules, TellsOn}
 use Rattle.xxhsum_audit.specs.declared.digest.FileDigest.{FileDigest}
 use Rattle.xxhsum_audit.specs.declared.moves.Compared.{Compared}
 use Rattle.xxhsum_audit.specs.declared.side.Side.{Side}
 use Rattle.xxhsum_audit.specs.Audit.{missing_in, new_in, settled_in}
 use Rattle.xxhsum_audit.specs.Found.{Found, founds_of}
 use Rattle.xxhsum_audit.specs.Item.{Item, Says, item_of, items_of}
-use Rattle.xxhsum_files.specs.Rules.{StoreRules}
 use Rattle.xxhsum_program.specs.Lines.{told_line}
 use Rattle.xxhsum_program.specs.Outcomes.{Comes, is_digested}
-use Rattle.xxhsum_program.specs.Told.{TellsOn}
-use Rattle.xxhsum_program.specs.declared.outcome.Outcome.{Outcome}
-use Rattle.xxhsum_program.specs.declared.outcome.Outcome.TheVariants.{Digested}
 use Rattle.xxhsum_tree.specs.Rows.{AreRows, Row, TellsRows, are_read, first_in, first_of, is_read, told_in, told_of}
 
 -- the name has this digest, and nothing is told; or it is told why it has none

@@ -1,11 +1,6 @@
 -- What is looked for and is found, or is told not to be there.
-use Rattle.std.specs.Prelude.{◌≡◌, ◌⊎◌, ℕ, Bool, false, List, Option, Some, None}
-use Rattle.std.specs.declared.result.Result.{Result}
-use Rattle.std.specs.declared.result.Result.TheVariants.{Ok, Err}
-use Rattle.xxh_io.specs.Rules.{SinkRules}
-use Rattle.xxhsum_program.specs.declared.stop.Stop.{Stop}
-use Rattle.xxhsum_program.specs.declared.stop.Stop.TheVariants.{OutOfMemory}
-use Rattle.xxhsum_program.specs.Told.{TellsOn}
+use Rattle.std.specs.Prelude.{◌≡◌, ◌⊎◌, ℕ, Bool, false, List, Option, Some, None, Result, Ok, Err}
+use Rattle.xxhsum_tree.specs.Prelude.{OutOfMemory, SinkRules, Stop, TellsOn}
 
 -- It is found; or a text is told, why it isn't; or there was no memory, and nothing is told.
 abbrev pub Finds : {T E : Type 0} → Result (Option T) Stop → SinkRules E → (T → Type 0) → (List ℕ → Type 0) → E → E → Type 0

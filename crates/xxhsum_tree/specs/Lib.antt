@@ -3,6 +3,7 @@ pub mod Audits
 pub mod Digests
 pub mod Finds
 pub mod Names
+pub mod Prelude
 pub mod Report
 pub mod Rows
 pub mod Run

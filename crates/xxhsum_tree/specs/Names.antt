@@ -1,8 +1,8 @@
 -- The names that stand in lists of names.
-use Rattle.std.specs.Prelude.{◌≡◌, ℕ, List, [], ◌∷◌, ◌++◌}
-use Rattle.xxh_io.specs.Rules.{SourceRules}
+use Rattle.std.specs.Prelude.{◌≡◌, ℕ, List, ◌++◌}
+use Rattle.xxhsum_tree.specs.Prelude.{SourceRules, StoreRules}
+use Rattle.xxhsum_audit.specs.List.{GiveAll}
 use Rattle.xxhsum_audit.specs.Parts.{ArePartsOf}
-use Rattle.xxhsum_files.specs.Rules.{StoreRules}
 use Rattle.xxhsum_program.specs.Task.{has_none}
 use Rattle.xxhsum_tree.specs.Texts.{GiveTexts, LackText}
 use Rattle.xxhsum_words.specs.declared.options.NamesFrom.{NamesFrom}
@@ -20,9 +20,7 @@ AddsNames end text old new = (more : List (List ℕ)) × (new ≡ old ++ more) �
 
 -- the names of all texts, in order
 abbrev pub AreNamesIn : ℕ → List (List ℕ) → List (List ℕ) → Type 0
-AreNamesIn end [] names = names ≡ []
-AreNamesIn end (text ∷ texts) names =
-    (front rest : List (List ℕ)) × (names ≡ front ++ rest) × ArePartsOf end text front × AreNamesIn end texts rest
+AreNamesIn end texts names = GiveAll (ArePartsOf end) texts names
 
 -- the names that stand in lists, or in the input where there is no list
 abbrev pub ListNames : {S F R : Type 0} → StoreRules S F → SourceRules F → SourceRules R → S → R → ℕ → List (List ℕ)

@@ -1,17 +1,10 @@
 -- What is printed of an audit.
-use Rattle.std.specs.Prelude.{◌≡◌, ℕ, Bool, true, ◌&&◌, List, [], ◌∷◌, ◌++◌, codes, decimal, if◌then◌else◌}
-use Rattle.std.specs.List.{count_by, flat_map}
-use Rattle.std.specs.declared.result.Result.{Result}
-use Rattle.std.specs.declared.result.Result.TheVariants.{Ok, Err}
-use Rattle.xxh_io.specs.Digest.{Refused, Took}
-use Rattle.xxh_io.specs.Rules.{SinkRules}
+use Rattle.std.specs.Prelude.{◌≡◌, ℕ, Bool, true, ◌&&◌, List, [], ◌∷◌, ◌++◌, codes, decimal, if◌then◌else◌, count_by, flat_map, Result, Ok, Err}
+use Rattle.xxhsum_tree.specs.Prelude.{Options, OutOfMemory, Refused, SinkRules, Stop, Took, WriteFailed}
 use Rattle.xxhsum_audit.specs.declared.verdict.Class.{Class}
 use Rattle.xxhsum_audit.specs.declared.verdict.Class.TheVariants as Of
 use Rattle.xxhsum_audit.specs.Found.{Found, is_of_class}
 use Rattle.xxhsum_audit.specs.Text.{text_of}
-use Rattle.xxhsum_program.specs.declared.stop.Stop.{Stop}
-use Rattle.xxhsum_program.specs.declared.stop.Stop.TheVariants.{OutOfMemory, WriteFailed}
-use Rattle.xxhsum_words.specs.declared.options.Options.{Options}
 
 -- the line of one: where it is quiet, none of what is the same
 abbrev pub shown_text : Bool → Found → List ℕ

@@ -1,18 +1,13 @@
 -- Lines and names side by side, and what became of the names.
-use Rattle.std.specs.Prelude.{◌≡◌, ℕ, Bool, true, ◌&&◌, List, [], ◌∷◌, ◌++◌, map}
-use Rattle.std.specs.List.{flat_map}
-use Rattle.xxh_io.specs.declared.kind.Kind.{Kind}
-use Rattle.xxh_io.specs.Rules.{SinkRules, SourceRules}
+use Rattle.std.specs.Prelude.{◌≡◌, ℕ, Bool, true, List, [], ◌∷◌, ◌++◌, map, flat_map}
+use Rattle.std.specs.List.{list_all}
+use Rattle.xxhsum_tree.specs.Prelude.{Digested, IsDirectory, Kind, Outcome, SinkRules, SourceRules, StoreRules, TellsOn, Unread}
 use Rattle.xxhsum_audit.specs.declared.side.Side.{Side}
 use Rattle.xxhsum_audit.specs.declared.side.Side.TheVariants.{Line, Name, Both}
 use Rattle.xxhsum_audit.specs.Found.{Found, Missing, New, met}
 use Rattle.xxhsum_audit.specs.Item.{Item, Says, kind_of}
-use Rattle.xxhsum_files.specs.Rules.{StoreRules}
 use Rattle.xxhsum_program.specs.Lines.{told_line}
 use Rattle.xxhsum_program.specs.Outcomes.{Comes, is_digested}
-use Rattle.xxhsum_program.specs.Told.{TellsOn}
-use Rattle.xxhsum_program.specs.declared.outcome.Outcome.{Outcome}
-use Rattle.xxhsum_program.specs.declared.outcome.Outcome.TheVariants.{Digested, IsDirectory, Unread}
 
 -- a line whose name was not given; a line and the name that it has, which was; a name that no line has
 pub data Row : Type 0 where
@@ -90,8 +85,7 @@ abbrev pub told_in : List Row → List ℕ
 told_in rows = flat_map told_of rows
 
 abbrev pub are_read : List Row → Bool
-are_read [] = true
-are_read (row ∷ rows) = is_read row && are_read rows
+are_read rows = list_all is_read rows
 
 -- the first of the sides have their rows, of which it is told why a name has no digest
 abbrev pub TellsRows : {S F E : Type 0} → StoreRules S F → SourceRules F → SinkRules E → S → Kind → List (Side Item (List ℕ)) → List Row

@@ -1,15 +1,8 @@
 -- What the program does with its arguments, which may ask for a tree.
-use Rattle.std.specs.Prelude.{◌≡◌, ℕ, Bool, true, false, ◌&&◌, ◌⊎◌, List, [], ◌∷◌, Option, Some, None, codes, drop, MatchBool}
-use Rattle.std.specs.declared.result.Result.{Result}
-use Rattle.std.specs.declared.result.Result.TheVariants.{Ok, Err}
-use Rattle.xxh_io.specs.Rules.{SinkRules, SourceRules}
-use Rattle.xxhsum_files.specs.Rules.{FolderRules, StoreRules}
+use Rattle.std.specs.Prelude.{◌≡◌, ℕ, Bool, true, false, ◌&&◌, ◌⊎◌, List, [], ◌∷◌, Option, Some, None, codes, drop, MatchBool, Result, Ok, Err}
+use Rattle.xxhsum_tree.specs.Prelude.{FolderRules, Options, OutOfMemory, SinkRules, SourceRules, Stop, StoreRules, Watched, WatchedFiles}
 use Rattle.xxhsum_program.specs.declared.process.Terminals.{Terminals}
-use Rattle.xxhsum_program.specs.declared.stop.Stop.{Stop}
-use Rattle.xxhsum_program.specs.declared.stop.Stop.TheVariants.{OutOfMemory}
 use Rattle.xxhsum_program.specs.HashNames.{SaysNames}
-use Rattle.xxhsum_program.specs.declared.watched.Watched.{Watched}
-use Rattle.xxhsum_program.specs.declared.watched.WatchedFiles.{WatchedFiles}
 use Rattle.xxhsum_program.specs.Progress.{is_shown}
 use Rattle.xxhsum_program.specs.Run.{DoesTask, PerformsAs, style_of}
 use Rattle.xxhsum_program.specs.Task.{IsProgram, has_none, task_of}
@@ -17,9 +10,8 @@ use Rattle.xxhsum_program.specs.Watched.{files_of, meter_of, shows_reads, source
 use Rattle.xxhsum_tree.specs.Audits.{Audits}
 use Rattle.xxhsum_tree.specs.Finds.{GoesOn, OnlyTells}
 use Rattle.xxhsum_tree.specs.Names.{ListNames, ListNone, end_of}
-use Rattle.xxhsum_tree.specs.Walk.{WalksAll, WalksSome}
+use Rattle.xxhsum_tree.specs.Walk.{WalksAll, WalksSome, tree_of}
 use Rattle.xxhsum_words.specs.Options.{are_listed}
-use Rattle.xxhsum_words.specs.declared.options.Options.{Options}
 
 -- Without an audit, the names that stand in lists are digested, or taken for lists and checked.
 abbrev pub WalksNames : {S F R W E : Type 0} → StoreRules S F → SourceRules F → SourceRules R → SinkRules W → SinkRules E
@@ -41,22 +33,22 @@ abbrev pub WalksFolders : {S F W E : Type 0} → StoreRules S F → FolderRules 
     → S → Options → List (List ℕ) → W → W → E → E → Result Bool Stop → Type 0
 WalksFolders {S} {F} {W} {E} opening folders reading writing telling store options names w_old w_new e_old e_new result =
     ((files : List (List ℕ)) × (are_all : Bool) × (e_met : E) × (done : Result Bool Stop)
-    × WalksAll opening folders telling store names files are_all e_old e_met
+    × WalksAll (tree_of opening folders store) telling names files are_all e_old e_met
     × SaysNames opening reading writing telling store options.kind (style_of options) files w_old w_new e_met e_new done
     × (result ≡ all_well are_all done))
-    ⊎ ((stop : Stop) × WalksSome opening folders telling store names e_old e_new stop × (w_new ≡ w_old)
+    ⊎ ((stop : Stop) × WalksSome (tree_of opening folders store) telling names e_old e_new stop × (w_new ≡ w_old)
     × (result ≡ Err stop))
 
 -- With an audit, its names are those of the files. Where the names in a folder can't be read, there is none.
 abbrev pub AuditsBelow : {S F W E : Type 0} → StoreRules S F → FolderRules S → SourceRules F → SinkRules W → SinkRules E
     → S → Options → List ℕ → List (List ℕ) → W → W → E → E → Result Bool Stop → Type 0
 AuditsBelow {S} {F} {W} {E} opening folders reading writing telling store options list names w_old w_new e_old e_new result =
-    ((files : List (List ℕ)) × (e_met : E) × WalksAll opening folders telling store names files true e_old e_met
+    let tree = tree_of opening folders store in
+    ((files : List (List ℕ)) × (e_met : E) × WalksAll tree telling names files true e_old e_met
     × Audits opening reading writing telling store options list files w_old w_new e_met e_new result)
-    ⊎ (((files : List (List ℕ)) × WalksAll opening folders telling store names files false e_old e_new
+    ⊎ (((files : List (List ℕ)) × WalksAll tree telling names files false e_old e_new
     × (w_new ≡ w_old) × (result ≡ Ok false))
-    ⊎ ((stop : Stop) × WalksSome opening folders telling store names e_old e_new stop × (w_new ≡ w_old)
-    × (result ≡ Err stop)))
+    ⊎ ((stop : Stop) × WalksSome tree telling names e_old e_new stop × (w_new ≡ w_old) × (result ≡ Err stop)))
 
 -- With one, the first word is the list, and those behind it are the names, or lists of them.
 abbrev pub AuditsWords : {S F R W E : Type 0} → StoreRules S F → FolderRules S → SourceRules F → SourceRules R → SinkRules W → SinkRules E
@@ -90,7 +82,7 @@ PerformsWords opening folders reading input_reading writing telling store input 
     (PerformsAs opening reading input_reading writing telling store options words input w_old w_new e_old e_new result
     options.checks (has_none words))))
 
--- the same over files and an input that are watched, whose reads are shown on a screen T or not
+-- what a run does over files and an input that are watched, whose reads are shown on a screen T or not
 unfoldable pub PerformsWatched : {S F R W E : Type 0} → (T : Type 0) → StoreRules S F → FolderRules S → SourceRules F
     → SourceRules R → SinkRules W → SinkRules E → S → R → W → W → E → E → Result Bool Stop → Options → List (List ℕ) → Bool
     → Type 0

@@ -1,11 +1,8 @@
 -- What the lines of a list say, which is audited.
 use Rattle.std.specs.Prelude.{◌≡◌, ◌⊎◌, ℕ, ◌+◌, ◌≤◌, Bool, List, [], ◌∷◌, ◌++◌, codes, length}
-use Rattle.std.specs.List.{AllByRecursion}
-use Rattle.xxh_io.specs.Rules.{SourceRules}
+use Rattle.xxhsum_tree.specs.Prelude.{AllByRecursion, Refusal, SourceRules, StoreRules}
 use Rattle.xxhsum_audit.specs.Item.{Item}
 use Rattle.xxhsum_audit.specs.List.{SayAll}
-use Rattle.xxhsum_files.specs.Rules.{StoreRules}
-use Rattle.xxhsum_files.specs.declared.refusal.Refusal.{Refusal}
 use Rattle.xxhsum_line.specs.Entry.{SaysNothing}
 use Rattle.xxhsum_program.specs.CheckList.{EndsAs, EndsWell, ReadsSome}
 use Rattle.xxhsum_program.specs.ListEnd.{Endless, FailedRead}

@@ -1,13 +1,8 @@
 -- The texts of lists: of files, or of the input.
 use Rattle.std.specs.Prelude.{◌≡◌, ◌⊎◌, ℕ, Bool, true, false, List, [], ◌∷◌, ◌++◌, codes}
-use Rattle.std.specs.List.{concat}
-use Rattle.xxh_io.specs.Rules.{SourceRules}
+use Rattle.xxhsum_tree.specs.Prelude.{EachHas, Refusal, SourceRules, StoreRules, concat, one_line}
 use Rattle.xxhsum_audit.specs.Read.{BreaksOff, GivesAll}
 use Rattle.xxhsum_files.specs.Refusal.{refusal_text}
-use Rattle.xxhsum_files.specs.Rules.{StoreRules}
-use Rattle.xxhsum_files.specs.declared.refusal.Refusal.{Refusal}
-use Rattle.xxhsum_line.specs.Escapes.{one_line}
-use Rattle.xxhsum_program.specs.EachHas.{EachHas}
 use Rattle.xxhsum_program.specs.Run.{input_name}
 
 -- reads of the source give this text, up to its end

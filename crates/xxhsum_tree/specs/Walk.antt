@@ -1,22 +1,13 @@
 -- The files below folders: names are looked at one after another, and those in a folder before those that wait.
-use Rattle.std.specs.Prelude.{◌≡◌, ℕ, Bool, true, false, ◌&&◌, List, [], ◌∷◌, ◌++◌, map, codes, nat_eq, reverse, if◌then◌else◌}
+use Rattle.std.specs.Prelude.{◌≡◌, ℕ, Bool, true, false, ◌&&◌, List, [], ◌∷◌, ◌++◌, map, codes, nat_eq, reverse, if◌then◌else◌, IsPermutation, IsSorted, Result, Ok, Err}
 use Rattle.std.specs.Cmp.Lexicographic.{slice_cmp}
-use Rattle.std.specs.List.{ends_with, flat_map}
-use Rattle.std.specs.List.Sorted.{IsPermutation, IsSorted}
+use Rattle.std.specs.List.{ends_with, flat_map, list_all}
 use Rattle.std.specs.Ordering.{nat_cmp}
-use Rattle.std.specs.declared.result.Result.{Result}
-use Rattle.std.specs.declared.result.Result.TheVariants.{Ok, Err}
-use Rattle.xxh_io.specs.Rules.{SinkRules}
-use Rattle.xxhsum_files.specs.Rules.{FolderRules, StoreRules}
+use Rattle.xxhsum_tree.specs.Prelude.{FolderRules, OutOfMemory, Refusal, SinkRules, Stop, StoreRules, TellsOn, Unread}
 use Rattle.xxhsum_files.specs.declared.folders.PathKind.{PathKind}
 use Rattle.xxhsum_files.specs.declared.folders.PathKind.TheVariants.{File, Folder, Other}
-use Rattle.xxhsum_files.specs.declared.refusal.Refusal.{Refusal}
 use Rattle.xxhsum_program.specs.Lines.{told_line}
-use Rattle.xxhsum_program.specs.Told.{TellsOn}
-use Rattle.xxhsum_program.specs.declared.outcome.Outcome.TheVariants.{Unread}
 use Rattle.xxhsum_program.specs.declared.outcome.Reason.TheVariants.{Unopened}
-use Rattle.xxhsum_program.specs.declared.stop.Stop.{Stop}
-use Rattle.xxhsum_program.specs.declared.stop.Stop.TheVariants.{OutOfMemory}
 use Rattle.xxhsum_tree.specs.declared.walk.Waiting.{Waiting}
 use Rattle.xxhsum_tree.specs.declared.walk.Walked.{Walked}
 
@@ -39,12 +30,29 @@ pub data Seen : Type 0 where
   Opened : List ℕ → List (List ℕ) → Seen
   Closed : List ℕ → Refusal → Seen
 
+-- what a walk is told of names: whether a name that was given is a folder's, the names in a folder, or why they can't be
+-- read, and what a name in a folder leads to
+pub record Tree : Type 1 where
+  pub is_folder : List ℕ → Bool → Type 0
+  pub holds : List ℕ → List (List ℕ) → Type 0
+  pub closes : List ℕ → Refusal → Type 0
+  pub leads : List ℕ → PathKind → Type 0
+
+-- as a store says it
+abbrev pub tree_of : {S F : Type 0} → StoreRules S F → FolderRules S → S → Tree
+tree_of opening folders store = record {
+  is_folder = λ name answer. opening.holds_directory store name answer;
+  holds = λ folder names. folders.holds store folder names;
+  closes = λ folder why. folders.closes store folder why;
+  leads = λ name kind. folders.leads store name kind;
+}
+
 -- what a name leads to: a link is followed where its name was given
-abbrev pub HasKind : {S F : Type 0} → StoreRules S F → FolderRules S → S → List ℕ → Bool → PathKind → Type 0
-HasKind opening folders store name true File = opening.holds_directory store name false
-HasKind opening folders store name true Folder = opening.holds_directory store name true
-HasKind opening folders store name true Other = ⊥
-HasKind opening folders store name false kind = folders.leads store name kind
+abbrev pub HasKind : Tree → List ℕ → Bool → PathKind → Type 0
+HasKind tree name true File = tree.is_folder name false
+HasKind tree name true Folder = tree.is_folder name true
+HasKind tree name true Other = ⊥
+HasKind tree name false kind = tree.leads name kind
 
 -- the name of a folder with a slash behind it, unless it ends with one
 abbrev pub with_slash : List ℕ → List ℕ
@@ -55,24 +63,19 @@ abbrev pub IsInOrder : List (List ℕ) → List (List ℕ) → Type 0
 IsInOrder names ordered = IsPermutation names ordered × IsSorted (slice_cmp nat_cmp) ordered
 
 -- what is found in a folder
-abbrev pub IsIn : {S : Type 0} → FolderRules S → S → List ℕ → Seen → Type 0
-IsIn folders store name (Opened folder ordered) =
-    (folder ≡ name)
-    × ((names : List (List ℕ)) × folders.holds store (with_slash name) names × IsInOrder names ordered)
-IsIn folders store name (Closed folder why) = (folder ≡ name) × folders.closes store (with_slash name) why
-IsIn folders store name (Leaf file) = ⊥
-IsIn folders store name (Passed other) = ⊥
+abbrev pub IsIn : Tree → List ℕ → Seen → Type 0
+IsIn tree name (Opened folder ordered) =
+    (folder ≡ name) × ((names : List (List ℕ)) × tree.holds (with_slash name) names × IsInOrder names ordered)
+IsIn tree name (Closed folder why) = (folder ≡ name) × tree.closes (with_slash name) why
+IsIn tree name (Leaf file) = ⊥
+IsIn tree name (Passed other) = ⊥
 
 -- what is found at a name
-abbrev pub IsSeen : {S F : Type 0} → StoreRules S F → FolderRules S → S → Place → Seen → Type 0
-IsSeen opening folders store place (Leaf name) =
-    (name ≡ place.0) × HasKind opening folders store place.0 place.1 File
-IsSeen opening folders store place (Passed name) =
-    (name ≡ place.0) × HasKind opening folders store place.0 place.1 Other
-IsSeen opening folders store place (Opened name names) =
-    HasKind opening folders store place.0 place.1 Folder × IsIn folders store place.0 (Opened name names)
-IsSeen opening folders store place (Closed name why) =
-    HasKind opening folders store place.0 place.1 Folder × IsIn folders store place.0 (Closed name why)
+abbrev pub IsSeen : Tree → Place → Seen → Type 0
+IsSeen tree place (Leaf name) = (name ≡ place.0) × HasKind tree place.0 place.1 File
+IsSeen tree place (Passed name) = (name ≡ place.0) × HasKind tree place.0 place.1 Other
+IsSeen tree place (Opened name names) = HasKind tree place.0 place.1 Folder × IsIn tree place.0 (Opened name names)
+IsSeen tree place (Closed name why) = HasKind tree place.0 place.1 Folder × IsIn tree place.0 (Closed name why)
 
 -- the names that are then looked at first
 abbrev pub below_of : Seen → List Place
@@ -82,11 +85,11 @@ below_of (Opened name names) = map (below (with_slash name) false) names
 below_of (Closed name why) = []
 
 -- The first of these places is looked at, then the next of those that wait, and so on: this is seen, and these wait still.
-abbrev pub Visits : {S F : Type 0} → StoreRules S F → FolderRules S → S → List Place → List Seen → List Place → Type 0
-Visits opening folders store places [] left = left ≡ places
-Visits opening folders store [] (seen ∷ trace) left = ⊥
-Visits opening folders store (place ∷ places) (seen ∷ trace) left =
-    IsSeen opening folders store place seen × Visits opening folders store (below_of seen ++ places) trace left
+abbrev pub Visits : Tree → List Place → List Seen → List Place → Type 0
+Visits tree places [] left = left ≡ places
+Visits tree [] (seen ∷ trace) left = ⊥
+Visits tree (place ∷ places) (seen ∷ trace) left =
+    IsSeen tree place seen × Visits tree (below_of seen ++ places) trace left
 
 -- ---- what comes of it
 
@@ -121,22 +124,19 @@ is_open (Opened name names) = true
 is_open (Closed name why) = false
 
 abbrev pub are_open : List Seen → Bool
-are_open [] = true
-are_open (seen ∷ trace) = is_open seen && are_open trace
+are_open trace = list_all is_open trace
 
 -- all is seen from these names on: these are the files, and each folder that can't be read is reported
-abbrev pub WalksAll : {S F E : Type 0} → StoreRules S F → FolderRules S → SinkRules E → S → List (List ℕ) → List (List ℕ)
-    → Bool → E → E → Type 0
-WalksAll opening folders telling store names files all old new =
-    (trace : List Seen) × Visits opening folders store (map given names) trace [] × (files ≡ files_in trace)
+abbrev pub WalksAll : {E : Type 0} → Tree → SinkRules E → List (List ℕ) → List (List ℕ) → Bool → E → E → Type 0
+WalksAll tree telling names files all old new =
+    (trace : List Seen) × Visits tree (map given names) trace [] × (files ≡ files_in trace)
     × (all ≡ are_open trace) × TellsOn telling (closed_in trace) old new
 
 -- there was no memory for more
-abbrev pub WalksSome : {S F E : Type 0} → StoreRules S F → FolderRules S → SinkRules E → S → List (List ℕ) → E → E → Stop
-    → Type 0
-WalksSome opening folders telling store names old new stop =
+abbrev pub WalksSome : {E : Type 0} → Tree → SinkRules E → List (List ℕ) → E → E → Stop → Type 0
+WalksSome tree telling names old new stop =
     (trace : List Seen) × (left : List Place) × (stop ≡ OutOfMemory)
-    × Visits opening folders store (map given names) trace left × TellsOn telling (closed_in trace) old new
+    × Visits tree (map given names) trace left × TellsOn telling (closed_in trace) old new
 
 -- ---- one step. No public clause speaks of it.
 
@@ -156,7 +156,7 @@ SeesOne is_seen telling p_old p_new old new e_old e_new (Ok _) =
     × (new.are_all ≡ (old.are_all && is_open seen)) × TellsOn telling (closed_of seen) e_old e_new
 SeesOne is_seen telling p_old p_new old new e_old e_new (Err stop) = (stop ≡ OutOfMemory) × (e_new ≡ e_old)
 
-abbrev pub SeesFolder : {S E : Type 0} → FolderRules S → S → List ℕ → SinkRules E → List Place → List Place → Walked
-    → Walked → E → E → Result (Unit {0}) Stop → Type 0
-SeesFolder folders store name telling p_old p_new old new e_old e_new result =
-    SeesOne (IsIn folders store name) telling p_old p_new old new e_old e_new result
+abbrev pub SeesFolder : {E : Type 0} → Tree → List ℕ → SinkRules E → List Place → List Place → Walked → Walked → E → E
+    → Result (Unit {0}) Stop → Type 0
+SeesFolder tree name telling p_old p_new old new e_old e_new result =
+    SeesOne (IsIn tree name) telling p_old p_new old new e_old e_new result

@@ -20,9 +20,9 @@ use xxhsum_audit::moves::verdicts;
 use xxhsum_audit::order::{clash_in, names_of, put_lines_in_order, put_names_in_order};
 use xxhsum_files::store::Store;
 use xxhsum_line::entry::Entry;
+use xxhsum_program::job::Job;
 use xxhsum_program::stop::Stop;
 use xxhsum_program::tell::tell_line;
-use xxhsum_words::options::Options;
 
 /// Compares the names with the lines of the list of this name, and prints a verdict on each. Returns whether all
 /// are the same. A list that can't be read, a malformed line, and a duplicate line or name are reported,
@@ -34,29 +34,26 @@ use xxhsum_words::options::Options;
 ///
 /// [`Stop::WriteFailed`] where a write to standard output fails, and [`Stop::OutOfMemory`] where memory runs out.
 pub fn audit_names<S: Store, W: Sink, E: Sink>(
-    alloc: Global,
-    store: &S,
-    options: Options,
+    job: &Job<'_, S>,
     list: &[u8],
     names: &[Vec<u8>],
     out: &mut W,
     err: &mut E,
 ) -> Result<bool, Stop>
     requires { W.has_failed out.old ≡ false }
-    ensures { Audits S.Store S.File.Source W.Sink E.Sink store.now options list.now
+    ensures { Audits S.Store S.File.Source W.Sink E.Sink job.now.store.now job.now.options list.now
         (map (λ name. name.items) names.now) out.old out.new err.old err.new result }
 {
-    let Some(said) = said_named(alloc, store, options.is_little_endian, list, err)? else {
+    let is_little = job.options.is_little_endian;
+    let Some(said) = said_named(job.alloc, job.store, is_little, list, err)? else {
         return Ok(false);
     };
-    audit_lines(alloc, store, options, list, &said, names, out, err)
+    audit_lines(job, list, &said, names, out, err)
 }
 
 // Compares the names with what the lines of a list state.
 fn audit_lines<S: Store, W: Sink, E: Sink>(
-    alloc: Global,
-    store: &S,
-    options: Options,
+    job: &Job<'_, S>,
     list: &[u8],
     said: &[Entry],
     names: &[Vec<u8>],
@@ -64,25 +61,26 @@ fn audit_lines<S: Store, W: Sink, E: Sink>(
     err: &mut E,
 ) -> Result<bool, Stop>
     requires { W.has_failed out.old ≡ false }
-    ensures { AuditsItems S.Store S.File.Source W.Sink E.Sink store.now options list.now
-        (map said_by said.now) (map (λ name. name.items) names.now)
+    ensures { AuditsItems S.Store S.File.Source W.Sink E.Sink job.now.store.now job.now.options
+        list.now (map said_by said.now) (map (λ name. name.items) names.now)
         out.old out.new err.old err.new result }
 {
-    let lines = lines_in_order(alloc, said)?;
-    let asked = names_in_order(alloc, names)?;
-    let listed = names_of(alloc, &lines)?;
+    let lines = lines_in_order(job.alloc, said)?;
+    let asked = names_in_order(job.alloc, names)?;
+    let listed = names_of(job.alloc, &lines)?;
     if tell_twice(list, &listed, err) {
         return Ok(false);
     }
     if tell_twice(b"Error", &asked, err) {
         return Ok(false);
     }
-    audit_sides(alloc, store, options, &lines, &asked, out, err)
+    audit_sides(job, &lines, &asked, out, err)
 }
 
 // What the lines say, in the order of the names.
 fn lines_in_order(alloc: Global, said: &[Entry]) -> Result<Vec<FileDigest<'_>>, AllocError>
-    ensures { IfOk result (λ lines. IsOrder rank_lines (map said_by said.now) (items_of lines.items)) }
+    ensures { IfOk result
+        (λ lines. IsOrder rank_lines (map said_by said.now) (items_of lines.items)) }
 {
     let mut lines = digests_said(alloc, said)?;
     put_lines_in_order(&mut lines);
@@ -146,9 +144,7 @@ fn tell_name<'a, E: Sink>(among: &'a [u8], name: &'a [u8], err: &mut E)
 
 // Digests the names, in step with the lines, both in order, and gives the verdicts on both.
 fn audit_sides<S: Store, W: Sink, E: Sink>(
-    alloc: Global,
-    store: &S,
-    options: Options,
+    job: &Job<'_, S>,
     lines: &[FileDigest<'_>],
     asked: &[&[u8]],
     out: &mut W,
@@ -157,14 +153,14 @@ fn audit_sides<S: Store, W: Sink, E: Sink>(
     requires works { W.has_failed out.old ≡ false }
     requires lines { Rises compare_lines (items_of lines.now) }
     requires names { Rises compare_paths (texts_of asked.now) }
-    ensures { AuditsSides S.Store S.File.Source W.Sink E.Sink store.now options
+    ensures { AuditsSides S.Store S.File.Source W.Sink E.Sink job.now.store.now job.now.options
         (items_of lines.now) (texts_of asked.now) out.old out.new err.old err.new result }
 {
-    let kind = kind_of_new(lines, options.kind);
-    let compared = digests_of(alloc, store, kind, lines, asked, err)?;
+    let kind = kind_of_new(lines, job.options.kind);
+    let compared = digests_of(job.alloc, job.store, kind, lines, asked, err)?;
     let are_all = compared.are_all;
-    let found = verdicts(alloc, compared)?;
-    print_report(alloc, options, &found, out)?;
+    let found = verdicts(job.alloc, compared)?;
+    print_report(job.alloc, job.options, &found, out)?;
     if !are_same(&found) {
         return Ok(false);
     }

@@ -59,8 +59,8 @@ fn add_side<'n, S: Store, E: Sink>(
     err: &mut E,
 ) -> Result<(), AllocError>
     requires { 0 < length buf.old }
-    ensures { AddsRow E.Sink (IsRow S.Store S.File.Source store.now kind (path_side side.entry)) kind
-        compared.old compared.new err.old err.new result }
+    ensures { AddsRow E.Sink (IsRow S.Store S.File.Source store.now kind (path_side side.entry))
+        kind compared.old compared.new err.old err.new result }
 {
     match side {
         Side::Line(line) => compared.gone.push(line)?,
@@ -85,7 +85,8 @@ fn digest_name<'n, S: Store, E: Sink>(
     err: &mut E,
 ) -> Option<FileDigest<'n>>
     requires { 0 < length buf.old }
-    ensures { DigestsName S.Store S.File.Source E.Sink store.now kind name.now err.old err.new result }
+    ensures { DigestsName S.Store S.File.Source E.Sink store.now kind name.now
+        err.old err.new result }
 {
     let outcome = outcome_of(store, kind, name, buf);
     tell_outcome(name, &outcome, err);

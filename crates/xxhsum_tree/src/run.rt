@@ -4,11 +4,9 @@ ghost use Rattle.std.specs.Prelude.{◌≡◌, false, Bool, List, ℕ, Option, S
 ghost use Rattle.xxhsum_program.specs.Arguments.{AreArguments};
 ghost use Rattle.xxhsum_program.specs.Finish.{Finishes};
 ghost use Rattle.xxhsum_program.specs.Run.{end_text, status_of};
-ghost use Rattle.xxhsum_program.specs.Told.{TellsOn};
-ghost use Rattle.xxhsum_program.specs.declared.stop.Stop.{Stop};
+ghost use Rattle.xxhsum_tree.specs.Prelude.{Options, Stop, TellsOn};
 ghost use Rattle.xxhsum_tree.specs.Run.{AuditsBelow, AuditsWords, DoesArguments, PerformsWatched, PerformsWords, WalksFolders, WalksNames, all_well};
 ghost use Rattle.xxhsum_words.specs.Options.{are_listed};
-ghost use Rattle.xxhsum_words.specs.declared.options.Options.{Options};
 
 use crate::audit::audit_names;
 use crate::names::names_listed;
@@ -21,9 +19,10 @@ use xxhsum_output::output::Output;
 use xxhsum_program::arguments::{Arguments, all_arguments};
 use xxhsum_program::check::check_lists;
 use xxhsum_program::hash::hash_names;
+use xxhsum_program::job::Job;
 use xxhsum_program::process::{
-    Terminals, arguments_behind_name, conclude, perform, program_of, run_asked, shows_progress,
-    style_of, tell_answer, tell_wrong, waits_for_terminal,
+    Console, arguments_behind_name, conclude, perform, program_of, run_asked, shows_progress,
+    tell_answer, tell_wrong, waits_for_terminal,
 };
 use xxhsum_program::say::finish;
 use xxhsum_program::screen::Ticks;
@@ -31,10 +30,9 @@ use xxhsum_program::stop::Stop;
 use xxhsum_program::tell::tell;
 use xxhsum_program::watched::WatchedFiles;
 use xxhsum_words::name::default_kind;
-use xxhsum_words::options::{Options, asked_by, words_behind};
+use xxhsum_words::options::{asked_by, words_behind};
 
-/// Does what the arguments ask for, over a store of files and these streams. Progress is shown on the screen, which is
-/// standard error too. Returns the exit status: 0 where every file was digested, or has its line's value, and all that was
+/// Does what the arguments ask for, over a store of files and these streams. Returns the exit status: 0 where every file was digested, or has its line's value, and all that was
 /// printed is written, and else 1.
 ///
 /// The caller shows that neither the input nor the output has failed.
@@ -42,11 +40,9 @@ pub fn run<A, S, R, W, E, T>(
     alloc: Global,
     arguments: &A,
     store: &S,
-    terminals: Terminals,
-    input: R,
+    console: Console<R, T>,
     out: &mut W,
     err: &mut E,
-    screen: T,
 ) -> u8
 where
     A: Arguments,
@@ -55,20 +51,20 @@ where
     W: Output,
     E: Sink,
     T: Sink + Ticks + Copy + Drop,
-    requires reader { R.has_failed input ≡ false }
+    requires reader { R.has_failed console.input ≡ false }
     requires writer { W.has_failed out.old ≡ false }
     ensures { (args : Option (List (List ℕ))) × (done ended : Result Bool Stop) × (met : W)
         × (told : E) × IfSome args (AreArguments A.holds A.ends arguments.now)
         × DoesArguments (PerformsWatched T S.Store S.Folders S.File.Source R.Source W.Sink E.Sink
-        store.now input out.old met err.old told done)
-        E.Sink terminals args out.old met err.old told done
+        store.now console.input out.old met err.old told done)
+        E.Sink console.terminals args out.old met err.old told done
         × Finishes W.Sink W.held W.has_lost done met out.new ended
         × TellsOn E.Sink (end_text ended) told err.new
         × (result ≡ status_of ended) }
 {
     match all_arguments(alloc, arguments) {
         Ok(args) => {
-            let done = run_arguments(alloc, &args, store, terminals, input, out, err, screen);
+            let done = run_arguments(alloc, &args, store, console, out, err);
             conclude(finish(done, out), err)
         }
         Err(AllocError) => conclude(finish(Err(Stop::OutOfMemory), out), err),
@@ -80,11 +76,9 @@ fn run_arguments<S, R, W, E, T>(
     alloc: Global,
     args: &[Vec<u8>],
     store: &S,
-    terminals: Terminals,
-    input: R,
+    console: Console<R, T>,
     out: &mut W,
     err: &mut E,
-    screen: T,
 ) -> Result<bool, Stop>
 where
     S: Store + Folders,
@@ -92,13 +86,18 @@ where
     W: Output,
     E: Sink,
     T: Sink + Ticks + Copy + Drop,
-    requires reader { R.has_failed input ≡ false }
+    requires reader { R.has_failed console.input ≡ false }
     requires writer { W.has_failed out.old ≡ false }
     ensures { DoesArguments (PerformsWatched T S.Store S.Folders S.File.Source R.Source W.Sink
-        E.Sink store.now input out.old out.new err.old err.new result)
-        E.Sink terminals (Some (map (λ argument. argument.items) args.now))
+        E.Sink store.now console.input out.old out.new err.old err.new result)
+        E.Sink console.terminals (Some (map (λ argument. argument.items) args.now))
         out.old out.new err.old err.new result }
 {
+    let Console {
+        input,
+        terminals,
+        screen,
+    } = console;
     let program = program_of(args);
     let words = arguments_behind_name(args);
     let asked = asked_by(default_kind(program), words);
@@ -113,14 +112,17 @@ where
     }
     let files = WatchedFiles::new(store, screen, shows_progress(terminals, options));
     let input = files.watch(input);
-    perform_words(alloc, &files, options, names, input, out, err)
+    let job = Job {
+        alloc,
+        store: &files,
+        options,
+    };
+    perform_words(&job, names, input, out, err)
 }
 
 // Audits the words, digests the files below folders, or digests or checks the words or the names in lists of names.
 fn perform_words<S: Store + Folders, R: Source + Drop, W: Output, E: Sink>(
-    alloc: Global,
-    store: &S,
-    options: Options,
+    job: &Job<'_, S>,
     words: &[Vec<u8>],
     input: R,
     out: &mut W,
@@ -128,26 +130,25 @@ fn perform_words<S: Store + Folders, R: Source + Drop, W: Output, E: Sink>(
 ) -> Result<bool, Stop>
     requires reader { R.has_failed input ≡ false }
     requires writer { W.has_failed out.old ≡ false }
-    ensures { PerformsWords S.Store S.Folders S.File.Source R.Source W.Sink E.Sink store.now input
-        out.old out.new err.old err.new result options (map (λ word. word.items) words.now) }
+    ensures { PerformsWords S.Store S.Folders S.File.Source R.Source W.Sink E.Sink
+        job.now.store.now input out.old out.new err.old err.new result job.now.options
+        (map (λ word. word.items) words.now) }
 {
-    if options.audits {
-        return walk_audit(alloc, store, options, words, input, out, err);
+    if job.options.audits {
+        return walk_audit(job, words, input, out, err);
     }
-    if options.walks {
-        return walk_folders(alloc, store, options, words, out, err);
+    if job.options.walks {
+        return walk_folders(job, words, out, err);
     }
-    if options.names_from.are_listed() {
-        return walk_names(alloc, store, options, words, input, out, err);
+    if job.options.names_from.are_listed() {
+        return walk_names(job, words, input, out, err);
     }
-    perform(alloc, store, options, words, input, out, err)
+    perform(job, words, input, out, err)
 }
 
 // Audits names against the list that the first argument names.
 fn walk_audit<S: Store + Folders, R: Source + Drop, W: Output, E: Sink>(
-    alloc: Global,
-    store: &S,
-    options: Options,
+    job: &Job<'_, S>,
     words: &[Vec<u8>],
     input: R,
     out: &mut W,
@@ -155,47 +156,48 @@ fn walk_audit<S: Store + Folders, R: Source + Drop, W: Output, E: Sink>(
 ) -> Result<bool, Stop>
     requires reader { R.has_failed input ≡ false }
     requires writer { W.has_failed out.old ≡ false }
-    ensures { AuditsWords S.Store S.Folders S.File.Source R.Source W.Sink E.Sink store.now input
-        out.old out.new err.old err.new result options (map (λ word. word.items) words.now)
-        options.walks (are_listed options.names_from) }
+    ensures { AuditsWords S.Store S.Folders S.File.Source R.Source W.Sink E.Sink job.now.store.now
+        input out.old out.new err.old err.new result job.now.options
+        (map (λ word. word.items) words.now) job.now.options.walks
+        (are_listed job.now.options.names_from) }
 {
     let Some((list, rest)) = words.split_first() else {
         tell(b"Error: --audit needs a list.\n", err);
         return Ok(false);
     };
-    if options.walks {
-        return audit_below(alloc, store, options, list, rest, out, err);
+    if job.options.walks {
+        return audit_below(job, list, rest, out, err);
     }
-    if !options.names_from.are_listed() {
-        return audit_names(alloc, store, options, list, rest, out, err);
+    let names_from = job.options.names_from;
+    if !names_from.are_listed() {
+        return audit_names(job, list, rest, out, err);
     }
-    let Some(names) = names_listed(alloc, store, options.names_from, rest, input, err)? else {
+    let Some(names) = names_listed(job.alloc, job.store, names_from, rest, input, err)? else {
         return Ok(false);
     };
-    audit_names(alloc, store, options, list, &names, out, err)
+    audit_names(job, list, &names, out, err)
 }
 
 // Audits the files of the names and of the folders below them against `list`. Where a folder can't be read, there is no
 // audit: nobody knows whether a line of it is missing.
 fn audit_below<S: Store + Folders, W: Output, E: Sink>(
-    alloc: Global,
-    store: &S,
-    options: Options,
+    job: &Job<'_, S>,
     list: &[u8],
     names: &[Vec<u8>],
     out: &mut W,
     err: &mut E,
 ) -> Result<bool, Stop>
     requires { W.has_failed out.old ≡ false }
-    ensures { AuditsBelow S.Store S.Folders S.File.Source W.Sink E.Sink store.now options list.now
-        (map (λ name. name.items) names.now) out.old out.new err.old err.new result }
+    ensures { AuditsBelow S.Store S.Folders S.File.Source W.Sink E.Sink job.now.store.now
+        job.now.options list.now (map (λ name. name.items) names.now)
+        out.old out.new err.old err.new result }
 {
-    match files_below(alloc, store, names, err) {
+    match files_below(job.alloc, job.store, names, err) {
         Ok(walked) => {
             if !walked.are_all {
                 return Ok(false);
             }
-            audit_names(alloc, store, options, list, &walked.files, out, err)
+            audit_names(job, list, &walked.files, out, err)
         }
         Err(stop) => Err(stop),
     }
@@ -203,21 +205,19 @@ fn audit_below<S: Store + Folders, W: Output, E: Sink>(
 
 // Digests the files of the names and of the folders below them.
 fn walk_folders<S: Store + Folders, W: Output, E: Sink>(
-    alloc: Global,
-    store: &S,
-    options: Options,
+    job: &Job<'_, S>,
     names: &[Vec<u8>],
     out: &mut W,
     err: &mut E,
 ) -> Result<bool, Stop>
     requires { W.has_failed out.old ≡ false }
-    ensures { WalksFolders S.Store S.Folders S.File.Source W.Sink E.Sink store.now options
-        (map (λ name. name.items) names.now) out.old out.new err.old err.new result }
+    ensures { WalksFolders S.Store S.Folders S.File.Source W.Sink E.Sink job.now.store.now
+        job.now.options (map (λ name. name.items) names.now)
+        out.old out.new err.old err.new result }
 {
-    match files_below(alloc, store, names, err) {
+    match files_below(job.alloc, job.store, names, err) {
         Ok(walked) => {
-            let style = style_of(options);
-            let done = hash_names(alloc, store, options.kind, style, &walked.files, out, err);
+            let done = hash_names(job, &walked.files, out, err);
             all_well(walked.are_all, done)
         }
         Err(stop) => Err(stop),
@@ -237,9 +237,7 @@ fn all_well(are_all: bool, done: Result<bool, Stop>) -> Result<bool, Stop>
 // Digests or checks the names that stand in lists of names.
 #[tactic(auto, unfolding(xxhsum_program::specs::Run::PerformsAs))]
 fn walk_names<S: Store, R: Source + Drop, W: Output, E: Sink>(
-    alloc: Global,
-    store: &S,
-    options: Options,
+    job: &Job<'_, S>,
     lists: &[Vec<u8>],
     input: R,
     out: &mut W,
@@ -247,24 +245,18 @@ fn walk_names<S: Store, R: Source + Drop, W: Output, E: Sink>(
 ) -> Result<bool, Stop>
     requires reader { R.has_failed input ≡ false }
     requires writer { W.has_failed out.old ≡ false }
-    ensures { WalksNames S.Store S.File.Source R.Source W.Sink E.Sink store.now input
-        out.old out.new err.old err.new result options (map (λ list. list.items) lists.now) }
+    ensures { WalksNames S.Store S.File.Source R.Source W.Sink E.Sink job.now.store.now input
+        out.old out.new err.old err.new result job.now.options
+        (map (λ list. list.items) lists.now) }
 {
-    let Some(names) = names_listed(alloc, store, options.names_from, lists, input, err)? else {
+    let names_from = job.options.names_from;
+    let Some(names) = names_listed(job.alloc, job.store, names_from, lists, input, err)? else {
         return Ok(false);
     };
-    if options.checks {
-        return check_lists(alloc, store, options, &names, out, err);
+    if job.options.checks {
+        return check_lists(job, &names, out, err);
     }
-    hash_names(
-        alloc,
-        store,
-        options.kind,
-        style_of(options),
-        &names,
-        out,
-        err,
-    )
+    hash_names(job, &names, out, err)
 }
 
 /// A law, with nothing to run: what a run does over watched files and a watched input it does over the files and the input

@@ -25,7 +25,8 @@ pub(crate) fn said_named<S: Store, E: Sink>(
     err: &mut E,
 ) -> Result<Option<Vec<Entry>>, Stop>
     ensures { Finds result E.Sink
-        (λ said. ListSays S.Store S.File.Source store.now is_little list.now (map said_by said.items))
+        (λ said. ListSays S.Store S.File.Source store.now is_little list.now
+        (map said_by said.items))
         (ListSaysNothing S.Store S.File.Source store.now is_little list.now) err.old err.new }
 {
     match store.open(list) {

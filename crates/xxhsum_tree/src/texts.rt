@@ -1,10 +1,9 @@
 //! The texts of lists.
 
 ghost use Rattle.std.specs.Prelude.{◌≡◌, ◌∷◌, ◌++◌, [], false, List, ℕ, IfOk, map};
-ghost use Rattle.xxhsum_program.specs.EachHas.{EachHas};
+ghost use Rattle.xxhsum_tree.specs.Prelude.{EachHas, TellsOn};
 ghost use Rattle.xxhsum_program.specs.Run.{input_name};
 ghost use Rattle.xxhsum_program.specs.Task.{has_none};
-ghost use Rattle.xxhsum_program.specs.Told.{TellsOn};
 ghost use Rattle.xxhsum_tree.specs.Finds.{Finds};
 ghost use Rattle.xxhsum_tree.specs.Texts.{Breaks, GiveTexts, GivesText, HasNoText, HasText, LackText, LacksOne, unopened_text, unread_text};
 
@@ -112,8 +111,8 @@ pub fn texts_named<S: Store, R: Source + Drop, E: Sink>(
     ensures { let given = map (λ name. name.items) names.now in Finds result E.Sink
         (λ texts. GiveTexts S.Store S.File.Source R.Source store.now input given
         (map (λ text. text.items) texts.items) (has_none given))
-        (λ told. LackText S.Store S.File.Source R.Source store.now input given told (has_none given))
-        err.old err.new }
+        (λ told. LackText S.Store S.File.Source R.Source store.now input given told
+        (has_none given)) err.old err.new }
 {
     if has_none(names) {
         return text_of_input(alloc, input, err);

@@ -3,7 +3,7 @@
 ghost use Rattle.std.specs.Prelude.{◌≡◌, ◌++◌, ◌∷◌, [], IfOk, MatchResult, map};
 ghost use Rattle.xxhsum_program.specs.Told.{TellsOn};
 ghost use Rattle.xxhsum_tree.specs.WalkLaws.{FindsEachFile, FindsNoOther, FindsOnce};
-ghost use Rattle.xxhsum_tree.specs.Walk.{HasKind, IsInOrder, IsSeen, SeesFolder, SeesOne, WalksAll, WalksSome, below, closed_text, place_of, waiting_in, with_slash};
+ghost use Rattle.xxhsum_tree.specs.Walk.{HasKind, IsInOrder, IsSeen, SeesFolder, SeesOne, WalksAll, WalksSome, below, closed_text, place_of, tree_of, waiting_in, with_slash};
 
 use std::alloc::{AllocError, Global};
 use xxh_io::ends::Sink;
@@ -44,9 +44,9 @@ pub fn files_below<S: Store + Folders, E: Sink>(
     err: &mut E,
 ) -> Result<Walked, Stop>
     ensures { let given = map (λ name. name.items) names.now in MatchResult result
-        (λ walked. WalksAll S.Store S.Folders E.Sink store.now given
+        (λ walked. WalksAll (tree_of S.Store S.Folders store.now) E.Sink given
         (map (λ file. file.items) walked.files.items) walked.are_all err.old err.new)
-        (WalksSome S.Store S.Folders E.Sink store.now given err.old err.new) }
+        (WalksSome (tree_of S.Store S.Folders store.now) E.Sink given err.old err.new) }
 {
     let mut walked = Walked {
         files: Vec::new(alloc),
@@ -116,7 +116,7 @@ fn see<S: Store + Folders, E: Sink>(
     walked: &mut Walked,
     err: &mut E,
 ) -> Result<(), Stop>
-    ensures { SeesOne (IsSeen S.Store S.Folders store.now (place_of place)) E.Sink
+    ensures { SeesOne (IsSeen (tree_of S.Store S.Folders store.now) (place_of place)) E.Sink
         (waiting_in waiting.old.items) (waiting_in waiting.new.items) walked.old walked.new
         err.old err.new result }
 {
@@ -133,7 +133,7 @@ fn see<S: Store + Folders, E: Sink>(
 
 // What a name leads to: a link is followed where its name was given.
 fn kind_at<S: Store + Folders>(store: &S, name: &[u8], is_given: bool) -> PathKind
-    ensures { HasKind S.Store S.Folders store.now name.now is_given result }
+    ensures { HasKind (tree_of S.Store S.Folders store.now) name.now is_given result }
 {
     if !is_given {
         return store.kind_of(name);
@@ -162,7 +162,7 @@ fn open_folder<S: Store + Folders, E: Sink>(
     walked: &mut Walked,
     err: &mut E,
 ) -> Result<(), Stop>
-    ensures { SeesFolder S.Folders store.now name.now E.Sink
+    ensures { SeesFolder (tree_of S.Store S.Folders store.now) name.now E.Sink
         (waiting_in waiting.old.items) (waiting_in waiting.new.items) walked.old walked.new
         err.old err.new result }
 {
@@ -219,7 +219,7 @@ fn tell_closed<'a, E: Sink>(name: &'a [u8], refusal: Refusal, err: &mut E)
 /// thing of each name. Below one name no path is found twice, where each name in a folder stands there once and has no
 /// slash. `hash_names` then has one outcome for each.
 pub fn laws_of_walks<S: Store + Folders>()
-    ensures each { FindsEachFile S.Store S.Folders }
-    ensures no_other { FindsNoOther S.Store S.Folders }
-    ensures once { FindsOnce S.Store S.Folders }
+    ensures each { (store : S) → FindsEachFile (tree_of S.Store S.Folders store) }
+    ensures no_other { (store : S) → FindsNoOther (tree_of S.Store S.Folders store) }
+    ensures once { (store : S) → FindsOnce (tree_of S.Store S.Folders store) }
 {}

@@ -14,7 +14,8 @@ use twox_hash::xxhash3::{DefaultSecret, SecretBuffer};
 use twox_hash::xxhash3_128::RawHasher;
 use xxh_io::ends::{Failed, Sink, Source};
 use xxh_io::error::DigestError;
-use xxh_io::line_buffer::{LINE, LineBuffer, offset_line};
+use xxh_io::hex::{LINE, offset_line};
+use xxh_io::waiting::Waiting;
 use xxh_io::write::write_all;
 
 // The stream of no bytes.
@@ -96,7 +97,7 @@ impl CurrentBlock {
             ↔ (W.has_failed w.new ≡ true) }
         ensures only { IfErr result (λ e. e ≡ DigestError.WriteFailed) }
     {
-        let mut lines = LineBuffer::<N>::new();
+        let mut lines = Waiting::<N>::new();
         let mut rest = piece;
         loop {
             let room = self.size - self.count;

@@ -1,6 +1,5 @@
-use Rattle.std.proofs.Common.{◌≡◌, ◌≤◌, ◌<◌, ◌+◌, ℕ, true, false, length, get_or, List, None, Some, ap, sym, ◌∙◌, rules, arith, of_calls}
+use Rattle.std.proofs.Common.{◌≡◌, ◌≤◌, ◌<◌, ◌+◌, ℕ, true, false, length, get_or, List, None, Some, ap, sym, ◌∙◌, rules, arith, of_calls, ◌==◌}
 use Rattle.std.proofs.lemmas.List.Sorted.{IsPartitionPoint-from_clause}
-use Rattle.std.specs.Bool.{◌==◌}
 use Rattle.std.specs.Ordering.{ordering_index}
 use Rattle.xxhsum_audit.proofs.DigestFacts.{climbs}
 use Rattle.xxhsum_audit.proofs.SearchFacts.{equal_is, is_below, parted, search-above, search-here, search-none}

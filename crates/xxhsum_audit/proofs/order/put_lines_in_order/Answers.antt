@@ -1,7 +1,6 @@
-use Rattle.std.proofs.Common.{◌≡◌, rules}
+use Rattle.std.proofs.Common.{◌≡◌, rules, is_lt}
 use Rattle.std.proofs.lemmas.Fn.{always_returns_same}
 use Rattle.std.proofs.lemmas.List.Sorted.{IsPermutation-map, ranks_by}
-use Rattle.std.specs.Ordering.{is_lt}
 use Rattle.xxhsum_audit.proofs.OrderFacts.{ranks_total}
 use Rattle.xxhsum_audit.proofs.SortFacts.{ascends_of}
 use Rattle.xxhsum_audit.specs.Item.{item_of}

@@ -1,5 +1,4 @@
-use Rattle.std.proofs.Common.{◌≡◌, ◌≤◌, take}
-use Rattle.std.specs.List.{count_by}
+use Rattle.std.proofs.Common.{◌≡◌, ◌≤◌, take, count_by}
 use Rattle.xxhsum_audit.specs.Found.{founds_of, is_of_class}
 use Rattle.xxhsum_audit.proofs.verdict.count_of.Given as goal
 

@@ -1,5 +1,4 @@
-use Rattle.std.proofs.Common.{◌≡◌, ℕ, ◌+◌, ◌<◌, ◌≤◌, List, [], ◌∷◌, ◌++◌, length, take, drop, set, get_or, refl, sym, ap, ◌∙◌, arith, length-append, append_assoc, ◌*◌}
-use Rattle.std.specs.List.{swap}
+use Rattle.std.proofs.Common.{◌≡◌, ℕ, ◌+◌, ◌<◌, ◌≤◌, List, [], ◌∷◌, ◌++◌, length, take, drop, set, get_or, refl, sym, ap, ◌∙◌, arith, length-append, append_assoc, ◌*◌, swap}
 use Rattle.std.proofs.lemmas.List.{drop_more, take-append-drop, length-take-le, length-drop, set_at, take_at, drop_at}
 use Rattle.std.proofs.lemmas.List.Edits.{swap_is}
 use Rattle.xxhsum_line.specs.Digits.{pairs_swapped}

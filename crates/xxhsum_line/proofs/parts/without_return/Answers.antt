@@ -1,7 +1,6 @@
-use Rattle.std.proofs.Common.{◌∷◌, [], sym, ap, ◌∙◌}
+use Rattle.std.proofs.Common.{◌∷◌, [], sym, ap, ◌∙◌, Some, None}
 use Rattle.std.proofs.lemmas.Bool.Decides.{Decides-eqb}
 use Rattle.std.proofs.lemmas.Slice.Eq.{strip_suffix_is}
-use Rattle.std.specs.declared.option.Option.TheVariants.{Some, None}
 use Rattle.xxhsum_line.specs.Parts.{without_return}
 use Rattle.xxhsum_line.proofs.LackFacts.{without_return_cut, without_return_none}
 use Rattle.xxhsum_line.proofs.parts.without_return.Goals as goal

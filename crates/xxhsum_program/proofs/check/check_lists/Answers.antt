@@ -1,10 +1,10 @@
 use Rattle.std.proofs.Common.{◌≡◌, ◌+◌, ◌∷◌, ◌++◌, [], Err, inl, inr, Bool, map, take, drop, refl, sym, ◌∙◌, append_assoc, subst, rules}
 use Rattle.xxh_io.proofs.WriteFacts.{Took-join}
-use Rattle.xxhsum_program.specs.CheckList.{IsDone, printed_outcome, told_outcome}
+use Rattle.xxhsum_program.specs.CheckList.{IsDone, is_good_outcome, printed_outcome, told_outcome}
 use Rattle.xxhsum_program.specs.Lines.{PrintsLines}
-use Rattle.xxhsum_program.proofs.EachFacts.{EachHas-push, all-push, map-more, map-split}
+use Rattle.xxhsum_program.proofs.EachFacts.{EachHas-push, all-push, list_all-push, map-more, map-split}
 use Rattle.xxhsum_program.proofs.HashFacts.{is-err}
-use Rattle.xxhsum_program.proofs.OutcomeFacts.{are_good-push, lines-push, prints-join}
+use Rattle.xxhsum_program.proofs.OutcomeFacts.{lines-push, prints-join}
 use Rattle.xxhsum_program.proofs.ToldFacts.{tells-more, tells-nothing}
 use Rattle.xxhsum_program.proofs.check.check_lists.Goals as goal
 use Rattle.xxhsum_program.proofs.check.check_lists.Goals.{then-all, else-all}
@@ -29,14 +29,14 @@ loop-name-preserved g c =
     let good = c.in_ok-good.good in
     let checked = rw c.deref.ensures.value at c.in_ok-good.ensures.checks in
     let outcome = checked.0 in
-    let options = c.args.options in
+    let options = c.args.job.now.options in
     let longer : map (λ name. name.items) (take (k + 1) c.args.names.now) ≡ names ++ name ∷ [] =
     map-more (λ name. name.items) c.args.names.now k c.name-item.result c.loop-name-test.true c.name-item.is in
     rw longer record {
       outcomes = so_far.outcomes ++ outcome ∷ [];
       each = EachHas-push _ names so_far.outcomes name outcome so_far.each checked.1;
       finished = all-push IsDone so_far.outcomes outcome so_far.finished checked.2.0;
-      all = rw (are_good-push options so_far.outcomes outcome, sym so_far.all, sym checked.2.1)
+      all = rw (list_all-push (is_good_outcome options) so_far.outcomes outcome, sym so_far.all, sym checked.2.1)
           (elim c.if-all.branch [
             | then-all w ↦ rw (w.all-is, w.if-all.true) refl
             | else-all w ↦ rw (w.all-is, w.if-all.false) refl
@@ -58,7 +58,7 @@ returns-in_err-good g c =
     let stop = c.in_err-good.field-0.0 in
     let checked = rw c.deref.ensures.value at c.in_err-good.ensures.checks in
     let outcome = checked.0 in
-    let options = c.args.options in
+    let options = c.args.job.now.options in
     rw (is-err c.from_residual.result stop c.from_residual.ensures.1) (
       so_far.outcomes ++ outcome ∷ [],
       names ++ name ∷ [],

@@ -6,7 +6,7 @@ use Rattle.xxhsum_program.proofs.check.check_named.Goals as goal
 pub returns-in-Ok-clause-checks : goal.returns-in-Ok-clause-checks
 returns-in-Ok-clause-checks g c =
     let checks = c.check.ensures.checks in
-    (Checked checks.0 checks.1, (c.in-Ok.file, c.in-Ok.ensures.opens, checks.2), answers-outcome c.args.options checks.0 checks.1 c.check.result checks.3, checks.4, checks.5)
+    (Checked checks.0 checks.1, (c.in-Ok.file, c.in-Ok.ensures.opens, checks.2), answers-outcome c.args.job.now.options checks.0 checks.1 c.check.result checks.3, checks.4, checks.5)
 
 pub returns-in-Err-clause-checks : goal.returns-in-Err-clause-checks
 returns-in-Err-clause-checks g c =

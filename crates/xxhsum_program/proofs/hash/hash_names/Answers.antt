@@ -1,10 +1,11 @@
 use Rattle.std.proofs.Common.{◌≡◌, ◌+◌, ◌∷◌, ◌++◌, [], Err, map, take, drop, refl, sym, subst, rules}
 use Rattle.xxh_io.proofs.WriteFacts.{Took-join}
-use Rattle.xxhsum_program.specs.Outcomes.{Comes}
+use Rattle.xxhsum_program.specs.Outcomes.{Comes, is_digested}
 use Rattle.xxhsum_program.specs.Lines.{PrintsLine, told_line, written_line}
-use Rattle.xxhsum_program.proofs.EachFacts.{EachHas-push, map-more, map-split}
+use Rattle.xxhsum_program.specs.Run.{style_of}
+use Rattle.xxhsum_program.proofs.EachFacts.{EachHas-push, list_all-push, map-more, map-split}
 use Rattle.xxhsum_program.proofs.HashFacts.{is-err, stops-printing}
-use Rattle.xxhsum_program.proofs.OutcomeFacts.{lines-push, are_digested-push}
+use Rattle.xxhsum_program.proofs.OutcomeFacts.{lines-push}
 use Rattle.xxhsum_program.proofs.ToldFacts.{tells-more, tells-nothing}
 use Rattle.xxhsum_program.proofs.hash.hash_names.Goals as goal
 use Rattle.xxhsum_program.proofs.hash.hash_names.Goals.{then-all, else-all}
@@ -28,7 +29,7 @@ loop-name-preserved g c =
     let outcome = c.outcome_of-outcome.result in
     let longer : map (λ name. name.items) (take (k + 1) c.args.names.now) ≡ names ++ name ∷ [] =
     map-more (λ name. name.items) c.args.names.now k c.name-item.result c.loop-name-test.true c.name-item.is in
-    let line = written_line c.args.kind c.args.style in
+    let line = written_line c.args.job.now.options.kind (style_of c.args.job.now.options) in
     rw longer record {
       outcomes = so_far.outcomes ++ outcome ∷ [];
       each = EachHas-push _ names so_far.outcomes name outcome so_far.each (rw (sym c.deref.ensures.value) c.outcome_of-outcome.ensures);
@@ -36,7 +37,7 @@ loop-name-preserved g c =
           (Took-join g.W.Sink _ _ _ _ _ so_far.prints c.in_ok-print_outcome.ensures.prints);
       tells = rw (lines-push _ told_line names so_far.outcomes name outcome so_far.each, sym c.deref-in-loop-name-2.ensures.value)
           (tells-more g.E.Sink _ _ _ _ _ so_far.tells c.tell_outcome.ensures);
-      all = rw (are_digested-push so_far.outcomes outcome, sym so_far.all)
+      all = rw (list_all-push is_digested so_far.outcomes outcome, sym so_far.all)
           (elim c.if-all.branch [
             | then-all w ↦ rw (w.all-is, w.if-all.true) w.is_digested-all.ensures
             | else-all w ↦ rw (w.all-is, w.if-all.false) refl
@@ -52,7 +53,7 @@ returns-in_err-print_outcome g c =
     let outcome = c.outcome_of-outcome.result in
     let stop = c.in_err-print_outcome.field-0.0 in
     let is : c.from_residual.result ≡ Err stop = is-err c.from_residual.result stop c.from_residual.ensures.1 in
-    rw is (stops-printing (Comes g.S.Store g.S.File.Source c.args.store.now c.args.kind) g.W.Sink g.E.Sink c.args.kind c.args.style _ (map (λ name. name.items) (take k c.args.names.now)) (map (λ name. name.items) (drop (k + 1) c.args.names.now)) so_far.outcomes name outcome _ _ _ _ _ stop
+    rw is (stops-printing (Comes g.S.Store g.S.File.Source c.args.job.now.store.now c.args.job.now.options.kind) g.W.Sink g.E.Sink c.args.job.now.options.kind (style_of c.args.job.now.options) _ (map (λ name. name.items) (take k c.args.names.now)) (map (λ name. name.items) (drop (k + 1) c.args.names.now)) so_far.outcomes name outcome _ _ _ _ _ stop
     (map-split (λ name. name.items) c.args.names.now k c.name-item.result c.loop-name-test.true c.name-item.is)
     so_far.each (rw c.deref.ensures.value at c.outcome_of-outcome.ensures) so_far.prints so_far.tells
-    (subst (λ bytes. PrintsLine {T = Unit {0}} g.W.Sink (written_line c.args.kind c.args.style bytes outcome) c.loop-name.out c.print_outcome.new.out (Err stop)) c.deref-in-loop-name.ensures.value c.in_err-print_outcome.ensures.prints))
+    (subst (λ bytes. PrintsLine {T = Unit {0}} g.W.Sink (written_line c.args.job.now.options.kind (style_of c.args.job.now.options) bytes outcome) c.loop-name.out c.print_outcome.new.out (Err stop)) c.deref-in-loop-name.ensures.value c.in_err-print_outcome.ensures.prints))

@@ -1,6 +1,3 @@
-use Rattle.std.proofs.Common.{sym, subst}
-use Rattle.xxhsum_program.specs.Progress.{line_text}
-use Rattle.xxhsum_program.specs.Told.{TellsOn}
 use Rattle.xxhsum_program.proofs.ProgressFacts.{line-between}
 use Rattle.xxhsum_program.proofs.ToldFacts.{tells-more}
 use Rattle.xxhsum_program.proofs.progress.show_between.Goals as goal
@@ -8,5 +5,4 @@ use Rattle.xxhsum_program.proofs.progress.show_between.Goals as goal
 pub returns-then-before-count : goal.returns-then-before-count
 returns-then-before-count g c =
     let line = tells-more g.E.Sink _ _ c.args.end.now _ c.tell.new.err (tells-more g.E.Sink _ _ c.args.end.now c.show_rate.new.end c.show_left.new.end c.show_rate.ensures c.show_left.ensures) c.tell.ensures in
-    subst (λ bytes. TellsOn g.E.Sink bytes c.args.end.now c.tell.new.err) (sym (line-between c.args.size c.args.millis c.args.before c.args.count c.if-before-count.true))
-    (subst (λ rate. TellsOn g.E.Sink (line_text c.args.size c.args.count rate) c.args.end.now c.tell.new.err) c.rate_of-rate.ensures line)
+    rw (line-between c.args.size c.args.millis c.args.before c.args.count c.if-before-count.true) (rw c.rate_of-rate.ensures at line)

@@ -1,11 +1,8 @@
 use Rattle.std.proofs.Common.{ℕ, Bool, List, [], ◌∷◌, codes, decimal, nat_eq}
-use Rattle.std.specs.List.{concat}
+use Rattle.xxhsum_program.specs.Prelude.{Found, Report, concat, one_line}
 use Rattle.xxhsum_files.specs.Refusal.{refusal_text}
-use Rattle.xxhsum_line.specs.Escapes.{one_line}
-use Rattle.xxhsum_program.specs.declared.entry.Found.{Found}
 use Rattle.xxhsum_program.specs.declared.entry.Found.TheVariants.{Same, Different, Unread}
 use Rattle.xxhsum_program.specs.declared.outcome.Outcome.TheVariants as Came
-use Rattle.xxhsum_program.specs.declared.check.Report.{Report}
 use Rattle.xxhsum_program.specs.Findings.{Ignored, Improper, Proper, TooLong}
 use Rattle.xxhsum_program.specs.Lines.{step_text}
 use Rattle.xxhsum_program.specs.ListEnd.{ListEnd, Whole, TooMany, Endless, FailedRead}

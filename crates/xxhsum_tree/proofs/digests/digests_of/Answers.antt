@@ -4,9 +4,10 @@ use Rattle.xxhsum_audit.specs.Audit.{missing_in, missing_one, new_in, new_one, s
 use Rattle.xxhsum_audit.specs.Item.{items_of, texts_of}
 use Rattle.xxhsum_audit.specs.Side.{by_path, lines_of, names_of, path_side}
 use Rattle.xxhsum_program.specs.Told.{TellsOn}
+use Rattle.xxhsum_program.proofs.EachFacts.{list_all-push}
 use Rattle.xxhsum_program.proofs.ToldFacts.{tells-more, tells-nothing}
 use Rattle.xxhsum_tree.specs.Rows.{AreRows, first_of, is_read, told_of}
-use Rattle.xxhsum_tree.proofs.RowFacts.{fails-rows, first-push, flat-push, read-more, rows-more}
+use Rattle.xxhsum_tree.proofs.RowFacts.{fails-rows, first-push, flat-push, rows-more}
 use Rattle.xxhsum_tree.proofs.digests.digests_of.Goals as goal
 
 pub loop-side-init : goal.loop-side-init
@@ -45,7 +46,7 @@ loop-side-preserved g c =
         settled = grows.0 ∙ ap (λ f. f ++ settled_in (first_of kind row)) so_far.holds.settled ∙ sym (first-push settled_one kind rows row);
         gone = grows.1 ∙ ap (λ f. f ++ missing_in (first_of kind row)) so_far.holds.gone ∙ sym (first-push missing_one kind rows row);
         come = grows.2 ∙ ap (λ f. f ++ new_in (first_of kind row)) so_far.holds.come ∙ sym (first-push new_one kind rows row);
-        all = grows.3 ∙ ap (λ all. all && is_read row) so_far.holds.all ∙ sym (read-more rows row);
+        all = grows.3 ∙ ap (λ all. all && is_read row) so_far.holds.all ∙ sym (list_all-push is_read rows row);
       };
       tells = subst (λ text. TellsOn g.E.Sink text c.args.err.now c.add_side.new.err) (sym (flat-push told_of rows row))
           (tells-more g.E.Sink _ _ _ _ _ so_far.tells added.3);

@@ -1,9 +1,8 @@
 use Rattle.std.proofs.Common.{◌≡◌, ℕ, true, false, List, Option, Some, None, codes, drop, refl, Ok, map, sym, ap, ◌∙◌}
-use Rattle.xxh_io.specs.declared.kind.Kind.{Kind}
+use Rattle.xxhsum_tree.specs.Prelude.{Kind, Options}
 use Rattle.xxhsum_words.specs.Name.{kind_of_program}
 use Rattle.xxhsum_words.specs.Options.{asked_of}
 use Rattle.xxhsum_words.specs.declared.options.Asked.{Asked}
-use Rattle.xxhsum_words.specs.declared.options.Options.{Options}
 use Rattle.xxhsum_program.specs.declared.process.Terminals.{Terminals}
 use Rattle.xxhsum_program.specs.Task.{Reads, Tells, answer_text, is_well, run_asked, shows_progress, task_from, task_of, waits_for_terminal, wrong_text}
 use Rattle.xxhsum_tree.specs.Run.{PerformsWatched}
@@ -36,8 +35,8 @@ returns-in_default g c =
     let program = c.program_of-program.result.now in
     let words = map (λ word. word.items) c.arguments_behind_name-words.result.now in
     let asked = c.asked_by-asked.result in
-    let task = task-is c.args.terminals program arguments words c.default_kind.result asked c.run_asked.result c.arguments_behind_name-words.ensures c.default_kind.ensures c.asked_by-asked.ensures c.run_asked.ensures in
-    (program, c.program_of-program.ensures, rw (task ∙ task-told c.args.terminals program words asked c.run_asked.result c.in_default.is) (ap Ok c.tell_answer.ensures.well, refl, c.tell_answer.ensures.tells))
+    let task = task-is c.args.console.terminals program arguments words c.default_kind.result asked c.run_asked.result c.arguments_behind_name-words.ensures c.default_kind.ensures c.asked_by-asked.ensures c.run_asked.ensures in
+    (program, c.program_of-program.ensures, rw (task ∙ task-told c.args.console.terminals program words asked c.run_asked.result c.in_default.is) (ap Ok c.tell_answer.ensures.well, refl, c.tell_answer.ensures.tells))
 
 pub returns-then-waits_for_terminal : goal.returns-then-waits_for_terminal
 returns-then-waits_for_terminal g c =
@@ -45,10 +44,10 @@ returns-then-waits_for_terminal g c =
     let program = c.program_of-program.result.now in
     let words = map (λ word. word.items) c.arguments_behind_name-words.result.now in
     let asked = c.asked_by-asked.result in
-    let task = task-is c.args.terminals program arguments words c.default_kind.result asked c.run_asked.result c.arguments_behind_name-words.ensures c.default_kind.ensures c.asked_by-asked.ensures c.run_asked.ensures in
+    let task = task-is c.args.console.terminals program arguments words c.default_kind.result asked c.run_asked.result c.arguments_behind_name-words.ensures c.default_kind.ensures c.asked_by-asked.ensures c.run_asked.ensures in
     let names = map (λ name. name.items) c.words_behind-names.result.now in
     let run = c.in-Some.found in
-    (program, c.program_of-program.ensures, rw (task ∙ task-waits c.args.terminals program words names asked c.run_asked.result run.0 run.1 c.in-Some.is c.words_behind-names.ensures (sym c.waits_for_terminal.ensures ∙ c.if-waits_for_terminal.true)) (refl, refl, c.tell_wrong.ensures))
+    (program, c.program_of-program.ensures, rw (task ∙ task-waits c.args.console.terminals program words names asked c.run_asked.result run.0 run.1 c.in-Some.is c.words_behind-names.ensures (sym c.waits_for_terminal.ensures ∙ c.if-waits_for_terminal.true)) (refl, refl, c.tell_wrong.ensures))
 
 pub returns : goal.returns
 unfolding PerformsWatched
@@ -57,10 +56,10 @@ returns g c =
     let program = c.program_of-program.result.now in
     let words = map (λ word. word.items) c.arguments_behind_name-words.result.now in
     let asked = c.asked_by-asked.result in
-    let task = task-is c.args.terminals program arguments words c.default_kind.result asked c.run_asked.result c.arguments_behind_name-words.ensures c.default_kind.ensures c.asked_by-asked.ensures c.run_asked.ensures in
+    let task = task-is c.args.console.terminals program arguments words c.default_kind.result asked c.run_asked.result c.arguments_behind_name-words.ensures c.default_kind.ensures c.asked_by-asked.ensures c.run_asked.ensures in
     let names = map (λ name. name.items) c.words_behind-names.result.now in
     let run = c.in-Some.found in
     let on = c.new-files.ensures.shown ∙ c.shows_progress.ensures in
-    let watched : PerformsWatched _ g.S.Store g.S.Folders g.S.File.Source g.R.Source g.W.Sink g.E.Sink c.args.store.now c.args.input c.args.out.now c.perform_words.new.out c.args.err.now c.perform_words.new.err c.perform_words.result run.0 names (shows_progress c.args.terminals run.0) =
+    let watched : PerformsWatched _ g.S.Store g.S.Folders g.S.File.Source g.R.Source g.W.Sink g.E.Sink c.args.store.now c.args.console.input c.args.out.now c.perform_words.new.out c.args.err.now c.perform_words.new.err c.perform_words.result run.0 names (shows_progress c.args.console.terminals run.0) =
     (c.new-files.result, c.watch-input.result, c.new-files.ensures.files, on, c.watch-input.ensures.source, c.watch-input.ensures.shown ∙ on, c.perform_words.ensures) in
-    (program, c.program_of-program.ensures, rw (task ∙ task-reads c.args.terminals program words names asked c.run_asked.result run.0 run.1 c.in-Some.is c.words_behind-names.ensures (sym c.waits_for_terminal.ensures ∙ c.if-waits_for_terminal.false)) watched)
+    (program, c.program_of-program.ensures, rw (task ∙ task-reads c.args.console.terminals program words names asked c.run_asked.result run.0 run.1 c.in-Some.is c.words_behind-names.ensures (sym c.waits_for_terminal.ensures ∙ c.if-waits_for_terminal.false)) watched)

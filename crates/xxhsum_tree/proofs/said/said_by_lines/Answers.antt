@@ -4,7 +4,6 @@ use Rattle.xxhsum_audit.specs.List.{TakesLine, said_by}
 use Rattle.xxhsum_program.proofs.CheckFacts.{breaks-endless, breaks-failed, ends-well, some-read, stands-line, stands-new}
 use Rattle.xxhsum_program.specs.LinesView.{IsGiven}
 use Rattle.xxhsum_program.specs.Said.{too_long_text}
-use Rattle.xxhsum_program.specs.Told.{TellsOn}
 use Rattle.xxhsum_tree.proofs.SaidFacts.{have-said-more}
 use Rattle.xxhsum_tree.specs.Said.{improper_text}
 use Rattle.xxhsum_tree.specs.Texts.{unread_text}
@@ -43,40 +42,30 @@ returns-in-End g c =
 pub returns-in-Failed : goal.returns-in-Failed
 returns-in-Failed g c =
     let so_far = c.loop-number.invariant in
-    let list = c.args.list.now in
     let ends = breaks-failed g.R.Source c.args.source c.loop-number.lines c.next.new.self so_far.read so_far.stands c.in-Failed.ensures.next c.in-Failed.ensures.ended in
-    (unread_text list, (so_far.read, map said_by c.loop-number.said.items, so_far.said, inl (ends, refl)), subst (λ e. TellsOn g.E.Sink (unread_text list) e c.tell_unread.new.err) so_far.silent c.tell_unread.ensures)
+    (unread_text c.args.list.now, (so_far.read, map said_by c.loop-number.said.items, so_far.said, inl (ends, refl)), rw so_far.silent at c.tell_unread.ensures)
 
 pub returns-in-Endless : goal.returns-in-Endless
 returns-in-Endless g c =
     let so_far = c.loop-number.invariant in
-    let list = c.args.list.now in
-    let text = too_long_text list (length so_far.read + 1) in
     let ends = breaks-endless g.R.Source c.args.source c.loop-number.lines c.next.new.self so_far.read so_far.stands c.in-Endless.ensures.next c.in-Endless.ensures.ended in
-    let told = subst (λ number. TellsOn g.E.Sink (too_long_text list number) c.loop-number.err c.tell_of_line.new.err) so_far.count c.tell_of_line.ensures in
-    (text, (so_far.read, map said_by c.loop-number.said.items, so_far.said, inr (inl (ends, refl))), subst (λ e. TellsOn g.E.Sink text e c.tell_of_line.new.err) so_far.silent told)
+    (too_long_text c.args.list.now (length so_far.read + 1), (so_far.read, map said_by c.loop-number.said.items, so_far.said, inr (inl (ends, refl))), rw (so_far.count, so_far.silent) at c.tell_of_line.ensures)
 
 pub returns-in_default : goal.returns-in_default
 returns-in_default g c =
     let so_far = c.loop-number.invariant in
-    let list = c.args.list.now in
-    let text = too_long_text list (length so_far.read + 1) in
     let (line, held, stands) = stands-line g.R.Source c.args.source c.loop-number.lines c.next.new.self so_far.read so_far.stands c.in-Line.ensures.next c.in-Line.ensures.ended in
     let long = subst (IsGiven line) c.in_default.is (c.line.ensures line held) in
     let some = some-read g.R.Source c.args.source c.next.new.self (so_far.read ++ line ∷ []) stands in
-    let told = subst (λ number. TellsOn g.E.Sink (too_long_text list number) c.loop-number.err c.tell_of_line-in_default.new.err) so_far.count c.tell_of_line-in_default.ensures in
-    (text, (so_far.read, map said_by c.loop-number.said.items, so_far.said, inr (inr (line, some, inl (long, refl)))), subst (λ e. TellsOn g.E.Sink text e c.tell_of_line-in_default.new.err) so_far.silent told)
+    (too_long_text c.args.list.now (length so_far.read + 1), (so_far.read, map said_by c.loop-number.said.items, so_far.said, inr (inr (line, some, inl (long, refl)))), rw (so_far.count, so_far.silent) at c.tell_of_line-in_default.ensures)
 
 pub returns-then-not-branch : goal.returns-then-not-branch
 returns-then-not-branch g c =
     let so_far = c.loop-number.invariant in
-    let list = c.args.list.now in
     let little = c.args.is_little in
-    let text = improper_text list (length so_far.read + 1) in
     let (line, held, stands) = stands-line g.R.Source c.args.source c.loop-number.lines c.next.new.self so_far.read so_far.stands c.in-Line.ensures.next c.in-Line.ensures.ended in
     let given = subst (IsGiven line) c.in-Some.is (c.line.ensures line held) in
     let takes = subst (λ taken. TakesLine little c.in-Some.line.now (map said_by c.loop-number.said.items) (map said_by c.take_line.new.entries.items) taken) c.if-not-branch.true c.in_ok-take_line.ensures in
     let nothing = subst (λ bytes. TakesLine little bytes (map said_by c.loop-number.said.items) (map said_by c.take_line.new.entries.items) false) given.1 takes in
     let some = some-read g.R.Source c.args.source c.next.new.self (so_far.read ++ line ∷ []) stands in
-    let told = subst (λ number. TellsOn g.E.Sink (improper_text list number) c.loop-number.err c.tell_of_line-then-not-branch.new.err) so_far.count c.tell_of_line-then-not-branch.ensures in
-    (text, (so_far.read, map said_by c.loop-number.said.items, so_far.said, inr (inr (line, some, inr (given.0, nothing, refl)))), subst (λ e. TellsOn g.E.Sink text e c.tell_of_line-then-not-branch.new.err) so_far.silent told)
+    (improper_text c.args.list.now (length so_far.read + 1), (so_far.read, map said_by c.loop-number.said.items, so_far.said, inr (inr (line, some, inr (given.0, nothing, refl)))), rw (so_far.count, so_far.silent) at c.tell_of_line-then-not-branch.ensures)

@@ -1,23 +1,20 @@
-use Rattle.std.proofs.Common.{true, ◌&&◌, [], ◌∷◌, ◌++◌, ◌≡◌, append-nil, ap, map, refl, subst, sym, ◌∙◌}
+use Rattle.std.proofs.Common.{true, ◌&&◌, [], ◌∷◌, ◌++◌, ◌≡◌, append-nil, ap, map, refl, subst, sym, ◌∙◌, option_to_list, reverse, MatchResult}
 use Rattle.std.proofs.lemmas.List.{map-append}
-use Rattle.std.specs.Option.{option_to_list}
-use Rattle.std.specs.Prelude.{reverse}
-use Rattle.std.specs.Result.{MatchResult}
+use Rattle.xxhsum_program.proofs.EachFacts.{list_all-push}
 use Rattle.xxhsum_program.proofs.HashFacts.{is-err}
 use Rattle.xxhsum_program.proofs.ToldFacts.{tells-more, tells-nothing}
-use Rattle.xxhsum_program.specs.Told.{TellsOn}
-use Rattle.xxhsum_program.specs.declared.stop.Stop.TheVariants.{OutOfMemory}
+use Rattle.xxhsum_tree.specs.Prelude.{OutOfMemory, TellsOn}
 use Rattle.xxhsum_tree.proofs.RowFacts.{flat-push}
-use Rattle.xxhsum_tree.proofs.VisitFacts.{open-more, reverse-push, visits-more}
-use Rattle.xxhsum_tree.specs.Walk.{Visits, WalksAll, WalksSome, below, closed_in, closed_of, file_of, given, is_open, place_of, waiting_in}
+use Rattle.xxhsum_tree.proofs.VisitFacts.{reverse-push, visits-more}
+use Rattle.xxhsum_tree.specs.Walk.{Visits, WalksAll, WalksSome, below, closed_in, closed_of, file_of, given, is_open, place_of, tree_of, waiting_in}
 use Rattle.xxhsum_tree.proofs.walk.files_below.Goals as goal
 
 pub returns-in_err-put_names : goal.returns-in_err-put_names
 returns-in_err-put_names g c =
     let names = map (λ name. name.items) c.args.names.now in
     let is = is-err c.from_residual.result OutOfMemory c.from_residual.ensures.1 in
-    subst (λ r. MatchResult r (λ walked. WalksAll g.S.Store g.S.Folders g.E.Sink c.args.store.now names (map (λ file. file.items) walked.files.items) walked.are_all c.args.err.now c.args.err.now)
-    (WalksSome g.S.Store g.S.Folders g.E.Sink c.args.store.now names c.args.err.now c.args.err.now))
+    subst (λ r. MatchResult r (λ walked. WalksAll (tree_of g.S.Store g.S.Folders c.args.store.now) g.E.Sink names (map (λ file. file.items) walked.files.items) walked.are_all c.args.err.now c.args.err.now)
+    (WalksSome (tree_of g.S.Store g.S.Folders c.args.store.now) g.E.Sink names c.args.err.now c.args.err.now))
     (sym is) ([], map given names, refl, refl, tells-nothing g.E.Sink c.args.err.now)
 
 pub loop-init : goal.loop-init
@@ -35,8 +32,8 @@ returns-in_err-see g c =
     let names = map (λ name. name.items) c.args.names.now in
     let stop = c.in_err-see.field-0.0 in
     let is = is-err c.from_residual-in_err-see.result stop c.from_residual-in_err-see.ensures.1 in
-    subst (λ r. MatchResult r (λ walked. WalksAll g.S.Store g.S.Folders g.E.Sink c.args.store.now names (map (λ file. file.items) walked.files.items) walked.are_all c.args.err.now c.see.new.err)
-    (WalksSome g.S.Store g.S.Folders g.E.Sink c.args.store.now names c.args.err.now c.see.new.err))
+    subst (λ r. MatchResult r (λ walked. WalksAll (tree_of g.S.Store g.S.Folders c.args.store.now) g.E.Sink names (map (λ file. file.items) walked.files.items) walked.are_all c.args.err.now c.see.new.err)
+    (WalksSome (tree_of g.S.Store g.S.Folders c.args.store.now) g.E.Sink names c.args.err.now c.see.new.err))
     (sym is) (so_far.trace, waiting_in c.loop.waiting.items, c.in_err-see.ensures.0, so_far.visits, subst (λ e. TellsOn g.E.Sink (closed_in so_far.trace) c.args.err.now e) (sym c.in_err-see.ensures.1) so_far.tells)
 
 pub loop-preserved : goal.loop-preserved
@@ -49,12 +46,12 @@ loop-preserved g c =
     let seen = sees.0 in
     let popped : c.loop.waiting.items ≡ left ++ place ∷ [] = c.pop.ensures.items ∙ ap (λ o. left ++ option_to_list o) c.in-Some.is in
     let first : waiting_in c.loop.waiting.items ≡ place_of place ∷ waiting_in left = ap waiting_in popped ∙ ap reverse (map-append place_of left (place ∷ [])) ∙ reverse-push (map place_of left) (place_of place) in
-    let visits = visits-more g.S.Store g.S.Folders c.args.store.now (map given names) so_far.trace (place_of place) (waiting_in left) seen
-    (subst (λ w. Visits g.S.Store g.S.Folders c.args.store.now (map given names) so_far.trace w) first so_far.visits) sees.1 in
+    let visits = visits-more (tree_of g.S.Store g.S.Folders c.args.store.now) (map given names) so_far.trace (place_of place) (waiting_in left) seen
+    (subst (λ w. Visits (tree_of g.S.Store g.S.Folders c.args.store.now) (map given names) so_far.trace w) first so_far.visits) sees.1 in
     record {
       trace = so_far.trace ++ seen ∷ [];
-      visits = subst (λ w. Visits g.S.Store g.S.Folders c.args.store.now (map given names) (so_far.trace ++ seen ∷ []) w) (sym sees.2) visits;
+      visits = subst (λ w. Visits (tree_of g.S.Store g.S.Folders c.args.store.now) (map given names) (so_far.trace ++ seen ∷ []) w) (sym sees.2) visits;
       files = sees.3 ∙ ap (λ files. files ++ file_of seen) so_far.files ∙ sym (flat-push file_of so_far.trace seen);
-      all = sees.4 ∙ ap (λ all. all && is_open seen) so_far.all ∙ sym (open-more so_far.trace seen);
+      all = sees.4 ∙ ap (λ all. all && is_open seen) so_far.all ∙ sym (list_all-push is_open so_far.trace seen);
       tells = subst (λ text. TellsOn g.E.Sink text c.args.err.now c.see.new.err) (sym (flat-push closed_of so_far.trace seen)) (tells-more g.E.Sink _ _ _ _ _ so_far.tells sees.5);
     }

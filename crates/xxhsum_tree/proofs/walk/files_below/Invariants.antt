@@ -1,13 +1,13 @@
 use Rattle.std.proofs.Common.{◌≡◌, List, map}
 use Rattle.xxhsum_program.specs.Told.{TellsOn}
-use Rattle.xxhsum_tree.specs.Walk.{Seen, Visits, are_open, closed_in, files_in, given, waiting_in}
+use Rattle.xxhsum_tree.specs.Walk.{Seen, Visits, are_open, closed_in, files_in, given, tree_of, waiting_in}
 use Rattle.xxhsum_tree.proofs.walk.files_below.Given as goal
 
 -- what was seen so far, and what comes of it
 abbrev pub invariant-loop : goal.invariant-loop
 invariant-loop g l = record {
   trace : List Seen;
-  visits : Visits g.S.Store g.S.Folders l.fn.store (map given (map (λ name. name.items) l.fn.names)) trace (waiting_in l.waiting.items);
+  visits : Visits (tree_of g.S.Store g.S.Folders l.fn.store) (map given (map (λ name. name.items) l.fn.names)) trace (waiting_in l.waiting.items);
   files : map (λ file. file.items) l.walked.files.items ≡ files_in trace;
   all : l.walked.are_all ≡ are_open trace;
   tells : TellsOn g.E.Sink (closed_in trace) l.initial.err l.err;

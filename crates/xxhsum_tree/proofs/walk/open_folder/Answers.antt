@@ -1,10 +1,9 @@
 use Rattle.std.proofs.Common.{map, false, ◌++◌, append-nil, ap, refl, subst, sym, ◌∙◌}
 use Rattle.xxhsum_files.specs.Folders.{ClosesFor}
-use Rattle.xxhsum_program.proofs.EachFacts.{and-true}
+use Rattle.xxhsum_program.proofs.EachFacts.{and-false, and-true}
 use Rattle.xxhsum_program.proofs.ToldFacts.{tells-nothing}
 use Rattle.xxhsum_program.specs.Told.{TellsOn}
 use Rattle.xxhsum_tree.specs.Walk.{Closed, Opened, below, closed_text, waiting_in, with_slash}
-use Rattle.xxhsum_tree.proofs.VisitFacts.{none-clear}
 use Rattle.xxhsum_tree.proofs.walk.open_folder.Goals as goal
 
 pub returns-in-Ok : goal.returns-in-Ok
@@ -25,4 +24,4 @@ returns g c =
     let closes = subst (λ folder. ClosesFor g.S.Folders.closes c.args.store.now folder c.in-Err-Refused.field-0) (c.deref.ensures.value ∙ c.in_ok-folder.ensures) c.in-Err-Refused.ensures in
     let why = subst (λ error. ClosesFor g.S.Folders.closes c.args.store.now (with_slash name) error) c.in-Err-Refused.field-0-is closes in
     let told = subst (λ refusal. TellsOn g.E.Sink (closed_text name refusal) c.args.err.now c.tell_closed.new.err) c.in-Err-Refused.refusal-is c.tell_closed.ensures in
-    (Closed name c.in-Err-Refused.refusal, (refl, why), refl, sym (append-nil _), none-clear _, told)
+    (Closed name c.in-Err-Refused.refusal, (refl, why), refl, sym (append-nil _), and-false _, told)

@@ -1,5 +1,4 @@
-use Rattle.std.proofs.Common.{◌≡◌, ℕ, zero, suc, List, [], ◌∷◌, drop, refl, ◌∙◌, ap, sym}
-use Rattle.std.specs.declared.result.Result.TheVariants.{Ok}
+use Rattle.std.proofs.Common.{◌≡◌, ℕ, zero, suc, List, [], ◌∷◌, drop, refl, ◌∙◌, ap, sym, Ok}
 use Rattle.xxhsum_words.specs.declared.letters.Letter.{Letter}
 use Rattle.xxhsum_words.specs.declared.options.Options.{Options}
 use Rattle.xxhsum_words.specs.Letters.{after_letter, letter_of, letters_step}

@@ -1,7 +1,5 @@
-use Rattle.std.proofs.Common.{◌≡◌, ℕ, ◌+◌, ◌-◌, ◌<◌, ◌≤◌, min, List, [], ◌++◌, length, take, drop, slice_range, refl, sym, ap, ◌∙◌, arith, length-take, length-drop, length-append, drop-drop, take-append-drop, subst}
+use Rattle.std.proofs.Common.{◌≡◌, ℕ, ◌+◌, ◌-◌, ◌<◌, ◌≤◌, min, List, [], ◌++◌, length, take, drop, slice_range, refl, sym, ap, ◌∙◌, arith, length-take, length-drop, length-append, drop-drop, take-append-drop, subst, Option, None, Some}
 use Rattle.std.proofs.lemmas.List.{drop-take, take_at, length-take-le}
-use Rattle.std.specs.declared.option.Option.{Option}
-use Rattle.std.specs.declared.option.Option.TheVariants.{None, Some}
 use Rattle.std.specs.Io.KnownBytes.{Keeps, Consumes, IsAtEnd, prepend_known, ReadConsumes}
 use Rattle.std.proofs.KnownBytes.{prepend_known-read}
 use Rattle.xxh_io.proofs.buffered.BufferedRead.read.Goals as goal

@@ -1,6 +1,5 @@
-use Rattle.std.proofs.Common.{◌≡◌, ℕ, inl, ◌<◌, List, [], ◌∷◌, ◌++◌, length, Ok, Err, IfErr, inr, ◌≤◌, ◌∙◌, take, sym, ap, subst, arith, length-take, length-append, rules}
+use Rattle.std.proofs.Common.{◌≡◌, ℕ, inl, ◌<◌, List, [], ◌∷◌, ◌++◌, length, Ok, Err, IfErr, inr, ◌≤◌, ◌∙◌, take, sym, ap, subst, arith, length-take, length-append, rules, Result}
 use Rattle.std.specs.List.{concat}
-use Rattle.std.specs.declared.result.Result.{Result}
 use Rattle.xxh_io.specs.declared.error.DigestError.{DigestError}
 use Rattle.xxh_io.specs.declared.error.DigestError.TheVariants.{ReadFailed, WriteFailed, TooLong}
 use Rattle.xxh_io.specs.Pieces.{Pieces}

@@ -1,5 +1,4 @@
-use Rattle.std.proofs.Common.{◌≡◌, Ok, Err, map, string_bytes, refl, sym, ◌∙◌, subst}
-use Rattle.std.specs.declared.result.Result.{Result}
+use Rattle.std.proofs.Common.{◌≡◌, Ok, Err, map, string_bytes, refl, sym, ◌∙◌, subst, Result}
 use Rattle.xxh_io.specs.declared.fault.Fault.{Fault}
 use Rattle.xxh_io.specs.declared.fault.Fault.TheVariants.{OutOfMemory}
 use Rattle.xxh_io.specs.Process.{AreWords, EndsAs}

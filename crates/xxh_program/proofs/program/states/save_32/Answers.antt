@@ -1,5 +1,4 @@
-use Rattle.std.proofs.Common.{◌≡◌, [], string_bytes, ap, ◌∙◌}
-use Rattle.std.specs.declared.result.Result.TheVariants.{Ok}
+use Rattle.std.proofs.Common.{◌≡◌, [], string_bytes, ap, ◌∙◌, Ok}
 use Rattle.twox_hash.specs.Saved32.{saved_text}
 use Rattle.xxh_program.proofs.program.states.save_32.Goals as goal
 

@@ -27,11 +27,11 @@ returns-then-is_silent-clause-checks g c = λ text given.
     let is = subst (IsGiven text) c.in-Some.is given in
     let means = subst (Means c.args.self.now.options.is_little_endian text) c.in-Entry.is (rw is.1 at c.in_ok-entry.ensures.meaning) in
     let entry = c.in-Entry.entry in
-    (Proper entry.name.items c.compare-found.result, (is.0, entry.kind, entry.value, means, c.compare-found.ensures), c.count.ensures, ([], refl, sym (silent-prints c.args.self.now.options c.args.self.now.name.now c.args.number entry.name.items c.compare-found.result (sym c.is_silent.ensures ∙ c.if-is_silent.true))), tells-nothing g.E.Sink c.args.err.now)
+    (Proper entry.name.items c.compare-found.result, (is.0, entry.kind, entry.value, means, c.compare-found.ensures), c.count.ensures, ([], refl, sym (silent-prints c.args.self.now.options c.args.self.now.name.now c.args.line.number entry.name.items c.compare-found.result (sym c.is_silent.ensures ∙ c.if-is_silent.true))), tells-nothing g.E.Sink c.args.err.now)
 
 pub returns-clause-checks : goal.returns-clause-checks
 returns-clause-checks g c = λ text given.
     let is = subst (IsGiven text) c.in-Some.is given in
     let means = subst (Means c.args.self.now.options.is_little_endian text) c.in-Entry.is (rw is.1 at c.in_ok-entry.ensures.meaning) in
     let entry = c.in-Entry.entry in
-    line-said (IsFinding g.S.Store g.S.File.Source c.args.self.now.store.now c.args.self.now.options.is_little_endian text) g.W.Sink g.E.Sink c.args.self.now.options c.args.self.now.name.now c.args.number entry.name.items c.deref.result.now c.compare-found.result c.args.report.now c.count.new.self c.args.out.now c.say_found.new.out c.args.err.now c.say_found.result (sym c.is_silent.ensures ∙ c.if-is_silent.false) c.deref.ensures.value (is.0, entry.kind, entry.value, means, c.compare-found.ensures) c.count.ensures c.say_found.ensures.prints
+    line-said (IsFinding g.S.Store g.S.File.Source c.args.self.now.store.now c.args.self.now.options.is_little_endian text) g.W.Sink g.E.Sink c.args.self.now.options c.args.self.now.name.now c.args.line.number entry.name.items c.deref.result.now c.compare-found.result c.args.report.now c.count.new.self c.args.out.now c.say_found.new.out c.args.err.now c.say_found.result (sym c.is_silent.ensures ∙ c.if-is_silent.false) c.deref.ensures.value (is.0, entry.kind, entry.value, means, c.compare-found.ensures) c.count.ensures c.say_found.ensures.prints

@@ -1,9 +1,7 @@
 use Rattle.std.proofs.Common.{◌≡◌, ◌+◌, List, ℕ, length, false}
-use Rattle.xxh_io.specs.Digest.{Took}
-use Rattle.xxhsum_program.specs.EachHas.{EachHas}
+use Rattle.xxhsum_program.specs.Prelude.{EachHas, TellsOn, Took}
 use Rattle.xxhsum_program.specs.Findings.{Finding, IsFinding, report_of}
 use Rattle.xxhsum_program.specs.Said.{numbered, printed_finding, told_finding}
-use Rattle.xxhsum_program.specs.Told.{TellsOn}
 use Rattle.xxhsum_program.proofs.CheckFacts.{Stands}
 use Rattle.xxhsum_program.proofs.check.ListCheck.check_lines.Given as goal
 

@@ -1,5 +1,3 @@
-use Rattle.std.proofs.Common.{sym, subst}
-use Rattle.xxhsum_program.specs.Told.{TellsOn}
 use Rattle.xxhsum_program.proofs.HashFacts.{is-err}
 use Rattle.xxhsum_program.proofs.LineEndFacts.{line-join, line-more, none-is, summary-is}
 use Rattle.xxhsum_program.proofs.check.ListCheck.say_counts.Goals as goal
@@ -27,4 +25,4 @@ returns-clause-prints g c =
 
 pub returns-then-report-eq0-clause-tells : goal.returns-then-report-eq0-clause-tells
 returns-then-report-eq0-clause-tells g c =
-    subst (λ bytes. TellsOn g.E.Sink bytes c.args.err.now c.tell_line.new.err) (sym (none-is c.args.self.now.name.now c.args.report.now c.if-report-eq0.true)) c.tell_line.ensures
+    rw (none-is c.args.self.now.name.now c.args.report.now c.if-report-eq0.true) c.tell_line.ensures

@@ -1,12 +1,11 @@
-use Rattle.std.proofs.Common.{◌≡◌, ◌<◌, ◌-◌, ◌++◌, ◌∙◌, [], List, ℕ, IfErr, Err, refl, sym, ap, subst, append-nil, append_assoc, take-append-drop, arith, rules}
+use Rattle.std.proofs.Common.{◌≡◌, ◌<◌, ◌-◌, ◌++◌, ◌∙◌, [], List, ℕ, IfErr, Err, refl, sym, ap, subst, append-nil, append_assoc, take-append-drop, arith, rules, Result}
 use Rattle.std.proofs.lemmas.Grind.{common_steps}
-use Rattle.std.specs.declared.result.Result.{Result}
 use Rattle.xxh_io.specs.declared.error.DigestError.{DigestError}
 use Rattle.xxh_io.specs.declared.error.DigestError.TheVariants.{WriteFailed}
 use Rattle.xxh_program.specs.Blocks.{added_lines}
 use Rattle.xxh_program.specs.BlockState.{HasTaken}
 use Rattle.xxh_io.specs.Digest.{Writes, Refused}
-use Rattle.xxh_io.specs.LineBuffer.{Gathers, waiting_bytes}
+use Rattle.xxh_io.specs.Waiting.{Gathers, waiting_bytes}
 use Rattle.xxh_program.proofs.BlockFacts.{added-nil, added-append}
 use Rattle.xxh_io.proofs.WriteFacts.{Gathers-push, Gathers-flush, Gathers-refused, Writes-refused, write-failed}
 use Rattle.xxh_program.proofs.program.blocks.CurrentBlock.take.Goals as goal
@@ -18,7 +17,7 @@ loop-rest-init g c = record {
   done = [];
   cut = refl;
   follows = λ m before. subst (HasTaken c.args.self.now) (sym (append-nil m)) before;
-  wrote = λ m before. ([], ([], refl, refl), c.new-lines.ensures ∙ sym (added-nil c.args.self.now.size m));
+  wrote = λ m before. ([], ([], refl, refl), c.new-lines.ensures.bytes ∙ sym (added-nil c.args.self.now.size m));
 }
 
 pub returns-then-rest-room-clause-follows : goal.returns-then-rest-room-clause-follows

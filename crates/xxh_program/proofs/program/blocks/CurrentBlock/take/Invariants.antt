@@ -1,7 +1,7 @@
 use Rattle.std.proofs.Common.{◌≡◌, ◌++◌, ℕ, List, length, false}
 use Rattle.xxh_program.specs.Blocks.{added_lines}
 use Rattle.xxh_program.specs.BlockState.{HasTaken}
-use Rattle.xxh_io.specs.LineBuffer.{Gathers, waiting_bytes}
+use Rattle.xxh_io.specs.Waiting.{Gathers, waiting_bytes}
 use Rattle.xxh_program.proofs.program.blocks.CurrentBlock.take.Given as goal
 
 -- the bytes before the rest were taken, the lines of the blocks that they end were written or wait, and no

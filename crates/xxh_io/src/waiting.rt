@@ -1,11 +1,11 @@
 //! A buffer of bytes that wait to be written.
 
 ghost use Rattle.std.specs.Prelude.{◌≡◌, ◌↔◌, ◌+◌, ◌≤◌, ◌++◌, [], true, false, length, Err, IfErr, IfOk, OnErr};
-ghost use Rattle.xxh_io.specs.Digest.{Writes};
+ghost use Rattle.xxh_io.specs.Digest.{Refused, Writes};
 
-use xxh_io::ends::Sink;
-use xxh_io::error::DigestError;
-use xxh_io::write::write_all;
+use crate::ends::Sink;
+use crate::error::DigestError;
+use crate::write::write_all;
 
 /// A buffer of at most `N` bytes that wait to be written.
 #[derive(Drop)]
@@ -16,7 +16,7 @@ pub struct Waiting<const N: usize> {
 }
 
 impl<const N: usize> Waiting<N> {
-    ghost use Rattle.xxhsum_output.specs.Waiting.{waiting_bytes, waiting_count};
+    ghost use Rattle.xxh_io.specs.Waiting.{Gathers, waiting_bytes, waiting_count};
 
     /// An empty buffer.
     pub fn new() -> Waiting<N>
@@ -45,6 +45,28 @@ impl<const N: usize> Waiting<N> {
         let all = &mut self.bytes[..];
         all[self.len..self.len + bytes.len()].copy_from_slice(bytes);
         self.len += bytes.len();
+    }
+
+    /// Appends bytes. Where there is no capacity for them, those that wait are written first. An error appends nothing:
+    /// what waited still waits.
+    pub fn push<W: Sink>(&mut self, bytes: &[u8], w: &mut W) -> Result<(), DigestError>
+        requires works { W.has_failed w.old ≡ false }
+        requires short { length bytes.now ≤ N }
+        ensures gathers { IfOk result
+            (λ _. Gathers W.Sink (waiting_bytes self.old ++ bytes.now) w.old w.new
+            (waiting_bytes self.new)) }
+        ensures refused { OnErr result
+            (Refused W.Sink (waiting_bytes self.old) w.old w.new) }
+        ensures kept { OnErr result (waiting_bytes self.new ≡ waiting_bytes self.old) }
+        ensures write_failed { (result ≡ Err DigestError.WriteFailed)
+            ↔ (W.has_failed w.new ≡ true) }
+        ensures only { IfErr result (λ e. e ≡ DigestError.WriteFailed) }
+    {
+        if N - self.len < bytes.len() {
+            self.flush(w)?;
+        }
+        self.append(bytes);
+        Ok(())
     }
 
     /// Writes the bytes that wait. After an error they still wait.

@@ -1,16 +1,16 @@
--- Lines that wait in a buffer before they are written.
+-- Bytes that wait in a buffer before they are written.
 use Rattle.std.specs.Prelude.{◌≡◌, ℕ, List, ◌++◌, take}
-use Rattle.xxh_io.specs.declared.line_buffer.LineBuffer.{LineBuffer}
+use Rattle.xxh_io.specs.declared.waiting.Waiting.{Waiting}
 use Rattle.xxh_io.specs.Digest.{Took}
 use Rattle.xxh_io.specs.Rules.{SinkRules}
 
 -- the bytes that wait
-abbrev pub waiting_bytes : {N : ℕ} → LineBuffer N → List ℕ
-waiting_bytes b = take b.len b.bytes
+abbrev pub waiting_bytes : {N : ℕ} → Waiting N → List ℕ
+waiting_bytes w = take w.len w.bytes
 
 -- how many they are
-abbrev pub waiting_count : {N : ℕ} → LineBuffer N → ℕ
-waiting_count b = b.len
+abbrev pub waiting_count : {N : ℕ} → Waiting N → ℕ
+waiting_count w = w.len
 
 -- a front of these bytes was written, and the others wait
 abbrev pub Gathers : {S : Type 0} → SinkRules S → List ℕ → S → S → List ℕ → Type 0

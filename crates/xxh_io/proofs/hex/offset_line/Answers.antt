@@ -1,7 +1,7 @@
 use Rattle.std.proofs.Common.{◌≡◌, ℕ, List, ◌++◌, length, take, drop, set, replicate, refl, ◌∙◌, ap}
 use borrow.Rule.Slice.PartMut.{put_mid}
 use Rattle.xxh_io.specs.Hex.{hex_digits, hex_line, offset_line}
-use Rattle.xxh_io.proofs.line_buffer.offset_line.Goals as goal
+use Rattle.xxh_io.proofs.hex.offset_line.Goals as goal
 
 -- The line of a block in a buffer of line feeds, after both numbers and the space are written.
 

@@ -1,0 +1,24 @@
+-- The types and words that most words and lemmas of the crate cite, passed on from one place. Declares nothing.
+pub use Rattle.std.specs.List.{AllByRecursion, concat}
+pub use Rattle.xxh_io.specs.Digest.{Refused, Took}
+pub use Rattle.xxh_io.specs.Pieces.{NoneEmpty, Pieces}
+pub use Rattle.xxh_io.specs.Rules.{SinkRules, SourceRules}
+pub use Rattle.xxh_io.specs.declared.kind.Kind.{Kind}
+pub use Rattle.xxhsum_files.specs.Rules.{FolderRules, StoreRules}
+pub use Rattle.xxhsum_files.specs.declared.refusal.Refusal.{Refusal}
+pub use Rattle.xxhsum_line.specs.Escapes.{one_line}
+pub use Rattle.xxhsum_line.specs.Parts.{Lacks}
+pub use Rattle.xxhsum_line.specs.declared.printed.Shape.{Shape}
+pub use Rattle.xxhsum_line.specs.declared.printed.Style.{Style}
+pub use Rattle.xxhsum_program.specs.EachHas.{EachHas}
+pub use Rattle.xxhsum_program.specs.Told.{TellsOn}
+pub use Rattle.xxhsum_program.specs.declared.check.Report.{Report}
+pub use Rattle.xxhsum_program.specs.declared.entry.Found.{Found}
+pub use Rattle.xxhsum_program.specs.declared.outcome.Outcome.{Outcome}
+pub use Rattle.xxhsum_program.specs.declared.outcome.Outcome.TheVariants.{Digested, IsDirectory, Unread}
+pub use Rattle.xxhsum_program.specs.declared.outcome.Reason.{Reason}
+pub use Rattle.xxhsum_program.specs.declared.stop.Stop.{Stop}
+pub use Rattle.xxhsum_program.specs.declared.stop.Stop.TheVariants.{OutOfMemory, WriteFailed}
+pub use Rattle.xxhsum_program.specs.declared.watched.Watched.{Watched}
+pub use Rattle.xxhsum_program.specs.declared.watched.WatchedFiles.{WatchedFiles}
+pub use Rattle.xxhsum_words.specs.declared.options.Options.{Options}

@@ -1,0 +1,8 @@
+-- The types and words that most words and lemmas of the crate cite, passed on from one place. Declares nothing.
+pub use Rattle.xxhsum_program.specs.Prelude.{AllByRecursion, EachHas, FolderRules, Kind, Options, Refusal, Refused, SinkRules, SourceRules, StoreRules, Style, TellsOn, Took, concat, one_line}
+pub use Rattle.xxhsum_program.specs.declared.outcome.Outcome.{Outcome}
+pub use Rattle.xxhsum_program.specs.declared.outcome.Outcome.TheVariants.{Digested, IsDirectory, Unread}
+pub use Rattle.xxhsum_program.specs.declared.stop.Stop.{Stop}
+pub use Rattle.xxhsum_program.specs.declared.stop.Stop.TheVariants.{OutOfMemory, WriteFailed}
+pub use Rattle.xxhsum_program.specs.declared.watched.Watched.{Watched}
+pub use Rattle.xxhsum_program.specs.declared.watched.WatchedFiles.{WatchedFiles}
