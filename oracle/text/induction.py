@@ -5,8 +5,8 @@ written to. At a loop's head after k turns some cells hold the words that the de
 they are those that hold the definition's words at the start, and those of some stripes more after a first turn. Of the
 other cells that the turn changes some go on by a step, and what is left may be anything at the head. All of that is a
 guess, which a turn from k = any number then shows: the words have to be there, and a cell that does anything else than
-what is said may be anything, and the turn is run once more. A cell that has a word is never let go. The flags are unset
-at a head."""
+what is said may be anything, and the turn is run once more. The last cell that has a word is never let go. The flags are
+unset at a head."""
 import contextlib
 
 from terms.loops import REFUSALS, NotShown, agree
@@ -268,9 +268,9 @@ class Proof:
                 expected = self.start.get(cell)
             if same(x, expected):
                 continue
-            if cell in self.words:
+            if list(self.words.values()).count(self.words.get(cell)) == 1:
                 raise NotShown(f"{self.family.name}: {name_of(cell)} is {x} and not {expected}")
-            for known in (self.places, self.counts):
+            for known in (self.words, self.places, self.counts):
                 known.pop(cell, None)
             self.unset.add(cell)
 

@@ -7,7 +7,8 @@ import collections
 from terms.llvm_text import Unsupported
 from terms.memory import Memory, Unset
 from terms.nodes import Node, memo
-from terms.polynomials import Poly, is_natural, is_same, lifted, minus, plus
+from terms.polynomials import WORD, Poly, is_natural, is_same, lifted, minus, plus
+from terms.rules import ones
 
 STACK = 1 << 14                   # bytes of stack that a call may use
 ENTRY = STACK - 64                # where the caller's frame begins, a multiple of 16
@@ -37,9 +38,8 @@ class Words(Memory):
         if cell is not None and cell[0] == n:
             return cell[1]
         near = self.cells_near(at, n) if isinstance(at, int) else []
-        if all(isinstance(self.cells[first][1], (int, Node)) for first in near):
-            return super().load(at, n)
-        return Memory(self.name, self.length, self.in_bits(near)).load(at, n)
+        is_bits = all(isinstance(self.cells[first][1], (int, Node)) for first in near)
+        return numbered(super().load(at, n) if is_bits else Memory(self.name, self.length, self.in_bits(near)).load(at, n))
 
     def keeps_runs(self, at, n):
         """Whether what is copied there is a run of an input."""
@@ -97,6 +97,13 @@ def spell(x):
     if isinstance(x, Poly) and isinstance(found, Node):
         spelled[found.number] = x
     return found
+
+
+def numbered(x):
+    """A term, or the number whose bits it has, where these were taken apart."""
+    found = spelled.get(x.number) if isinstance(x, Node) else None
+    is_word = found is not None and is_natural(found) and is_natural(minus(ones(WORD), found))
+    return found if is_word else x
 
 
 def copy(to, source, n, may_overlap):

@@ -15,7 +15,7 @@ from terms.nodes import WrongRule, is_same
 from terms.llvm_text import Unsupported
 from terms.sides import Request
 
-from . import any_secret, any_updates, calls, every_length, one_shots, streams, xxh3_updates
+from . import any_secret, any_updates, calls, every_length, long_seeds, one_shots, streams, xxh3_updates
 
 CRASH, ANOTHER_VALUE, ANOTHER_TERM = "A CRASH", "another value", "another term"
 CASES = 8                         # cases of an induction that a change is asked
@@ -232,6 +232,8 @@ def by_induction(program, asked, section):
     for summary in TAKING:
         if program.functions.get(summary.name, (None,))[0] == section:
             found[summary.name] = functools.partial(stripes_taken, summary.name)
+    if section == f".text.{long_seeds.WRITES}":
+        found[section] = secret_of_long_seed
     return [Call(functools.partial(ask, k)) for ask in found.values() for k in range(CASES)]
 
 
@@ -278,6 +280,10 @@ def xxh3_update(k, cpu):
 def xxh3_digest(k, cpu):
     proof = xxh3_updates.Xxh3Updates(cpu)
     proof.digest(*case_of(proof.digests(), k), k % 2, xxh3_updates.WIDTHS[k // 2 % 2])
+
+
+def secret_of_long_seed(k, cpu):
+    long_seeds.made_secrets(cpu, [calls.SHORTEST + k])
 
 
 def stripes_taken(name, k, cpu):

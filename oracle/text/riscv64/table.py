@@ -6,7 +6,7 @@ from terms.rules import ones
 
 from ..flags import is_below, is_equal
 from ..linked import RETURN, Page, ReturnTo
-from ..memory import spell, spelled
+from ..memory import numbered, spell
 from ..values import WORD, address, arithmetic, bits, half_of, halves, high_and_low, low, with_half
 from .processor import HALF, TABLE, Processor, form, with_sign
 
@@ -62,7 +62,7 @@ def united(a, b):
     if isinstance(a, int):
         a, b = b, a
     found = a if isinstance(b, int) and not b else arithmetic("or", WORD, a, b)
-    return spelled.get(found.number, found) if isinstance(found, Node) else found
+    return numbered(found)
 
 
 @form("addi", "rrl")
