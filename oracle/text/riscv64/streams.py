@@ -4,9 +4,11 @@ Its loops over stripes are left by a place in memory, and ask behind the first s
 a case of any number of whole blocks, D, is two here, with none and with some."""
 import functools
 
-from terms.polynomials import Poly, minus, names_of, variable
+from terms.polynomials import Poly, is_natural, is_same, minus, names_of, variable
 
 from ..cargo_streams import CargoUpdates, with_value
+from ..every_length import FAR
+from ..xxh3_updates import BLOCK
 
 BLOCKS = "D"                      # the variable that has them
 
@@ -35,17 +37,26 @@ def parted(case, at):
         yield case
         return
     none = in_numbers(case, BLOCKS, 0)
-    if all(fact >= 0 for fact in none[at] if isinstance(fact, int)):
+    if not any(is_natural(minus(-1, fact)) for fact in none[at]):
         yield none
     facts = [*case[at], minus(variable(BLOCKS), 1)]
     yield (*case[:at], facts, *case[at + 1:])
 
 
 class Updates(CargoUpdates):
+    @staticmethod
+    def by_blocks():
+        """From a block's beginning the text asks how many whole blocks there are: of FAR stripes and more so many."""
+        for parts, facts in CargoUpdates.by_blocks():
+            more = [minus(variable(BLOCKS), FAR // BLOCK - 1)] if is_same(parts[0].turns, 0) else []
+            yield parts, [*facts, *more]
+
     def all_updates(self):
         for case in super().all_updates():
             yield from parted(case, 3)
 
     def all_taken(self):
-        for secret, case in super().all_taken():
-            yield from ((secret, one) for one in parted(case, 2))
+        """What is left to other functions has no loop."""
+        for secret, (summary, parts, facts, *summaries) in super().all_taken():
+            case = summary, parts, facts, *summaries
+            yield from ((secret, one) for one in (parted(case, 2) if not any(summaries) else [case]))

@@ -14,7 +14,7 @@ OPERATIONS = {"or": "or", "xor": "xor", "and": "and", "add": "add", "sub": "sub"
               "rem": "urem"}
 SIZES = {"b": 1, "h": 2, "w": 4, "d": 8}
 
-moved_up = memo()                 # the number of a term that is a value moved up by 32 bits -> that
+moved_up = memo()                 # the number of a term that is a value moved up -> that, and by how many bits
 apart = memo()                    # the number of a term that is 0 where two values are equal -> these
 
 __all__ = ["TABLE", "Processor"]
@@ -32,14 +32,15 @@ def binary(cpu, x):
     to, a, b = x.operands
     word = OPERATIONS[x.mnemonic.removesuffix("i") if isinstance(b, int) else x.mnemonic]
     a, b = cpu.get(a), value(cpu, b)
-    if word == "lshr" and b == HALF and isinstance(a, Node) and a.number in moved_up:
-        cpu.put(to, low(moved_up[a.number], HALF))
+    whole, k = moved_up.get(a.number, (None, WORD)) if isinstance(a, Node) else (None, WORD)
+    if word == "lshr" and isinstance(b, int) and b >= k:
+        cpu.put(to, arithmetic("lshr", WORD, low(whole, WORD - k), b - k))
         return
     if word == "shl" and b >= HALF:                               # the lower half alone counts
         a = a if half_of(a) is None else half_of(a)
     found = united(a, b) if word == "or" else arithmetic(word, WORD, a, b)
-    if word == "shl" and b == HALF and isinstance(found, Node):
-        moved_up[found.number] = a
+    if word == "shl" and isinstance(found, Node) and (b == HALF or isinstance(a, Poly)):
+        moved_up[found.number] = a, b
     if word == "xor" and isinstance(found, Node):
         apart[found.number] = a, b
     cpu.put(to, with_half_of(found, word, a, b))
@@ -182,7 +183,7 @@ def store(cpu, x):
 def lowest(x, n):
     """The lowest n bytes, which stay those of a number of 64 bits where it is no number of 32."""
     if isinstance(x, Poly) and n < 8:
-        x = spell(x)
+        return spell(x, 8 * n)
     is_whole = isinstance(x, Node) and halves.get(x.number, (x, 0))[1] < 8 * n
     return x if n == 8 else bits(x, 0, 8 * n) if is_whole else low(x, 8 * n)
 
