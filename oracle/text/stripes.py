@@ -142,7 +142,10 @@ class StripesProof(Proof):
             return
         with given(minus(minus(left, k), more[0])):
             self.enter(k, self.supposed(first, k))
-            self.turn()
+            try:
+                self.turn()
+            except NotShown:          # with this turn the loop is left
+                return
             now = cells_of(self.cpu)
             for cell, (x, step) in list(self.places.items()):
                 base = moved(x, step, minus(0, at))

@@ -1,13 +1,13 @@
 """What the instructions do."""
 from terms.llvm_text import Unsupported
 from terms.nodes import Node, memo
-from terms.polynomials import Poly
+from terms.polynomials import Poly, is_natural, is_number, minus, plus
 from terms.rules import ones
 
 from ..flags import is_below, is_equal
 from ..linked import RETURN, Page, ReturnTo
 from ..memory import numbered, spell
-from ..values import WORD, address, arithmetic, bits, half_of, halves, high_and_low, low, with_half
+from ..values import WORD, address, arithmetic, bits, half_of, halves, high_and_low, low, split, with_half
 from .processor import HALF, TABLE, Processor, form, with_sign
 
 OPERATIONS = {"or": "or", "xor": "xor", "and": "and", "add": "add", "sub": "sub", "mul": "mul", "sll": "shl", "srl": "lshr",
@@ -59,11 +59,20 @@ def with_half_of(found, word, a, b):
 
 
 def united(a, b):
-    """The bits of both. Where one is 0 that is the other, whatever it is; and two halves of a number may be that number."""
+    """The bits of both. Where one is 0 that is the other, whatever it is; two halves of a number may be that number; and of
+    numbers whose bits lie apart it is the sum."""
     if isinstance(a, int):
         a, b = b, a
+    if is_number(a) and is_number(b) and (is_below_bits_of(a, b) or is_below_bits_of(b, a)):
+        return plus(a, b)
     found = a if isinstance(b, int) and not b else arithmetic("or", WORD, a, b)
     return numbered(found)
+
+
+def is_below_bits_of(a, b):
+    """Whether a number has no bit from the lowest on that another one may have."""
+    below, _, known = split(b) if isinstance(b, Poly) else (1, 0, 0)
+    return not below and is_natural(minus(ones(known), a))
 
 
 @form("addi", "rrl")
