@@ -35,7 +35,7 @@ SOME_SECRETS = [*range(136, 144), *range(190, 202), 256, 257, 576, 999, 1000]
 ANY_SECRET = [f"{name}:{way}" for name in ("3-64", "3-128") for way in ("secret", "both")]
 MOST_NODES = 400_000                                # of the cases of a proof
 SOME_LENGTHS = 5                                   # each so many of the cases of a secret of any length, without --all
-OF_LONG_SEEDS = 136, 143                            # bytes of secrets that are made of 2^32 bytes and more
+OF_LONG_SEEDS = 137,                                # bytes of secrets that are made of 2^32 bytes and more
 SMALL = [0, 1, 3, 4, 8, 9, 16, 17, 128, 129, 240, 241, 1000]
 assert scalar and lanes                             # which fill the table
 
