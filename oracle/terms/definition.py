@@ -42,17 +42,18 @@ def length(xs):
     return xs.length() if isinstance(xs, Bytes) else len(xs)
 
 
-words = memo()   # (bits, symbol, first byte, bytes) -> the word, which antt.py makes once
+words = memo()   # (symbol, first byte, bytes) -> the word
 
 
 def from_le_bytes(bits, xs):
+    """Bytes of an input are a symbol's, so that their word is what its bits are."""
     if not isinstance(xs, Bytes):
         return word_of_bytes(bits, xs)
     n = min(xs.length(), bits // 8)
     whole, first = xs.source.window(xs.first, n)
-    key = bits, whole.number, first, n
+    key = whole.number, first, n
     if key not in words:
-        words[key] = word_of_bytes(bits, Bytes(xs.source, xs.first, plus(xs.first, n)))
+        words[key] = operations.bits(whole, 8 * first, 8 * n)
     return words[key]
 
 

@@ -13,9 +13,8 @@ WORD = 64
 DEPTH = 4                     # how often a fact may be taken away
 TRIED, KEPT = 60, 8           # points that are drawn, and how many are kept
 NEAR, STAYS = 600, 0.7        # how many are drawn near to known ones, and of these how often a variable stays
-SEARCHED = 20000              # how many are drawn until one is found
-CHOICES = 0, 1, 2, 3, 5, 62, 200
-FURTHER = 0, 1, 7, 15, 480, 1 << 20, 1 << 32     # where none of these was found
+SEARCHED, IN_TURN = 40000, 100    # how many are drawn until one is found, and so many of them of each choices
+CHOICES = (0, 1, 2, 3, 5, 62, 200), (0, 1, 7, 15, 480, 1 << 20, 1 << 32)
 
 facts, least, known = [], {}, {}   # polynomials >= 0; variable -> its least value; what was decided under these facts
 KEY = "facts' key"                 # in `known`: what stands for the facts in `possible`
@@ -83,8 +82,12 @@ def made(parts):
 
 
 def plus(*terms):
-    if all(x.__class__ is int for x in terms):
-        return sum(terms)
+    if len(terms) == 2:
+        a, b = terms
+        if a.__class__ is int:
+            return a + b if b.__class__ is int else with_constant(b, a)
+        if b.__class__ is int:
+            return with_constant(a, b)
     out = {}
     for x in terms:
         for names, c in parts_of(x).items():
@@ -92,11 +95,20 @@ def plus(*terms):
     return made(out)
 
 
+def with_constant(x, c):
+    """A polynomial and a number added."""
+    parts = dict(x.parts)
+    c += parts.pop((), 0)
+    if c:
+        parts[()] = c
+    return Poly(parts)
+
+
 def minus(a, b):
     """a - b, which may be negative."""
-    if isinstance(a, int) and isinstance(b, int):
-        return a - b
-    return plus(a, times(-1, b))
+    if isinstance(b, int):
+        return plus(a, -b)
+    return plus(a, Poly({names: -c for names, c in b.parts.items()}))
 
 
 def times(a, b):
@@ -170,7 +182,7 @@ def points_for(x):
     """Some points at which each fact holds, with values for the variables of x."""
     names = sorted(names_of(x) - names_of(*facts))
     for number, point in enumerate(possible.get(known.get(KEY), ())):
-        yield {**point, **{name: least.get(name, 0) + CHOICES[(number + k) % len(CHOICES)] for k,
+        yield {**point, **{name: least.get(name, 0) + CHOICES[0][(number + k) % len(CHOICES[0])] for k,
                            name in enumerate(names)}}
 
 
@@ -182,7 +194,7 @@ def expect_possible(around):
     known[KEY] = key
     if key not in possible:
         names, draw = sorted(names_of(*facts)), random.Random(1)
-        found = drawn_points(names, draw, possible.get(around, ()), NEAR) or drawn_points(names, draw, (), 2 * SEARCHED)
+        found = drawn_points(names, draw, possible.get(around, ()), NEAR) or drawn_points(names, draw, (), SEARCHED)
         if not found:
             raise Undecided(f"facts that hold nowhere, as far as was seen: {facts} {least}")
         possible[key] = found
@@ -192,7 +204,7 @@ def drawn_points(names, draw, around, attempts):
     """Points at which the facts hold; or some that are near to others, of which most variables stay."""
     found = []
     for attempt in range(attempts):
-        choices = CHOICES if attempt < SEARCHED else FURTHER
+        choices = CHOICES[attempt // IN_TURN % len(CHOICES)]
         begun = around[attempt % len(around)] if around else {}
         kept = {name for name in begun if attempt < TRIED or draw.random() < STAYS}
         point = {name: max(begun[name], least.get(name, 0)) if name in kept else
