@@ -238,15 +238,15 @@ class Proof:
         return [family.cell(values[k:k + family.together]) for k in range(0, family.count, family.together)]
 
     def turn(self):
-        """From the head to the head."""
-        loops, place, running = self.loops, self.head, dict(self.loops.running)
+        """From the head to the head. Whoever returns from the function that the head is in has left the loop."""
+        loops, place, running, floor = self.loops, self.head, dict(self.loops.running), self.cpu.stack_pointer()
         loops.running[self.head] = None
         try:
             while place is not None:
-                place = self.cpu.step(place)
-                loops.stop = self.head
-                if place is not None:
-                    place = loops.pass_by(self.cpu, place)
+                place, loops.stop = self.cpu.step(place), self.head
+                if self.cpu.stack_pointer() > floor:
+                    break
+                place = place and loops.pass_by(self.cpu, place)
         except Head:
             return
         finally:
