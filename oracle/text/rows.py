@@ -357,16 +357,16 @@ def machine_rows(texts, others, is_all):
 
 
 def change_rows(texts, is_all):
-    """Changes of one instruction; with --all in parts, each with a draw of its own."""
-    parts = changes.PARTS_OF_MANY if is_all else 1
+    """Changes of one instruction; with --all of some draws, in parts."""
+    parts = [range(part, changes.DRAWS, changes.PARTS) for part in range(changes.PARTS)] if is_all else [[0]]
     for name, program in texts.items():
         is_v4 = name.endswith(V4)
         title = f"changes of one instruction{' in the widened functions of' if is_v4 else ','} {name}"
-        count = changes.MANY // parts if is_all else changes.SOME if is_v4 else changes.FEW
-        for part in range(parts):
-            words = f", part {part + 1} of {parts}" if is_all else ""
-            yield counted(title + words, count, functools.partial(changes.noticed, name, program, count, is_all,
-                                                                  "widened" if is_v4 else "", part))
+        count = changes.MANY // changes.DRAWS if is_all else changes.SOME if is_v4 else changes.FEW
+        for number, draws in enumerate(parts, 1):
+            words = f", part {number} of {len(parts)}" if is_all else ""
+            yield counted(title + words, count * len(draws), functools.partial(
+                changes.noticed, name, program, count, is_all, "widened" if is_v4 else "", draws))
 
 
 def beside_processor(programs, is_all):
