@@ -153,17 +153,29 @@ class Proof:
     def show(self):
         """Shows the loop, and leaves the processor at its head before the last turn: from there it runs on. False, and
         the state as it was, where it isn't one of the family: then it is run, turn by turn."""
-        for first in self.firsts():
-            try:
-                if self.by_turns(first):
-                    self.loops.told.append(self.told(first))
-                    return True
-            except REFUSALS as error:
-                self.loops.refused.append(f"{self.head[0]} {self.head[1]:x} from {first}: {error}")
+        return any(map(self.is_shown_from, self.firsts()))
+
+    def is_shown_from(self, first):
+        """The same, guessed by one first turn, or by two: what doesn't go on as it began is let go by two at once."""
+        for is_twice in (False, True):
+            is_shown = self.outcome(first, is_twice)
+            if is_shown:
+                self.loops.told.append(self.told(first))
+                return True
             self.forget()
             self.enter(0)
             self.cpu.flags, self.cpu.carry = self.flags
+            if is_shown is not None:
+                break
         return False
+
+    def outcome(self, first, is_twice):
+        """Whether the loop is shown, or None where a turn does anything else."""
+        try:
+            return self.by_turns(first, is_twice)
+        except REFUSALS as error:
+            self.loops.refused.append(f"{self.head[0]} {self.head[1]:x} from {first}: {error}")
+        return None
 
     def firsts(self):
         """After how many stripes the loop may begin: guesses by the places in the message, for which some cells hold
@@ -184,9 +196,10 @@ class Proof:
                         guess, lambda x: x in numbers if isinstance(x, int) else x.number in terms):
                     yield guess
 
-    def by_turns(self, first):
+    def by_turns(self, first, is_twice):
         family = self.family
-        if isinstance(minus(family.total, first), int) or not any(self.guess(first, turns) for turns in FIRST_TURNS):
+        if isinstance(minus(family.total, first), int) or not any(
+                self.guess(first, turns, is_twice) for turns in FIRST_TURNS):
             return False
         turns, _ = divided(minus(family.total, first), self.step)
         last, k = minus(turns, 1), variable(self.cpu.new_name("k"))
@@ -276,7 +289,7 @@ class Proof:
 
     # ---- a guess
 
-    def guess(self, first, turns, is_twice=True):
+    def guess(self, first, turns, is_twice):
         """Two turns, or one, tell the words, the steps and what is left."""
         self.forget()
         self.enter(0)
