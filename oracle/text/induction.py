@@ -107,6 +107,7 @@ class Loops:
         self.program, self.family, self.told, self.refused, self.known = program, family, [], [], {}
         self.proof = proof or Proof
         self.running, self.stop, self.is_guessing, self.given_up = {}, None, False, set()
+        self.tried = set()       # heads, and after how many stripes it was guessed in vain that their loop begins
 
     def heads(self, section):
         """Head -> the last jump back to it."""
@@ -129,10 +130,12 @@ class Loops:
             if self.running[place] is not None:
                 raise NotShown(f"the loop at {place[0]} {place[1]:x} isn't left")
             return place
-        if place[1] in self.heads(place[0]) and not self.is_guessing and place not in self.given_up:
+        is_within = None in self.running.values()      # another's turn
+        may_begin = place[1] in self.heads(place[0]) and not self.is_guessing and place not in self.given_up
+        if may_begin and (self.proof.HAS_INNER or not is_within):
             if self.proof(self, cpu, place).show():
                 self.running[place] = self.heads(place[0])[place[1]]
-            elif None in self.running.values():      # a number of turns within another's turn
+            elif is_within:                            # a number of turns
                 self.given_up.add(place)
         return place
 
@@ -140,6 +143,8 @@ class Loops:
 # ---- a loop
 
 class Proof:
+    HAS_INNER = False         # whether the loops within a turn have numbers of turns that are no numbers
+
     def __init__(self, loops, cpu, head):
         self.loops, self.cpu, self.family, self.head = loops, cpu, loops.family, head
         self.original, self.flags = cells_of(cpu), (cpu.flags, cpu.carry)
@@ -167,6 +172,7 @@ class Proof:
             self.cpu.flags, self.cpu.carry = self.flags
             if is_shown is not None:
                 break
+        self.loops.tried.add((self.head, repr(first)))
         return False
 
     def outcome(self, first, is_twice):
@@ -192,7 +198,7 @@ class Proof:
         terms = {x.number for x in values if isinstance(x, Node)}
         for guess in guesses:
             with contextlib.suppress(*REFUSALS):
-                if is_natural(guess) and self.family.seem(
+                if (self.head, repr(guess)) not in self.loops.tried and is_natural(guess) and self.family.seem(
                         guess, lambda x: x in numbers if isinstance(x, int) else x.number in terms):
                     yield guess
 

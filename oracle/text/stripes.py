@@ -59,6 +59,8 @@ class Stripes(Family):
 class StripesProof(Proof):
     """A loop over stripes. Its head may come before the first stripe or behind it."""
 
+    HAS_INNER = True
+
     def forget(self):
         super().forget()
         self.counts = {}         # of a counter of a block's stripes: what it is at the block's beginning, and its step
