@@ -34,7 +34,8 @@ def binary(cpu, x):
     a, b = cpu.get(a), value(cpu, b)
     whole, k = moved_up.get(a.number, (None, WORD)) if isinstance(a, Node) else (None, WORD)
     if word == "lshr" and isinstance(b, int) and b >= k:
-        cpu.put(to, arithmetic("lshr", WORD, low(whole, WORD - k), b - k))
+        found = low(whole, WORD - k)
+        cpu.put(to, found if b == k else arithmetic("lshr", WORD, found, b - k))
         return
     if word == "shl" and b >= HALF:                               # the lower half alone counts
         a = a if half_of(a) is None else half_of(a)
