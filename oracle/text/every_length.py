@@ -138,7 +138,7 @@ class EveryLength:
     """A kind of call of a text, its cases one by one: 32, 64, or of XXH3 as 3-64:seed."""
 
     def __init__(self, cpu, kind):
-        self.cpu, self.told, self.kind = cpu, {}, kind
+        self.cpu, self.told, self.guesses, self.kind = cpu, {}, {}, kind
         self.hash_name, _, self.way = kind.partition(":")
         self.read()
 
@@ -206,7 +206,7 @@ class EveryLength:
         family = Family(name, stripe, case.stripes, count, after,
                         lambda k, values: suppositions.suppose(after(k), values),
                         self.cpu.TOGETHER if stripe == 16 else 1)
-        loops = Loops(self.cpu.program, family)
+        loops = Loops(self.cpu.program, family, guesses=self.guesses)
         if isinstance(case.length, Poly):
             self.cpu.loops, self.cpu.limit = loops, LIMIT
         try:

@@ -88,6 +88,11 @@ def cells_of(cpu):
     return out
 
 
+def named(cell):
+    """A cell, with the name of its object."""
+    return cell if isinstance(cell[0], str) else (cell[0].name, *cell[1:])
+
+
 def name_of(cell):
     if cell[0] in ("register", HALF):
         return cell[1]
@@ -101,11 +106,12 @@ class Head(Exception):
 
 
 class Loops:
-    """Asked wherever a loop may begin: at each place that its section jumps back to."""
+    """Asked wherever a loop may begin: at each place that its section jumps back to. `guesses` has what was shown of loops
+    in other calls, by their heads."""
 
-    def __init__(self, program, family, proof=None):
+    def __init__(self, program, family, proof=None, guesses=None):
         self.program, self.family, self.told, self.refused, self.known = program, family, [], [], {}
-        self.proof = proof or Proof
+        self.proof, self.guesses = proof or Proof, {} if guesses is None else guesses
         self.running, self.stop, self.is_guessing, self.given_up = {}, None, False, set()
         self.tried = set()       # heads, and after how many stripes it was guessed in vain that their loop begins
 
@@ -161,31 +167,30 @@ class Proof:
         return any(map(self.is_shown_from, self.firsts()))
 
     def is_shown_from(self, first):
-        """The same, guessed by one first turn, or by two: what doesn't go on as it began is let go by two at once."""
-        for is_twice in (False, True):
-            is_shown = self.outcome(first, is_twice)
-            if is_shown:
+        """The same, by what is known of the loop, or guessed by one first turn, or by two: what doesn't go on as it began is
+        let go by two at once."""
+        for guess in (self.guess_again, self.guess_by_one, self.guess_by_two):
+            if self.outcome(first, guess):
                 self.loops.told.append(self.told(first))
+                self.loops.guesses[self.head] = self.known()
                 return True
             self.forget()
             self.enter(0)
             self.cpu.flags, self.cpu.carry = self.flags
-            if is_shown is not None:
-                break
         self.loops.tried.add((self.head, repr(first)))
         return False
 
-    def outcome(self, first, is_twice):
-        """Whether the loop is shown, or None where a turn does anything else."""
+    def outcome(self, first, guess):
+        """Whether the loop is shown."""
         try:
-            return self.by_turns(first, is_twice)
+            return self.by_turns(first, guess)
         except REFUSALS as error:
             self.loops.refused.append(f"{self.head[0]} {self.head[1]:x} from {first}: {error}")
-        return None
+        return False
 
     def firsts(self):
         """After how many stripes the loop may begin: guesses by the places in the message, for which some cells hold
-        the definition's words."""
+        the definition's words. Where the stripes that are left are a number the turns are run one by one."""
         guesses = [0]
         for x in self.cpu.registers.values():
             if isinstance(x, Address) and len(x.bases) == 1 and isinstance(x.bases[0][0], Input):
@@ -198,14 +203,15 @@ class Proof:
         terms = {x.number for x in values if isinstance(x, Node)}
         for guess in guesses:
             with contextlib.suppress(*REFUSALS):
-                if (self.head, repr(guess)) not in self.loops.tried and is_natural(guess) and self.family.seem(
+                is_hopeless = isinstance(minus(self.family.total, guess), int) or \
+                    (self.head, repr(guess)) in self.loops.tried
+                if not is_hopeless and is_natural(guess) and self.family.seem(
                         guess, lambda x: x in numbers if isinstance(x, int) else x.number in terms):
                     yield guess
 
-    def by_turns(self, first, is_twice):
+    def by_turns(self, first, guess):
         family = self.family
-        if isinstance(minus(family.total, first), int) or not any(
-                self.guess(first, turns, is_twice) for turns in FIRST_TURNS):
+        if not guess(first):
             return False
         turns, _ = divided(minus(family.total, first), self.step)
         last, k = minus(turns, 1), variable(self.cpu.new_name("k"))
@@ -294,6 +300,35 @@ class Proof:
             self.unset.add(cell)
 
     # ---- a guess
+
+    def known(self):
+        """What was shown of the loop, by cells as they have their names in another call."""
+        steps = {named(cell): step for cell, (_, step) in self.places.items()}
+        return self.step, {named(cell): j for cell, j in self.words.items()}, steps, {*map(named, self.unset)}
+
+    def guess_again(self, first):
+        """As it was shown in another call, where the words are there at the start."""
+        if self.head not in self.loops.guesses:
+            return False
+        self.step, words, steps, unset = self.loops.guesses[self.head]
+        objects = {memory.name: memory for memory in [self.cpu.stack, *self.cpu.live]}
+        self.unset = {(objects.get(name[0], name[0]), *name[1:]) for name in unset}
+        begun = self.family.words(first)
+        for cell, x in self.start.items():
+            name = named(cell)
+            if name in words and same(x, begun[words[name]]):
+                self.words[cell] = words[name]
+            elif name in steps and (isinstance(x, Address) or is_number(x)):
+                self.places[cell] = x, steps[name]
+            elif name in words or name in steps:
+                self.unset.add(cell)
+        return len({*self.words.values()}) == len(begun)
+
+    def guess_by_one(self, first):
+        return any(self.guess(first, turns, False) for turns in FIRST_TURNS)
+
+    def guess_by_two(self, first):
+        return any(self.guess(first, turns, True) for turns in FIRST_TURNS)
 
     def guess(self, first, turns, is_twice):
         """Two turns, or one, tell the words, the steps and what is left."""
