@@ -3141,8 +3141,8 @@ twox_core.width_64.oneshot_long_derived:
 	mov %rdx,%rcx
 	mov %rsi,%rdx
 	movq %rdi,%xmm2
-	neg %rdi
-	movq %rdi,%xmm0
+	pxor %xmm0,%xmm0
+	psubq %xmm2,%xmm0
 	punpcklqdq %xmm0,%xmm2
 	movdqa .L90_130(%rip),%xmm0
 	paddq %xmm2,%xmm0
@@ -6630,8 +6630,8 @@ twox_core.width_128.oneshot_long_derived:
 	mov %rdx,%rcx
 	mov %rsi,%rdx
 	movq %rdi,%xmm2
-	neg %rdi
-	movq %rdi,%xmm0
+	pxor %xmm0,%xmm0
+	psubq %xmm2,%xmm0
 	punpcklqdq %xmm0,%xmm2
 	movdqa .L90_350(%rip),%xmm0
 	paddq %xmm2,%xmm0
@@ -10496,8 +10496,8 @@ XXH3_copyState:
 XXH3_generateSecret_fromSeed:
 	.cfi_startproc
 	movq %rsi,%xmm0
-	neg %rsi
-	movq %rsi,%xmm1
+	pxor %xmm1,%xmm1
+	psubq %xmm0,%xmm1
 	punpcklqdq %xmm1,%xmm0
 	movdqa .L90_580(%rip),%xmm1
 	paddq %xmm0,%xmm1
@@ -13109,10 +13109,9 @@ proved_XXH3_128bits_reset_withSeed:
 	sub $0xc8,%rsp
 	.cfi_def_cfa_offset 208
 	mov %rsi,%rdx
-	mov %rsi,%rax
-	neg %rax
 	movq %rsi,%xmm0
-	movq %rax,%xmm1
+	pxor %xmm1,%xmm1
+	psubq %xmm0,%xmm1
 	punpcklqdq %xmm1,%xmm0
 	movdqa .L90_680(%rip),%xmm1
 	paddq %xmm0,%xmm1
@@ -13203,10 +13202,9 @@ proved_XXH3_64bits_reset_withSeed:
 	sub $0xc8,%rsp
 	.cfi_def_cfa_offset 208
 	mov %rsi,%rdx
-	mov %rsi,%rax
-	neg %rax
 	movq %rsi,%xmm0
-	movq %rax,%xmm1
+	pxor %xmm1,%xmm1
+	psubq %xmm0,%xmm1
 	punpcklqdq %xmm1,%xmm0
 	movdqa .L90_740(%rip),%xmm1
 	paddq %xmm0,%xmm1

@@ -2427,12 +2427,9 @@ twox_core.width_64.oneshot_long_derived:
 	.cfi_def_cfa_offset 208
 	vmovq %rdi,%xmm0
 	vpbroadcastq %xmm0,%ymm0
-	vmovq %xmm0,%xmm1
-	vpslldq $0x8,%xmm0,%xmm2
-	vpsubq %ymm2,%ymm1,%ymm1
-	vpblendd $0x30,%ymm0,%ymm1,%ymm0
-	vinserti128 $0x1,%xmm1,%ymm0,%ymm1
-	vpblendd $0xc0,%ymm1,%ymm0,%ymm0
+	vpxor %xmm1,%xmm1,%xmm1
+	vpsubq %ymm0,%ymm1,%ymm1
+	vpunpckhqdq %ymm1,%ymm0,%ymm0
 	vpaddq .L91_c0(%rip),%ymm0,%ymm1
 	vpaddq .L91_e0(%rip),%ymm0,%ymm4
 	vpaddq .L91_100(%rip),%ymm0,%ymm5
@@ -2447,20 +2444,20 @@ twox_core.width_64.oneshot_long_derived:
 	mov %rdx,%rcx
 	mov %rsi,%rdx
 	vmovdqu %ymm3,0xa0(%rsp)
+	.byte 15,31,0
 	cmp $0x7bff,%rcx
-	ja .L13_d5
-	.byte 15,31,128,0,0,0,0
+	ja .L13_be
 	cmp $0x401,%rcx
-	jae .L13_ee
+	jae .L13_d7
 	vmovdqa .L91_180(%rip),%ymm0
 	vmovdqa .L91_1a0(%rip),%ymm1
 	mov $0xffffffffffffffff,%rax
 	mov %rdx,%rsi
 	add %rcx,%rax
 	shr $0x6,%rax
-	jne .L13_2e8
+	jne .L13_2e3
 	jmp .L13_33b
-.L13_d5:
+.L13_be:
 	mov %rsp,%rdi
 	mov $0xc0,%esi
 	vzeroupper
@@ -2473,7 +2470,7 @@ twox_core.width_64.oneshot_long_derived:
 	ret
 	.cfi_def_cfa_offset 208
 	.cfi_offset 3, -16
-.L13_ee:
+.L13_d7:
 	lea -0x1(%rcx),%rax
 	mov %rax,%rsi
 	shr $0xa,%rsi
@@ -2483,12 +2480,12 @@ twox_core.width_64.oneshot_long_derived:
 	vmovdqa .L91_1a0(%rip),%ymm1
 	xor %r9d,%r9d
 	mov %rdx,%r10
-	.byte 15,31,68,0,0
-.L13_120:
+	.byte 102,102,102,46,15,31,132,0,0,0,0,0
+.L13_110:
 	xor %r11d,%r11d
 	mov %rdi,%rbx
 	.byte 102,46,15,31,132,0,0,0,0,0
-.L13_130:
+.L13_120:
 	prefetcht0 0x400(%r10,%r11,1)
 	prefetcht0 0x440(%r10,%r11,1)
 	prefetcht0 0x480(%r10,%r11,1)
@@ -2545,8 +2542,9 @@ twox_core.width_64.oneshot_long_derived:
 	vpaddq %ymm4,%ymm0,%ymm0
 	add $0x100,%r11
 	add $0x20,%rbx
+	.byte 102,102,46,15,31,132,0,0,0,0,0
 	cmp $0x400,%r11
-	jne .L13_130
+	jne .L13_120
 	vpsrlq $0x2f,%ymm1,%ymm4
 	vpxor %ymm1,%ymm2,%ymm1
 	vpxor %ymm4,%ymm1,%ymm1
@@ -2565,17 +2563,17 @@ twox_core.width_64.oneshot_long_derived:
 	add $0x400,%r8
 	add $0x400,%r10
 	cmp %rsi,%r9
-	jne .L13_120
+	jne .L13_110
 	and $0xfffffffffffffc00,%rax
 	lea (%rdx,%rax,1),%rsi
 	not %rax
 	add %rcx,%rax
 	shr $0x6,%rax
 	je .L13_33b
-.L13_2e8:
+.L13_2e3:
 	shl $0x3,%rax
 	xor %edi,%edi
-	.byte 102,144
+	.byte 15,31,128,0,0,0,0
 .L13_2f0:
 	vmovdqu (%rsi,%rdi,8),%ymm2
 	vmovdqu 0x20(%rsi,%rdi,8),%ymm3
@@ -5368,12 +5366,9 @@ twox_core.width_128.oneshot_long_derived:
 	.cfi_def_cfa_offset 208
 	vmovq %rdi,%xmm0
 	vpbroadcastq %xmm0,%ymm0
-	vmovq %xmm0,%xmm1
-	vpslldq $0x8,%xmm0,%xmm2
-	vpsubq %ymm2,%ymm1,%ymm1
-	vpblendd $0x30,%ymm0,%ymm1,%ymm0
-	vinserti128 $0x1,%xmm1,%ymm0,%ymm1
-	vpblendd $0xc0,%ymm1,%ymm0,%ymm0
+	vpxor %xmm1,%xmm1,%xmm1
+	vpsubq %ymm0,%ymm1,%ymm1
+	vpunpckhqdq %ymm1,%ymm0,%ymm0
 	vpaddq .L91_280(%rip),%ymm0,%ymm1
 	vpaddq .L91_2a0(%rip),%ymm0,%ymm4
 	vpaddq .L91_2c0(%rip),%ymm0,%ymm5
@@ -5388,20 +5383,20 @@ twox_core.width_128.oneshot_long_derived:
 	mov %rdx,%rcx
 	mov %rsi,%rdx
 	vmovdqu %ymm3,0xa0(%rsp)
+	.byte 15,31,0
 	cmp $0x7bff,%rcx
-	ja .L25_d5
-	.byte 15,31,128,0,0,0,0
+	ja .L25_be
 	cmp $0x401,%rcx
-	jae .L25_ee
+	jae .L25_d7
 	vmovdqa .L91_340(%rip),%ymm0
 	vmovdqa .L91_360(%rip),%ymm1
 	mov $0xffffffffffffffff,%rax
 	mov %rdx,%rsi
 	add %rcx,%rax
 	shr $0x6,%rax
-	jne .L25_2e8
+	jne .L25_2e3
 	jmp .L25_33b
-.L25_d5:
+.L25_be:
 	mov %rsp,%rdi
 	mov $0xc0,%esi
 	vzeroupper
@@ -5414,7 +5409,7 @@ twox_core.width_128.oneshot_long_derived:
 	ret
 	.cfi_def_cfa_offset 208
 	.cfi_offset 3, -16
-.L25_ee:
+.L25_d7:
 	lea -0x1(%rcx),%rax
 	mov %rax,%rsi
 	shr $0xa,%rsi
@@ -5424,12 +5419,12 @@ twox_core.width_128.oneshot_long_derived:
 	vmovdqa .L91_360(%rip),%ymm1
 	xor %r9d,%r9d
 	mov %rdx,%r10
-	.byte 15,31,68,0,0
-.L25_120:
+	.byte 102,102,102,46,15,31,132,0,0,0,0,0
+.L25_110:
 	xor %r11d,%r11d
 	mov %rdi,%rbx
 	.byte 102,46,15,31,132,0,0,0,0,0
-.L25_130:
+.L25_120:
 	prefetcht0 0x400(%r10,%r11,1)
 	prefetcht0 0x440(%r10,%r11,1)
 	prefetcht0 0x480(%r10,%r11,1)
@@ -5486,8 +5481,9 @@ twox_core.width_128.oneshot_long_derived:
 	vpaddq %ymm4,%ymm0,%ymm0
 	add $0x100,%r11
 	add $0x20,%rbx
+	.byte 102,102,46,15,31,132,0,0,0,0,0
 	cmp $0x400,%r11
-	jne .L25_130
+	jne .L25_120
 	vpsrlq $0x2f,%ymm1,%ymm4
 	vpxor %ymm1,%ymm2,%ymm1
 	vpxor %ymm4,%ymm1,%ymm1
@@ -5506,17 +5502,17 @@ twox_core.width_128.oneshot_long_derived:
 	add $0x400,%r8
 	add $0x400,%r10
 	cmp %rsi,%r9
-	jne .L25_120
+	jne .L25_110
 	and $0xfffffffffffffc00,%rax
 	lea (%rdx,%rax,1),%rsi
 	not %rax
 	add %rcx,%rax
 	shr $0x6,%rax
 	je .L25_33b
-.L25_2e8:
+.L25_2e3:
 	shl $0x3,%rax
 	xor %edi,%edi
-	.byte 102,144
+	.byte 15,31,128,0,0,0,0
 .L25_2f0:
 	vmovdqu (%rsi,%rdi,8),%ymm2
 	vmovdqu 0x20(%rsi,%rdi,8),%ymm3
@@ -9009,12 +9005,9 @@ XXH3_generateSecret_fromSeed:
 	.cfi_startproc
 	vmovq %rsi,%xmm0
 	vpbroadcastq %xmm0,%ymm0
-	vmovq %xmm0,%xmm1
-	vpslldq $0x8,%xmm0,%xmm2
-	vpsubq %ymm2,%ymm1,%ymm1
-	vpblendd $0x30,%ymm0,%ymm1,%ymm0
-	vinserti128 $0x1,%xmm1,%ymm0,%ymm1
-	vpblendd $0xc0,%ymm1,%ymm0,%ymm0
+	vpxor %xmm1,%xmm1,%xmm1
+	vpsubq %ymm0,%ymm1,%ymm1
+	vpunpckhqdq %ymm1,%ymm0,%ymm0
 	vpaddq .L91_400(%rip),%ymm0,%ymm1
 	vpaddq .L91_420(%rip),%ymm0,%ymm2
 	vpaddq .L91_440(%rip),%ymm0,%ymm3
@@ -11284,12 +11277,9 @@ proved_XXH3_128bits_reset_withSeed:
 	mov %rsi,%rdx
 	vmovq %rsi,%xmm0
 	vpbroadcastq %xmm0,%ymm0
-	vmovq %xmm0,%xmm1
-	vpslldq $0x8,%xmm0,%xmm2
-	vpsubq %ymm2,%ymm1,%ymm1
-	vpblendd $0x30,%ymm0,%ymm1,%ymm0
-	vinserti128 $0x1,%xmm1,%ymm0,%ymm1
-	vpblendd $0xc0,%ymm1,%ymm0,%ymm0
+	vpxor %xmm1,%xmm1,%xmm1
+	vpsubq %ymm0,%ymm1,%ymm1
+	vpunpckhqdq %ymm1,%ymm0,%ymm0
 	vpaddq .L91_4c0(%rip),%ymm0,%ymm1
 	vpaddq .L91_4e0(%rip),%ymm0,%ymm2
 	vpaddq .L91_500(%rip),%ymm0,%ymm3
@@ -11359,12 +11349,9 @@ proved_XXH3_64bits_reset_withSeed:
 	mov %rsi,%rdx
 	vmovq %rsi,%xmm0
 	vpbroadcastq %xmm0,%ymm0
-	vmovq %xmm0,%xmm1
-	vpslldq $0x8,%xmm0,%xmm2
-	vpsubq %ymm2,%ymm1,%ymm1
-	vpblendd $0x30,%ymm0,%ymm1,%ymm0
-	vinserti128 $0x1,%xmm1,%ymm0,%ymm1
-	vpblendd $0xc0,%ymm1,%ymm0,%ymm0
+	vpxor %xmm1,%xmm1,%xmm1
+	vpsubq %ymm0,%ymm1,%ymm1
+	vpunpckhqdq %ymm1,%ymm0,%ymm0
 	vpaddq .L91_580(%rip),%ymm0,%ymm1
 	vpaddq .L91_5a0(%rip),%ymm0,%ymm2
 	vpaddq .L91_5c0(%rip),%ymm0,%ymm3

@@ -2998,27 +2998,23 @@ twox_core.width_64.oneshot_derived_by_eight_lanes:
 	.cfi_def_cfa_offset 288
 	vmovq %rdi,%xmm0
 	vpbroadcastq %xmm0,%ymm0
-	vmovq %xmm0,%xmm1
-	vpslldq $0x8,%xmm0,%xmm2
-	vpsubq %ymm2,%ymm1,%ymm1
-	vpblendd $0x30,%ymm0,%ymm1,%ymm0
-	vinserti128 $0x1,%xmm1,%ymm0,%ymm1
-	vpblendd $0xc0,%ymm1,%ymm0,%ymm0
-	vpaddq .L98_e0(%rip),%ymm0,%ymm1
-	vpaddq .L98_100(%rip),%ymm0,%ymm2
-	vpaddq .L98_120(%rip),%ymm0,%ymm3
-	vpaddq .L98_140(%rip),%ymm0,%ymm4
-	vpaddq .L98_160(%rip),%ymm0,%ymm5
+	vpxor %xmm1,%xmm1,%xmm1
+	vpsubq %ymm0,%ymm1,%ymm2
+	vpunpckhqdq %ymm2,%ymm0,%ymm0
+	vpaddq .L98_e0(%rip),%ymm0,%ymm2
+	vpaddq .L98_100(%rip),%ymm0,%ymm3
+	vpaddq .L98_120(%rip),%ymm0,%ymm4
+	vpaddq .L98_140(%rip),%ymm0,%ymm5
+	vpaddq .L98_160(%rip),%ymm0,%ymm6
 	vpaddq .L98_180(%rip),%ymm0,%ymm0
-	vmovdqu %ymm1,0x48(%rsp)
-	vmovdqu %ymm2,0x68(%rsp)
-	vmovdqu %ymm3,0x88(%rsp)
-	vmovdqu %ymm4,0xa8(%rsp)
-	vmovdqu %ymm5,0xc8(%rsp)
+	vmovdqu %ymm2,0x48(%rsp)
+	vmovdqu %ymm3,0x68(%rsp)
+	vmovdqu %ymm4,0x88(%rsp)
+	vmovdqu %ymm5,0xa8(%rsp)
+	vmovdqu %ymm6,0xc8(%rsp)
 	vmovdqu %ymm0,0xe8(%rsp)
-	vpxor %xmm0,%xmm0,%xmm0
-	vmovdqu %ymm0,0x20(%rsp)
-	vmovdqu %ymm0,(%rsp)
+	vmovdqu %ymm1,0x20(%rsp)
+	vmovdqu %ymm1,(%rsp)
 	mov %rdx,%rbx
 	mov %rsi,%r14
 	movq $0x0,0x40(%rsp)
@@ -3100,12 +3096,9 @@ twox_core.width_64.oneshot_long_derived:
 	.cfi_def_cfa_offset 208
 	vmovq %rdi,%xmm0
 	vpbroadcastq %xmm0,%ymm0
-	vmovq %xmm0,%xmm1
-	vpslldq $0x8,%xmm0,%xmm2
-	vpsubq %ymm2,%ymm1,%ymm1
-	vpblendd $0x30,%ymm0,%ymm1,%ymm0
-	vinserti128 $0x1,%xmm1,%ymm0,%ymm1
-	vpblendd $0xc0,%ymm1,%ymm0,%ymm0
+	vpxor %xmm1,%xmm1,%xmm1
+	vpsubq %ymm0,%ymm1,%ymm1
+	vpunpckhqdq %ymm1,%ymm0,%ymm0
 	vpaddq .L98_1a0(%rip),%ymm0,%ymm1
 	vpaddq .L98_1c0(%rip),%ymm0,%ymm4
 	vpaddq .L98_1e0(%rip),%ymm0,%ymm5
@@ -3120,20 +3113,20 @@ twox_core.width_64.oneshot_long_derived:
 	mov %rdx,%rcx
 	mov %rsi,%rdx
 	vmovdqu %ymm3,0xa0(%rsp)
+	.byte 15,31,0
 	cmp $0x7bff,%rcx
-	ja .L17_d5
-	.byte 15,31,128,0,0,0,0
+	ja .L17_be
 	cmp $0x401,%rcx
-	jae .L17_ee
+	jae .L17_d7
 	vmovdqa .L98_260(%rip),%ymm0
 	vmovdqa .L98_280(%rip),%ymm1
 	mov $0xffffffffffffffff,%rax
 	mov %rdx,%rsi
 	add %rcx,%rax
 	shr $0x6,%rax
-	jne .L17_2e8
+	jne .L17_2e3
 	jmp .L17_33b
-.L17_d5:
+.L17_be:
 	mov %rsp,%rdi
 	mov $0xc0,%esi
 	vzeroupper
@@ -3146,7 +3139,7 @@ twox_core.width_64.oneshot_long_derived:
 	ret
 	.cfi_def_cfa_offset 208
 	.cfi_offset 3, -16
-.L17_ee:
+.L17_d7:
 	lea -0x1(%rcx),%rax
 	mov %rax,%rsi
 	shr $0xa,%rsi
@@ -3156,12 +3149,12 @@ twox_core.width_64.oneshot_long_derived:
 	vmovdqa .L98_280(%rip),%ymm1
 	xor %r9d,%r9d
 	mov %rdx,%r10
-	.byte 15,31,68,0,0
-.L17_120:
+	.byte 102,102,102,46,15,31,132,0,0,0,0,0
+.L17_110:
 	xor %r11d,%r11d
 	mov %rdi,%rbx
 	.byte 102,46,15,31,132,0,0,0,0,0
-.L17_130:
+.L17_120:
 	prefetcht0 0x400(%r10,%r11,1)
 	prefetcht0 0x440(%r10,%r11,1)
 	prefetcht0 0x480(%r10,%r11,1)
@@ -3218,8 +3211,9 @@ twox_core.width_64.oneshot_long_derived:
 	vpaddq %ymm4,%ymm0,%ymm0
 	add $0x100,%r11
 	add $0x20,%rbx
+	.byte 102,102,46,15,31,132,0,0,0,0,0
 	cmp $0x400,%r11
-	jne .L17_130
+	jne .L17_120
 	vpsrlq $0x2f,%ymm1,%ymm4
 	vpxor %ymm1,%ymm2,%ymm1
 	vpxor %ymm4,%ymm1,%ymm1
@@ -3238,17 +3232,17 @@ twox_core.width_64.oneshot_long_derived:
 	add $0x400,%r8
 	add $0x400,%r10
 	cmp %rsi,%r9
-	jne .L17_120
+	jne .L17_110
 	and $0xfffffffffffffc00,%rax
 	lea (%rdx,%rax,1),%rsi
 	not %rax
 	add %rcx,%rax
 	shr $0x6,%rax
 	je .L17_33b
-.L17_2e8:
+.L17_2e3:
 	shl $0x3,%rax
 	xor %edi,%edi
-	.byte 102,144
+	.byte 15,31,128,0,0,0,0
 .L17_2f0:
 	vmovdqu (%rsi,%rdi,8),%ymm2
 	vmovdqu 0x20(%rsi,%rdi,8),%ymm3
@@ -6067,27 +6061,23 @@ twox_core.width_128.oneshot_derived_by_eight_lanes:
 	.cfi_def_cfa_offset 288
 	vmovq %rdi,%xmm0
 	vpbroadcastq %xmm0,%ymm0
-	vmovq %xmm0,%xmm1
-	vpslldq $0x8,%xmm0,%xmm2
-	vpsubq %ymm2,%ymm1,%ymm1
-	vpblendd $0x30,%ymm0,%ymm1,%ymm0
-	vinserti128 $0x1,%xmm1,%ymm0,%ymm1
-	vpblendd $0xc0,%ymm1,%ymm0,%ymm0
-	vpaddq .L98_360(%rip),%ymm0,%ymm1
-	vpaddq .L98_380(%rip),%ymm0,%ymm2
-	vpaddq .L98_3a0(%rip),%ymm0,%ymm3
-	vpaddq .L98_3c0(%rip),%ymm0,%ymm4
-	vpaddq .L98_3e0(%rip),%ymm0,%ymm5
+	vpxor %xmm1,%xmm1,%xmm1
+	vpsubq %ymm0,%ymm1,%ymm2
+	vpunpckhqdq %ymm2,%ymm0,%ymm0
+	vpaddq .L98_360(%rip),%ymm0,%ymm2
+	vpaddq .L98_380(%rip),%ymm0,%ymm3
+	vpaddq .L98_3a0(%rip),%ymm0,%ymm4
+	vpaddq .L98_3c0(%rip),%ymm0,%ymm5
+	vpaddq .L98_3e0(%rip),%ymm0,%ymm6
 	vpaddq .L98_400(%rip),%ymm0,%ymm0
-	vmovdqu %ymm1,0x48(%rsp)
-	vmovdqu %ymm2,0x68(%rsp)
-	vmovdqu %ymm3,0x88(%rsp)
-	vmovdqu %ymm4,0xa8(%rsp)
-	vmovdqu %ymm5,0xc8(%rsp)
+	vmovdqu %ymm2,0x48(%rsp)
+	vmovdqu %ymm3,0x68(%rsp)
+	vmovdqu %ymm4,0x88(%rsp)
+	vmovdqu %ymm5,0xa8(%rsp)
+	vmovdqu %ymm6,0xc8(%rsp)
 	vmovdqu %ymm0,0xe8(%rsp)
-	vpxor %xmm0,%xmm0,%xmm0
-	vmovdqu %ymm0,0x20(%rsp)
-	vmovdqu %ymm0,(%rsp)
+	vmovdqu %ymm1,0x20(%rsp)
+	vmovdqu %ymm1,(%rsp)
 	mov %rdx,%rbx
 	mov %rsi,%r14
 	movq $0x0,0x40(%rsp)
@@ -6203,12 +6193,9 @@ twox_core.width_128.oneshot_long_derived:
 	.cfi_def_cfa_offset 208
 	vmovq %rdi,%xmm0
 	vpbroadcastq %xmm0,%ymm0
-	vmovq %xmm0,%xmm1
-	vpslldq $0x8,%xmm0,%xmm2
-	vpsubq %ymm2,%ymm1,%ymm1
-	vpblendd $0x30,%ymm0,%ymm1,%ymm0
-	vinserti128 $0x1,%xmm1,%ymm0,%ymm1
-	vpblendd $0xc0,%ymm1,%ymm0,%ymm0
+	vpxor %xmm1,%xmm1,%xmm1
+	vpsubq %ymm0,%ymm1,%ymm1
+	vpunpckhqdq %ymm1,%ymm0,%ymm0
 	vpaddq .L98_420(%rip),%ymm0,%ymm1
 	vpaddq .L98_440(%rip),%ymm0,%ymm4
 	vpaddq .L98_460(%rip),%ymm0,%ymm5
@@ -6223,20 +6210,20 @@ twox_core.width_128.oneshot_long_derived:
 	mov %rdx,%rcx
 	mov %rsi,%rdx
 	vmovdqu %ymm3,0xa0(%rsp)
+	.byte 15,31,0
 	cmp $0x7bff,%rcx
-	ja .L31_d5
-	.byte 15,31,128,0,0,0,0
+	ja .L31_be
 	cmp $0x401,%rcx
-	jae .L31_ee
+	jae .L31_d7
 	vmovdqa .L98_4e0(%rip),%ymm0
 	vmovdqa .L98_500(%rip),%ymm1
 	mov $0xffffffffffffffff,%rax
 	mov %rdx,%rsi
 	add %rcx,%rax
 	shr $0x6,%rax
-	jne .L31_2e8
+	jne .L31_2e3
 	jmp .L31_33b
-.L31_d5:
+.L31_be:
 	mov %rsp,%rdi
 	mov $0xc0,%esi
 	vzeroupper
@@ -6249,7 +6236,7 @@ twox_core.width_128.oneshot_long_derived:
 	ret
 	.cfi_def_cfa_offset 208
 	.cfi_offset 3, -16
-.L31_ee:
+.L31_d7:
 	lea -0x1(%rcx),%rax
 	mov %rax,%rsi
 	shr $0xa,%rsi
@@ -6259,12 +6246,12 @@ twox_core.width_128.oneshot_long_derived:
 	vmovdqa .L98_500(%rip),%ymm1
 	xor %r9d,%r9d
 	mov %rdx,%r10
-	.byte 15,31,68,0,0
-.L31_120:
+	.byte 102,102,102,46,15,31,132,0,0,0,0,0
+.L31_110:
 	xor %r11d,%r11d
 	mov %rdi,%rbx
 	.byte 102,46,15,31,132,0,0,0,0,0
-.L31_130:
+.L31_120:
 	prefetcht0 0x400(%r10,%r11,1)
 	prefetcht0 0x440(%r10,%r11,1)
 	prefetcht0 0x480(%r10,%r11,1)
@@ -6321,8 +6308,9 @@ twox_core.width_128.oneshot_long_derived:
 	vpaddq %ymm4,%ymm0,%ymm0
 	add $0x100,%r11
 	add $0x20,%rbx
+	.byte 102,102,46,15,31,132,0,0,0,0,0
 	cmp $0x400,%r11
-	jne .L31_130
+	jne .L31_120
 	vpsrlq $0x2f,%ymm1,%ymm4
 	vpxor %ymm1,%ymm2,%ymm1
 	vpxor %ymm4,%ymm1,%ymm1
@@ -6341,17 +6329,17 @@ twox_core.width_128.oneshot_long_derived:
 	add $0x400,%r8
 	add $0x400,%r10
 	cmp %rsi,%r9
-	jne .L31_120
+	jne .L31_110
 	and $0xfffffffffffffc00,%rax
 	lea (%rdx,%rax,1),%rsi
 	not %rax
 	add %rcx,%rax
 	shr $0x6,%rax
 	je .L31_33b
-.L31_2e8:
+.L31_2e3:
 	shl $0x3,%rax
 	xor %edi,%edi
-	.byte 102,144
+	.byte 15,31,128,0,0,0,0
 .L31_2f0:
 	vmovdqu (%rsi,%rdi,8),%ymm2
 	vmovdqu 0x20(%rsi,%rdi,8),%ymm3
@@ -9844,12 +9832,9 @@ XXH3_generateSecret_fromSeed:
 	.cfi_startproc
 	vmovq %rsi,%xmm0
 	vpbroadcastq %xmm0,%ymm0
-	vmovq %xmm0,%xmm1
-	vpslldq $0x8,%xmm0,%xmm2
-	vpsubq %ymm2,%ymm1,%ymm1
-	vpblendd $0x30,%ymm0,%ymm1,%ymm0
-	vinserti128 $0x1,%xmm1,%ymm0,%ymm1
-	vpblendd $0xc0,%ymm1,%ymm0,%ymm0
+	vpxor %xmm1,%xmm1,%xmm1
+	vpsubq %ymm0,%ymm1,%ymm1
+	vpunpckhqdq %ymm1,%ymm0,%ymm0
 	vpaddq .L98_5a0(%rip),%ymm0,%ymm1
 	vpaddq .L98_5c0(%rip),%ymm0,%ymm2
 	vpaddq .L98_5e0(%rip),%ymm0,%ymm3
@@ -12119,12 +12104,9 @@ proved_XXH3_128bits_reset_withSeed:
 	mov %rsi,%rdx
 	vmovq %rsi,%xmm0
 	vpbroadcastq %xmm0,%ymm0
-	vmovq %xmm0,%xmm1
-	vpslldq $0x8,%xmm0,%xmm2
-	vpsubq %ymm2,%ymm1,%ymm1
-	vpblendd $0x30,%ymm0,%ymm1,%ymm0
-	vinserti128 $0x1,%xmm1,%ymm0,%ymm1
-	vpblendd $0xc0,%ymm1,%ymm0,%ymm0
+	vpxor %xmm1,%xmm1,%xmm1
+	vpsubq %ymm0,%ymm1,%ymm1
+	vpunpckhqdq %ymm1,%ymm0,%ymm0
 	vpaddq .L98_660(%rip),%ymm0,%ymm1
 	vpaddq .L98_680(%rip),%ymm0,%ymm2
 	vpaddq .L98_6a0(%rip),%ymm0,%ymm3
@@ -12194,12 +12176,9 @@ proved_XXH3_64bits_reset_withSeed:
 	mov %rsi,%rdx
 	vmovq %rsi,%xmm0
 	vpbroadcastq %xmm0,%ymm0
-	vmovq %xmm0,%xmm1
-	vpslldq $0x8,%xmm0,%xmm2
-	vpsubq %ymm2,%ymm1,%ymm1
-	vpblendd $0x30,%ymm0,%ymm1,%ymm0
-	vinserti128 $0x1,%xmm1,%ymm0,%ymm1
-	vpblendd $0xc0,%ymm1,%ymm0,%ymm0
+	vpxor %xmm1,%xmm1,%xmm1
+	vpsubq %ymm0,%ymm1,%ymm1
+	vpunpckhqdq %ymm1,%ymm0,%ymm0
 	vpaddq .L98_720(%rip),%ymm0,%ymm1
 	vpaddq .L98_740(%rip),%ymm0,%ymm2
 	vpaddq .L98_760(%rip),%ymm0,%ymm3

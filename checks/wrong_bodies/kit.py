@@ -71,8 +71,8 @@ rt = load()
 
 
 def identity():
-    """What tells this kit from others."""
-    return f"{read(f'{rt.rtlib.KIT}/KIT-ID')} {os.path.getsize(rt.rtlib.RATTLE)}"
+    """What tells this kit's prover from others: its logic's sum, and its size. Kits of other names may have the same."""
+    return f"{re.search('logic .*', read(f'{rt.rtlib.KIT}/KIT-ID'))[0]}, {os.path.getsize(rt.rtlib.RATTLE)} bytes"
 
 
 def one_job():

@@ -48,12 +48,13 @@ class Memory:
             os.replace(file.name, os.path.join(FOLDER, its_sum))
 
     def sum_of(self, edit, crate):
-        """The sum of the edit, of the kit and of this program, of what the crate and those below it state and prove, and of the
-        one body that the edit changes, or where it changes none alone, of all bodies of the crate."""
+        """The sum of the edit, of the kit and of this program, of what the crate and those below it state, and of the one body
+        that the edit changes with its answers, or where it changes none alone, of all bodies and answers of the crate."""
         text = kit.read(f"{crate.folder}/{edit.path}").split("\n") if edit.function else []
         own = text[edit.body.head:edit.body.last + 1] if edit.function else [self.bodies(crate)]
+        answers = self.answers(crate, edit.function.split("::")[-1] if edit.function else "")
         stated = map(self.stated, [crate, *crate.below()])
-        return sum_of([self.machinery(), edit.name, kit.read(edit.file), *own, *stated])
+        return sum_of([self.machinery(), edit.name, kit.read(edit.file), *own, answers, *stated])
 
     def machinery(self):
         judges = [f"{HERE}/{name}.py" for name in JUDGES]
@@ -62,12 +63,19 @@ class Memory:
     def bodies(self, crate):
         return self.known(f"bodies of {crate.name}", lambda: [kit.read(it) for it in files_of(crate, "src", "rt")])
 
+    def answers(self, crate, function):
+        """What lies in the folders of a function's name, and of cycles; without a name in those of all."""
+        folders = {it: os.path.basename(os.path.dirname(it)) for it in files_of(crate, "proofs", "antt") if not is_lemmas(crate, it)}
+        own = [it for it, folder in folders.items() if folder.startswith("+") or function in ("", folder)]
+        return self.known(f"answers of {crate.name} {function}", lambda: map(kit.read, own))
+
     def stated(self, crate):
+        """The contracts, the definitions and the lemmas."""
         def texts():
             for path in files_of(crate, "src", "rt"):
                 yield source.without_bodies(os.path.relpath(path, crate.folder), kit.read(path))
-            for part in ("specs", "proofs"):
-                yield from map(kit.read, files_of(crate, part, "antt"))
+            yield from map(kit.read, files_of(crate, "specs", "antt"))
+            yield from (kit.read(it) for it in files_of(crate, "proofs", "antt") if is_lemmas(crate, it))
         return self.known(f"statements of {crate.name}", texts)
 
     def known(self, name, texts):
@@ -95,6 +103,11 @@ def write(rows):
 
 def files_of(crate, part, ending):
     return sorted(glob.glob(f"{crate.folder}/{part}/**/*.{ending}", recursive=True))
+
+
+def is_lemmas(crate, path):
+    """Whether others may cite a file of proofs/: what lies deeper answers the goals of one function."""
+    return os.path.dirname(path) == f"{crate.folder}/proofs"
 
 
 def sum_of(texts):

@@ -3645,12 +3645,9 @@ twox_core.width_128.oneshot_long_derived.i4_v3:
 	.cfi_def_cfa_offset 208
 	vmovq %rdi,%xmm0
 	vpbroadcastq %xmm0,%ymm0
-	vmovq %xmm0,%xmm1
-	vpslldq $0x8,%xmm0,%xmm2
-	vpsubq %ymm2,%ymm1,%ymm1
-	vpblendd $0x30,%ymm0,%ymm1,%ymm0
-	vinserti128 $0x1,%xmm1,%ymm0,%ymm1
-	vpblendd $0xc0,%ymm1,%ymm0,%ymm0
+	vpxor %xmm1,%xmm1,%xmm1
+	vpsubq %ymm0,%ymm1,%ymm1
+	vpunpckhqdq %ymm1,%ymm0,%ymm0
 	vpaddq .L58_c0.i4_v3(%rip),%ymm0,%ymm1
 	vpaddq .L58_e0.i4_v3(%rip),%ymm0,%ymm4
 	vpaddq .L58_100.i4_v3(%rip),%ymm0,%ymm5
@@ -3665,20 +3662,20 @@ twox_core.width_128.oneshot_long_derived.i4_v3:
 	mov %rdx,%rcx
 	mov %rsi,%rdx
 	vmovdqu %ymm3,0xa0(%rsp)
+	.byte 15,31,0
 	cmp $0x7bff,%rcx
-	ja .L16_d5.i4_v3
-	.byte 15,31,128,0,0,0,0
+	ja .L16_be.i4_v3
 	cmp $0x401,%rcx
-	jae .L16_ee.i4_v3
+	jae .L16_d7.i4_v3
 	vmovdqa .L58_180.i4_v3(%rip),%ymm0
 	vmovdqa .L58_1a0.i4_v3(%rip),%ymm1
 	mov $0xffffffffffffffff,%rax
 	mov %rdx,%rsi
 	add %rcx,%rax
 	shr $0x6,%rax
-	jne .L16_2e8.i4_v3
+	jne .L16_2e3.i4_v3
 	jmp .L16_33b.i4_v3
-.L16_d5.i4_v3:
+.L16_be.i4_v3:
 	mov %rsp,%rdi
 	mov $0xc0,%esi
 	vzeroupper
@@ -3691,7 +3688,7 @@ twox_core.width_128.oneshot_long_derived.i4_v3:
 	ret
 	.cfi_def_cfa_offset 208
 	.cfi_offset 3, -16
-.L16_ee.i4_v3:
+.L16_d7.i4_v3:
 	lea -0x1(%rcx),%rax
 	mov %rax,%rsi
 	shr $0xa,%rsi
@@ -3701,12 +3698,12 @@ twox_core.width_128.oneshot_long_derived.i4_v3:
 	vmovdqa .L58_1a0.i4_v3(%rip),%ymm1
 	xor %r9d,%r9d
 	mov %rdx,%r10
-	.byte 15,31,68,0,0
-.L16_120.i4_v3:
+	.byte 102,102,102,46,15,31,132,0,0,0,0,0
+.L16_110.i4_v3:
 	xor %r11d,%r11d
 	mov %rdi,%rbx
 	.byte 102,46,15,31,132,0,0,0,0,0
-.L16_130.i4_v3:
+.L16_120.i4_v3:
 	prefetcht0 0x400(%r10,%r11,1)
 	prefetcht0 0x440(%r10,%r11,1)
 	prefetcht0 0x480(%r10,%r11,1)
@@ -3763,8 +3760,9 @@ twox_core.width_128.oneshot_long_derived.i4_v3:
 	vpaddq %ymm4,%ymm0,%ymm0
 	add $0x100,%r11
 	add $0x20,%rbx
+	.byte 102,102,46,15,31,132,0,0,0,0,0
 	cmp $0x400,%r11
-	jne .L16_130.i4_v3
+	jne .L16_120.i4_v3
 	vpsrlq $0x2f,%ymm1,%ymm4
 	vpxor %ymm1,%ymm2,%ymm1
 	vpxor %ymm4,%ymm1,%ymm1
@@ -3783,17 +3781,17 @@ twox_core.width_128.oneshot_long_derived.i4_v3:
 	add $0x400,%r8
 	add $0x400,%r10
 	cmp %rsi,%r9
-	jne .L16_120.i4_v3
+	jne .L16_110.i4_v3
 	and $0xfffffffffffffc00,%rax
 	lea (%rdx,%rax,1),%rsi
 	not %rax
 	add %rcx,%rax
 	shr $0x6,%rax
 	je .L16_33b.i4_v3
-.L16_2e8.i4_v3:
+.L16_2e3.i4_v3:
 	shl $0x3,%rax
 	xor %edi,%edi
-	.byte 102,144
+	.byte 15,31,128,0,0,0,0
 .L16_2f0.i4_v3:
 	vmovdqu (%rsi,%rdi,8),%ymm2
 	vmovdqu 0x20(%rsi,%rdi,8),%ymm3
@@ -5325,12 +5323,9 @@ twox_core.width_64.oneshot_long_derived.i4_v3:
 	.cfi_def_cfa_offset 208
 	vmovq %rdi,%xmm0
 	vpbroadcastq %xmm0,%ymm0
-	vmovq %xmm0,%xmm1
-	vpslldq $0x8,%xmm0,%xmm2
-	vpsubq %ymm2,%ymm1,%ymm1
-	vpblendd $0x30,%ymm0,%ymm1,%ymm0
-	vinserti128 $0x1,%xmm1,%ymm0,%ymm1
-	vpblendd $0xc0,%ymm1,%ymm0,%ymm0
+	vpxor %xmm1,%xmm1,%xmm1
+	vpsubq %ymm0,%ymm1,%ymm1
+	vpunpckhqdq %ymm1,%ymm0,%ymm0
 	vpaddq .L58_280.i4_v3(%rip),%ymm0,%ymm1
 	vpaddq .L58_2a0.i4_v3(%rip),%ymm0,%ymm4
 	vpaddq .L58_2c0.i4_v3(%rip),%ymm0,%ymm5
@@ -5345,20 +5340,20 @@ twox_core.width_64.oneshot_long_derived.i4_v3:
 	mov %rdx,%rcx
 	mov %rsi,%rdx
 	vmovdqu %ymm3,0xa0(%rsp)
+	.byte 15,31,0
 	cmp $0x7bff,%rcx
-	ja .L22_d5.i4_v3
-	.byte 15,31,128,0,0,0,0
+	ja .L22_be.i4_v3
 	cmp $0x401,%rcx
-	jae .L22_ee.i4_v3
+	jae .L22_d7.i4_v3
 	vmovdqa .L58_340.i4_v3(%rip),%ymm0
 	vmovdqa .L58_360.i4_v3(%rip),%ymm1
 	mov $0xffffffffffffffff,%rax
 	mov %rdx,%rsi
 	add %rcx,%rax
 	shr $0x6,%rax
-	jne .L22_2e8.i4_v3
+	jne .L22_2e3.i4_v3
 	jmp .L22_33b.i4_v3
-.L22_d5.i4_v3:
+.L22_be.i4_v3:
 	mov %rsp,%rdi
 	mov $0xc0,%esi
 	vzeroupper
@@ -5371,7 +5366,7 @@ twox_core.width_64.oneshot_long_derived.i4_v3:
 	ret
 	.cfi_def_cfa_offset 208
 	.cfi_offset 3, -16
-.L22_ee.i4_v3:
+.L22_d7.i4_v3:
 	lea -0x1(%rcx),%rax
 	mov %rax,%rsi
 	shr $0xa,%rsi
@@ -5381,12 +5376,12 @@ twox_core.width_64.oneshot_long_derived.i4_v3:
 	vmovdqa .L58_360.i4_v3(%rip),%ymm1
 	xor %r9d,%r9d
 	mov %rdx,%r10
-	.byte 15,31,68,0,0
-.L22_120.i4_v3:
+	.byte 102,102,102,46,15,31,132,0,0,0,0,0
+.L22_110.i4_v3:
 	xor %r11d,%r11d
 	mov %rdi,%rbx
 	.byte 102,46,15,31,132,0,0,0,0,0
-.L22_130.i4_v3:
+.L22_120.i4_v3:
 	prefetcht0 0x400(%r10,%r11,1)
 	prefetcht0 0x440(%r10,%r11,1)
 	prefetcht0 0x480(%r10,%r11,1)
@@ -5443,8 +5438,9 @@ twox_core.width_64.oneshot_long_derived.i4_v3:
 	vpaddq %ymm4,%ymm0,%ymm0
 	add $0x100,%r11
 	add $0x20,%rbx
+	.byte 102,102,46,15,31,132,0,0,0,0,0
 	cmp $0x400,%r11
-	jne .L22_130.i4_v3
+	jne .L22_120.i4_v3
 	vpsrlq $0x2f,%ymm1,%ymm4
 	vpxor %ymm1,%ymm2,%ymm1
 	vpxor %ymm4,%ymm1,%ymm1
@@ -5463,17 +5459,17 @@ twox_core.width_64.oneshot_long_derived.i4_v3:
 	add $0x400,%r8
 	add $0x400,%r10
 	cmp %rsi,%r9
-	jne .L22_120.i4_v3
+	jne .L22_110.i4_v3
 	and $0xfffffffffffffc00,%rax
 	lea (%rdx,%rax,1),%rsi
 	not %rax
 	add %rcx,%rax
 	shr $0x6,%rax
 	je .L22_33b.i4_v3
-.L22_2e8.i4_v3:
+.L22_2e3.i4_v3:
 	shl $0x3,%rax
 	xor %edi,%edi
-	.byte 102,144
+	.byte 15,31,128,0,0,0,0
 .L22_2f0.i4_v3:
 	vmovdqu (%rsi,%rdi,8),%ymm2
 	vmovdqu 0x20(%rsi,%rdi,8),%ymm3
@@ -7159,12 +7155,9 @@ twox_rust_4_derive_secret_v3:
 	.cfi_startproc
 	vmovq %rsi,%xmm0
 	vpbroadcastq %xmm0,%ymm0
-	vmovq %xmm0,%xmm1
-	vpslldq $0x8,%xmm0,%xmm2
-	vpsubq %ymm2,%ymm1,%ymm1
-	vpblendd $0x30,%ymm0,%ymm1,%ymm0
-	vinserti128 $0x1,%xmm1,%ymm0,%ymm1
-	vpblendd $0xc0,%ymm1,%ymm0,%ymm0
+	vpxor %xmm1,%xmm1,%xmm1
+	vpsubq %ymm0,%ymm1,%ymm1
+	vpunpckhqdq %ymm1,%ymm0,%ymm0
 	vpaddq .L58_380.i4_v3(%rip),%ymm0,%ymm1
 	vpaddq .L58_3a0.i4_v3(%rip),%ymm0,%ymm2
 	vpaddq .L58_3c0.i4_v3(%rip),%ymm0,%ymm3

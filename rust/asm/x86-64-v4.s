@@ -4259,27 +4259,23 @@ twox_core.width_128.oneshot_derived_by_eight_lanes.i4_v4:
 	.cfi_def_cfa_offset 288
 	vmovq %rdi,%xmm0
 	vpbroadcastq %xmm0,%ymm0
-	vmovq %xmm0,%xmm1
-	vpslldq $0x8,%xmm0,%xmm2
-	vpsubq %ymm2,%ymm1,%ymm1
-	vpblendd $0x30,%ymm0,%ymm1,%ymm0
-	vinserti128 $0x1,%xmm1,%ymm0,%ymm1
-	vpblendd $0xc0,%ymm1,%ymm0,%ymm0
-	vpaddq .L65_e0.i4_v4(%rip),%ymm0,%ymm1
-	vpaddq .L65_100.i4_v4(%rip),%ymm0,%ymm2
-	vpaddq .L65_120.i4_v4(%rip),%ymm0,%ymm3
-	vpaddq .L65_140.i4_v4(%rip),%ymm0,%ymm4
-	vpaddq .L65_160.i4_v4(%rip),%ymm0,%ymm5
+	vpxor %xmm1,%xmm1,%xmm1
+	vpsubq %ymm0,%ymm1,%ymm2
+	vpunpckhqdq %ymm2,%ymm0,%ymm0
+	vpaddq .L65_e0.i4_v4(%rip),%ymm0,%ymm2
+	vpaddq .L65_100.i4_v4(%rip),%ymm0,%ymm3
+	vpaddq .L65_120.i4_v4(%rip),%ymm0,%ymm4
+	vpaddq .L65_140.i4_v4(%rip),%ymm0,%ymm5
+	vpaddq .L65_160.i4_v4(%rip),%ymm0,%ymm6
 	vpaddq .L65_180.i4_v4(%rip),%ymm0,%ymm0
-	vmovdqu %ymm1,0x48(%rsp)
-	vmovdqu %ymm2,0x68(%rsp)
-	vmovdqu %ymm3,0x88(%rsp)
-	vmovdqu %ymm4,0xa8(%rsp)
-	vmovdqu %ymm5,0xc8(%rsp)
+	vmovdqu %ymm2,0x48(%rsp)
+	vmovdqu %ymm3,0x68(%rsp)
+	vmovdqu %ymm4,0x88(%rsp)
+	vmovdqu %ymm5,0xa8(%rsp)
+	vmovdqu %ymm6,0xc8(%rsp)
 	vmovdqu %ymm0,0xe8(%rsp)
-	vpxor %xmm0,%xmm0,%xmm0
-	vmovdqu %ymm0,0x20(%rsp)
-	vmovdqu %ymm0,(%rsp)
+	vmovdqu %ymm1,0x20(%rsp)
+	vmovdqu %ymm1,(%rsp)
 	mov %rdx,%rbx
 	mov %rsi,%r14
 	movq $0x0,0x40(%rsp)
@@ -4395,12 +4391,9 @@ twox_core.width_128.oneshot_long_derived.i4_v4:
 	.cfi_def_cfa_offset 208
 	vmovq %rdi,%xmm0
 	vpbroadcastq %xmm0,%ymm0
-	vmovq %xmm0,%xmm1
-	vpslldq $0x8,%xmm0,%xmm2
-	vpsubq %ymm2,%ymm1,%ymm1
-	vpblendd $0x30,%ymm0,%ymm1,%ymm0
-	vinserti128 $0x1,%xmm1,%ymm0,%ymm1
-	vpblendd $0xc0,%ymm1,%ymm0,%ymm0
+	vpxor %xmm1,%xmm1,%xmm1
+	vpsubq %ymm0,%ymm1,%ymm1
+	vpunpckhqdq %ymm1,%ymm0,%ymm0
 	vpaddq .L65_1a0.i4_v4(%rip),%ymm0,%ymm1
 	vpaddq .L65_1c0.i4_v4(%rip),%ymm0,%ymm4
 	vpaddq .L65_1e0.i4_v4(%rip),%ymm0,%ymm5
@@ -4415,20 +4408,20 @@ twox_core.width_128.oneshot_long_derived.i4_v4:
 	mov %rdx,%rcx
 	mov %rsi,%rdx
 	vmovdqu %ymm3,0xa0(%rsp)
+	.byte 15,31,0
 	cmp $0x7bff,%rcx
-	ja .L20_d5.i4_v4
-	.byte 15,31,128,0,0,0,0
+	ja .L20_be.i4_v4
 	cmp $0x401,%rcx
-	jae .L20_ee.i4_v4
+	jae .L20_d7.i4_v4
 	vmovdqa .L65_260.i4_v4(%rip),%ymm0
 	vmovdqa .L65_280.i4_v4(%rip),%ymm1
 	mov $0xffffffffffffffff,%rax
 	mov %rdx,%rsi
 	add %rcx,%rax
 	shr $0x6,%rax
-	jne .L20_2e8.i4_v4
+	jne .L20_2e3.i4_v4
 	jmp .L20_33b.i4_v4
-.L20_d5.i4_v4:
+.L20_be.i4_v4:
 	mov %rsp,%rdi
 	mov $0xc0,%esi
 	vzeroupper
@@ -4441,7 +4434,7 @@ twox_core.width_128.oneshot_long_derived.i4_v4:
 	ret
 	.cfi_def_cfa_offset 208
 	.cfi_offset 3, -16
-.L20_ee.i4_v4:
+.L20_d7.i4_v4:
 	lea -0x1(%rcx),%rax
 	mov %rax,%rsi
 	shr $0xa,%rsi
@@ -4451,12 +4444,12 @@ twox_core.width_128.oneshot_long_derived.i4_v4:
 	vmovdqa .L65_280.i4_v4(%rip),%ymm1
 	xor %r9d,%r9d
 	mov %rdx,%r10
-	.byte 15,31,68,0,0
-.L20_120.i4_v4:
+	.byte 102,102,102,46,15,31,132,0,0,0,0,0
+.L20_110.i4_v4:
 	xor %r11d,%r11d
 	mov %rdi,%rbx
 	.byte 102,46,15,31,132,0,0,0,0,0
-.L20_130.i4_v4:
+.L20_120.i4_v4:
 	prefetcht0 0x400(%r10,%r11,1)
 	prefetcht0 0x440(%r10,%r11,1)
 	prefetcht0 0x480(%r10,%r11,1)
@@ -4513,8 +4506,9 @@ twox_core.width_128.oneshot_long_derived.i4_v4:
 	vpaddq %ymm4,%ymm0,%ymm0
 	add $0x100,%r11
 	add $0x20,%rbx
+	.byte 102,102,46,15,31,132,0,0,0,0,0
 	cmp $0x400,%r11
-	jne .L20_130.i4_v4
+	jne .L20_120.i4_v4
 	vpsrlq $0x2f,%ymm1,%ymm4
 	vpxor %ymm1,%ymm2,%ymm1
 	vpxor %ymm4,%ymm1,%ymm1
@@ -4533,17 +4527,17 @@ twox_core.width_128.oneshot_long_derived.i4_v4:
 	add $0x400,%r8
 	add $0x400,%r10
 	cmp %rsi,%r9
-	jne .L20_120.i4_v4
+	jne .L20_110.i4_v4
 	and $0xfffffffffffffc00,%rax
 	lea (%rdx,%rax,1),%rsi
 	not %rax
 	add %rcx,%rax
 	shr $0x6,%rax
 	je .L20_33b.i4_v4
-.L20_2e8.i4_v4:
+.L20_2e3.i4_v4:
 	shl $0x3,%rax
 	xor %edi,%edi
-	.byte 102,144
+	.byte 15,31,128,0,0,0,0
 .L20_2f0.i4_v4:
 	vmovdqu (%rsi,%rdi,8),%ymm2
 	vmovdqu 0x20(%rsi,%rdi,8),%ymm3
@@ -6054,27 +6048,23 @@ twox_core.width_64.oneshot_derived_by_eight_lanes.i4_v4:
 	.cfi_def_cfa_offset 288
 	vmovq %rdi,%xmm0
 	vpbroadcastq %xmm0,%ymm0
-	vmovq %xmm0,%xmm1
-	vpslldq $0x8,%xmm0,%xmm2
-	vpsubq %ymm2,%ymm1,%ymm1
-	vpblendd $0x30,%ymm0,%ymm1,%ymm0
-	vinserti128 $0x1,%xmm1,%ymm0,%ymm1
-	vpblendd $0xc0,%ymm1,%ymm0,%ymm0
-	vpaddq .L65_360.i4_v4(%rip),%ymm0,%ymm1
-	vpaddq .L65_380.i4_v4(%rip),%ymm0,%ymm2
-	vpaddq .L65_3a0.i4_v4(%rip),%ymm0,%ymm3
-	vpaddq .L65_3c0.i4_v4(%rip),%ymm0,%ymm4
-	vpaddq .L65_3e0.i4_v4(%rip),%ymm0,%ymm5
+	vpxor %xmm1,%xmm1,%xmm1
+	vpsubq %ymm0,%ymm1,%ymm2
+	vpunpckhqdq %ymm2,%ymm0,%ymm0
+	vpaddq .L65_360.i4_v4(%rip),%ymm0,%ymm2
+	vpaddq .L65_380.i4_v4(%rip),%ymm0,%ymm3
+	vpaddq .L65_3a0.i4_v4(%rip),%ymm0,%ymm4
+	vpaddq .L65_3c0.i4_v4(%rip),%ymm0,%ymm5
+	vpaddq .L65_3e0.i4_v4(%rip),%ymm0,%ymm6
 	vpaddq .L65_400.i4_v4(%rip),%ymm0,%ymm0
-	vmovdqu %ymm1,0x48(%rsp)
-	vmovdqu %ymm2,0x68(%rsp)
-	vmovdqu %ymm3,0x88(%rsp)
-	vmovdqu %ymm4,0xa8(%rsp)
-	vmovdqu %ymm5,0xc8(%rsp)
+	vmovdqu %ymm2,0x48(%rsp)
+	vmovdqu %ymm3,0x68(%rsp)
+	vmovdqu %ymm4,0x88(%rsp)
+	vmovdqu %ymm5,0xa8(%rsp)
+	vmovdqu %ymm6,0xc8(%rsp)
 	vmovdqu %ymm0,0xe8(%rsp)
-	vpxor %xmm0,%xmm0,%xmm0
-	vmovdqu %ymm0,0x20(%rsp)
-	vmovdqu %ymm0,(%rsp)
+	vmovdqu %ymm1,0x20(%rsp)
+	vmovdqu %ymm1,(%rsp)
 	mov %rdx,%rbx
 	mov %rsi,%r14
 	movq $0x0,0x40(%rsp)
@@ -6156,12 +6146,9 @@ twox_core.width_64.oneshot_long_derived.i4_v4:
 	.cfi_def_cfa_offset 208
 	vmovq %rdi,%xmm0
 	vpbroadcastq %xmm0,%ymm0
-	vmovq %xmm0,%xmm1
-	vpslldq $0x8,%xmm0,%xmm2
-	vpsubq %ymm2,%ymm1,%ymm1
-	vpblendd $0x30,%ymm0,%ymm1,%ymm0
-	vinserti128 $0x1,%xmm1,%ymm0,%ymm1
-	vpblendd $0xc0,%ymm1,%ymm0,%ymm0
+	vpxor %xmm1,%xmm1,%xmm1
+	vpsubq %ymm0,%ymm1,%ymm1
+	vpunpckhqdq %ymm1,%ymm0,%ymm0
 	vpaddq .L65_420.i4_v4(%rip),%ymm0,%ymm1
 	vpaddq .L65_440.i4_v4(%rip),%ymm0,%ymm4
 	vpaddq .L65_460.i4_v4(%rip),%ymm0,%ymm5
@@ -6176,20 +6163,20 @@ twox_core.width_64.oneshot_long_derived.i4_v4:
 	mov %rdx,%rcx
 	mov %rsi,%rdx
 	vmovdqu %ymm3,0xa0(%rsp)
+	.byte 15,31,0
 	cmp $0x7bff,%rcx
-	ja .L28_d5.i4_v4
-	.byte 15,31,128,0,0,0,0
+	ja .L28_be.i4_v4
 	cmp $0x401,%rcx
-	jae .L28_ee.i4_v4
+	jae .L28_d7.i4_v4
 	vmovdqa .L65_4e0.i4_v4(%rip),%ymm0
 	vmovdqa .L65_500.i4_v4(%rip),%ymm1
 	mov $0xffffffffffffffff,%rax
 	mov %rdx,%rsi
 	add %rcx,%rax
 	shr $0x6,%rax
-	jne .L28_2e8.i4_v4
+	jne .L28_2e3.i4_v4
 	jmp .L28_33b.i4_v4
-.L28_d5.i4_v4:
+.L28_be.i4_v4:
 	mov %rsp,%rdi
 	mov $0xc0,%esi
 	vzeroupper
@@ -6202,7 +6189,7 @@ twox_core.width_64.oneshot_long_derived.i4_v4:
 	ret
 	.cfi_def_cfa_offset 208
 	.cfi_offset 3, -16
-.L28_ee.i4_v4:
+.L28_d7.i4_v4:
 	lea -0x1(%rcx),%rax
 	mov %rax,%rsi
 	shr $0xa,%rsi
@@ -6212,12 +6199,12 @@ twox_core.width_64.oneshot_long_derived.i4_v4:
 	vmovdqa .L65_500.i4_v4(%rip),%ymm1
 	xor %r9d,%r9d
 	mov %rdx,%r10
-	.byte 15,31,68,0,0
-.L28_120.i4_v4:
+	.byte 102,102,102,46,15,31,132,0,0,0,0,0
+.L28_110.i4_v4:
 	xor %r11d,%r11d
 	mov %rdi,%rbx
 	.byte 102,46,15,31,132,0,0,0,0,0
-.L28_130.i4_v4:
+.L28_120.i4_v4:
 	prefetcht0 0x400(%r10,%r11,1)
 	prefetcht0 0x440(%r10,%r11,1)
 	prefetcht0 0x480(%r10,%r11,1)
@@ -6274,8 +6261,9 @@ twox_core.width_64.oneshot_long_derived.i4_v4:
 	vpaddq %ymm4,%ymm0,%ymm0
 	add $0x100,%r11
 	add $0x20,%rbx
+	.byte 102,102,46,15,31,132,0,0,0,0,0
 	cmp $0x400,%r11
-	jne .L28_130.i4_v4
+	jne .L28_120.i4_v4
 	vpsrlq $0x2f,%ymm1,%ymm4
 	vpxor %ymm1,%ymm2,%ymm1
 	vpxor %ymm4,%ymm1,%ymm1
@@ -6294,17 +6282,17 @@ twox_core.width_64.oneshot_long_derived.i4_v4:
 	add $0x400,%r8
 	add $0x400,%r10
 	cmp %rsi,%r9
-	jne .L28_120.i4_v4
+	jne .L28_110.i4_v4
 	and $0xfffffffffffffc00,%rax
 	lea (%rdx,%rax,1),%rsi
 	not %rax
 	add %rcx,%rax
 	shr $0x6,%rax
 	je .L28_33b.i4_v4
-.L28_2e8.i4_v4:
+.L28_2e3.i4_v4:
 	shl $0x3,%rax
 	xor %edi,%edi
-	.byte 102,144
+	.byte 15,31,128,0,0,0,0
 .L28_2f0.i4_v4:
 	vmovdqu (%rsi,%rdi,8),%ymm2
 	vmovdqu 0x20(%rsi,%rdi,8),%ymm3
@@ -7990,12 +7978,9 @@ twox_rust_4_derive_secret_v4:
 	.cfi_startproc
 	vmovq %rsi,%xmm0
 	vpbroadcastq %xmm0,%ymm0
-	vmovq %xmm0,%xmm1
-	vpslldq $0x8,%xmm0,%xmm2
-	vpsubq %ymm2,%ymm1,%ymm1
-	vpblendd $0x30,%ymm0,%ymm1,%ymm0
-	vinserti128 $0x1,%xmm1,%ymm0,%ymm1
-	vpblendd $0xc0,%ymm1,%ymm0,%ymm0
+	vpxor %xmm1,%xmm1,%xmm1
+	vpsubq %ymm0,%ymm1,%ymm1
+	vpunpckhqdq %ymm1,%ymm0,%ymm0
 	vpaddq .L65_520.i4_v4(%rip),%ymm0,%ymm1
 	vpaddq .L65_540.i4_v4(%rip),%ymm0,%ymm2
 	vpaddq .L65_560.i4_v4(%rip),%ymm0,%ymm3

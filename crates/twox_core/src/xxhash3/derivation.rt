@@ -47,9 +47,11 @@ pub fn derive_secret(seed: u64, secret: &mut DefaultSecret)
     ensures default { secret.old ≡ default_secret → secret.new ≡ derived_secret seed }
 {
     // Two pairs are changed as one vector, so that they are stored by 32 bytes where the processor can: what is stored
-    // by 16 can't be handed on to the loads of 32 bytes that come next.
-    let loss = seed.wrapping_neg();
-    let change = u64x4::from_array([seed, loss, seed, loss]);
+    // by 16 can't be handed on to the loads of 32 bytes that come next. The seed goes to a vector once, and is negated
+    // there.
+    let gain = u64x4::splat(seed);
+    let loss = u64x4::splat(0) - gain;
+    let change = gain.shuffle(loss, [0, 5, 2, 7]);
     for k in 0..6 {
         let pairs = &mut secret[32 * k..32 * k + 32];
         let words = u64x4::from_le_bytes(u8x32::from_slice(pairs));

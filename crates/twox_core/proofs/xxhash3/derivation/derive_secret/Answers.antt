@@ -1,4 +1,4 @@
-use Rattle.std.proofs.Common.{◌≡◌, ◌*◌, ◌++◌, [], ℕ, List, length, drop, get_or, Fits, w8, rules, refl, ap, ◌∙◌, arith}
+use Rattle.std.proofs.Common.{◌≡◌, ◌+◌, ◌-◌, ◌*◌, ◌%◌, ◌^◌, ◌++◌, [], ℕ, List, length, drop, get_or, Fits, w8, rules, refl, ap, ◌∙◌, arith}
 use Rattle.std.proofs.lemmas.List.{append-nil}
 use Rattle.std.proofs.Math.ListN.{drop_of_length-le}
 use Rattle.twox_core.specs.Secret.{derived_pairs, derived_secret}
@@ -15,9 +15,9 @@ loop-k-preserved c =
     let k = c.loop-k.k in
     let cur = c.loop-k.secret in
     let seed = c.args.seed in
-    let loss = c.wrapping_neg-loss.result in
+    let loss : ℕ = (0 + (2 ^ 64 - seed)) % 2 ^ 64 in
     let bytes : (i : ℕ) → Fits w8 (get_or cur i 0) = search rules in
-    two_pairs_changed seed loss s cur k _ (omega arith) bytes (omega arith) (omega arith) (omega arith) (omega (arith, c.wrapping_neg-loss.ensures)) c.loop-k.invariant
+    two_pairs_changed seed loss s cur k _ (omega arith) bytes (omega arith) (omega arith) (omega arith) (omega arith) c.loop-k.invariant
 
 pub returns : goal.returns
 unfolding derived_secret
