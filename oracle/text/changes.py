@@ -19,7 +19,7 @@ from .questions import CRASH, OTHERS, by_induction, further, near, questions, re
 EQUAL = os.path.join(os.path.dirname(os.path.abspath(__file__)), "equal_changes.txt")
 LIMIT = 40_000                   # instructions of a changed text's call
 MOST, NEAR, FEWEST = 200, 40, 10  # the shortest requests, of which so few are asked over symbols; requests near to them
-MANY, DRAWS, PARTS = 1000, 10, 2  # changes of a text with --all, in so many draws, which are in parts
+MANY, DRAWS, ROWS = 1000, 10, 2   # changes of a text with --all, in so many draws, which are in some rows
 FEW, SOME = 40, 20                # without it, and of some functions
 IDLE = "nop", "prefetcht0", "vzeroupper", "ud2"
 UNNOTICED = "unnoticed"

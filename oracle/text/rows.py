@@ -358,7 +358,7 @@ def machine_rows(texts, others, is_all):
 
 def change_rows(texts, is_all):
     """Changes of one instruction; with --all of some draws, in parts."""
-    parts = [range(part, changes.DRAWS, changes.PARTS) for part in range(changes.PARTS)] if is_all else [[0]]
+    parts = [range(row, changes.DRAWS, changes.ROWS) for row in range(changes.ROWS)] if is_all else [[0]]
     for name, program in texts.items():
         is_v4 = name.endswith(V4)
         title = f"changes of one instruction{' in the widened functions of' if is_v4 else ','} {name}"
