@@ -12,8 +12,9 @@ from .nodes import Undecided, symbol
 WORD = 64
 DEPTH = 4                     # how often a fact may be taken away
 TRIED, KEPT = 60, 8           # points that are drawn, and how many are kept
-NEAR, STAYS = 600, 0.7        # how many are drawn near to known ones, and of these how often a variable stays
-SEARCHED, IN_TURN = 40000, 100    # how many are drawn until one is found, and so many of them of each choices
+NEAR, STAYS = 100, 0.7        # how many are drawn near to known ones, and of these how often a variable stays
+SEARCHED, IN_TURN = 400, 20   # how many are drawn until one is found, and so many of them of each choices
+MOVES = 40                    # of a point, to where the facts hold
 CHOICES = (0, 1, 2, 3, 5, 62, 200), (0, 1, 7, 15, 480, 1 << 20, 1 << 32)
 
 facts, least, known = [], {}, {}   # polynomials >= 0; variable -> its least value; what was decided under these facts
@@ -209,11 +210,25 @@ def drawn_points(names, draw, around, attempts):
         kept = {name for name in begun if attempt < TRIED or draw.random() < STAYS}
         point = {name: max(begun[name], least.get(name, 0)) if name in kept else
                  least.get(name, 0) + (draw.choice(choices) if attempt else 0) for name in names}
-        if all(value_at(fact, point) >= 0 for fact in facts):
-            found.append(point)
+        found += [point for point in [moved(point, draw)] if point]
         if len(found) == KEPT or found and attempt > TRIED:
             break
     return found
+
+
+def moved(point, draw):
+    """A point, one variable of which after another is moved to where a fact holds, until all do; or None."""
+    for _ in range(MOVES):
+        broken = [(fact, value) for fact in facts if (value := value_at(fact, point)) < 0]
+        if not broken:
+            return point
+        fact, value = draw.choice(broken)
+        name = draw.choice(sorted(names_of(fact)))
+        slope = value_at(fact, {**point, name: point[name] + 1}) - value
+        if slope:
+            steps = -(value // abs(slope))
+            point = {**point, name: max(least.get(name, 0), point[name] + (steps if slope > 0 else -steps))}
+    return None
 
 
 def from_zero(x):

@@ -2,7 +2,7 @@
 from terms.llvm_text import Unsupported
 from terms.nodes import Node, memo
 from terms.polynomials import Poly, is_natural, is_number, minus, plus
-from terms.rules import ones
+from terms.rules import ones, zeros_below
 
 from ..flags import is_below, is_equal
 from ..linked import RETURN, Page, ReturnTo
@@ -72,7 +72,7 @@ def united(a, b):
 
 def is_below_bits_of(a, b):
     """Whether a number has no bit from the lowest on that another one may have."""
-    below, _, known = split(b) if isinstance(b, Poly) else (1, 0, 0)
+    below, _, known = split(b) if isinstance(b, Poly) else (0, b, zeros_below(b) if b else 0)
     return not below and is_natural(minus(ones(known), a))
 
 
