@@ -4,7 +4,9 @@ condition or shift, an instruction left out, or two neighbours in the other orde
 A change is asked of questions that run the instruction (questions.py). It is noticed where the text comes to another term
 than the definition, or does what no call may do. Those that aren't are listed in equal_changes.txt with their reasons;
 one of these that is noticed after all fails as well. A crash of this program isn't counted as noticed."""
+import collections
 import functools
+import hashlib
 import itertools
 import os
 import random
@@ -109,19 +111,36 @@ def is_form(x, name):
 
 
 def drawn(cpu, places, draw):
-    """(place, text, instructions) of random changes, without end. What computes nothing isn't changed."""
-    while True:
-        section, at = draw.choice(places)
-        x = cpu.program.sections[section][at]
-        if x.mnemonic in IDLE:
-            continue
-        ways = list(of_instruction(x, draw))
-        if x.end in cpu.program.sections[section]:
-            ways += swapped(x, cpu.program.sections[section][x.end])
-        what, instructions = draw.choice(ways)
-        if all(is_form(y, cpu.name) for y in instructions) and instructions != [x]:
-            text = f"{section[6:]} {written(x)}: {what} {'; '.join(map(written, instructions))} (at {at:#x})"
-            yield (section, at), text, instructions
+    """(place, text, instructions) of random changes. Their order goes by functions and instructions alone, so that of a
+    function that stays as it is the same ones are drawn, whatever becomes of others."""
+    salt, kept = draw.getrandbits(32), set(places)
+    for key, place in sorted((key, place) for key, place in keys(cpu, places, salt) if place in kept):
+        yield from changed_at(cpu, place, random.Random(key))
+
+
+def keys(cpu, places, salt):
+    """(word, place) of each instruction of the places' functions."""
+    seen = collections.Counter()
+    for section, at, x in ((section, at, x) for section in sorted({section for section, _ in places})
+                           for at, x in sorted(cpu.program.sections[section].items())):
+        what = f"{section} {written(x)}"
+        seen[what] += 1
+        yield hashlib.sha256(f"{salt} {what} {seen[what]}".encode()).hexdigest(), (section, at)
+
+
+def changed_at(cpu, place, draw):
+    """A change at a place, or none. What computes nothing isn't changed."""
+    section, at = place
+    x = cpu.program.sections[section][at]
+    if x.mnemonic in IDLE:
+        return
+    ways = list(of_instruction(x, draw))
+    if x.end in cpu.program.sections[section]:
+        ways += swapped(x, cpu.program.sections[section][x.end])
+    what, instructions = draw.choice(ways)
+    if all(is_form(y, cpu.name) for y in instructions) and instructions != [x]:
+        text = f"{section[6:]} {written(x)}: {what} {'; '.join(map(written, instructions))} (at {at:#x})"
+        yield place, text, instructions
 
 
 def written(x):
