@@ -33,6 +33,7 @@ LEFT_OUT = ("3-64", "both", 136), ("3-128", "secret", 136)
 FAR = [("3-64", "default", None, 31_744), ("3-64", "secret", 136, 31_800), ("3-128", "secret", 192, 31_744),
        ("3-128", "seed", None, 32_700)]
 LONG_STREAMS = [(2700 + 131 * k, 600 + 64 * k) for k in range(16)]
+OF_BLOCKS = 3146, 600             # bytes of a stream, whose second piece has two whole blocks and ends with the second
 # Of changes that these don't notice: bytes up to which a request has others near to it, and further requests: each short
 # length, and each number of stripes of two blocks.
 NEAR_TO, BUFFERED, LENGTHS = 10_000, 512, [*range(300), *range(300, 2400, 61)]
@@ -54,6 +55,7 @@ def requests(is_all):
     for hash_name in ("3-64", "3-128"):
         for n, secret in BY_SECRETS:
             yield Request(hash_name, "secret", n, secret)
+    yield Request("3-64", "seed", OF_BLOCKS[0], cuts=OF_BLOCKS[1:])
     yield from long_requests() if is_all else ()
 
 
