@@ -210,7 +210,7 @@ def drawn_points(names, draw, around, attempts):
         kept = {name for name in begun if attempt < TRIED or draw.random() < STAYS}
         point = {name: max(begun[name], least.get(name, 0)) if name in kept else
                  least.get(name, 0) + (draw.choice(choices) if attempt else 0) for name in names}
-        found += [point for point in [moved(point, draw)] if point]
+        found += [point for point in [moved(point, draw)] if point is not None]
         if len(found) == KEPT or found and attempt > TRIED:
             break
     return found
