@@ -136,13 +136,13 @@ class Loops:
             if self.running[place] is not None:
                 raise NotShown(f"the loop at {place[0]} {place[1]:x} isn't left")
             return place
-        is_within = None in self.running.values()      # another's turn
-        may_begin = place[1] in self.heads(place[0]) and not self.is_guessing and place not in self.given_up
-        if may_begin and (self.proof.HAS_INNER or not is_within):
+        within = tuple(head for head, end in self.running.items() if end is None)      # others, of which this is a turn
+        may_begin = place[1] in self.heads(place[0]) and not self.is_guessing and (within, place) not in self.given_up
+        if may_begin and (self.proof.HAS_INNER or not within):
             if self.proof(self, cpu, place).show():
                 self.running[place] = self.heads(place[0])[place[1]]
-            elif is_within:                            # a number of turns
-                self.given_up.add(place)
+            elif within:                               # a number of turns
+                self.given_up.add((within, place))
         return place
 
 

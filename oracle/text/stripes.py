@@ -86,7 +86,7 @@ class StripesProof(Proof):
         start = family.behind(part.start, done) if done else part.start
         first = family.stripes(start)
         family.total = plus(family.stripes(part.start), part.turns)
-        if isinstance(minus(family.total, first), int) and part.turns in (0, 1) or not self.holds(first):
+        if isinstance(minus(family.total, first), int) or not self.holds(first):      # a number of turns is run
             return False
         self.first_place = start
         if not self.guess_of_some(first):
