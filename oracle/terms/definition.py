@@ -6,7 +6,7 @@ import antt
 import table
 
 from . import operations
-from .nodes import Undecided, memo
+from .nodes import Undecided, WrongRule, is_same, memo
 from .polynomials import Poly, is_number, is_natural, minus, monus, plus, smaller
 
 ENTRIES = table.ENTRIES + ["word64", "Xxh32.accumulator", "Xxh64.accumulator", "Long.accumulator_after"]
@@ -42,17 +42,23 @@ def length(xs):
     return xs.length() if isinstance(xs, Bytes) else len(xs)
 
 
-words = memo()   # (bits, symbol, first byte, bytes) -> the word, which antt.py makes once
+words = memo()           # (symbol, first byte, bytes) -> the word
+added = set()            # (bits, bytes) of which a word was compared with what antt.py makes of its bytes one by one
 
 
 def from_le_bytes(bits, xs):
+    """Bytes of an input are a symbol's, and their word is so many bits of it."""
     if not isinstance(xs, Bytes):
         return word_of_bytes(bits, xs)
     n = min(xs.length(), bits // 8)
     whole, first = xs.source.window(xs.first, n)
-    key = bits, whole.number, first, n
+    key = whole.number, first, n
     if key not in words:
-        words[key] = word_of_bytes(bits, Bytes(xs.source, xs.first, plus(xs.first, n)))
+        words[key] = operations.bits(whole, 8 * first, 8 * n)
+    if (bits, n) not in added:
+        added.add((bits, n))
+        if not is_same(words[key], word_of_bytes(bits, Bytes(xs.source, xs.first, plus(xs.first, n)))):
+            raise WrongRule(f"a word of {n} bytes")
     return words[key]
 
 

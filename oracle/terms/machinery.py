@@ -112,6 +112,8 @@ def laws(draw, message):
         (wrap(add(multiply(bits(v, 0, 32), 0x85EBCA77), multiply(shift_right(v, 32), 1 << 32))),
          wrap(add(v, multiply(bits(v, 0, 32), 0x85EBCA76)))),
         (monus((1 << 64) - 1, s), wrap(add(monus(1 << 64, s), (1 << 64) - 1))),
+        (wrap(add(xor(x, (1 << 64) - 1), c)), wrap(add(monus((1 << 64) - 1, x), c))),
+        (wrap(add(xor(z, (1 << 64) - 1), x)), wrap(add(x, monus((1 << 64) - 1, z)))),
         (shift_right(remainder(multiply(add(multiply(s, 1 << 64), v), c), 1 << 128), 64),
          wrap(add(shift_right(multiply(v, c), 64), multiply(s, c)))),
         *(pair for b in (s, c | 1 << 40)     # a number with both halves

@@ -12,10 +12,10 @@ from .nodes import Undecided, symbol
 WORD = 64
 DEPTH = 4                     # how often a fact may be taken away
 TRIED, KEPT = 60, 8           # points that are drawn, and how many are kept
-NEAR, STAYS = 600, 0.7        # how many are drawn near to known ones, and of these how often a variable stays
-SEARCHED = 20000              # how many are drawn until one is found
-CHOICES = 0, 1, 2, 3, 5, 62, 200
-FURTHER = 0, 1, 7, 15, 480, 1 << 20, 1 << 32     # where none of these was found
+NEAR, STAYS = 100, 0.7        # how many are drawn near to known ones, and of these how often a variable stays
+SEARCHED, IN_TURN = 400, 20   # how many are drawn until one is found, and so many of them of each choices
+MOVES = 40                    # of a point, to where the facts hold
+CHOICES = (0, 1, 2, 3, 5, 62, 200), (0, 1, 7, 15, 480, 1 << 20, 1 << 32)
 
 facts, least, known = [], {}, {}   # polynomials >= 0; variable -> its least value; what was decided under these facts
 KEY = "facts' key"                 # in `known`: what stands for the facts in `possible`
@@ -83,8 +83,12 @@ def made(parts):
 
 
 def plus(*terms):
-    if all(x.__class__ is int for x in terms):
-        return sum(terms)
+    if len(terms) == 2:
+        a, b = terms
+        if a.__class__ is int:
+            return a + b if b.__class__ is int else with_constant(b, a)
+        if b.__class__ is int:
+            return with_constant(a, b)
     out = {}
     for x in terms:
         for names, c in parts_of(x).items():
@@ -92,11 +96,20 @@ def plus(*terms):
     return made(out)
 
 
+def with_constant(x, c):
+    """A polynomial and a number added."""
+    parts = dict(x.parts)
+    c += parts.pop((), 0)
+    if c:
+        parts[()] = c
+    return Poly(parts)
+
+
 def minus(a, b):
     """a - b, which may be negative."""
-    if isinstance(a, int) and isinstance(b, int):
-        return a - b
-    return plus(a, times(-1, b))
+    if isinstance(b, int):
+        return plus(a, -b)
+    return plus(a, Poly({names: -c for names, c in b.parts.items()}))
 
 
 def times(a, b):
@@ -170,7 +183,7 @@ def points_for(x):
     """Some points at which each fact holds, with values for the variables of x."""
     names = sorted(names_of(x) - names_of(*facts))
     for number, point in enumerate(possible.get(known.get(KEY), ())):
-        yield {**point, **{name: least.get(name, 0) + CHOICES[(number + k) % len(CHOICES)] for k,
+        yield {**point, **{name: least.get(name, 0) + CHOICES[0][(number + k) % len(CHOICES[0])] for k,
                            name in enumerate(names)}}
 
 
@@ -182,7 +195,7 @@ def expect_possible(around):
     known[KEY] = key
     if key not in possible:
         names, draw = sorted(names_of(*facts)), random.Random(1)
-        found = drawn_points(names, draw, possible.get(around, ()), NEAR) or drawn_points(names, draw, (), 2 * SEARCHED)
+        found = drawn_points(names, draw, possible.get(around, ()), NEAR) or drawn_points(names, draw, (), SEARCHED)
         if not found:
             raise Undecided(f"facts that hold nowhere, as far as was seen: {facts} {least}")
         possible[key] = found
@@ -192,16 +205,30 @@ def drawn_points(names, draw, around, attempts):
     """Points at which the facts hold; or some that are near to others, of which most variables stay."""
     found = []
     for attempt in range(attempts):
-        choices = CHOICES if attempt < SEARCHED else FURTHER
+        choices = CHOICES[attempt // IN_TURN % len(CHOICES)]
         begun = around[attempt % len(around)] if around else {}
         kept = {name for name in begun if attempt < TRIED or draw.random() < STAYS}
         point = {name: max(begun[name], least.get(name, 0)) if name in kept else
                  least.get(name, 0) + (draw.choice(choices) if attempt else 0) for name in names}
-        if all(value_at(fact, point) >= 0 for fact in facts):
-            found.append(point)
+        found += [point for point in [moved(point, draw)] if point is not None]
         if len(found) == KEPT or found and attempt > TRIED:
             break
     return found
+
+
+def moved(point, draw):
+    """A point, one variable of which after another is moved to where a fact holds, until all do; or None."""
+    for _ in range(MOVES):
+        broken = [(fact, value) for fact in facts if (value := value_at(fact, point)) < 0]
+        if not broken:
+            return point
+        fact, value = draw.choice(broken)
+        name = draw.choice(sorted(names_of(fact)))
+        slope = value_at(fact, {**point, name: point[name] + 1}) - value
+        if slope:
+            steps = -(value // abs(slope))
+            point = {**point, name: max(least.get(name, 0), point[name] + (steps if slope > 0 else -steps))}
+    return None
 
 
 def from_zero(x):

@@ -13,6 +13,7 @@ from .loops import REFUSALS
 from .nodes import WrongRule
 
 SHOWN = 30                   # complaints of a row
+OWN = resource.RUSAGE_SELF, resource.RUSAGE_CHILDREN       # of a row's process
 FORK, STARTING = multiprocessing.get_context("fork"), threading.Lock()
 
 
@@ -31,10 +32,14 @@ def run(rows, jobs):
         for line, is_good in pool.map(in_process, rows):
             passed += is_good
             print(line, flush=True)
-    used = resource.getrusage(resource.RUSAGE_CHILDREN)
-    print(f"in {time.monotonic() - began:.0f} s, {used.ru_utime + used.ru_stime:.0f} s of processor time")
+    print(f"in {time.monotonic() - began:.0f} s, {processor_time(resource.RUSAGE_CHILDREN):.0f} s of processor time")
     print(f"{passed} passed, {len(rows) - passed} failed")
     return 1 if passed < len(rows) or not rows else 0
+
+
+def processor_time(of):
+    used = resource.getrusage(of)
+    return used.ru_utime + used.ru_stime
 
 
 def in_process(row):
@@ -59,7 +64,8 @@ def answer(row, pipe):
     else:
         with changes.limits():
             what, bad = outcome(row)
-    used = f"{time.monotonic() - began:.1f} s, {resource.getrusage(resource.RUSAGE_SELF).ru_maxrss // 1024} MB"
+    used = f"{time.monotonic() - began:.1f} s, {sum(map(processor_time, OWN)):.1f} s of processor time, " \
+           f"{resource.getrusage(resource.RUSAGE_SELF).ru_maxrss // 1024} MB"
     lines = [f"{'FAILED' if bad else 'ok'} {row.title}: {what}; {used}", *(f"    {line}" for line in bad[:SHOWN])]
     pipe.send(("\n".join(lines), not bad))
 

@@ -13,7 +13,8 @@ Each rule has its name there; `use` counts it here. In words, for naturals, w, j
     narrowed_sum, narrowed_product    a sum and a product mod 2^w are those of the parts mod 2^w
     high_of_a_sum         ((r + 2^k y) mod 2^w) / 2^k = ((r mod 2^w) / 2^k + y) mod 2^(w - k) for k <= w
 
-Those of operations.py: xor_in_any_order, bits_apart, mask, union_with_ones, complement, small_remainder.
+Those of operations.py: xor_in_any_order, bits_apart, mask, union_with_ones, complement (here of a part of a sum too),
+small_remainder.
 """
 from .nodes import BITS, NODES, OPAQUE, PRODUCT, SUM, SYMBOL, Node, memo, node, use
 
@@ -312,6 +313,10 @@ class Collected:
         is_low = len(atoms) == 1 and not constant and not atoms[0][1] and whole.kind is SUM
         if is_low and (min(length, whole.width) >= room or whole.is_exact and length == whole.width):
             self.take_apart(c, whole)
+        elif length == self.width and constant == ones(length) and room == length:
+            use("complement")
+            self.constant += c * constant
+            self.put(-c, (length, 0, atoms))
         elif length <= room:
             self.put(c, segment)
         else:

@@ -60,7 +60,7 @@ def left_out(hash_name):
 
 class AnyUpdates:
     def __init__(self, cpu, hash_name):
-        self.cpu, self.hash_name = cpu, hash_name
+        self.cpu, self.hash_name, self.guesses = cpu, hash_name, {}
         self.width, self.stripe, self.at = int(hash_name), int(hash_name) // 2, LAYOUTS[hash_name]
         self.read()
 
@@ -138,7 +138,7 @@ class AnyUpdates:
         with given(at_most(self.source.length, LONGEST), *facts):
             state = self.state(a, one.r)
             piece = Piece(self.source, begun, minus(ended, begun))
-            self.cpu.loops, self.cpu.limit = Loops(self.cpu.program, self.family(b)), LIMIT
+            self.cpu.loops, self.cpu.limit = Loops(self.cpu.program, self.family(b), guesses=self.guesses), LIMIT
             try:
                 self.call(self.cpu.library.update, state, self.hash_name, state, piece)
             except REFUSALS as error:

@@ -7,7 +7,7 @@ import tempfile
 from terms import comparison
 from terms.sides import Request
 
-from . import calls, cargo_calls, cargo_planted, cargo_streams, every_length, rows, streams
+from . import calls, cargo_calls, cargo_planted, cargo_streams, every_length, rows, streams, xxh3_updates
 from .cargo import FOLDER, WAYS, CargoProgram, export_name
 from .cargo_exports import BEGIN, WORDS, expect_bodies, exports_left_out, shared
 from .instructions import V1, V3, V4
@@ -20,6 +20,8 @@ WIDENED = [*(export_name(name) + way for name in ("3-64", "3-128") for way in WA
 LENGTHS = [*range(34), 40, 64, 65, 96, 97, 128, 129, 144, 145, 240, 241, 256, 257, 300]
 EDGES_OF_BLOCKS = [1024, 1025, 1089]
 SOME, SOME_UPDATES = 32, 389      # each so many of the cases of every length, and of updates, without --all
+TAKING = [summary.name for summary in (xxh3_updates.TAKE, xxh3_updates.TAKE_MANY, xxh3_updates.TAKE_BLOCKS,
+                                       xxh3_updates.TAKE_WIDENED)]
 STREAMED = [("32", "seed"), ("64", "seed"), ("3-64", "both"), ("3-128", "seed")]      # without --all
 SECRETS, STREAM_SECRETS = (136,), (136, 193, 256)
 
@@ -77,7 +79,24 @@ def stream_rows(texts, is_all):
         if kind[1] != "secret" and (is_all or kind[:2] in STREAMED):
             yield rows.compared(texts, f"{BEGIN}streams of {rows.title_of(*kind)}", rows.few_streams(*kind), streams)
     yield from with_begin(rows.plain_stream_rows(rows.before_v4(made), is_all, SOME_UPDATES)[1:])
-    yield from with_begin(rows.xxh3_rows(made, is_all, cargo_streams.CargoUpdates))
+    yield from with_begin(xxh3_rows(made, is_all))
+
+
+def xxh3_rows(made, is_all):
+    """Functions that take stripes are c/asm's where that has the set, byte for byte, and have its rows with --all."""
+    found, kind = rows.xxh3_rows(made, is_all, cargo_streams.CargoUpdates), cargo_streams.CargoUpdates
+    like = [name for name in made if name.endswith(LIKE)] if is_all else []
+    for row in found:
+        if xxh3_updates.STRIPES not in row.title or not any(f", {name}," in row.title for name in like):
+            yield row
+    for name in like:
+        yield rows.counted(f"streams of XXH3: updates with a secret of 192 bytes, {name}", 1,
+                           functools.partial(one_update, made[name], kind))
+
+
+def one_update(make, kind):
+    proof = kind(make())
+    return rows.count_shown(proof, [proof.one_update])
 
 
 def with_begin(found):
@@ -99,9 +118,10 @@ def every_length_rows(texts, is_all):
 
 
 def expect_shared(program, other):
-    """How many there are. What is compiled for x86-64-v4 is among them."""
+    """How many there are. What is compiled for x86-64-v4 is among them, and what takes stripes."""
     found = shared(program, other)
-    bad = [f"{name} isn't" for name in program.functions if name.endswith("_widened") and name not in found]
+    bad = [f"{name} isn't" for name in program.functions
+           if (name.endswith("_widened") or name in TAKING) and name not in found]
     return len(found), bad
 
 

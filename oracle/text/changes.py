@@ -4,7 +4,9 @@ condition or shift, an instruction left out, or two neighbours in the other orde
 A change is asked of questions that run the instruction (questions.py). It is noticed where the text comes to another term
 than the definition, or does what no call may do. Those that aren't are listed in equal_changes.txt with their reasons;
 one of these that is noticed after all fails as well. A crash of this program isn't counted as noticed."""
+import collections
 import functools
+import hashlib
 import itertools
 import os
 import random
@@ -19,7 +21,7 @@ from .questions import CRASH, OTHERS, by_induction, further, near, questions, re
 EQUAL = os.path.join(os.path.dirname(os.path.abspath(__file__)), "equal_changes.txt")
 LIMIT = 40_000                   # instructions of a changed text's call
 MOST, NEAR, FEWEST = 200, 40, 10  # the shortest requests, of which so few are asked over symbols; requests near to them
-MANY, PARTS_OF_MANY = 1000, 10    # changes of a text with --all, in parts
+MANY, DRAWS, ROWS = 1000, 10, 2   # changes of a text with --all, in so many draws, which are in some rows
 FEW, SOME = 40, 20                # without it, and of some functions
 IDLE = "nop", "prefetcht0", "vzeroupper", "ud2"
 UNNOTICED = "unnoticed"
@@ -109,19 +111,36 @@ def is_form(x, name):
 
 
 def drawn(cpu, places, draw):
-    """(place, text, instructions) of random changes, without end. What computes nothing isn't changed."""
-    while True:
-        section, at = draw.choice(places)
-        x = cpu.program.sections[section][at]
-        if x.mnemonic in IDLE:
-            continue
-        ways = list(of_instruction(x, draw))
-        if x.end in cpu.program.sections[section]:
-            ways += swapped(x, cpu.program.sections[section][x.end])
-        what, instructions = draw.choice(ways)
-        if all(is_form(y, cpu.name) for y in instructions) and instructions != [x]:
-            text = f"{section[6:]} {written(x)}: {what} {'; '.join(map(written, instructions))} (at {at:#x})"
-            yield (section, at), text, instructions
+    """(place, text, instructions) of random changes. Their order goes by functions and instructions alone, so that of a
+    function that stays as it is the same ones are drawn, whatever becomes of others."""
+    salt, kept = draw.getrandbits(32), set(places)
+    for key, place in sorted((key, place) for key, place in keys(cpu, places, salt) if place in kept):
+        yield from changed_at(cpu, place, random.Random(key))
+
+
+def keys(cpu, places, salt):
+    """(word, place) of each instruction of the places' functions."""
+    seen = collections.Counter()
+    for section, at, x in ((section, at, x) for section in sorted({section for section, _ in places})
+                           for at, x in sorted(cpu.program.sections[section].items())):
+        what = f"{section} {written(x)}"
+        seen[what] += 1
+        yield hashlib.sha256(f"{salt} {what} {seen[what]}".encode()).hexdigest(), (section, at)
+
+
+def changed_at(cpu, place, draw):
+    """A change at a place, or none. What computes nothing isn't changed."""
+    section, at = place
+    x = cpu.program.sections[section][at]
+    if x.mnemonic in IDLE:
+        return
+    ways = list(of_instruction(x, draw))
+    if x.end in cpu.program.sections[section]:
+        ways += swapped(x, cpu.program.sections[section][x.end])
+    what, instructions = draw.choice(ways)
+    if all(is_form(y, cpu.name) for y in instructions) and instructions != [x]:
+        text = f"{section[6:]} {written(x)}: {what} {'; '.join(map(written, instructions))} (at {at:#x})"
+        yield place, text, instructions
 
 
 def written(x):
@@ -159,31 +178,38 @@ def more_ways(cpu, asked, entries, is_all, section):
         yield from (question.over_symbols for question in by_induction(cpu.program, requests, section))
 
 
-def noticed(name, program, count, is_all, word="", part=0):
+def noticed(name, program, count, is_all, word="", draws=(0,)):
     """(changes that were tried in functions with a word in their names, what there is to say of those that weren't
-    noticed): so many, of a draw of their own."""
+    noticed): so many of each draw."""
     cpu = Processor(program, name)
-    return noticed_of(cpu, functools.partial(drawn, cpu), count, reasons(EQUAL), is_all, word, part=part)
+    return noticed_of(cpu, functools.partial(drawn, cpu), count, reasons(EQUAL), is_all, word, draws=draws)
 
 
-def noticed_of(cpu, changes, count, known, is_all, word="", others=OTHERS, part=0):
+def noticed_of(cpu, changes, count, known, is_all, word="", others=OTHERS, draws=(0,)):
     """The same of so many of the `changes` of a text, which are drawn out of places of it, with the reasons that are
     known, and the calls that are neither one-shots nor streams."""
     nodes.forget()
-    # Which changes are drawn doesn't depend on how many questions the ones before were asked.
-    draw, order = random.Random(1 + part), random.Random(2)
     cpu.limit = LIMIT
     entries = definition.program().run()
     asked = questions(entries, is_all, others, others != OTHERS)
     found = reaching(cpu, asked)
-    bad, tried = [], 0
-    one_by_one = changes(sorted(place for place in found if word in place[0]), draw)
-    for place, text, instructions in itertools.islice(one_by_one, count):
+    bad, tried, places = [], 0, sorted(place for place in found if word in place[0])
+    for change, order in of_draws(changes, places, draws, count):
+        tried += 1
+        place, text, _ = change
         reached = [question for k, question in enumerate(asked) if found[place] >> k & 1]
         has_reason = is_equal(text, known)
         more = () if has_reason else more_ways(cpu, reached, entries, is_all, place[0] if others == OTHERS else None)
-        what = outcome(cpu, instructions, reached, order, entries, more)
-        tried += 1
+        what = outcome(cpu, change[2], reached, order, entries, more)
         if what.startswith((CRASH, "WrongRule")) or (what == UNNOTICED) != has_reason:
             bad.append(f"{what}{', and has a reason' if has_reason else ''}: {text}")
     return tried, bad
+
+
+def of_draws(changes, places, draws, count):
+    """So many changes of each draw, each with what draws its questions. Which changes are drawn doesn't depend on how many
+    questions the ones before were asked."""
+    for number in draws:
+        order = random.Random(2)
+        for change in itertools.islice(changes(places, random.Random(1 + number)), count):
+            yield change, order

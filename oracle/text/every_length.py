@@ -6,6 +6,7 @@ below 16, and t below 64, with the default secret, with one that a seed derives,
 (any_secret.py has the others). The texts have ways of their own from 31,744 bytes on; `left_out` computes that the
 cases have all lengths but those that it gives."""
 import collections
+import functools
 import itertools
 
 import table
@@ -18,7 +19,6 @@ from terms.polynomials import Poly, at_most, given, minus, parts_of, plus, times
 from terms.sides import seed_symbol
 
 from .induction import Family, Loops
-from .processor import NO_LIMIT
 from .values import address
 
 UNROLLED = {"32": 8, "64": 2}     # stripes that a text takes at once, or a part of them
@@ -138,7 +138,7 @@ class EveryLength:
     """A kind of call of a text, its cases one by one: 32, 64, or of XXH3 as 3-64:seed."""
 
     def __init__(self, cpu, kind):
-        self.cpu, self.told, self.kind = cpu, {}, kind
+        self.cpu, self.told, self.guesses, self.kind = cpu, {}, {}, kind
         self.hash_name, _, self.way = kind.partition(":")
         self.read()
 
@@ -197,17 +197,22 @@ class EveryLength:
         return ours, self.texts[table.HASHES[self.hash_name]](seed[0] if seed else 0, secret, message)
 
     def call(self, case, stripe, count, after, *arguments):
-        name = f"XXH{self.kind} of {case.length} bytes"
+        ask = functools.partial(self.cpu.library.one_shot, self.cpu, self.hash_name, self.way, *arguments)
+        return self.with_loops(ask, case, stripe, count, after)
+
+    def with_loops(self, ask, case, stripe, count, after):
+        """A call of the text, where the loops of a case's length are shown."""
+        name, limit = f"XXH{self.kind} of {case.length} bytes", self.cpu.limit
         family = Family(name, stripe, case.stripes, count, after,
                         lambda k, values: suppositions.suppose(after(k), values),
                         self.cpu.TOGETHER if stripe == 16 else 1)
-        loops = Loops(self.cpu.program, family)
+        loops = Loops(self.cpu.program, family, guesses=self.guesses)
         if isinstance(case.length, Poly):
             self.cpu.loops, self.cpu.limit = loops, LIMIT
         try:
-            return self.cpu.library.one_shot(self.cpu, self.hash_name, self.way, *arguments)
+            return ask()
         except REFUSALS as error:
             raise NotShown("; ".join([str(error), *loops.refused])) from error
         finally:
             self.told.update({line.split(", ", 1)[1].split(":")[0]: line for line in loops.told})
-            self.cpu.loops, self.cpu.limit = None, NO_LIMIT
+            self.cpu.loops, self.cpu.limit = None, limit

@@ -106,7 +106,8 @@ def are_one_place(a, b):
     if is_same(b, 0) and is_within(a):      # no object begins at 0
         return False
     if isinstance(a, Address) and isinstance(b, Address) and a.bases == b.bases:
-        if isinstance(minus(a.offset, b.offset), int) or is_near(a.offset) and is_near(b.offset):
+        is_known = isinstance(minus(a.offset, b.offset), int) or is_near(a.offset) and is_near(b.offset)
+        if is_known or len(a.bases) == 1 and is_within(a) and is_within(b):
             return TESTS["eq"](a.offset, b.offset)
     raise Undecided(f"{a} == {b}")
 

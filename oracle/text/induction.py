@@ -5,8 +5,8 @@ written to. At a loop's head after k turns some cells hold the words that the de
 they are those that hold the definition's words at the start, and those of some stripes more after a first turn. Of the
 other cells that the turn changes some go on by a step, and what is left may be anything at the head. All of that is a
 guess, which a turn from k = any number then shows: the words have to be there, and a cell that does anything else than
-what is said may be anything, and the turn is run once more. A cell that has a word is never let go. The flags are unset
-at a head."""
+what is said may be anything, and the turn is run once more. The last cell that has a word is never let go. The flags are
+unset at a head."""
 import contextlib
 
 from terms.loops import REFUSALS, NotShown, agree
@@ -88,6 +88,11 @@ def cells_of(cpu):
     return out
 
 
+def named(cell):
+    """A cell, with the name of its object."""
+    return cell if isinstance(cell[0], str) else (cell[0].name, *cell[1:])
+
+
 def name_of(cell):
     if cell[0] in ("register", HALF):
         return cell[1]
@@ -101,12 +106,14 @@ class Head(Exception):
 
 
 class Loops:
-    """Asked wherever a loop may begin: at each place that its section jumps back to."""
+    """Asked wherever a loop may begin: at each place that its section jumps back to. `guesses` has what was shown of loops
+    in other calls, by their heads."""
 
-    def __init__(self, program, family, proof=None):
+    def __init__(self, program, family, proof=None, guesses=None):
         self.program, self.family, self.told, self.refused, self.known = program, family, [], [], {}
-        self.proof = proof or Proof
+        self.proof, self.guesses = proof or Proof, {} if guesses is None else guesses
         self.running, self.stop, self.is_guessing, self.given_up = {}, None, False, set()
+        self.tried = set()       # heads, and after how many stripes it was guessed in vain that their loop begins
 
     def heads(self, section):
         """Head -> the last jump back to it."""
@@ -129,17 +136,21 @@ class Loops:
             if self.running[place] is not None:
                 raise NotShown(f"the loop at {place[0]} {place[1]:x} isn't left")
             return place
-        if place[1] in self.heads(place[0]) and not self.is_guessing and place not in self.given_up:
+        within = tuple(head for head, end in self.running.items() if end is None)      # others, of which this is a turn
+        may_begin = place[1] in self.heads(place[0]) and not self.is_guessing and (within, place) not in self.given_up
+        if may_begin and (self.proof.HAS_INNER or not within):
             if self.proof(self, cpu, place).show():
                 self.running[place] = self.heads(place[0])[place[1]]
-            elif None in self.running.values():      # a number of turns within another's turn
-                self.given_up.add(place)
+            elif within:                               # a number of turns
+                self.given_up.add((within, place))
         return place
 
 
 # ---- a loop
 
 class Proof:
+    HAS_INNER = False         # whether the loops within a turn have numbers of turns that are no numbers
+
     def __init__(self, loops, cpu, head):
         self.loops, self.cpu, self.family, self.head = loops, cpu, loops.family, head
         self.original, self.flags = cells_of(cpu), (cpu.flags, cpu.carry)
@@ -153,21 +164,33 @@ class Proof:
     def show(self):
         """Shows the loop, and leaves the processor at its head before the last turn: from there it runs on. False, and
         the state as it was, where it isn't one of the family: then it is run, turn by turn."""
-        for first in self.firsts():
-            try:
-                if self.by_turns(first):
-                    self.loops.told.append(self.told(first))
-                    return True
-            except REFUSALS as error:
-                self.loops.refused.append(f"{self.head[0]} {self.head[1]:x} from {first}: {error}")
+        return any(map(self.is_shown_from, self.firsts()))
+
+    def is_shown_from(self, first):
+        """The same, by what is known of the loop, or guessed by one first turn, or by two: what doesn't go on as it began is
+        let go by two at once."""
+        for guess in (self.guess_again, self.guess_by_one, self.guess_by_two):
+            if self.outcome(first, guess):
+                self.loops.told.append(self.told(first))
+                self.loops.guesses[self.head] = self.known()
+                return True
             self.forget()
             self.enter(0)
             self.cpu.flags, self.cpu.carry = self.flags
+        self.loops.tried.add((self.head, repr(first)))
+        return False
+
+    def outcome(self, first, guess):
+        """Whether the loop is shown."""
+        try:
+            return self.by_turns(first, guess)
+        except REFUSALS as error:
+            self.loops.refused.append(f"{self.head[0]} {self.head[1]:x} from {first}: {error}")
         return False
 
     def firsts(self):
         """After how many stripes the loop may begin: guesses by the places in the message, for which some cells hold
-        the definition's words."""
+        the definition's words. Where the stripes that are left are a number the turns are run one by one."""
         guesses = [0]
         for x in self.cpu.registers.values():
             if isinstance(x, Address) and len(x.bases) == 1 and isinstance(x.bases[0][0], Input):
@@ -180,13 +203,15 @@ class Proof:
         terms = {x.number for x in values if isinstance(x, Node)}
         for guess in guesses:
             with contextlib.suppress(*REFUSALS):
-                if is_natural(guess) and self.family.seem(
+                is_hopeless = isinstance(minus(self.family.total, guess), int) or \
+                    (self.head, repr(guess)) in self.loops.tried
+                if not is_hopeless and is_natural(guess) and self.family.seem(
                         guess, lambda x: x in numbers if isinstance(x, int) else x.number in terms):
                     yield guess
 
-    def by_turns(self, first):
+    def by_turns(self, first, guess):
         family = self.family
-        if isinstance(minus(family.total, first), int) or not any(self.guess(first, turns) for turns in FIRST_TURNS):
+        if not guess(first):
             return False
         turns, _ = divided(minus(family.total, first), self.step)
         last, k = minus(turns, 1), variable(self.cpu.new_name("k"))
@@ -238,15 +263,15 @@ class Proof:
         return [family.cell(values[k:k + family.together]) for k in range(0, family.count, family.together)]
 
     def turn(self):
-        """From the head to the head."""
-        loops, place, running = self.loops, self.head, dict(self.loops.running)
+        """From the head to the head. Whoever returns from the function that the head is in has left the loop."""
+        loops, place, running, floor = self.loops, self.head, dict(self.loops.running), self.cpu.stack_pointer()
         loops.running[self.head] = None
         try:
             while place is not None:
-                place = self.cpu.step(place)
-                loops.stop = self.head
-                if place is not None:
-                    place = loops.pass_by(self.cpu, place)
+                place, loops.stop = self.cpu.step(place), self.head
+                if self.cpu.stack_pointer() > floor:
+                    break
+                place = place and loops.pass_by(self.cpu, place)
         except Head:
             return
         finally:
@@ -268,15 +293,44 @@ class Proof:
                 expected = self.start.get(cell)
             if same(x, expected):
                 continue
-            if cell in self.words:
+            if list(self.words.values()).count(self.words.get(cell)) == 1:
                 raise NotShown(f"{self.family.name}: {name_of(cell)} is {x} and not {expected}")
-            for known in (self.places, self.counts):
+            for known in (self.words, self.places, self.counts):
                 known.pop(cell, None)
             self.unset.add(cell)
 
     # ---- a guess
 
-    def guess(self, first, turns, is_twice=True):
+    def known(self):
+        """What was shown of the loop, by cells as they have their names in another call."""
+        steps = {named(cell): step for cell, (_, step) in self.places.items()}
+        return self.step, {named(cell): j for cell, j in self.words.items()}, steps, {*map(named, self.unset)}
+
+    def guess_again(self, first):
+        """As it was shown in another call, where the words are there at the start."""
+        if self.head not in self.loops.guesses:
+            return False
+        self.step, words, steps, unset = self.loops.guesses[self.head]
+        objects = {memory.name: memory for memory in [self.cpu.stack, *self.cpu.live]}
+        self.unset = {(objects.get(name[0], name[0]), *name[1:]) for name in unset}
+        begun = self.family.words(first)
+        for cell, x in self.start.items():
+            name = named(cell)
+            if name in words and same(x, begun[words[name]]):
+                self.words[cell] = words[name]
+            elif name in steps and (isinstance(x, Address) or is_number(x)):
+                self.places[cell] = x, steps[name]
+            elif name in words or name in steps:
+                self.unset.add(cell)
+        return len({*self.words.values()}) == len(begun)
+
+    def guess_by_one(self, first):
+        return any(self.guess(first, turns, False) for turns in FIRST_TURNS)
+
+    def guess_by_two(self, first):
+        return any(self.guess(first, turns, True) for turns in FIRST_TURNS)
+
+    def guess(self, first, turns, is_twice):
         """Two turns, or one, tell the words, the steps and what is left."""
         self.forget()
         self.enter(0)

@@ -158,6 +158,9 @@ class Processor:
         self.registers[self.ARGUMENTS[0]] = to
         return place
 
+    def stack_pointer(self):
+        return self.registers["sp"].place()[1]
+
     def frame(self):
         """The stack, and where the caller's part of it begins, at a function's first instruction."""
         return self.registers["sp"].place()

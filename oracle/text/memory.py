@@ -3,17 +3,21 @@
 A call may write to the objects that it is handed for that, and below its caller's frame. Whoever is called from
 outside, as memcpy, may use all that lies below the stack pointer: there is no red zone over a call."""
 import collections
+import contextlib
 
 from terms.llvm_text import Unsupported
 from terms.memory import Memory, Unset
-from terms.nodes import Node, memo
-from terms.polynomials import Poly, is_natural, is_same, lifted, minus, plus
+from terms.nodes import Node, Undecided, memo
+from terms.operations import bits
+from terms.polynomials import WORD, Poly, divided, is_natural, is_same, lifted, minus, plus
+from terms.rules import ones
 
 STACK = 1 << 14                   # bytes of stack that a call may use
 ENTRY = STACK - 64                # where the caller's frame begins, a multiple of 16
 RED = 128                         # bytes below the stack pointer that are a function's own
 
-spelled = memo()                  # the number of a term whose bits were taken apart -> the polynomial that it is
+# The number of a term, whose bits were taken apart -> the polynomial that it is where that has so many bits, and these.
+spelled = memo()
 
 # What a call leaves on the stack.
 ReturnTo = collections.namedtuple("ReturnTo", "section at")
@@ -38,8 +42,18 @@ class Words(Memory):
             return cell[1]
         near = self.cells_near(at, n) if isinstance(at, int) else []
         if all(isinstance(self.cells[first][1], (int, Node)) for first in near):
-            return super().load(at, n)
+            found = super().load(at, n)
+            return numbered(found) if n == 8 else found
+        with contextlib.suppress(Undecided):
+            return self.part_of_number(near, at, n)
         return Memory(self.name, self.length, self.in_bits(near)).load(at, n)
+
+    def part_of_number(self, near, at, n):
+        """Bytes of one cell, which has a number and of whose bytes these are one."""
+        size, value = self.cells[near[0]]
+        if len(near) > 1 or not isinstance(value, Poly) or not near[0] <= at <= near[0] + size - n:
+            raise Undecided("bytes of no number")
+        return divided(divided(value, 1 << 8 * (at - near[0]))[0], 1 << 8 * n)[1]
 
     def keeps_runs(self, at, n):
         """Whether what is copied there is a run of an input."""
@@ -91,12 +105,20 @@ class Stack(Words):
             del self.cells[first]
 
 
-def spell(x):
-    """A number as bits, which are known to be it."""
+def spell(x, width=WORD):
+    """A number as its lowest bits, which are known to be it where it has no others."""
     found = lifted(x)
     if isinstance(x, Poly) and isinstance(found, Node):
-        spelled[found.number] = x
+        lowest = {n: bits(found, 0, n) for n in range(8, WORD + 1, 8)}
+        spelled.update({part.number: (x, n) for n, part in lowest.items() if isinstance(part, Node)})
+        return lowest[width]
     return found
+
+
+def numbered(x):
+    """A term, or the number whose bits it has, where these were taken apart."""
+    number, width = spelled.get(x.number, (-1, 0)) if isinstance(x, Node) else (-1, 0)
+    return number if is_natural(number) and is_natural(minus(ones(width), number)) else x
 
 
 def copy(to, source, n, may_overlap):

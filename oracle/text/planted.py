@@ -127,7 +127,7 @@ TEXTS = [
           request("3-64", "seed", 16), "another value"),
     Wrong("another value from 2 ^ 20 blocks on",
           begun("twox_core.xxhash3.stripes.blocks.take_many_blocks", "mov %rcx,%rax", "shr $0x1e,%rax",
-                *adds_to("(%rsi)")), far_case, "too many instructions"),
+                *adds_to("(%rsi)")), far_case, "turns == 31"),
     Wrong("a stream's accumulator that is another one from 2 ^ 40 bytes on",
           begun("twox_c.xxh3_state.Xxh3State.update", "mov 0x298(%rdi),%rax", "shr $0x28,%rax",
                 *adds_to("(%rdi)")),

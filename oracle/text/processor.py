@@ -126,6 +126,9 @@ class Processor:
 
     # ---- the stack
 
+    def stack_pointer(self):
+        return self.registers["rsp"].place()[1]
+
     def frame(self):
         """The stack, and where the caller's part of it begins, at a function's first instruction."""
         memory, at = self.registers["rsp"].place()

@@ -15,7 +15,7 @@ from terms.nodes import WrongRule, is_same
 from terms.llvm_text import Unsupported
 from terms.sides import Request
 
-from . import any_secret, any_updates, calls, every_length, one_shots, streams, xxh3_updates
+from . import any_secret, any_updates, calls, every_length, long_seeds, one_shots, streams, xxh3_updates
 
 CRASH, ANOTHER_VALUE, ANOTHER_TERM = "A CRASH", "another value", "another term"
 CASES = 8                         # cases of an induction that a change is asked
@@ -33,6 +33,7 @@ LEFT_OUT = ("3-64", "both", 136), ("3-128", "secret", 136)
 FAR = [("3-64", "default", None, 31_744), ("3-64", "secret", 136, 31_800), ("3-128", "secret", 192, 31_744),
        ("3-128", "seed", None, 32_700)]
 LONG_STREAMS = [(2700 + 131 * k, 600 + 64 * k) for k in range(16)]
+OF_BLOCKS = 3146, 600             # bytes of a stream, whose second piece has two whole blocks and ends with the second
 # Of changes that these don't notice: bytes up to which a request has others near to it, and further requests: each short
 # length, and each number of stripes of two blocks.
 NEAR_TO, BUFFERED, LENGTHS = 10_000, 512, [*range(300), *range(300, 2400, 61)]
@@ -54,6 +55,7 @@ def requests(is_all):
     for hash_name in ("3-64", "3-128"):
         for n, secret in BY_SECRETS:
             yield Request(hash_name, "secret", n, secret)
+    yield Request("3-64", "seed", OF_BLOCKS[0], cuts=OF_BLOCKS[1:])
     yield from long_requests() if is_all else ()
 
 
@@ -232,6 +234,8 @@ def by_induction(program, asked, section):
     for summary in TAKING:
         if program.functions.get(summary.name, (None,))[0] == section:
             found[summary.name] = functools.partial(stripes_taken, summary.name)
+    if section == f".text.{long_seeds.WRITES}":
+        found[section] = secret_of_long_seed
     return [Call(functools.partial(ask, k)) for ask in found.values() for k in range(CASES)]
 
 
@@ -278,6 +282,10 @@ def xxh3_update(k, cpu):
 def xxh3_digest(k, cpu):
     proof = xxh3_updates.Xxh3Updates(cpu)
     proof.digest(*case_of(proof.digests(), k), k % 2, xxh3_updates.WIDTHS[k // 2 % 2])
+
+
+def secret_of_long_seed(k, cpu):
+    long_seeds.made_secrets(cpu, [calls.SHORTEST + k])
 
 
 def stripes_taken(name, k, cpu):

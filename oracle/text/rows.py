@@ -12,8 +12,8 @@ from terms.polynomials import variable
 from terms.processes import Row
 from terms.sides import TOP, Request
 
-from . import (any_secret, any_updates, calls, changes, covered, every_length, exports, lanes, on_processor, one_shots, planted,
-               scalar, streams, xxh3_updates)
+from . import (any_secret, any_updates, calls, changes, covered, every_length, exports, lanes, long_seeds, on_processor,
+               one_shots, planted, scalar, streams, xxh3_updates)
 from .cargo import CargoProcessor, CargoProgram
 from .instructions import SETS, TABLE, V2, V3, V4
 from .objects import Program
@@ -35,6 +35,7 @@ SOME_SECRETS = [*range(136, 144), *range(190, 202), 256, 257, 576, 999, 1000]
 ANY_SECRET = [f"{name}:{way}" for name in ("3-64", "3-128") for way in ("secret", "both")]
 MOST_NODES = 400_000                                # of the cases of a proof
 SOME_LENGTHS = 5                                   # each so many of the cases of a secret of any length, without --all
+OF_LONG_SEEDS = 137,                                # bytes of secrets that are made of 2^32 bytes and more
 SMALL = [0, 1, 3, 4, 8, 9, 16, 17, 128, 129, 240, 241, 1000]
 assert scalar and lanes                             # which fill the table
 
@@ -333,11 +334,15 @@ def call_rows(texts, is_all):
             of_streams("streams: null pieces of no bytes", 20, calls.updates_of_nothing),
             of_streams("null inputs and secrets of no bytes", 14, calls.null_pointers),
             of("the derived secret", 2, calls.derived_secret),
-            of("made secrets", len(made), functools.partial(calls.made_secrets, asked=made)),
+            of("made secrets", len(made) + len(OF_LONG_SEEDS), functools.partial(made_secrets, asked=made)),
             counted(f"exports of {V4} that have the code of {V3}", 24,
                     lambda: (exports.expect_code_of_v3(texts[V4], texts[V3]), [])),
             counted("names of another's code", 9 * len(texts),
                     lambda: (sum(exports.expect_twins(program) for program in texts.values()), []))]
+
+
+def made_secrets(cpu, asked):
+    return calls.made_secrets(cpu, asked) + long_seeds.made_secrets(cpu, OF_LONG_SEEDS)
 
 
 # ---- the machine, and what has to be noticed
@@ -352,16 +357,16 @@ def machine_rows(texts, others, is_all):
 
 
 def change_rows(texts, is_all):
-    """Changes of one instruction; with --all in parts, each with a draw of its own."""
-    parts = changes.PARTS_OF_MANY if is_all else 1
+    """Changes of one instruction; with --all of some draws, in parts."""
+    parts = [range(row, changes.DRAWS, changes.ROWS) for row in range(changes.ROWS)] if is_all else [[0]]
     for name, program in texts.items():
         is_v4 = name.endswith(V4)
         title = f"changes of one instruction{' in the widened functions of' if is_v4 else ','} {name}"
-        count = changes.MANY // parts if is_all else changes.SOME if is_v4 else changes.FEW
-        for part in range(parts):
-            words = f", part {part + 1} of {parts}" if is_all else ""
-            yield counted(title + words, count, functools.partial(changes.noticed, name, program, count, is_all,
-                                                                  "widened" if is_v4 else "", part))
+        count = changes.MANY // changes.DRAWS if is_all else changes.SOME if is_v4 else changes.FEW
+        for number, draws in enumerate(parts, 1):
+            words = f", part {number} of {len(parts)}" if is_all else ""
+            yield counted(title + words, count * len(draws), functools.partial(
+                changes.noticed, name, program, count, is_all, "widened" if is_v4 else "", draws))
 
 
 def beside_processor(programs, is_all):

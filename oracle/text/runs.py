@@ -79,7 +79,7 @@ def united(spans):
     done = []
     for span in spans:
         while (near := next((one for one in done if union(one, span)), None)):
-            done.remove(near)
+            done = [one for one in done if one is not near]
             span = union(near, span)
         done.append(span)
     return done

@@ -59,6 +59,8 @@ class Stripes(Family):
 class StripesProof(Proof):
     """A loop over stripes. Its head may come before the first stripe or behind it."""
 
+    HAS_INNER = True
+
     def forget(self):
         super().forget()
         self.counts = {}         # of a counter of a block's stripes: what it is at the block's beginning, and its step
@@ -84,7 +86,7 @@ class StripesProof(Proof):
         start = family.behind(part.start, done) if done else part.start
         first = family.stripes(start)
         family.total = plus(family.stripes(part.start), part.turns)
-        if isinstance(minus(family.total, first), int) and part.turns in (0, 1) or not self.holds(first):
+        if isinstance(minus(family.total, first), int) or not self.holds(first):      # a number of turns is run
             return False
         self.first_place = start
         if not self.guess_of_some(first):
@@ -142,7 +144,10 @@ class StripesProof(Proof):
             return
         with given(minus(minus(left, k), more[0])):
             self.enter(k, self.supposed(first, k))
-            self.turn()
+            try:
+                self.turn()
+            except NotShown:          # with this turn the loop is left
+                return
             now = cells_of(self.cpu)
             for cell, (x, step) in list(self.places.items()):
                 base = moved(x, step, minus(0, at))

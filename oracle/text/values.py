@@ -105,6 +105,8 @@ halves = nodes.memo()        # the number of a term of 64 bits -> its lowest bit
 def arithmetic(word, width, a, b):
     """An operation of a width on two values."""
     kinds = {a.__class__, b.__class__}
+    if word in ("xor", "and") and isinstance(a, int):
+        a, b = b, a
     if word == "or" and width == WORD and kinds in ({Poly}, {Poly, int}):
         return Either([a, b], ones(WORD))
     if Either in kinds:
@@ -158,10 +160,10 @@ def with_number(word, width, a, b):
     if b < 1 << known:
         return below & b
     low_bit = b & -b
-    if b and not b + low_bit & b + low_bit - 1:      # a run of bits: with none above it, the low bits are taken away
+    if b and not b + low_bit & b + low_bit - 1:      # a run of bits: what lies above and below it is taken away
         with contextlib.suppress(Undecided):
-            if is_natural(minus(b + low_bit - 1, a)):
-                return minus(a, divided(a, low_bit)[1])
+            inside = a if is_natural(minus(b + low_bit - 1, a)) else divided(a, b + low_bit)[1]
+            return minus(inside, divided(inside, low_bit)[1])
     return BINARY["and"](width, term_of(a, WORD) if b & b + 1 else a, b)
 
 

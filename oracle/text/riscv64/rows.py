@@ -1,5 +1,4 @@
-"""The rows of oracle/riscv-text: what is asked of the text below the cargo crate for 64-bit RISC-V. Streams of XXH3 of any
-updates aren't among it."""
+"""The rows of oracle/riscv-text: what is asked of the text below the cargo crate for 64-bit RISC-V."""
 import functools
 import os
 
@@ -11,6 +10,7 @@ from .. import rows as shared
 from ..cargo import FOLDER
 from ..cargo_exports import exports_left_out
 from . import changes, on_qemu
+from . import streams as riscv_streams
 from .source import Program
 from .table import Processor
 
@@ -65,6 +65,7 @@ def stream_rows(found, made, is_all):
             requests = comparison.requests(*kind, comparison.STREAMED, True) if is_all else shared.few_streams(*kind)
             yield compared(found, f"streams of {shared.title_of(*kind)}", requests, streams)
     yield from shared.plain_stream_rows(made, is_all, SOME_UPDATES)
+    yield from shared.xxh3_rows(made, is_all, riscv_streams.Updates)
 
 
 def call_rows(found):

@@ -1,20 +1,20 @@
 """What the instructions do."""
 from terms.llvm_text import Unsupported
 from terms.nodes import Node, memo
-from terms.polynomials import Poly
-from terms.rules import ones
+from terms.polynomials import Poly, is_natural, is_number, minus, plus
+from terms.rules import ones, zeros_below
 
 from ..flags import is_below, is_equal
 from ..linked import RETURN, Page, ReturnTo
-from ..memory import spell, spelled
-from ..values import WORD, address, arithmetic, bits, half_of, halves, high_and_low, low, with_half
+from ..memory import numbered, spell
+from ..values import WORD, address, arithmetic, bits, half_of, halves, high_and_low, low, split, with_half
 from .processor import HALF, TABLE, Processor, form, with_sign
 
 OPERATIONS = {"or": "or", "xor": "xor", "and": "and", "add": "add", "sub": "sub", "mul": "mul", "sll": "shl", "srl": "lshr",
               "rem": "urem"}
 SIZES = {"b": 1, "h": 2, "w": 4, "d": 8}
 
-moved_up = memo()                 # the number of a term that is a value moved up by 32 bits -> that
+moved_up = memo()                 # the number of a term that is a value moved up -> that, and by how many bits
 apart = memo()                    # the number of a term that is 0 where two values are equal -> these
 
 __all__ = ["TABLE", "Processor"]
@@ -32,14 +32,16 @@ def binary(cpu, x):
     to, a, b = x.operands
     word = OPERATIONS[x.mnemonic.removesuffix("i") if isinstance(b, int) else x.mnemonic]
     a, b = cpu.get(a), value(cpu, b)
-    if word == "lshr" and b == HALF and isinstance(a, Node) and a.number in moved_up:
-        cpu.put(to, low(moved_up[a.number], HALF))
+    whole, k = moved_up.get(a.number, (None, WORD)) if isinstance(a, Node) else (None, WORD)
+    if word == "lshr" and isinstance(b, int) and b >= k:
+        found = low(whole, WORD - k)
+        cpu.put(to, found if b == k else arithmetic("lshr", WORD, found, b - k))
         return
     if word == "shl" and b >= HALF:                               # the lower half alone counts
         a = a if half_of(a) is None else half_of(a)
     found = united(a, b) if word == "or" else arithmetic(word, WORD, a, b)
-    if word == "shl" and b == HALF and isinstance(found, Node):
-        moved_up[found.number] = a
+    if word == "shl" and isinstance(found, Node) and (b == HALF or isinstance(a, Poly)):
+        moved_up[found.number] = a, b
     if word == "xor" and isinstance(found, Node):
         apart[found.number] = a, b
     cpu.put(to, with_half_of(found, word, a, b))
@@ -58,11 +60,20 @@ def with_half_of(found, word, a, b):
 
 
 def united(a, b):
-    """The bits of both. Where one is 0 that is the other, whatever it is; and two halves of a number may be that number."""
+    """The bits of both. Where one is 0 that is the other, whatever it is; two halves of a number may be that number; and of
+    numbers whose bits lie apart it is the sum."""
     if isinstance(a, int):
         a, b = b, a
+    if is_number(a) and is_number(b) and (is_below_bits_of(a, b) or is_below_bits_of(b, a)):
+        return plus(a, b)
     found = a if isinstance(b, int) and not b else arithmetic("or", WORD, a, b)
-    return spelled.get(found.number, found) if isinstance(found, Node) else found
+    return numbered(found)
+
+
+def is_below_bits_of(a, b):
+    """Whether a number has no bit from the lowest on that another one may have."""
+    below, _, known = split(b) if isinstance(b, Poly) else (0, b, zeros_below(b) if b else 0)
+    return not below and is_natural(minus(ones(known), a))
 
 
 @form("addi", "rrl")
@@ -182,7 +193,7 @@ def store(cpu, x):
 def lowest(x, n):
     """The lowest n bytes, which stay those of a number of 64 bits where it is no number of 32."""
     if isinstance(x, Poly) and n < 8:
-        x = spell(x)
+        return spell(x, 8 * n)
     is_whole = isinstance(x, Node) and halves.get(x.number, (x, 0))[1] < 8 * n
     return x if n == 8 else bits(x, 0, 8 * n) if is_whole else low(x, 8 * n)
 

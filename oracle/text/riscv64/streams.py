@@ -1,0 +1,62 @@
+"""The streams of XXH3 of the text below the cargo crate for 64-bit RISC-V, as cargo_streams.py has them for x86-64.
+
+Its loops over stripes are left by a place in memory, and ask behind the first stripe whether there is another one: so
+a case of any number of whole blocks, D, is two here, with none and with some."""
+import functools
+
+from terms.polynomials import Poly, is_natural, is_same, minus, names_of, variable
+
+from ..cargo_streams import CargoUpdates, with_value
+from ..every_length import FAR
+from ..xxh3_updates import BLOCK
+
+BLOCKS = "D"                      # the variable that has them
+
+
+def in_numbers(x, name, value):
+    """Polynomials with a number in the place of a variable, in whatever they stand."""
+    if isinstance(x, Poly):
+        return with_value(x, name, value)
+    if isinstance(x, functools.partial):
+        return functools.partial(x.func, *in_numbers(x.args, name, value))
+    if isinstance(x, (list, tuple)):
+        parts = [in_numbers(part, name, value) for part in x]
+        return type(x)(*parts) if hasattr(x, "_fields") else type(x)(parts)
+    return x
+
+
+def has_blocks(x):
+    if isinstance(x, Poly):
+        return BLOCKS in names_of(x)
+    return isinstance(x, (list, tuple)) and any(map(has_blocks, x))
+
+
+def parted(case, at):
+    """A case whose facts stand at a place in it: one, or two."""
+    if not has_blocks(case):
+        yield case
+        return
+    none = in_numbers(case, BLOCKS, 0)
+    if not any(is_natural(minus(-1, fact)) for fact in none[at]):
+        yield none
+    facts = [*case[at], minus(variable(BLOCKS), 1)]
+    yield (*case[:at], facts, *case[at + 1:])
+
+
+class Updates(CargoUpdates):
+    @staticmethod
+    def by_blocks():
+        """From a block's beginning the text asks how many whole blocks there are: of FAR stripes and more so many."""
+        for parts, facts in CargoUpdates.by_blocks():
+            more = [minus(variable(BLOCKS), FAR // BLOCK - 1)] if is_same(parts[0].turns, 0) else []
+            yield parts, [*facts, *more]
+
+    def all_updates(self):
+        for case in super().all_updates():
+            yield from parted(case, 3)
+
+    def all_taken(self):
+        """What is left to other functions has no loop."""
+        for secret, (summary, parts, facts, *summaries) in super().all_taken():
+            case = summary, parts, facts, *summaries
+            yield from ((secret, one) for one in (parted(case, 2) if not any(summaries) else [case]))
