@@ -86,7 +86,9 @@ class StripesProof(Proof):
         start = family.behind(part.start, done) if done else part.start
         first = family.stripes(start)
         family.total = plus(family.stripes(part.start), part.turns)
-        if isinstance(minus(family.total, first), int) or not self.holds(first):      # a number of turns is run
+        # A number of turns is run, where it is known how far the block's end is.
+        is_run = part.turns in (0, 1) or isinstance(minus(family.q, part.start[1]), int)
+        if isinstance(minus(family.total, first), int) and is_run or not self.holds(first):
             return False
         self.first_place = start
         if not self.guess_of_some(first):

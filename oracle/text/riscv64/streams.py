@@ -4,13 +4,14 @@ Its loops over stripes are left by a place in memory, and ask behind the first s
 a case of any number of whole blocks, D, is two here, with none and with some."""
 import functools
 
-from terms.polynomials import Poly, is_natural, is_same, minus, names_of, variable
+from terms.polynomials import Poly, is_same, is_sum_of_facts, minus, names_of, parts_of, variable
 
 from ..cargo_streams import CargoUpdates, with_value
 from ..every_length import FAR
 from ..xxh3_updates import BLOCK
 
 BLOCKS = "D"                      # the variable that has them
+TRIED = 2                         # other facts by which one can't hold
 
 
 def in_numbers(x, name, value):
@@ -31,13 +32,19 @@ def has_blocks(x):
     return isinstance(x, (list, tuple)) and any(map(has_blocks, x))
 
 
+def may_hold(facts):
+    """Whether none of some facts is known not to hold where all do."""
+    known = list(map(parts_of, facts))
+    return not any(is_sum_of_facts(parts_of(minus(-1, fact)), known, TRIED) for fact in facts)
+
+
 def parted(case, at):
     """A case whose facts stand at a place in it: one, or two."""
     if not has_blocks(case):
         yield case
         return
     none = in_numbers(case, BLOCKS, 0)
-    if not any(is_natural(minus(-1, fact)) for fact in none[at]):
+    if may_hold(none[at]):
         yield none
     facts = [*case[at], minus(variable(BLOCKS), 1)]
     yield (*case[:at], facts, *case[at + 1:])
