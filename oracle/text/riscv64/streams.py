@@ -5,11 +5,9 @@ a case of any number of whole blocks, D, is two here, with none and with some.""
 import functools
 import itertools
 
-from terms.polynomials import Poly, is_same, is_sum_of_facts, minus, names_of, parts_of, variable
+from terms.polynomials import Poly, is_sum_of_facts, minus, names_of, parts_of, variable
 
 from ..cargo_streams import CargoUpdates, with_value
-from ..every_length import FAR
-from ..xxh3_updates import BLOCK
 
 BLOCKS = "D"                      # the variable that has them
 TRIED = 2                         # other facts by which one can't hold
@@ -61,13 +59,6 @@ def in_few(case):
 
 
 class Updates(CargoUpdates):
-    @staticmethod
-    def by_blocks():
-        """From a block's beginning the text asks how many whole blocks there are: of FAR stripes and more so many."""
-        for parts, facts in CargoUpdates.by_blocks():
-            more = [minus(variable(BLOCKS), FAR // BLOCK - 1)] if is_same(parts[0].turns, 0) else []
-            yield parts, [*facts, *more]
-
     def all_updates(self):
         for case in super().all_updates():
             yield from parted(case, 3)
