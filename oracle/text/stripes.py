@@ -86,7 +86,7 @@ class StripesProof(Proof):
         start = family.behind(part.start, done) if done else part.start
         first = family.stripes(start)
         family.total = plus(family.stripes(part.start), part.turns)
-        if isinstance(minus(family.total, first), int) or not self.holds(first):      # a number of turns is run
+        if isinstance(minus(family.total, first), int) and self.is_run(part) or not self.holds(first):
             return False
         self.first_place = start
         if not self.guess_of_some(first):
@@ -105,6 +105,10 @@ class StripesProof(Proof):
         end = part.end if self.ends_with == 0 else family.before(part.end, self.step)
         self.enter_at(first, left, divided(end[1], self.step)[0])
         return True
+
+    def is_run(self, part):
+        """Whether a number of turns is run: of one or none, and where it is known how far the block's end is."""
+        return part.turns in (0, 1) or isinstance(minus(self.family.q, part.start[1]), int)
 
     def holds(self, first):
         """Whether the words after so many stripes are there."""

@@ -474,9 +474,10 @@ class Xxh3Updates:
 
     @staticmethod
     def by_blocks():
-        """The same: those to a block's end, whole blocks, and the stripes of another one."""
+        """The same, of FAR stripes and more: those to a block's end, whole blocks, and the stripes of another one. From a
+        block's beginning so many blocks are whole."""
         b, j, D, e = (variable(name) for name in "bjDe")
-        for start, turns, at, facts in (((b, 0), 0, (b, 0), []),
+        for start, turns, at, facts in (((b, 0), 0, (b, 0), [minus(D, FAR // BLOCK - 1)]),
                                         ((b, j), minus(16, j), (plus(b, 1), 0), [minus(j, 1), at_most(j, 15)])):
             end = plus(at[0], 1, D), 0
             yield [Part(start, turns, at), Part(at, plus(16, times(16, D)), end),

@@ -3,14 +3,15 @@
 Its loops over stripes are left by a place in memory, and ask behind the first stripe whether there is another one: so
 a case of any number of whole blocks, D, is two here, with none and with some."""
 import functools
+import itertools
 
-from terms.polynomials import Poly, is_natural, is_same, minus, names_of, variable
+from terms.polynomials import Poly, is_sum_of_facts, minus, names_of, parts_of, variable
 
 from ..cargo_streams import CargoUpdates, with_value
-from ..every_length import FAR
-from ..xxh3_updates import BLOCK
 
 BLOCKS = "D"                      # the variable that has them
+TRIED = 2                         # other facts by which one can't hold
+FOURTHS = {"a": range(3), "e": range(1, 4)}          # of a block, which such cases begin and end with
 
 
 def in_numbers(x, name, value):
@@ -25,32 +26,39 @@ def in_numbers(x, name, value):
     return x
 
 
-def has_blocks(x):
+def names_in(x):
     if isinstance(x, Poly):
-        return BLOCKS in names_of(x)
-    return isinstance(x, (list, tuple)) and any(map(has_blocks, x))
+        return names_of(x)
+    return set().union(*map(names_in, x)) if isinstance(x, (list, tuple)) else set()
+
+
+def may_hold(facts):
+    """Whether none of some facts is known not to hold where all do."""
+    known = list(map(parts_of, facts))
+    return not any(is_sum_of_facts(parts_of(minus(-1, fact)), known, TRIED) for fact in facts)
 
 
 def parted(case, at):
     """A case whose facts stand at a place in it: one, or two."""
-    if not has_blocks(case):
+    if BLOCKS not in names_in(case):
         yield case
         return
-    none = in_numbers(case, BLOCKS, 0)
-    if not any(is_natural(minus(-1, fact)) for fact in none[at]):
-        yield none
+    yield from (none for none in in_few(in_numbers(case, BLOCKS, 0)) if may_hold(none[at]))
     facts = [*case[at], minus(variable(BLOCKS), 1)]
     yield (*case[:at], facts, *case[at + 1:])
 
 
-class Updates(CargoUpdates):
-    @staticmethod
-    def by_blocks():
-        """From a block's beginning the text asks how many whole blocks there are: of FAR stripes and more so many."""
-        for parts, facts in CargoUpdates.by_blocks():
-            more = [minus(variable(BLOCKS), FAR // BLOCK - 1)] if is_same(parts[0].turns, 0) else []
-            yield parts, [*facts, *more]
+def in_few(case):
+    """A case of a block of 16 stripes by the fourths that it begins and ends with, which are few."""
+    names = sorted(FOURTHS.keys() & names_in(case)) if "a" in names_in(case) else []
+    for values in itertools.product(*(FOURTHS[name] for name in names)):
+        out = case
+        for name, value in zip(names, values):
+            out = in_numbers(out, name, value)
+        yield out
 
+
+class Updates(CargoUpdates):
     def all_updates(self):
         for case in super().all_updates():
             yield from parted(case, 3)
