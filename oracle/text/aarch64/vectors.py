@@ -43,6 +43,12 @@ def binary(cpu, x):
     write(cpu, to, [arithmetic(word, width, p, q) for p, q in pairs])
 
 
+@form("neg", "2d 2d")
+def negative(cpu, x):
+    to, a = x.operands
+    write(cpu, to, [arithmetic("sub", WORD, 0, lane) for lane in cpu.vectors[a.number]])
+
+
 @form("mla", "4s 4s 4s")
 def multiply_add(cpu, x):
     to, a, b = x.operands
@@ -145,6 +151,13 @@ def get_lane(cpu, x):
 def get_low(cpu, x):
     to, a = x.operands
     cpu.put(to, cpu.vectors[a.number][0])
+
+
+@form("fmov", "d x")
+def set_low(cpu, x):
+    """The upper lane is 0 then."""
+    to, a = x.operands
+    cpu.vectors[to.number] = [cpu.get(a), 0]
 
 
 @form("fmov", "w s")
