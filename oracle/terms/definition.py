@@ -43,7 +43,7 @@ def length(xs):
 
 
 words = memo()           # (symbol, first byte, bytes) -> the word
-added = set()            # (bits, bytes) of which a word was compared with what antt.py makes of its bytes one by one
+compared = set()         # (bits, bytes) of which a word was compared with what antt.py makes of its bytes one by one
 
 
 def from_le_bytes(bits, xs):
@@ -55,8 +55,8 @@ def from_le_bytes(bits, xs):
     key = whole.number, first, n
     if key not in words:
         words[key] = operations.bits(whole, 8 * first, 8 * n)
-    if (bits, n) not in added:
-        added.add((bits, n))
+    if (bits, n) not in compared:
+        compared.add((bits, n))
         if not is_same(words[key], word_of_bytes(bits, Bytes(xs.source, xs.first, plus(xs.first, n)))):
             raise WrongRule(f"a word of {n} bytes")
     return words[key]
