@@ -130,7 +130,7 @@ class CargoUpdates(Xxh3Updates):
         before, caught = dict(state.cells), []
 
         def catch():
-            caught.extend(self.cpu.registers[name] for name in self.cpu.ARGUMENTS[:5])
+            caught.extend(map(self.cpu.argument, self.cpu.TAKES_STRIPES[:5]))
             return self.cpu.return_from_another()
         self.cpu.replaced = {self.cpu.program.functions[FAR]: catch}
         try:

@@ -180,6 +180,10 @@ class Processor:
         link = self.registers[self.LINK]
         return link.place if isinstance(link, ReturnTo) else None
 
+    def argument(self, where):
+        """What a function is given in a register, at its first instruction."""
+        return self.registers[where]
+
     # ---- registers
 
     def get(self, register):

@@ -217,14 +217,14 @@ class Summary:
 
     def registers(self, cpu):
         """Where its arguments lie."""
-        return cpu.ARGUMENTS[:5] if self.is_in_place else cpu.TAKES_STRIPES
+        return cpu.TAKES_STRIPES[:5] if self.is_in_place else cpu.TAKES_STRIPES
 
     def put_into(self, cpu, family, source, secret):
         """Calls of the function take parts of the family, of a message and under a secret, each an input."""
         cpu.replaced[cpu.program.functions[self.name]] = functools.partial(self.call, cpu, family, source, secret)
 
     def call(self, cpu, family, source, secret):
-        *records, stripes, length, own, own_length = (cpu.registers[name] for name in self.registers(cpu))
+        *records, stripes, length, own, own_length = map(cpu.argument, self.registers(cpu))
         stack, floor = cpu.frame()
         self.expect("the places", all(isinstance(x, Address) for x in (*records, stripes, own)))
         self.expect("the stack", floor % 16 == 0 and floor >= LEAST_ENTRY)

@@ -1,4 +1,4 @@
-"""The rows of oracle/arm-text: what is asked of the library's text for 64-bit ARM."""
+"""The rows of oracle/arm-text: what is asked of the text for C for 64-bit ARM, and of those below the cargo crate."""
 import functools
 import os
 import subprocess
@@ -9,9 +9,9 @@ from terms.processes import Row
 from terms.rows import title_of
 from terms.sides import TOP
 
-from .. import calls, every_length, one_shots, streams
+from .. import calls, cargo_whole, every_length, one_shots, streams
 from .. import rows as shared
-from . import changes, on_qemu
+from . import cargo, changes, on_qemu
 from .objects import Program
 from .table import Processor
 
@@ -48,7 +48,16 @@ def choose(given, found):
     out.append(Row("the table of instructions beside qemu", on_qemu.tell))
     out.append(shared.counted("changes of one bit", changes.MANY if given.all else changes.FEW,
                               functools.partial(changes.noticed, found, given.all)))
+    out += cargo_text_rows(given.all)
     return [row for row in out if given.only in row.title]
+
+
+def cargo_text_rows(is_all):
+    """The rows of each text below the cargo crate, by its name."""
+    for name, found in cargo.programs().items():
+        for row in cargo_whole.choose(name, functools.partial(cargo.CargoProcessor, found), is_all):
+            row.title = f"cargo's {name}: {row.title}"
+            yield row
 
 
 def every_length_rows(made, is_all):
