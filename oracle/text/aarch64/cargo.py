@@ -8,6 +8,8 @@ import tempfile
 from terms.llvm_text import Unsupported
 
 from ..cargo import FOLDER, HIDDEN, WEAK, ForCargo, plain
+from ..linked import BZERO
+from ..objects import OUTER
 from . import objects
 from .table import Processor
 
@@ -18,7 +20,7 @@ ASSEMBLER = "clang", "--target=aarch64-linux-gnu", "-x", "assembler", "-c", "-o"
 # What the text for macOS says in words of its own object format, and how it is said in that of Linux.
 WORDS = [(r'^([^"\n;]*?)[ \t]*;.*$', r"\1"), (r"^Lloh\d+:\n", ""),
          (r"^(\t\.(globl|loh|cfi_\w+)\b|\t?\.subsections_via_symbols|\t\.section\s__TEXT,__text).*\n", ""),
-         (r"\b_(twox_|mem)", r"\1"), (r"\b([\w.]+)@PAGEOFF\b", r":lo12:\1"), (r"@PAGE\b", ""),
+         (r"\b_(twox_|mem|bzero)", r"\1"), (r"\b([\w.]+)@PAGEOFF\b", r":lo12:\1"), (r"@PAGE\b", ""),
          (r"\.weak_definition\b", ".weak"), (r"\.private_extern\b", ".hidden"),
          (r"^(twox_[\w.]+):\n", "\t.section .text.\\1,\"ax\",@progbits\n\t.type \\1,@function\n\\1:\n"),
          (r"\.section\t__TEXT,__literal(\d+),.*", r'.section .rodata.cst\1,"aM",@progbits,\1'),
@@ -63,3 +65,7 @@ class CargoProgram(objects.Program):
 
 class CargoProcessor(Processor):
     library = ForCargo
+
+    def __init__(self, program):
+        super().__init__(program)
+        self.OUTER = (*OUTER, BZERO) if program.name == MACOS else OUTER
