@@ -325,8 +325,8 @@ def divided(a, b):
 
 
 def quotients(a, b):
-    """Guesses, by the part of b that has the most variables: of the parts of a that it divides without a rest; then of each
-    part to the nearest number, as j - 1 for 960 j / 1024 where j is 1 to 15. One less and one more are guesses, too."""
+    """Guesses, by the part of b that has the most variables: of the parts of a that it divides without a rest; then of
+    each part to the nearest number, as j - 1 for 960 j / 1024, j from 1 to 15. One less and one more are guesses, too."""
     names, d = max(parts_of(b).items(), key=lambda part: len(part[0]))
     parts = [(rest, c) for product, c in parts_of(a).items() for rest in [without(names, product)] if rest is not None]
     for is_near in (False, True):

@@ -46,7 +46,8 @@ def compared_rows(found, is_all):
         title, lengths = shared.title_of(*kind), [*shared.ONE_BY_ONE, *cargo_rows.EDGES_OF_BLOCKS]
         yield compared(found, title, comparison.requests(*kind, lengths))
         if is_all and kind[2] is None and kind[0].startswith("3-"):
-            yield compared(found, f"{title}, longer ones", comparison.requests(*kind, shared.MORE))
+            lengths = [*shared.MORE, every_length.PREFETCHED]
+            yield compared(found, f"{title}, longer ones", comparison.requests(*kind, lengths))
 
 
 def every_length_rows(made, is_all):
