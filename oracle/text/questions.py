@@ -189,7 +189,7 @@ def further(asked, entries):
 
 def further_streams(is_plain):
     for k in range(1, 33 if is_plain else 65):
-        yield from [(32, k), (2 * k + 1, k), (5 * k + 40, k), (3 * k + 200, k)] if is_plain else \
+        yield from [(32, k), (64, k), (2 * k + 1, k), (5 * k + 40, k), (3 * k + 200, k)] if is_plain else \
             [(BUFFERED, k), (BUFFERED + k, BUFFERED - k % 9), (k + 600, k), (k + 2100, k)]
 
 

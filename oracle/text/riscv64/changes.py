@@ -26,7 +26,7 @@ def drawn(program, places, draw):
         if ways:
             what, found = draw.choice(ways)
             if found != x and (found.mnemonic, found.form) in TABLE:
-                yield place, f"{section[6:]} {written(x)}: {what} {written(found)}", [found]
+                yield place, f"{section[6:]} {written(x)}: {what} {written(found)} (at {at:#x})", [found]
 
 
 def of_instruction(x, draw):
