@@ -334,21 +334,25 @@ def monus(a, b):
 
 
 def divided(a, b):
-    """Quotient and remainder: guessed, by the part of b that has the most variables, and then shown."""
+    """Quotient and remainder: guessed, and then shown."""
     if is_same(b, 0):
         raise Undecided(f"{a} / {b}")
-    names, d = max(parts_of(b).items(), key=lambda part: len(part[0]))
-    guess = {}
-    for product, c in parts_of(a).items():
-        rest = without(names, product)
-        if rest is not None and (c % d == 0 or not rest):
-            guess[rest] = c // d
-    for more in (0, -1, 1):
-        q = plus(made(guess), more)
+    for q in quotients(a, b):
         r = minus(a, times(b, q))
         if is_natural(r) and is_natural(minus(minus(b, r), 1)):
             return q, r
     raise Undecided(f"{a} / {b}")
+
+
+def quotients(a, b):
+    """Guesses, by the part of b that has the most variables: of the parts of a that it divides without a rest; then of
+    each part to the nearest number, as j - 1 for 960 j / 1024, j from 1 to 15. One less and one more are guesses, too."""
+    names, d = max(parts_of(b).items(), key=lambda part: len(part[0]))
+    parts = [(rest, c) for product, c in parts_of(a).items() for rest in [without(names, product)] if rest is not None]
+    for is_near in (False, True):
+        guess = made({rest: (2 * c + d) // (2 * d) if is_near and rest else c // d for rest, c in parts
+                      if is_near or c % d == 0 or not rest})
+        yield from (plus(guess, more) for more in (0, -1, 1))
 
 
 def remainder(a, b):

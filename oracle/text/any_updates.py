@@ -23,7 +23,6 @@ from . import streams
 from .every_length import LIMIT, UNROLLED
 from .induction import Family, Loops, same
 from .memory import Words
-from .processor import NO_LIMIT
 
 # Where the parts of a state lie: the accumulators, the seed, the marked word, the total, the buffer; and the mark.
 Layout = collections.namedtuple("Layout", "accumulators seed marked total buffer mark")
@@ -138,13 +137,14 @@ class AnyUpdates:
         with given(at_most(self.source.length, LONGEST), *facts):
             state = self.state(a, one.r)
             piece = Piece(self.source, begun, minus(ended, begun))
-            self.cpu.loops, self.cpu.limit = Loops(self.cpu.program, self.family(b), guesses=self.guesses), LIMIT
+            limit, self.cpu.limit = self.cpu.limit, LIMIT
+            self.cpu.loops = Loops(self.cpu.program, self.family(b), guesses=self.guesses)
             try:
                 self.call(self.cpu.library.update, state, self.hash_name, state, piece)
             except REFUSALS as error:
                 raise NotShown("; ".join([str(error), *self.cpu.loops.refused])) from error
             finally:
-                self.cpu.loops, self.cpu.limit = None, NO_LIMIT
+                self.cpu.loops, self.cpu.limit = None, limit
             self.expect_state("an update", state, b, one.s)
 
     def family(self, stripes):

@@ -46,7 +46,8 @@ def compared_rows(name, make, is_all):
         title, lengths = rows.title_of(*kind), [*rows.ONE_BY_ONE, *cargo_rows.EDGES_OF_BLOCKS]
         yield compared(name, make, title, comparison.requests(*kind, lengths))
         if is_all and kind[2] is None and kind[0].startswith("3-"):
-            yield compared(name, make, f"{title}, longer ones", comparison.requests(*kind, rows.MORE))
+            lengths = [*rows.MORE, every_length.PREFETCHED]
+            yield compared(name, make, f"{title}, longer ones", comparison.requests(*kind, lengths))
 
 
 def every_length_rows(made, is_all):

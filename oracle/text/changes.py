@@ -17,6 +17,7 @@ from .instructions import PARTS, SETS, TABLE, VECTORS, letters
 from .objects import Immediate, Place, Register
 from .processor import Processor
 from .questions import CRASH, OTHERS, by_induction, further, near, questions, reaching
+from .xxh3_updates import Xxh3Updates
 
 EQUAL = os.path.join(os.path.dirname(os.path.abspath(__file__)), "equal_changes.txt")
 LIMIT = 40_000                   # instructions of a changed text's call
@@ -168,14 +169,13 @@ def is_equal(text, known):
     return any(all(word in text for word in words.split(" & ")) for words in known)
 
 
-def more_ways(cpu, asked, entries, is_all, section):
+def more_ways(cpu, asked, entries, is_all, section, updates):
     """Of a change in a section: the calls among some questions, and with --all further requests and inductions."""
     requests = [question for question in asked if question.request]
     yield from (question.over_symbols for question in asked if not question.request)
     if is_all:
         yield from (question.twice for question in further(requests, entries))
-    if is_all and section:
-        yield from (question.over_symbols for question in by_induction(cpu.program, requests, section))
+        yield from (question.over_symbols for question in by_induction(cpu.program, requests, section, updates))
 
 
 def noticed(name, program, count, is_all, word="", draws=(0,)):
@@ -185,13 +185,13 @@ def noticed(name, program, count, is_all, word="", draws=(0,)):
     return noticed_of(cpu, functools.partial(drawn, cpu), count, reasons(EQUAL), is_all, word, draws=draws)
 
 
-def noticed_of(cpu, changes, count, known, is_all, word="", others=OTHERS, draws=(0,)):
+def noticed_of(cpu, changes, count, known, is_all, word="", others=OTHERS, draws=(0,), updates=Xxh3Updates):
     """The same of so many of the `changes` of a text, which are drawn out of places of it, with the reasons that are
-    known, and the calls that are neither one-shots nor streams."""
+    known, the calls that are neither one-shots nor streams, and the kind of proof of XXH3's streams."""
     nodes.forget()
     cpu.limit = LIMIT
     entries = definition.program().run()
-    asked = questions(entries, is_all, others, others != OTHERS)
+    asked = questions(entries, is_all, others, all(updates.HAS_SEED))
     found = reaching(cpu, asked)
     bad, tried, places = [], 0, sorted(place for place in found if word in place[0])
     for change, order in of_draws(changes, places, draws, count):
@@ -199,7 +199,7 @@ def noticed_of(cpu, changes, count, known, is_all, word="", others=OTHERS, draws
         place, text, _ = change
         reached = [question for k, question in enumerate(asked) if found[place] >> k & 1]
         has_reason = is_equal(text, known)
-        more = () if has_reason else more_ways(cpu, reached, entries, is_all, place[0] if others == OTHERS else None)
+        more = () if has_reason else more_ways(cpu, reached, entries, is_all, place[0], updates)
         what = outcome(cpu, change[2], reached, order, entries, more)
         if what.startswith((CRASH, "WrongRule")) or (what == UNNOTICED) != has_reason:
             bad.append(f"{what}{', and has a reason' if has_reason else ''}: {text}")

@@ -26,7 +26,6 @@ from . import exports, streams
 from .every_length import FAR, LIMIT
 from .induction import Loops, same
 from .memory import ENTRY, Words
-from .processor import NO_LIMIT
 from .runs import Source, State
 from .stripes import DEEP, Part, Stripes, StripesProof, Summary
 from .values import address
@@ -238,7 +237,7 @@ class Xxh3Updates:
     def run(self, live, what, parts, *arguments, summaries=(), not_zero=(), **more):
         """A call, of a function of a name or by the library, with loops over stripes shown, and with summaries of other
         functions."""
-        cpu, family = self.cpu, self.family(*parts)
+        cpu, family, limit = self.cpu, self.family(*parts), self.cpu.limit
         cpu.not_zero, cpu.live, cpu.loops, cpu.limit = not_zero, live, Loops(cpu.program, family, StripesProof), LIMIT
         for summary in summaries:
             summary.put_into(cpu, family, self.source, self.secret_source)
@@ -248,7 +247,7 @@ class Xxh3Updates:
             raise NotShown("; ".join([str(error), *cpu.loops.refused])) from error
         finally:
             self.told, self.refused = cpu.loops.told, cpu.loops.refused
-            cpu.loops, cpu.limit, cpu.replaced = None, NO_LIMIT, {}
+            cpu.loops, cpu.limit, cpu.replaced = None, limit, {}
 
     def small_pieces(self):
         """Pieces that the buffer has room for: as arguments of `update`."""

@@ -11,6 +11,7 @@ from terms.sides import TOP
 
 from .. import calls, cargo_whole, every_length, one_shots, streams
 from .. import rows as shared
+from ..questions import OTHERS
 from . import cargo, changes, on_qemu
 from .objects import Program
 from .table import Processor
@@ -18,8 +19,6 @@ from .table import Processor
 TEXT = os.path.join(TOP, "c", "asm", "aarch64.s")
 SECRETS = 136, 192
 STREAMED = (5, 33, 70, 257, 300, 513, 700)
-OTHERS = [calls.canonical_forms, calls.is_equal, calls.compare, calls.copies, calls.forgotten, calls.without_mark, calls.refused_resets,
-          calls.null_pointers, calls.updates_of_nothing, calls.derived_secret, calls.version]
 
 
 def program():

@@ -4,6 +4,7 @@ import os
 
 from .. import cargo_calls, calls, changes
 from .source import REGISTERS
+from .streams import Updates
 from .table import TABLE, Processor
 
 EQUAL = os.path.join(os.path.dirname(os.path.abspath(__file__)), "equal_changes.txt")
@@ -25,7 +26,7 @@ def drawn(program, places, draw):
         if ways:
             what, found = draw.choice(ways)
             if found != x and (found.mnemonic, found.form) in TABLE:
-                yield place, f"{section[6:]} {written(x)}: {what} {written(found)}", [found]
+                yield place, f"{section[6:]} {written(x)}: {what} {written(found)} (at {at:#x})", [found]
 
 
 def of_instruction(x, draw):
@@ -60,4 +61,4 @@ def written(x):
 def noticed(program, is_all):
     """(changes that were tried, those that aren't noticed and have no reason)."""
     return changes.noticed_of(Processor(program), lambda places, draw: drawn(program, places, draw), MANY if is_all else FEW,
-                              changes.reasons(EQUAL), is_all, others=OTHERS)
+                              changes.reasons(EQUAL), is_all, others=OTHERS, updates=Updates)
