@@ -21,7 +21,7 @@ from . import calls, every_length, refusals
 from .comparing import Texts, with_seed_0
 from .module import Malformed, Reader
 from .opcodes import OPCODES
-from .validator import Validator
+from .validator import Validator, ends_of
 
 EQUAL = os.path.join(os.path.dirname(os.path.abspath(__file__)), "equal_changes.txt")
 LENGTHS = [*range(10), *range(14, 36, 3), 63, 64, 65, 96, 97, 120, 128, 129, 145, 200, 240, 241, 256, 257, 300, 1030]
@@ -147,6 +147,7 @@ def with_change(vm, function, whole):
     changed = copy.copy(vm)
     changed.module, changed.branches, changed.code = module, list(vm.branches), dict(vm.code)
     changed.branches[function.index] = Validator(module, other).check()
+    changed.ends = [ends_of(other.code) if k == function.index else ends for k, ends in enumerate(vm.ends)]
     changed.code.pop(function.index, None)
     changed.most_steps = STEPS
     return changed
