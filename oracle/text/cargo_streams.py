@@ -2,7 +2,7 @@
 the library for C. A stream has no mark and no secret: each call is given that. It always has a seed, which may be 0."""
 import functools
 
-from terms.every_length import LONGEST
+from terms.every_length import LONGEST, LONGEST_SECRET
 from terms.loops import NotShown
 from terms.memory import Piece
 from terms.nodes import symbol
@@ -46,7 +46,7 @@ def in_numbers(x, name, value):
 
 
 class CargoUpdates(Xxh3Updates):
-    CORE, HAS_SEED = 8, (1,)
+    CORE, HAS_SEED, longest_secret = 8, (1,), LONGEST_SECRET
     is_of_192 = False             # whether updates are by `xxh3_write_192`
 
     def own(self):

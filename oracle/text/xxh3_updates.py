@@ -96,7 +96,7 @@ EMPTY = Start((0, 0), 0, 0, (0, 0), [])
 class Xxh3Updates:
     CORE = 0                      # where in a state the accumulators lie, and behind them all but what `own` has
     HAS_SEED = 0, 1               # whether a stream was made with a seed
-    longest_secret = LONGEST_KEPT
+    longest_secret, longest_piece = LONGEST_KEPT, LONGEST
 
     def __init__(self, cpu):
         self.cpu, self.told, self.refused = cpu, [], []
@@ -129,13 +129,15 @@ class Xxh3Updates:
         self.secret_source = Source("s", self.secret_length)
         self.secret = Bytes(self.secret_source, 0, self.secret_length)
 
-    def questions(self):
+    def questions(self, what):
         """All that is to be shown, by the words of a row."""
-        return {UPDATES: [functools.partial(self.update, *case) for case in self.all_updates()],
-                DIGESTS: [*(functools.partial(self.reset, *case) for case in self.resets()),
-                          *(functools.partial(self.digest, *case, has_seed, width) for case in self.digests()
-                            for has_seed in self.HAS_SEED for width in WIDTHS)],
-                STRIPES: [self.one_update, *(functools.partial(self.taken_of, *case) for case in self.all_taken())]}
+        if what == UPDATES:
+            return [functools.partial(self.update, *case) for case in self.all_updates()]
+        if what == DIGESTS:
+            return [*(functools.partial(self.reset, *case) for case in self.resets()),
+                    *(functools.partial(self.digest, *case, has_seed, width) for case in self.digests()
+                      for has_seed in self.HAS_SEED for width in WIDTHS)]
+        return [self.one_update, *(functools.partial(self.taken_of, *case) for case in self.all_taken())]
 
     def one_update(self):
         """An update has the same code for both widths."""
@@ -449,10 +451,9 @@ class Xxh3Updates:
         for of_q in (at_most(self.q, BLOCK - 1), minus(self.q, BLOCK + 1)):
             part, facts = self.to_another_block(self.q)
             yield ANY, (TAKE_MANY, [part], [*facts, of_q], [TAKE])
-        if self.has_long_blocks():
-            turns, end, facts = self.within_block((variable("b"), variable("j")))
-            yield ANY, (TAKE_MANY, [Part((variable("b"), variable("j")), turns, end)], facts, [TAKE])
         b, D = variable("b"), variable("D")
+        turns, end, facts = self.within_block((b, variable("j")))
+        yield ANY, (TAKE_MANY, [Part((b, variable("j")), turns, end)], facts, [TAKE])
         yield OF_16, (TAKE_BLOCKS, [Part((b, 0), plus(BLOCK, times(BLOCK, D)), (plus(b, 1, D), 0))], [])
         longer = [minus(variable("u"), 1)] if self.is_widened() else []
         for parts, facts in self.by_fours():

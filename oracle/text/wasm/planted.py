@@ -15,7 +15,7 @@ from .changes import with_change
 from .comparing import Texts, compare, with_seed_0
 from .module import Malformed, Reader
 from .stripes import Takers
-from .xxh3_streams import DRAWN, ModuleUpdates
+from .xxh3_streams import ModuleUpdates
 
 ONE_SHOT = "twox_xxh64"             # of a seed, the message's place and its length
 OTHER_SEED = "local.get 0; {}; i64.extend_i32_u; i64.add; local.set 0"
@@ -121,9 +121,9 @@ def with_other_byte(number, then, byte, bits):
 
 
 def long_update(proof):
-    """An update by a long piece, of any number of bytes in the buffer."""
-    return functools.partial(proof.update, *next(case for case in proof.all_updates()
-                                                 if [*case[6:]] == [[TAKE_MANY]] and isinstance(case[0][1], Poly)))
+    """An update by a long piece, where stripes wait in the buffer."""
+    return functools.partial(proof.update, *next(map(proof.with_room, proof.pieces(
+        "many", proof.starts(False), [(64, [])]))))
 
 
 def taken(which):
@@ -147,42 +147,38 @@ def has_blocks(case):
 
 
 POINTS = 20                         # of the cases of which one is left out
-CUT = [Request("3-64", "seed", 1088, cuts=cuts) for cuts in ([300, 1000], [512])]
-# What is wrong where only long pieces of a stream come, how it is planted, and what has to notice it
-OF_STREAMS = [("another accumulator where the buffer is exactly full", of_full_buffer, long_update),
+CUT = [Request("3-64", "seed", 1088, cuts=[512, 1000])]
+# What is wrong where only long pieces of a stream come, how it is planted, what has to notice it, words of the refusal
+OF_STREAMS = [("another accumulator where the buffer is exactly full", of_full_buffer, long_update, "64*g == 512"),
               ("no scramble where a block ends before a fourth stripe", with_other_byte(16, "i64.ne", 1, 1),
-               taken(ends_a_block)),
+               taken(ends_a_block), "192 of s, which has u + 192"),
               ("fewer stripes before the first of many blocks", with_other_byte(960, "i64.and", 2, 4),
-               taken(has_blocks))]
+               taken(has_blocks), "as a condition")]
 
 
 def of_streams(vm, ask):
-    """Why a question of the streams of XXH3 is refused, or None."""
+    """Why a question of the streams of XXH3 is refused, or nothing."""
     try:
         ask(ModuleUpdates(vm))()
     except REFUSALS as error:
-        return f"{type(error).__name__}: {error}"
-    return None
+        return str(error)
+    return ""
 
 
 def tell_of_streams(machines):
     """Each module with each of these: it passes what is asked elsewhere, and is refused by what is asked of streams."""
     bad = []
-    for name, vm in machines.items():
-        takers = Takers(vm)
-        for what, make, ask in OF_STREAMS:
-            wrong = with_change(vm, *make(vm, takers))
-            bad += [f"{name} is refused: {why}" for why in [of_streams(vm, ask)] if why]
-            _, elsewhere = compare({name: wrong}, CUT, calls.stream)
-            bad += [f"{name} with {what} is refused elsewhere: {why}" for why in [refusal(wrong), *elsewhere] if why]
-            bad += [f"{name} passes with {what}"] * (not of_streams(wrong, ask))
+    for what, make, ask, words in OF_STREAMS:
+        wrong = {name: with_change(vm, *make(vm, Takers(vm))) for name, vm in machines.items()}
+        bad += [f"with {what}, elsewhere: {line}" for line in compare(wrong, CUT, calls.stream)[1]]
+        bad += [f"{name} with {what}: {why or 'it passes'}" for name, vm in wrong.items()
+                if words not in (why := of_streams(vm, ask))]
     return f"{len(OF_STREAMS) * len(machines)} planted modules, each refused", bad
 
 
 def lacks_a_case(proof):
     """Whether an update, a digest and stripes are missed that are left out."""
-    return all(without([case for k, case in enumerate(cases) if k != left_out], proof.facts, *more)
+    return all(without([case for k, case in enumerate(cases) if k != left_out], proof, *more, POINTS)
                for without, cases, left_out, more in (
-                   (covered.without_update, proof.all_updates(), 687, (POINTS, DRAWN)),
-                   (covered.without_digest, proof.digests(), 310, (POINTS, DRAWN)),
-                   (covered.without_taken, proof.all_taken(), 3, ([(TAKE.name, 0)], POINTS, DRAWN))))
+                   (covered.without_update, proof.all_updates(), 687, ()), (covered.without_digest, proof.digests(), 310, ()),
+                   (covered.without_taken, proof.all_taken(), 3, [[(TAKE.name, 0)]])))

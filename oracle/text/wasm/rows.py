@@ -167,7 +167,7 @@ def xxh3_streams_by_induction(is_all):
 def xxh3_cases_are_all(machines, count):
     """Of so many points of each sort. The cases are those of both modules."""
     proof = xxh3_streams.ModuleUpdates(machines[NAMES[0]])
-    found = covered.left_out(proof, count, xxh3_streams.DRAWN)
+    found = covered.left_out(proof, count)
     bad = [f"no case has {point}" for point in found[:5]]
     return f"{3 * count} points", bad if planted.lacks_a_case(proof) else [*bad, "a case that is left out isn't missed"]
 
@@ -175,7 +175,7 @@ def xxh3_cases_are_all(machines, count):
 def xxh3_streams_shown(machines, module, what, first, some):
     """The cases of a part, or so many that are a sample."""
     proof = xxh3_streams.ModuleUpdates(machines[module])
-    asked = proof.questions()[what]
+    asked = proof.questions(what)
     each = len(asked) // some if some else XXH3_CASES[what][1]
     count, bad = of_texts.count_shown(proof, asked[first::each])
     return f"{count} cases", bad

@@ -14,16 +14,15 @@ from terms.polynomials import at_most, given, minus, plus, times, variable
 from terms.polynomials import is_same as is_same_number
 from terms.sides import Request
 
-from .. import covered
 from ..cargo_streams import CargoUpdates, in_numbers
 from ..induction import same
+from ..riscv64.streams import BLOCKS, parted
 from ..xxh3_updates import STRIPES, Start
 from . import calls, every_length
 from .stripes import UPDATE, Loops, Takers
 from .values import address
 
 LONGEST = every_length.LONGEST    # bytes of a piece, and of a secret: as many as the memory has room for
-DRAWN = covered.Drawn([*covered.STRIPES, 100, 1 << 20], LONGEST, LONGEST)
 
 
 class Page:
@@ -48,7 +47,7 @@ class Page:
 
 class ModuleUpdates(CargoUpdates):
     CORE, HAS_SEED = 16, (0, 1)
-    library, longest_secret = Page, LONGEST
+    library, longest_secret, longest_piece = Page, LONGEST, LONGEST
 
     def __init__(self, vm):
         super().__init__(vm)
@@ -57,10 +56,10 @@ class ModuleUpdates(CargoUpdates):
     def facts_of_any(self):
         return self.facts
 
-    def questions(self):
+    def questions(self, what):
         """Both widths have one update."""
-        found = super().questions()
-        return {**found, STRIPES: found[STRIPES][1:]}
+        found = super().questions(what)
+        return found[1:] if what == STRIPES else found
 
     @staticmethod
     def is_widened():
@@ -101,9 +100,13 @@ class ModuleUpdates(CargoUpdates):
     # ---- what is shown
 
     def all_updates(self):
-        """The memory has room for a piece."""
-        for start, end, length, facts, *rest in super().all_updates():
-            yield start, end, length, [*facts, at_most(length, LONGEST)], *rest
+        yield from map(self.with_room, super().all_updates())
+
+    @staticmethod
+    def with_room(case):
+        """An update by a piece that the memory has room for."""
+        start, end, length, facts, *rest = case
+        return start, end, length, [*facts, at_most(length, LONGEST)], *rest
 
     def small_pieces(self):
         for case in super().small_pieces():
@@ -136,9 +139,12 @@ class ModuleUpdates(CargoUpdates):
         return at_most(self.stripes(place), MOST_BYTES // 64)
 
     def all_taken(self):
-        for secret, (summary, parts, facts, *rest) in super().all_taken():
-            turns = plus(0, 0, *(part.turns for part in parts))
-            yield secret, (summary, parts, [*facts, at_most(times(64, turns), LONGEST)], *rest)
+        """From a block's last stripe to the end of a block a loop asks whether there is a whole block behind."""
+        for secret, case in super().all_taken():
+            turns = plus(0, 0, *(part.turns for part in case[1]))
+            case = *case[:2], [*case[2], at_most(times(64, turns), LONGEST)], *case[3:]
+            asks = is_same_number(turns, plus(times(self.q, variable(BLOCKS)), 1))
+            yield from ((secret, one) for one in (parted(case, 2) if asks else [case]))
 
     def taker(self, summary):
         return functools.partial(self.takers.call, summary.name)
