@@ -17,11 +17,13 @@ from terms.loops import REFUSALS
 from terms.nodes import WrongRule
 from terms.sides import Request, differing_point
 
+from ..xxh3_updates import TAKE_BLOCKS
 from . import calls, every_length, refusals
 from .comparing import Texts, with_seed_0
 from .module import Malformed, Reader
 from .opcodes import OPCODES
 from .validator import Validator, ends_of
+from .xxh3_streams import ModuleUpdates
 
 EQUAL = os.path.join(os.path.dirname(os.path.abspath(__file__)), "equal_changes.txt")
 LENGTHS = [*range(10), *range(14, 36, 3), 63, 64, 65, 96, 97, 120, 128, 129, 145, 200, 240, 241, 256, 257, 300, 1030]
@@ -52,8 +54,35 @@ BY_HAND = [
     ("a store, as of bytes 8 further", "i64.store", None, None, -1, 8),
 ]
 EACH_BY_HAND = 3              # places at which each is tried
-REFUSING = calls.refused_one_shot, calls.refused_start, refusals.refuse_short_secret, refusals.refuse_record
+# Streams with pieces that are taken out of line, and each so manieth case of the functions that do so
+LONG_STREAMS, EACH_TAKEN = [(2300,), *((2300, 64 - r) for r in (1, 2, 5, 9, 20, 40)), (5300, 129)], 25
 CRASHES = AttributeError, IndexError, KeyError, TypeError, ValueError, RecursionError
+
+
+class Taken:
+    """A case of the functions that take stripes of long pieces (xxh3_streams.py), as a request."""
+    hash_name, kind, secret_length, what = "3-64", "seed", None, "stripes of long pieces"
+
+    def __init__(self, case):
+        self.case = case
+
+
+def take(vm, request):
+    """Shows a case, or raises."""
+    ModuleUpdates(vm).taken_of(*request.case)
+
+
+# What has no value: a call is refused, or a case shown.
+REFUSING = calls.refused_one_shot, calls.refused_start, refusals.refuse_short_secret, refusals.refuse_record, take
+
+
+def long_pieces(vm):
+    for kind in (("3-64", "seed", None), ("3-128", "both", SECRETS[0])):
+        for n, *cuts in LONG_STREAMS:
+            yield Request(*kind[:2], n, kind[2], cuts=cuts), calls.stream
+    cases = list(ModuleUpdates(vm).all_taken())
+    blocks = [case for case in cases if TAKE_BLOCKS in (case[1][0], *itertools.chain(*case[1][3:]))]
+    yield from ((Taken(case), take) for case in (*cases[::EACH_TAKEN], *blocks))
 
 
 def asked(is_all=True):
@@ -88,7 +117,7 @@ class Covered:
     def __init__(self, vm, is_all):
         by_kind, seen, draw = collections.defaultdict(dict), collections.Counter(), random.Random(5)
         texts = Texts()
-        for question in asked(is_all):
+        for question in (*asked(is_all), *(long_pieces(vm) if is_all else ())):
             texts.make_room()
             vm.used, kind = set(), kind_of(question)
             question[1](vm, question[0])
