@@ -8,7 +8,7 @@ from terms.polynomials import is_same as is_same_number
 from terms.sides import Request
 
 from .. import covered
-from ..xxh3_updates import TAKE, TAKE_BLOCKS, TAKE_MANY
+from ..xxh3_updates import TAKE, TAKE_MANY
 from . import calls, every_length
 from .assembler import assembled, unsigned
 from .changes import with_change
@@ -129,21 +129,19 @@ def long_update(proof):
 def taken(which):
     """What the function for many stripes does, in a case of its own."""
     def ask(proof):
-        cases = [case for case in proof.all_taken() if case[1][0] is TAKE_MANY]
-        return functools.partial(proof.taken_of, *next(filter(which, cases)))
+        return functools.partial(proof.taken_of, *next(
+            (secret, case) for secret, case in proof.all_taken() if case[0] is TAKE_MANY and which(*case[1])))
     return ask
 
 
-def ends_a_block(case):
-    """Whether a part of one stripe ends the block before the others."""
-    first, then, *_ = [*case[1][1], None]
-    return is_same_number(first.turns, 1) and is_same_number(then.start[1], 0)
+def ends_a_block(first, *others):
+    """Whether a part of one stripe ends a block before the others."""
+    return bool(others) and is_same_number(first.turns, 1) and is_same_number(others[0].start[1], 0)
 
 
-def has_blocks(case):
-    """Whether there are whole blocks behind some stripes."""
-    first, *_ = case[1][1]
-    return TAKE_BLOCKS in [*case[1][3:], []][0] and isinstance(first.turns, Poly)
+def has_blocks(first, *others):
+    """Whether there are whole blocks behind the stripes to a block's end."""
+    return bool(others) and isinstance(first.turns, Poly)
 
 
 POINTS = 20                         # of the cases of which one is left out
@@ -178,7 +176,7 @@ def tell_of_streams(machines):
 
 def lacks_a_case(proof):
     """Whether an update, a digest and stripes are missed that are left out."""
-    return all(without([case for k, case in enumerate(cases) if k != left_out], proof, *more, POINTS)
-               for without, cases, left_out, more in (
-                   (covered.without_update, proof.all_updates(), 687, ()), (covered.without_digest, proof.digests(), 310, ()),
-                   (covered.without_taken, proof.all_taken(), 3, [[(TAKE.name, 0)]])))
+    updates, digests, takers = map(list, (proof.all_updates(), proof.digests(), proof.all_taken()))
+    del updates[687], digests[310], takers[3]
+    return all([covered.without_update(updates, proof, POINTS), covered.without_digest(digests, proof, POINTS),
+                covered.without_taken(takers, proof, [(TAKE.name, 0)], POINTS)])

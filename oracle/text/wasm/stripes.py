@@ -44,7 +44,6 @@ class Proof(StripesProof):
         self.loops, self.cpu, self.family, self.place = loops, vm, loops.family, Head(vm, frame)
         self.head = f"function {frame.function.index}", self.place.head
         self.begin(self.place.memories)
-        self.leave = self.place.leave
 
     def cells(self):
         out = {}
@@ -70,6 +69,9 @@ class Proof(StripesProof):
 
     def turn(self):
         self.place.turn()
+
+    def leave(self):
+        self.place.leave()
 
 
 # ---- functions that take stripes
