@@ -6,8 +6,8 @@ from terms import halves, operations
 from terms.llvm_text import Unsupported
 from terms.machine import BINARY, compare_numbers, rotated
 from terms.nodes import Node, Undecided
-from terms.polynomials import (Poly, at_most, divided, is_natural, is_number, is_same, made, minus, parts_of, plus,
-                               remainder, times, wrapped)
+from terms.polynomials import (Poly, at_most, divided, is_natural, is_number, is_same, made, minus, plus, remainder,
+                               times, wrapped)
 from terms.rules import ones, zeros_below
 
 from .. import values as of_text
@@ -40,7 +40,9 @@ def low_of_number(x, width):
 def nearest(x, width):
     """A number that is the same mod 2 ^ width, with coefficients as near to 0 as there are."""
     half = 1 << width - 1
-    return made({names: (c + half) % (2 * half) - half for names, c in parts_of(x).items()})
+    if isinstance(x, int):
+        return (x + half) % (2 * half) - half
+    return made({names: nearest(c, width) for names, c in x.parts.items()})
 
 
 def high(x, width):
