@@ -73,7 +73,8 @@ def take(vm, request):
 
 
 # What has no value: a call is refused, or a case shown.
-REFUSING = calls.refused_one_shot, calls.refused_start, refusals.refuse_short_secret, refusals.refuse_record, take
+REFUSING = (calls.refused_one_shot, calls.refused_start, refusals.refuse_short_secret, refusals.refuse_record,
+            refusals.keep_counters, take)
 
 
 def long_pieces(vm):
@@ -104,6 +105,7 @@ def refused():
             yield Request(hash_name, way, 300, size), answer
     for wrong in refusals.WRONG_RECORDS:
         yield refusals.WrongRecord(*wrong), refusals.refuse_record
+    yield from ((request, refusals.keep_counters) for request in refusals.of_counters())
 
 
 def kind_of(question):
@@ -250,7 +252,7 @@ def of_many_bytes(vm):
             proof = every_length.Proof(vm)
             for case in every_length.CASES[:2]:
                 proof.long(hash_name, "seed", case)
-            for case in (own[0], own[-5], own[-1]):
+            for case in (own[0], *own[-6:]):
                 proof.own_secret(hash_name, "both", case)
     except (*REFUSALS, *CRASHES):
         return BY_INDUCTION

@@ -119,7 +119,8 @@ def of_refusals():
     return [("planted modules", planted.tell), ("planted modules, streams of XXH3", planted.tell_of_streams),
             ("secrets of 0 to 135 bytes, one-shots", refusals.one_shots_with_short_secrets),
             ("secrets of 0 to 135 bytes, streams", refusals.streams_with_short_secrets),
-            ("records that are no stream's", refusals.wrong_records)]
+            ("records that are no stream's", refusals.wrong_records),
+            ("counters that stay at 2^64 - 1", refusals.counters_stay)]
 
 
 # ---- every length
