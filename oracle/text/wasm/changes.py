@@ -77,10 +77,13 @@ REFUSING = (calls.refused_one_shot, calls.refused_start, refusals.refuse_short_s
             refusals.keep_counters, take)
 
 
-def long_pieces(vm):
-    for kind in (("3-64", "seed", None), ("3-128", "both", SECRETS[0])):
-        for n, *cuts in LONG_STREAMS:
-            yield Request(*kind[:2], n, kind[2], cuts=cuts), calls.stream
+def long_pieces(vm, is_all):
+    """What covers the functions that take long pieces of streams."""
+    for n, *cuts in LONG_STREAMS if is_all else LONG_STREAMS[:2]:
+        yield Request("3-64", "seed", n, cuts=cuts), calls.stream
+        yield Request("3-128", "both", n, SECRETS[0], cuts=cuts), calls.stream
+    if not is_all:
+        return
     cases = list(ModuleUpdates(vm).all_taken())
     blocks = [case for case in cases if TAKE_BLOCKS in (case[1][0], *itertools.chain(*case[1][3:]))]
     yield from ((Taken(case), take) for case in (*cases[::EACH_TAKEN], *blocks))
@@ -119,7 +122,7 @@ class Covered:
     def __init__(self, vm, is_all):
         by_kind, seen, draw = collections.defaultdict(dict), collections.Counter(), random.Random(5)
         texts = Texts()
-        for question in (*asked(is_all), *(long_pieces(vm) if is_all else ())):
+        for question in (*asked(is_all), *long_pieces(vm, is_all)):
             texts.make_room()
             vm.used, kind = set(), kind_of(question)
             question[1](vm, question[0])
