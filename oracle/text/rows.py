@@ -183,7 +183,7 @@ def points_left_out(made, is_all, kind):
 
 def any_xxh3(make, what, part, kind):
     proof = kind(make())
-    asked, (some, parts) = proof.questions()[what], XXH3_CASES[what]
+    asked, (some, parts) = proof.questions(what), XXH3_CASES[what]
     return count_shown(proof, asked[::len(asked) // some] if part is None else asked[part::parts])
 
 
