@@ -87,11 +87,6 @@ def with_flags(cpu, x):
     cpu.flags = word, width, a, b, answer
 
 
-@form("nop", "")
-def nothing(cpu, x):
-    """Does nothing."""
-
-
 @form("madd msub", "x x x x, w w w w")
 def multiply_add(cpu, x):
     to, a, b, c = x.operands
@@ -258,6 +253,7 @@ def never(cpu, x):
 
 
 @form("prfm", "p m")
+@form("nop", "")
 def nothing(cpu, x):
     pass
 
