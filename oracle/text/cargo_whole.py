@@ -4,7 +4,7 @@ import functools
 
 from terms import comparison
 
-from . import calls, cargo_calls, cargo_rows, every_length, one_shots, rows, streams, windows
+from . import calls, cargo_calls, cargo_rows, every_length, one_shots, rows, streams, windows, windows_planted
 from .cargo_exports import exports_left_out
 from .cargo_streams import CargoUpdates
 
@@ -30,6 +30,7 @@ def windows_rows(is_all):
         for row in found:
             row.title = f"cargo's {name}: {row.title}"
             yield row
+    yield rows.counted("wrong texts for Windows are refused", len(windows_planted.WRONG), windows_planted.refused)
 
 
 def compared(name, make, title, requests, side=one_shots):

@@ -21,10 +21,17 @@ WORDS = [(r"^\t\.def\t(.*\n)*?\t\.endef\n", ""), (r"^\t?\.seh_.*\n", ""),
 def programs():
     """Name -> the text of that name."""
     with tempfile.TemporaryDirectory(prefix="machine-text-") as room:
-        return {name: WindowsProgram(name, room) for name in NAMES}
+        return {name: WindowsProgram(name, assembled(name, room)) for name in NAMES}
+
+
+def assembled(name, room):
+    path = os.path.join(room, f"{name}.o")
+    subprocess.run(["gcc", "-x", "assembler", "-c", "-o", path, "-"], input=source(name), check=True, text=True)
+    return path
 
 
 def source(name):
+    """The text of a name, in the words of Linux."""
     with open(os.path.join(FOLDER, f"{name}.s"), encoding="utf-8") as file:
         text = file.read()
     for known, words in WORDS:
@@ -33,9 +40,7 @@ def source(name):
 
 
 class WindowsProgram(CargoProgram):
-    def __init__(self, name, room):
-        path = os.path.join(room, f"{name}.o")
-        subprocess.run(["gcc", "-x", "assembler", "-c", "-o", path, "-"], input=source(name), check=True, text=True)
+    def __init__(self, name, path):
         super().__init__(NAMES[name], path)
 
     @staticmethod

@@ -1,5 +1,5 @@
-"""The texts below the cargo crate for 64-bit ARM: of Linux, of Android and of macOS, which are compiled apart, since the last
-two keep the register x18 to themselves."""
+"""The texts below the cargo crate for 64-bit ARM: of Linux, of Android and of macOS, which are compiled apart, since the
+last two keep the register x18 to themselves."""
 import os
 import re
 import subprocess
