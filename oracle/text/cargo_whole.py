@@ -4,11 +4,9 @@ import functools
 
 from terms import comparison
 
-from . import calls, cargo_calls, cargo_rows, every_length, one_shots, rows, streams, windows, windows_planted
+from . import calls, cargo_calls, cargo_rows, every_length, one_shots, rows, streams
 from .cargo_exports import exports_left_out
 from .cargo_streams import CargoUpdates
-
-SAMPLED = [("32", "seed"), ("64", "seed"), ("3-64", "seed"), ("3-128", "both")]     # without --all, of the texts for Windows
 
 
 def choose(name, make, is_all, updates=CargoUpdates):
@@ -20,17 +18,11 @@ def choose(name, make, is_all, updates=CargoUpdates):
                          lambda: exports_left_out({name: program}, titles)), *out]
 
 
-def windows_rows(is_all):
-    """Of each text for Windows all rows of a text that stands alone, or a sample of one-shots."""
-    for name, program in windows.programs().items():
-        make = functools.partial(windows.WindowsProcessor, program)
-        found = choose(name, make, is_all) if is_all else [
-            compared(name, make, rows.title_of(*kind), comparison.requests(*kind, cargo_rows.LENGTHS))
-            for kind in comparison.kinds(cargo_rows.SECRETS) if kind[:2] in SAMPLED]
-        for row in found:
-            row.title = f"cargo's {name}: {row.title}"
-            yield row
-    yield rows.counted("wrong texts for Windows are refused", len(windows_planted.WRONG), windows_planted.refused)
+def named(name, found):
+    """Rows with the name of their text in their titles."""
+    for row in found:
+        row.title = f"{name}: {row.title}"
+        yield row
 
 
 def compared(name, make, title, requests, side=one_shots):

@@ -52,11 +52,10 @@ def choose(given, found):
 
 
 def cargo_text_rows(is_all):
-    """The rows of each text below the cargo crate, by its name."""
+    """The rows of each text below the cargo crate."""
     for name, found in cargo.programs().items():
-        for row in cargo_whole.choose(name, functools.partial(cargo.CargoProcessor, found), is_all):
-            row.title = f"cargo's {name}: {row.title}"
-            yield row
+        made = functools.partial(cargo.CargoProcessor, found)
+        yield from cargo_whole.named(f"cargo's {name}", cargo_whole.choose(name, made, is_all))
 
 
 def every_length_rows(made, is_all):
