@@ -22,7 +22,8 @@ def points(count, proof):
         L = max(0, draw.choice((*EDGES, *FAR_OFF, 64 * draw.randrange(600), draw.randrange(3000))) + draw.randrange(-2, 3))
         if not f:
             b = j = 0
-        yield q, draw.choice((0, draw.randrange(min(8, proof.longest_secret - 63 - 8 * q)))), b, j, f, min(L, proof.longest_piece)
+        u = draw.choice((0, draw.randrange(min(8, proof.longest_secret - 63 - 8 * q))))
+        yield q, u, b, j, f, min(L, proof.longest_piece)
 
 
 def states(count, proof):
