@@ -12,7 +12,7 @@ from terms.nodes import is_same
 from terms.sides import TOP
 
 from .memory import Words
-from .objects import Program
+from .objects import TEXT, Program
 from .one_shots import is_plain
 from .processor import Processor
 from .values import address, joined, low
@@ -44,6 +44,10 @@ class CargoProgram(Program):
             if symbol.info >> 4 == WEAK and symbol.other & 3 != HIDDEN:
                 raise Unsupported(f"{symbol.name} isn't hidden")
         return tuple({plain(name): place for name, place in found.items()} for found in super().names())
+
+    @staticmethod
+    def title_of(section):
+        return TEXT + plain(section[len(TEXT):])
 
 
 def plain(name):
@@ -99,7 +103,7 @@ def expect_code(name, code, expected):
 
 
 class ForCargo:
-    SIZES = {"32": 48, "64": 88, "3": 680}
+    SIZES, IS_SEEDED = {"32": 48, "64": 88, "3": 680}, True
 
     @staticmethod
     def one_shot(cpu, hash_name, kind, *arguments):
