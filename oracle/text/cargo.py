@@ -13,7 +13,7 @@ from terms.nodes import is_same
 from terms.sides import TOP
 
 from .memory import Words
-from .objects import Program
+from .objects import TEXT, Program
 from .one_shots import is_plain
 from .processor import Processor
 from .values import address, joined, low
@@ -51,6 +51,10 @@ class CargoProgram(Program):
     def named(functions):
         """The functions by their names here."""
         return {plain(name): place for name, place in functions.items()}
+
+    @staticmethod
+    def title_of(section):
+        return TEXT + plain(section[len(TEXT):])
 
 
 def plain(name):
@@ -113,7 +117,7 @@ def expect_code(name, code, expected):
 
 
 class ForCargo:
-    SIZES = {"32": 48, "64": 88, "3": 680}
+    SIZES, IS_SEEDED = {"32": 48, "64": 88, "3": 680}, True
 
     @staticmethod
     def one_shot(cpu, hash_name, kind, *arguments):

@@ -11,7 +11,7 @@ from terms.sides import TOP
 
 from .. import calls, cargo_whole, every_length, one_shots, streams
 from .. import rows as shared
-from ..questions import OTHERS
+from ..questions import FOR_C
 from . import cargo, changes, on_qemu
 from .objects import Program
 from .table import Processor
@@ -41,7 +41,7 @@ def choose(given, found):
             out.append(compared(f"{title_of(*kind)}, streams of 5 to 700 bytes", found, kind, asked, True))
     for name in ("3-64", "3-128"):
         out.append(Row(f"XXH{name}, secrets of 0 to 135 bytes", functools.partial(short_secrets, found, name)))
-    out += [Row(f"the other calls: {ask.__name__.replace('_', ' ')}", functools.partial(other, found, ask)) for ask in OTHERS]
+    out += [Row(f"the other calls: {ask.__name__.replace('_', ' ')}", functools.partial(other, found, ask)) for ask in FOR_C.calls]
     made = {"aarch64": functools.partial(Processor, found)}
     out += every_length_rows(made, given.all)
     out.append(Row("the table of instructions beside qemu", on_qemu.tell))
