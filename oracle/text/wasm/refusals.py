@@ -21,6 +21,8 @@ WRONG_RECORDS = [
     ("32", 5, "a whole stripe waits", (48, 8, 16)), ("32", 5, "2^32 bytes more wait", (48, 8, 5 + 2 ** 32)),
     ("32", 5, "another length", (0, 8, 4)), ("32", 5, "an accumulator, with no stripe", (12, 4, 1)),
     ("32", 5, "the last accumulator, with no stripe", (24, 4, 1)), ("32", 5, "another seed", (8, 4, 8)),
+    ("32", 15, "an accumulator, just below a stripe", (12, 4, 1)),
+    ("64", 31, "an accumulator, just below a stripe", (16, 8, 1)),
     ("32", 5, "a length that is lost, and a whole stripe waits", (48, 8, 16), LOST),
     ("32", 5, "a length that is lost, and 2^63 bytes wait", (48, 8, 2 ** 63), LOST),
     ("64", 5, "a length that is lost, and a whole stripe waits", (80, 8, 32), LOST),
