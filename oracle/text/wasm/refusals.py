@@ -90,11 +90,16 @@ def started(vm, request, taken):
     return it
 
 
+def names_of(it):
+    """The hashes of a stream's family."""
+    return XXH3 if it.family == "xxh3" else [it.request.hash_name]
+
+
 def expect_refused(it, code):
     """That an update and a digest are refused, by either hash of the family."""
     before = dict(it.record.cells)
     answered(it.update(0, it.request.length), code)
-    for name in XXH3 if it.family == "xxh3" else [it.request.hash_name]:
+    for name in names_of(it):
         out = Memory("the value", calls.BYTES[name])
         answered(it.digest(out, name), code)
         expect_kept("the value", out, {})
@@ -130,13 +135,15 @@ def of_counters():
 
 
 def keep_counters(vm, request):
-    """An update of a stream whose counters are 2^64 - 1, which they stay."""
+    """An update of a stream whose counters are 2^64 - 1, which they stay; and it still has a digest."""
     it, places = started(vm, request, PIECES[0]), COUNTERS[request.hash_name]
     for at in places:
         it.record.store(at, 8, MOST)
     answered(it.update(0, request.length))
     if any(it.record.load(at, 8) != MOST for at in places):
         raise Unsupported("a counter that isn't 2^64 - 1")
+    for name in names_of(it):
+        answered(it.digest(Memory("the value", calls.BYTES[name]), name))
 
 
 def counters_stay(machines):
