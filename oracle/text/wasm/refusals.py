@@ -14,7 +14,8 @@ XXH3 = "3-64", "3-128"
 # Bytes taken, and fields that don't agree with that: (hash, bytes, what, (offset, size, value), ..)
 MOST = 2 ** 64 - 1
 LOST = 0, 8, MOST             # a length that is no longer counted
-COUNTERS = {"32": [0], "64": [0], "3-64": [680, 152]}         # where a record has those of bytes and of stripes
+# Where a record has its counters, of bytes and of stripes.
+COUNTERS = {"32": [0], "64": [0], "3-64": [680, 152], "3-128": [680, 152]}
 PIECES = 5, 40, 200, 600, 3000
 WRONG_RECORDS = [
     ("32", 5, "fewer bytes wait", (48, 8, 4)), ("32", 5, "more bytes wait", (48, 8, 6)),
@@ -66,14 +67,17 @@ def streams_with_short_secrets(machines):
                 calls.refused_start(vm, Request("3-64", way, 300, size))
                 expect_not_asked(vm)
             refuse_short_secret(vm, Request("3-64", "secret", 300, size))
-            count += 2 + 3
+            count += 2 + 6
     return f"{count} refused", []
 
 
 def refuse_short_secret(vm, request):
-    """An update and a digest of a stream that is there, which are handed another secret, that is too short."""
+    """An update and a digest of a stream that is there, which are handed another secret, that is too short; also where
+    the record is no stream's, since the secret comes first."""
     it = started(vm, Request(request.hash_name, request.kind, request.length, LEAST_SECRET), request.length)
     it.secret = calls.of_secret(request)
+    expect_refused(it, SECRET_TOO_SHORT)
+    it.record.store(COUNTERS[request.hash_name][0], 8, request.length - 1)
     expect_refused(it, SECRET_TOO_SHORT)
 
 
@@ -131,7 +135,7 @@ def wrong_records(machines):
 # ---- counters
 
 def of_counters():
-    return [Request(name, "seed", n, seed=7) for name in COUNTERS for n in PIECES]
+    return [Request(name, "seed", n, seed=7) for name in ("32", "64", "3-64") for n in PIECES]
 
 
 def keep_counters(vm, request):
