@@ -14,13 +14,16 @@ XXH3 = "3-64", "3-128"
 # Bytes taken, and fields that don't agree with that: (hash, bytes, what, (offset, size, value), ..)
 MOST = 2 ** 64 - 1
 LOST = 0, 8, MOST             # a length that is no longer counted
-COUNTERS = {"32": [0], "64": [0], "3-64": [680, 152]}         # where a record has those of bytes and of stripes
+# Where a record has its counters, of bytes and of stripes.
+COUNTERS = {"32": [0], "64": [0], "3-64": [680, 152], "3-128": [680, 152]}
 PIECES = 5, 40, 200, 600, 3000
 WRONG_RECORDS = [
     ("32", 5, "fewer bytes wait", (48, 8, 4)), ("32", 5, "more bytes wait", (48, 8, 6)),
     ("32", 5, "a whole stripe waits", (48, 8, 16)), ("32", 5, "2^32 bytes more wait", (48, 8, 5 + 2 ** 32)),
     ("32", 5, "another length", (0, 8, 4)), ("32", 5, "an accumulator, with no stripe", (12, 4, 1)),
     ("32", 5, "the last accumulator, with no stripe", (24, 4, 1)), ("32", 5, "another seed", (8, 4, 8)),
+    ("32", 15, "an accumulator, just below a stripe", (12, 4, 1)),
+    ("64", 31, "an accumulator, just below a stripe", (16, 8, 1)),
     ("32", 5, "a length that is lost, and a whole stripe waits", (48, 8, 16), LOST),
     ("32", 5, "a length that is lost, and 2^63 bytes wait", (48, 8, 2 ** 63), LOST),
     ("64", 5, "a length that is lost, and a whole stripe waits", (80, 8, 32), LOST),
@@ -64,14 +67,17 @@ def streams_with_short_secrets(machines):
                 calls.refused_start(vm, Request("3-64", way, 300, size))
                 expect_not_asked(vm)
             refuse_short_secret(vm, Request("3-64", "secret", 300, size))
-            count += 2 + 3
+            count += 2 + 6
     return f"{count} refused", []
 
 
 def refuse_short_secret(vm, request):
-    """An update and a digest of a stream that is there, which are handed another secret, that is too short."""
+    """An update and a digest of a stream that is there, which are handed another secret, that is too short; also where
+    the record is no stream's, since the secret comes first."""
     it = started(vm, Request(request.hash_name, request.kind, request.length, LEAST_SECRET), request.length)
     it.secret = calls.of_secret(request)
+    expect_refused(it, SECRET_TOO_SHORT)
+    it.record.store(COUNTERS[request.hash_name][0], 8, request.length - 1)
     expect_refused(it, SECRET_TOO_SHORT)
 
 
@@ -88,11 +94,16 @@ def started(vm, request, taken):
     return it
 
 
+def names_of(it):
+    """The hashes of a stream's family."""
+    return XXH3 if it.family == "xxh3" else [it.request.hash_name]
+
+
 def expect_refused(it, code):
     """That an update and a digest are refused, by either hash of the family."""
     before = dict(it.record.cells)
     answered(it.update(0, it.request.length), code)
-    for name in XXH3 if it.family == "xxh3" else [it.request.hash_name]:
+    for name in names_of(it):
         out = Memory("the value", calls.BYTES[name])
         answered(it.digest(out, name), code)
         expect_kept("the value", out, {})
@@ -124,17 +135,19 @@ def wrong_records(machines):
 # ---- counters
 
 def of_counters():
-    return [Request(name, "seed", n, seed=7) for name in COUNTERS for n in PIECES]
+    return [Request(name, "seed", n, seed=7) for name in ("32", "64", "3-64") for n in PIECES]
 
 
 def keep_counters(vm, request):
-    """An update of a stream whose counters are 2^64 - 1, which they stay."""
+    """An update of a stream whose counters are 2^64 - 1, which they stay; and it still has a digest."""
     it, places = started(vm, request, PIECES[0]), COUNTERS[request.hash_name]
     for at in places:
         it.record.store(at, 8, MOST)
     answered(it.update(0, request.length))
     if any(it.record.load(at, 8) != MOST for at in places):
         raise Unsupported("a counter that isn't 2^64 - 1")
+    for name in names_of(it):
+        answered(it.digest(Memory("the value", calls.BYTES[name]), name))
 
 
 def counters_stay(machines):
