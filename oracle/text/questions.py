@@ -208,7 +208,7 @@ def reaching(cpu, asked):
 
 
 def some_secrets(cpu):
-    calls.made_secrets(cpu, [(135, 3), (136, 0), (143, 3), (200, 17), (256, 241)])
+    return calls.made_secrets(cpu, [(135, 3), (136, 0), (143, 3), (200, 17), (256, 241)])
 
 
 OTHERS = [calls.canonical_forms, calls.is_equal, calls.compare, calls.version, calls.copies, calls.forgotten,
