@@ -163,7 +163,7 @@ def picture(rows, names):
 def page(said, parts):
     text = f"""# Speed beside the peers
 
-A peer's time over ours: 1 is level, more is faster. A cell is the median over hashes and sizes, and the range. Each row stands beside its **best peer**: the reference library's header by gcc (`c_gcc`) or by clang (`c_clang`), Debian's shared library (`c_shared`), or the Rust crate `xxhash-rust`. [bench/data/measured.tsv](../bench/data/measured.tsv) has all {sum(map(len, parts.values()))} rows, [web/README.md](../web/README.md#speed) the modules for browsers and Node.
+A peer's time over ours: above 1, ours is faster. A cell is the median over hashes and sizes, and the range. Each row stands beside its **best peer**: the reference library's header by gcc (`c_gcc`) or by clang (`c_clang`), Debian's shared library (`c_shared`), or the Rust crate `xxhash-rust`. [bench/data/measured.tsv](../bench/data/measured.tsv) has all {sum(map(len, parts.values()))} rows, [web/README.md](../web/README.md#speed) the modules for browsers and Node.
 
 #SUMMARY
 ![throughput over the length](speed.svg)

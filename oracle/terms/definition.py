@@ -2,6 +2,8 @@
 
 What is said to antt.py for that: how numbers that it can't order are subtracted, what a message is as a list, and, for
 induction, that some calls of a recursion have a value that is supposed."""
+import functools
+
 import antt
 import table
 
@@ -164,8 +166,9 @@ class Named(antt.Definitions):
         return self.modules[path].definitions[own]
 
 
+@functools.cache
 def program(crates=(), entries=()):
-    """The definitions, with those of further crates."""
+    """The definitions, with those of further crates, which are read once."""
     return antt.Program(Named(table.TOP, [*table.CRATES, *crates]), [*ENTRIES, *entries])
 
 

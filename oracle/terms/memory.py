@@ -120,8 +120,13 @@ class Memory:
 
     def cells_near(self, at, n):
         """The cells that have some of the bytes."""
-        return [first for first in range(at - WIDEST + 1, at + n)
-                if first in self.cells and first + self.cells[first][0] > at]
+        cells = self.cells
+        return [first for first in range(at - WIDEST + 1, at + n) if first in cells and first + cells[first][0] > at]
+
+    def cell_with(self, at):
+        """The cell that has a byte, or None: no two cells have one byte."""
+        first = next((first for first in range(at, at - WIDEST, -1) if first in self.cells), None)
+        return first if first is not None and first + self.cells[first][0] > at else None
 
     def fill(self, at, n, byte):
         self.check(at, n)
@@ -145,7 +150,7 @@ class Memory:
         """The bytes as segments."""
         out = []
         while n:
-            first = max(self.cells_near(at, 1), default=None) if isinstance(at, int) else None
+            first = self.cell_with(at) if isinstance(at, int) else None
             if first is None:
                 raise Unset(f"byte {at} of {self.name}")
             size, value = self.cells[first]
@@ -155,7 +160,7 @@ class Memory:
         return out
 
     def has(self, at):
-        return bool(self.cells_near(at, 1))
+        return self.cell_with(at) is not None
 
     # ---- runs
 

@@ -1,15 +1,17 @@
 """Operations on terms: those on naturals, which the definitions use, and those on words of a width, which LLVM's text
 uses. A polynomial among the arguments of an operator becomes a word.
 
-Each operation is compared, at the points of nodes.py, with the operation on numbers: CHECKED turns that off."""
+Each operation is done once on the same arguments, and compared then, at the points of nodes.py, with the operation on
+numbers: CHECKED turns that off."""
+import functools
+
 from . import nodes, rules
 from .nodes import NATURALS, OPAQUE, Node, Undecided, WrongRule, memo, most_of, node, use, window
 from .polynomials import lifted
 from .rules import bits_of, from_segments, narrow, places, product_at, segments_of, sum_at, xor_segments, zeros_below
 
 CHECKED = True
-watching = []        # asked with each operation: its name, its answer and its arguments
-xor_memo = memo()
+watching = []        # asked with each operation that is done: its name, its answer and its arguments
 
 # What each operation means on numbers.
 MEANINGS = {
@@ -42,16 +44,33 @@ def checked(name, answer, *arguments):
     return answer
 
 
+def once(operation):
+    """An operation that remembers its answers, until the nodes are forgotten. Two arguments are one where they are the same
+    node or the same number."""
+    known = memo()
+
+    @functools.wraps(operation)
+    def ask(*arguments):
+        answer = known.get(arguments)
+        if answer is None:
+            answer = known[arguments] = operation(*arguments)
+        return answer
+    return ask
+
+
+@once
 def add(a, b):
     width = (most_of(a) + most_of(b)).bit_length()
     return checked("add", sum_at(width, 0, [(1, a), (1, b)]), a, b)
 
 
+@once
 def multiply(a, b):
     width = (most_of(a) * most_of(b)).bit_length()
     return checked("multiply", product_at(width, [a, b]) if width else 0, a, b)
 
 
+@once
 def monus(a, b):
     """a - b, and 0 where b is greater."""
     if isinstance(a, int) and most_of(b) <= a:
@@ -61,11 +80,13 @@ def monus(a, b):
     return checked("monus", answer, a, b)
 
 
+@once
 def add_at(width, *parts):
     """(coefficient, value) parts added mod 2 ^ width."""
     return checked("add_at", sum_at(width, 0, list(parts)), width, tuple(c for c, _ in parts), *(x for _, x in parts))
 
 
+@once
 def multiply_at(width, a, b):
     return checked("multiply_at", product_at(width, [a, b]), width, a, b)
 
@@ -74,6 +95,7 @@ def is_power_of_two(b):
     return isinstance(b, int) and b and not b & b - 1
 
 
+@once
 def remainder(a, b):
     if is_power_of_two(b):
         answer = narrow(a, b.bit_length() - 1)
@@ -85,6 +107,7 @@ def remainder(a, b):
     return checked("remainder", answer, a, b)
 
 
+@once
 def quotient(a, b):
     if is_power_of_two(b):
         return shift_right(a, b.bit_length() - 1)
@@ -94,12 +117,14 @@ def quotient(a, b):
     return checked("quotient", opaque("div", most_of(a), a, b), a, b)
 
 
+@once
 def shift_right(a, k):
     if isinstance(a, int):
         return a >> k
     return checked("shift_right", from_segments(bits_of(a, k, a.width - k)), a, k)
 
 
+@once
 def bits(a, first, n):
     """Bits first .. first + n - 1 of a value, as a number."""
     if isinstance(a, int):
@@ -107,28 +132,28 @@ def bits(a, first, n):
     return checked("bits", from_segments(bits_of(a, first, n)), a, first, n)
 
 
+@once
 def side_by_side(*parts):
     """(value, width) parts as one number, the first its lowest bits."""
     answer = from_segments([segment for x, width in parts for segment in bits_of(x, 0, width)])
     return checked("side_by_side", answer, tuple(width for _, width in parts), *(x for x, _ in parts))
 
 
+@once
 def xor(a, b):
-    key = tuple(x if isinstance(x, int) else ("node", x.number) for x in (a, b))
-    if key not in xor_memo:
-        use("xor_of_parts")
-        use("xor_in_any_order")
-        answer = from_segments(xor_segments(segments_of(a), segments_of(b)))
-        xor_memo[key] = checked("xor", answer, a, b)
-    return xor_memo[key]
+    use("xor_of_parts")
+    use("xor_in_any_order")
+    return checked("xor", from_segments(xor_segments(segments_of(a), segments_of(b))), a, b)
 
 
+@once
 def complement(width, a):
     """2 ^ width - 1 - a, for a below 2 ^ width."""
     use("complement")
     return checked("complement", sum_at(width, rules.ones(width), [(-1, a)]), width, a)
 
 
+@once
 def either(a, b):
     """The bits of a or b."""
     if isinstance(a, int):
@@ -146,6 +171,7 @@ def either(a, b):
     return checked("either", answer, a, b)
 
 
+@once
 def both(a, b):
     """The bits of a and b."""
     if isinstance(a, int):

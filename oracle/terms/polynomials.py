@@ -17,19 +17,35 @@ SEARCHED, IN_TURN = 400, 20   # how many are drawn until one is found, and so ma
 MOVES = 40                    # of a point, to where the facts hold
 CHOICES = (0, 1, 2, 3, 5, 62, 200), (0, 1, 7, 15, 480, 1 << 20, 1 << 32)
 
-facts, least, known = [], {}, {}   # polynomials >= 0; variable -> its least value; what was decided under these facts
-KEY = "facts' key"                 # in `known`: what stands for the facts in `possible`
-possible = {}                      # a set of facts -> points at which they hold
+SETS = 4000                   # of facts, of which is kept what was decided
+
+facts, least = [], {}         # polynomials >= 0; variable -> its least value
+
+
+class Decided:
+    """What is known under a set of facts: points at which they hold, the facts in variables that begin at 0, and of
+    polynomials whether they are never negative."""
+
+    def __init__(self, points=()):
+        self.points, self.zero_based, self.answers = points, None, {}
+
+
+under = Decided()             # these facts; and each set of facts that there was
+decided = {}
 
 
 class Poly:
     """The sum of coefficient * product of variables. Without a variable it is an int instead."""
-    __slots__ = "parts",
+    __slots__ = "parts", "known_key"
 
     def __init__(self, parts):
-        self.parts = parts
+        self.parts, self.known_key = parts, None
 
-    def key(self): return frozenset(self.parts.items())
+    def key(self):
+        if self.known_key is None:
+            self.known_key = frozenset(self.parts.items())
+        return self.known_key
+
     def __hash__(self): return hash(self.key())
 
     def __repr__(self):
@@ -109,7 +125,10 @@ def minus(a, b):
     """a - b, which may be negative."""
     if isinstance(b, int):
         return plus(a, -b)
-    return plus(a, Poly({names: -c for names, c in b.parts.items()}))
+    out = dict(parts_of(a))
+    for names, c in b.parts.items():
+        out[names] = out.get(names, 0) - c
+    return made(out)
 
 
 def times(a, b):
@@ -136,18 +155,18 @@ def is_same(a, b):
 @contextlib.contextmanager
 def given(*more):
     """What holds inside of a `with`. A fact `v - c` says where the variable v begins."""
-    size, bounds, around = len(facts), dict(least), known.get(KEY)
+    global under
+    size, bounds, around = len(facts), dict(least), under
     try:
         for fact in more:
             suppose(fact)
-        expect_possible(around)
+        under = decided_under(around)
         yield
     finally:
         del facts[size:]
         least.clear()
         least.update(bounds)
-        known.clear()
-        known[KEY] = around
+        under = around
 
 
 def suppose(fact):
@@ -182,23 +201,24 @@ def names_of(*polynomials):
 def points_for(x):
     """Some points at which each fact holds, with values for the variables of x."""
     names = sorted(names_of(x) - names_of(*facts))
-    for number, point in enumerate(possible.get(known.get(KEY), ())):
+    for number, point in enumerate(under.points):
         yield {**point, **{name: least.get(name, 0) + CHOICES[0][(number + k) % len(CHOICES[0])] for k,
                            name in enumerate(names)}}
 
 
-def expect_possible(around):
-    """Of facts that hold nowhere anything would follow: there have to be points at which these hold. Points at which the
-    facts around them hold are tried first."""
-    key = frozenset([*map(repr, facts), *least.items()])
-    known.clear()
-    known[KEY] = key
-    if key not in possible:
+def decided_under(around):
+    """What is known under these facts. Of facts that hold nowhere anything would follow: there have to be points at which
+    these hold. Points at which the facts around them hold are tried first."""
+    key = frozenset([*(fact.key() for fact in facts), *least.items()])
+    if key not in decided:
         names, draw = sorted(names_of(*facts)), random.Random(1)
-        found = drawn_points(names, draw, possible.get(around, ()), NEAR) or drawn_points(names, draw, (), SEARCHED)
+        found = drawn_points(names, draw, around.points, NEAR) or drawn_points(names, draw, (), SEARCHED)
         if not found:
             raise Undecided(f"facts that hold nowhere, as far as was seen: {facts} {least}")
-        possible[key] = found
+        if len(decided) == SETS:
+            decided.clear()
+        decided[key] = Decided(found)
+    return decided[key]
 
 
 def drawn_points(names, draw, around, attempts):
@@ -246,13 +266,13 @@ def is_natural(x):
     if isinstance(x, int):
         return x >= 0
     key = x.key()
-    if key not in known:
-        if "facts" not in known:
-            known["facts"] = [from_zero(fact) for fact in facts]
+    if key not in under.answers:
+        if under.zero_based is None:
+            under.zero_based = [from_zero(fact) for fact in facts]
         holds = all(value_at(x, point) >= 0 for point in points_for(x))
         depths = range(1, DEPTH + 1)
-        known[key] = holds and any(is_sum_of_facts(from_zero(x), known["facts"], depth) for depth in depths)
-    return known[key]
+        under.answers[key] = holds and any(is_sum_of_facts(from_zero(x), under.zero_based, depth) for depth in depths)
+    return under.answers[key]
 
 
 def without(names, product):

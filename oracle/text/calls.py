@@ -260,7 +260,7 @@ def derived_secret(cpu):
 
 def made_secrets(cpu, asked):
     """Secrets of some lengths, of custom seeds of some lengths; too short ones are refused, and nothing is written."""
-    program = definition.program(["twox_c"], ["generated_secret"])
+    program = definition.program(("twox_c",), ("generated_secret",))
     entries = program.run()
     for size, length in asked:
         if len(nodes.NODES) > MOST_NODES:

@@ -3,6 +3,7 @@ names of a text have the number of the interface and the set of instructions in 
 
 A stream of XXH3 is given its secret by each call: the default one, one of 192 bytes that a seed derived, or its own.
 It begins with the seed, and all else is what a state of the library for C begins with."""
+import collections
 import os
 import re
 
@@ -12,7 +13,7 @@ from terms.nodes import is_same
 from terms.sides import TOP
 
 from .memory import Words
-from .objects import Program
+from .objects import TEXT, Program
 from .one_shots import is_plain
 from .processor import Processor
 from .values import address, joined, low
@@ -43,7 +44,17 @@ class CargoProgram(Program):
         for symbol in self.object.symbols:
             if symbol.info >> 4 == WEAK and symbol.other & 3 != HIDDEN:
                 raise Unsupported(f"{symbol.name} isn't hidden")
-        return tuple({plain(name): place for name, place in found.items()} for found in super().names())
+        functions, exports = super().names()
+        return self.named(functions), {plain(name): place for name, place in exports.items()}
+
+    @staticmethod
+    def named(functions):
+        """The functions by their names here."""
+        return {plain(name): place for name, place in functions.items()}
+
+    @staticmethod
+    def title_of(section):
+        return TEXT + plain(section[len(TEXT):])
 
 
 def plain(name):
@@ -51,6 +62,13 @@ def plain(name):
     if not found:
         raise Unsupported(f"the name {name}")
     return found[1] or found[2] or found[3]
+
+
+def without_numbers(names):
+    """Name without the number of the interface, and without that of its kind where there is one kind -> the name."""
+    short = {name: re.sub(r"\.\d+$", "", plain(name)) for name in names}
+    alike = collections.Counter(short.values())
+    return {short[name] if alike[short[name]] == 1 else plain(name): name for name in names}
 
 
 def export_name(hash_name):
@@ -99,7 +117,7 @@ def expect_code(name, code, expected):
 
 
 class ForCargo:
-    SIZES = {"32": 48, "64": 88, "3": 680}
+    SIZES, IS_SEEDED = {"32": 48, "64": 88, "3": 680}, True
 
     @staticmethod
     def one_shot(cpu, hash_name, kind, *arguments):

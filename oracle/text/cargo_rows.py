@@ -9,11 +9,13 @@ from terms.sides import Request
 
 from . import calls, cargo_calls, cargo_planted, cargo_streams, every_length, rows, streams, xxh3_updates
 from .cargo import FOLDER, WAYS, CargoProgram, export_name
-from .cargo_exports import BEGIN, WORDS, expect_bodies, exports_left_out, shared
+from .cargo_exports import BEGIN, WORDS, expect_bodies, expect_lines, exports_left_out, shared
 from .instructions import V1, V3, V4
+from .questions import Beside
 
 NAMES, LIKE = (V1, V3, V4), (V3, V4)      # the sets, and those that c/asm has too
 LEAST_SHARED = 15                 # functions of one of these that are c/asm's
+MACOS, LEAST_LINES = (V1, V3), 20_000     # the sets of macOS, and lines of its texts
 EXPORTS = 28
 # Those that x86-64-v4 has other code for, or that lead to it.
 WIDENED = [*(export_name(name) + way for name in ("3-64", "3-128") for way in WAYS.values()), "xxh3_write", "xxh3_write_192"]
@@ -42,7 +44,7 @@ def assembled(name, room):
 def choose(texts, like, is_all):
     """The rows; `like` has c/asm's texts."""
     out = [*one_shot_rows(texts, is_all), *stream_rows(texts, is_all), *every_length_rows(texts, is_all),
-           *call_rows(texts, like)]
+           *call_rows(texts, like, is_all)]
     out.insert(0, rows.counted(f"{BEGIN}each export has its row", EXPORTS * len(texts),
                                lambda: exports_left_out(texts, [row.title for row in out])))
     return out
@@ -130,7 +132,7 @@ def expect_code_of_v3(program, other):
     return len(program.exports) - len(WIDENED) - len(left), sorted(left)
 
 
-def call_rows(texts, like):
+def call_rows(texts, like, is_all):
     of = functools.partial(rows.of_each, rows.before_v4(texts))
     return [*(rows.counted(f"{BEGIN}functions of {name} that are c/asm's, byte for byte", LEAST_SHARED,
                            functools.partial(expect_shared, texts[f"cargo's {name}"], like[name])) for name in LIKE),
@@ -146,6 +148,16 @@ def call_rows(texts, like):
             of(f"{BEGIN}records that bytes lead to", 300, cargo_calls.reachable),
             of(f"{BEGIN}records with another rest or no mark", 300, cargo_calls.other_rests),
             of(f"{BEGIN}records with other accumulators", 200, cargo_calls.other_accumulators),
+            rows.counted(f"{BEGIN}the texts for macOS have the lines of those for Linux", LEAST_LINES,
+                         lambda: expect_lines(MACOS)),
             rows.counted(f"{BEGIN}the code of a word in a caller is its export's", len(WORDS),
                          lambda: (expect_bodies(next(iter(texts.values()))), [])),
-            rows.counted(f"{BEGIN}wrong texts are refused", len(cargo_planted.WRONG), cargo_planted.refused)]
+            rows.counted(f"{BEGIN}wrong texts are refused", len(cargo_planted.WRONG), cargo_planted.refused),
+            *with_begin(change_rows(texts, is_all))]
+
+
+def change_rows(texts, is_all):
+    """Changes of one instruction of the text that has no function of c/asm's."""
+    make = rows.makers(texts)[f"cargo's {V1}"]
+    yield rows.change_row(f"cargo's {V1}", (30, 30), is_all, f"cargo-{V1}", make,
+                          beside=Beside(cargo_calls.ALL, cargo_streams.CargoUpdates))

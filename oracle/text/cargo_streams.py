@@ -1,10 +1,12 @@
 """The streams of XXH3 of a text below the cargo crate, by induction over the updates, as xxh3_updates.py has them for
 the library for C. A stream has no mark and no secret: each call is given that. It always has a seed, which may be 0."""
-from terms.every_length import LONGEST
+import functools
+
+from terms.every_length import LONGEST, LONGEST_SECRET
 from terms.loops import NotShown
 from terms.memory import Piece
 from terms.nodes import symbol
-from terms.polynomials import at_most, given, is_natural, minus, parts_of, plus, times, variable
+from terms.polynomials import Poly, at_most, given, is_natural, minus, parts_of, plus, times, variable
 from terms.polynomials import is_same as is_same_number
 
 from .induction import same
@@ -31,8 +33,20 @@ def with_value(x, name, value):
     return out
 
 
+def in_numbers(x, name, value):
+    """Polynomials with a number in the place of a variable, in whatever they stand."""
+    if isinstance(x, Poly):
+        return with_value(x, name, value)
+    if isinstance(x, functools.partial):
+        return functools.partial(x.func, *in_numbers(x.args, name, value))
+    if isinstance(x, (list, tuple)):
+        parts = [in_numbers(part, name, value) for part in x]
+        return type(x)(*parts) if hasattr(x, "_fields") else type(x)(parts)
+    return x
+
+
 class CargoUpdates(Xxh3Updates):
-    CORE, HAS_SEED = 8, (1,)
+    CORE, HAS_SEED, longest_secret = 8, (1,), LONGEST_SECRET
     is_of_192 = False             # whether updates are by `xxh3_write_192`
 
     def own(self):
@@ -51,7 +65,7 @@ class CargoUpdates(Xxh3Updates):
     def reset(self, seed):
         """From memory that holds anything."""
         self.begin(0)
-        size = self.cpu.library.SIZES["3"]
+        size = self.library.SIZES["3"]
         state = State("state", size, [(at, 8, self.cpu.fresh("a word")) for at in range(0, size, 8)], [], (0, 0))
         self.run([state], "xxh3_start", [], address(state), seed)
         with given(*self.facts):
@@ -130,7 +144,7 @@ class CargoUpdates(Xxh3Updates):
         before, caught = dict(state.cells), []
 
         def catch():
-            caught.extend(self.cpu.registers[name] for name in self.cpu.ARGUMENTS[:5])
+            caught.extend(map(self.cpu.argument, self.cpu.TAKES_STRIPES[:5]))
             return self.cpu.return_from_another()
         self.cpu.replaced = {self.cpu.program.functions[FAR]: catch}
         try:

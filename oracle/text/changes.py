@@ -2,8 +2,9 @@
 condition or shift, an instruction left out, or two neighbours in the other order.
 
 A change is asked of questions that run the instruction (questions.py). It is noticed where the text comes to another term
-than the definition, or does what no call may do. Those that aren't are listed in equal_changes.txt with their reasons;
-one of these that is noticed after all fails as well. A crash of this program isn't counted as noticed."""
+than the definition, or does what no call may do. Those that aren't are listed in equal_changes with their reasons, of
+each text in a file of its own; one of these that is noticed after all fails as well, and with --all a reason that no
+change needs. A crash of this program isn't counted as noticed."""
 import collections
 import functools
 import hashlib
@@ -14,16 +15,13 @@ import random
 from terms import definition, nodes
 
 from .instructions import PARTS, SETS, TABLE, VECTORS, letters
-from .objects import Immediate, Place, Register
-from .processor import Processor
-from .questions import CRASH, OTHERS, by_induction, further, near, questions, reaching
-from .xxh3_updates import Xxh3Updates
+from .objects import TEXT, Immediate, Place, Register
+from .questions import CRASH, FOR_C, by_induction, further, near, questions, reaching
 
-EQUAL = os.path.join(os.path.dirname(os.path.abspath(__file__)), "equal_changes.txt")
+FOLDER = os.path.join(os.path.dirname(os.path.abspath(__file__)), "equal_changes")
 LIMIT = 40_000                   # instructions of a changed text's call
 MOST, NEAR, FEWEST = 200, 40, 10  # the shortest requests, of which so few are asked over symbols; requests near to them
-MANY, DRAWS, ROWS = 1000, 10, 2   # changes of a text with --all, in so many draws, which are in some rows
-FEW, SOME = 40, 20                # without it, and of some functions
+DRAWS = 10                        # of changes with --all, and one without it
 IDLE = "nop", "prefetcht0", "vzeroupper", "ud2"
 UNNOTICED = "unnoticed"
 ALIKE = [("je", "jne"), ("jb", "jbe"), ("ja", "jae"), ("jb", "jae"), ("sete", "setne"), ("cmovb", "cmovae"),
@@ -36,20 +34,22 @@ ALIKE = [("je", "jne"), ("jb", "jbe"), ("ja", "jae"), ("jb", "jae"), ("sete", "s
 # ---- what becomes of a change
 
 def outcome(cpu, instructions, asked, draw, entries, more):
-    """By the requests that run it and others near to them, and by `more` ways to ask where none of these notices it."""
+    """By the requests that run it and others near to them, and by `more` ways to ask where none of these notices it. What
+    notices a change has to accept the text as it is: else it says nothing of the change."""
     before = [cpu.program.sections[x.section][x.at] for x in instructions]
     requests = [question for question in asked if question.request]
     few = draw.sample(requests[:MOST], min(FEWEST, len(requests[:MOST])))
+    ways = itertools.chain((question.twice for question in itertools.chain(requests, near(requests, entries, draw, NEAR))),
+                           (question.over_symbols for question in few), more)
     try:
         for x in instructions:
             cpu.change(x)
-        told = (ask(cpu) for ask in itertools.chain(
-            (question.twice for question in itertools.chain(requests, near(requests, entries, draw, NEAR))),
-            (question.over_symbols for question in few), more))
-        return next(filter(None, told), UNNOTICED)
+        told, ask = next(((told, ask) for ask in ways if (told := ask(cpu))), (UNNOTICED, None))
     finally:
         for x in before:
             cpu.change(x)
+    refused = ask and ask(cpu)
+    return f"{CRASH}: {ask.__self__.title} refuses the text as it is: {refused}" if refused else told
 
 
 # ---- changes
@@ -111,11 +111,15 @@ def is_form(x, name):
     return TABLE.get((x.mnemonic, letters(x)), (None,))[0] in SETS[name]
 
 
-def drawn(cpu, places, draw):
-    """(place, text, instructions) of random changes. Their order goes by functions and instructions alone, so that of a
-    function that stays as it is the same ones are drawn, whatever becomes of others."""
-    salt, kept = draw.getrandbits(32), set(places)
-    for key, place in sorted((key, place) for key, place in keys(cpu, places, salt) if place in kept):
+def anywhere(_):
+    return True
+
+
+def drawn(cpu, is_drawn, places, draw):
+    """(place, text, instructions) of random changes in some sections. Their order goes by functions and instructions
+    alone, so that of a function that stays as it is the same ones are drawn, whatever becomes of others."""
+    salt, kept = draw.getrandbits(32), {place for place in places if is_drawn(place[0])}
+    for key, place in sorted((key, place) for key, place in keys(cpu, kept, salt) if place in kept):
         yield from changed_at(cpu, place, random.Random(key))
 
 
@@ -124,7 +128,7 @@ def keys(cpu, places, salt):
     seen = collections.Counter()
     for section, at, x in ((section, at, x) for section in sorted({section for section, _ in places})
                            for at, x in sorted(cpu.program.sections[section].items())):
-        what = f"{section} {written(x)}"
+        what = f"{cpu.program.title_of(section)} {written(x)}"
         seen[what] += 1
         yield hashlib.sha256(f"{salt} {what} {seen[what]}".encode()).hexdigest(), (section, at)
 
@@ -140,7 +144,8 @@ def changed_at(cpu, place, draw):
         ways += swapped(x, cpu.program.sections[section][x.end])
     what, instructions = draw.choice(ways)
     if all(is_form(y, cpu.name) for y in instructions) and instructions != [x]:
-        text = f"{section[6:]} {written(x)}: {what} {'; '.join(map(written, instructions))} (at {at:#x})"
+        title = cpu.program.title_of(section)[len(TEXT):]
+        text = f"{title} {written(x)}: {what} {'; '.join(map(written, instructions))} (at {at:#x})"
         yield place, text, instructions
 
 
@@ -169,47 +174,46 @@ def is_equal(text, known):
     return any(all(word in text for word in words.split(" & ")) for words in known)
 
 
-def more_ways(cpu, asked, entries, is_all, section, updates):
+def more_ways(cpu, asked, entries, is_all, section, beside):
     """Of a change in a section: the calls among some questions, and with --all further requests and inductions."""
     requests = [question for question in asked if question.request]
     yield from (question.over_symbols for question in asked if not question.request)
     if is_all:
         yield from (question.twice for question in further(requests, entries))
-        yield from (question.over_symbols for question in by_induction(cpu.program, requests, section, updates))
+    if is_all and beside.updates:
+        yield from (question.over_symbols for question in by_induction(cpu.program, requests, section, beside.updates))
 
 
-def noticed(name, program, count, is_all, word="", draws=(0,)):
-    """(changes that were tried in functions with a word in their names, what there is to say of those that weren't
-    noticed): so many of each draw."""
-    cpu = Processor(program, name)
-    return noticed_of(cpu, functools.partial(drawn, cpu), count, reasons(EQUAL), is_all, word, draws=draws)
+def noticed(name, make, count, is_all, is_drawn=anywhere, beside=FOR_C):
+    """(changes of a text that were tried, what there is to say of them): so many of a draw, in some sections or in all."""
+    cpu, known = make(), reasons(os.path.join(FOLDER, f"{name}.txt"))
+    some = of_draws(functools.partial(drawn, cpu, is_drawn), count, DRAWS if is_all else 1)
+    texts, bad = noticed_of(cpu, some, known, is_all, beside)
+    return len(texts), bad + [f"no change needs the reason of {words}" for words in known
+                              if is_all and not any(is_equal(text, [words]) for text in texts)]
 
 
-def noticed_of(cpu, changes, count, known, is_all, word="", others=OTHERS, draws=(0,), updates=Xxh3Updates):
-    """The same of so many of the `changes` of a text, which are drawn out of places of it, with the reasons that are
-    known, the calls that are neither one-shots nor streams, and the kind of proof of XXH3's streams."""
+def of_draws(one, count, draws=1):
+    """So many changes of each draw, as `noticed_of` takes them: of places."""
+    return lambda places: itertools.chain.from_iterable(
+        itertools.islice(one(places, random.Random(1 + number)), count) for number in range(draws))
+
+
+def noticed_of(cpu, changes, known, is_all, beside=FOR_C):
+    """(texts of changes that were tried, what there is to say of those that weren't noticed): of the `changes` that are
+    drawn out of a text's places, with the reasons that are known. What a change is asked doesn't depend on others."""
     nodes.forget()
     cpu.limit = LIMIT
     entries = definition.program().run()
-    asked = questions(entries, is_all, others, all(updates.HAS_SEED))
+    asked = questions(entries, is_all, beside.calls, cpu.library)
     found = reaching(cpu, asked)
-    bad, tried, places = [], 0, sorted(place for place in found if word in place[0])
-    for change, order in of_draws(changes, places, draws, count):
-        tried += 1
-        place, text, _ = change
+    bad, texts = [], []
+    for place, text, instructions in changes(sorted(found)):
+        texts.append(text)
         reached = [question for k, question in enumerate(asked) if found[place] >> k & 1]
         has_reason = is_equal(text, known)
-        more = () if has_reason else more_ways(cpu, reached, entries, is_all, place[0], updates)
-        what = outcome(cpu, change[2], reached, order, entries, more)
+        more = () if has_reason else more_ways(cpu, reached, entries, is_all, place[0], beside)
+        what = outcome(cpu, instructions, reached, random.Random(text), entries, more)
         if what.startswith((CRASH, "WrongRule")) or (what == UNNOTICED) != has_reason:
             bad.append(f"{what}{', and has a reason' if has_reason else ''}: {text}")
-    return tried, bad
-
-
-def of_draws(changes, places, draws, count):
-    """So many changes of each draw, each with what draws its questions. Which changes are drawn doesn't depend on how many
-    questions the ones before were asked."""
-    for number in draws:
-        order = random.Random(2)
-        for change in itertools.islice(changes(places, random.Random(1 + number)), count):
-            yield change, order
+    return texts, bad

@@ -6,26 +6,28 @@ from terms.polynomials import names_of, plus, value_at
 
 from . import xxh3_updates
 
-STRIPES = range(9, 25)            # of a block
+STRIPES, LONG_BLOCKS = range(9, 25), (100, 1 << 20)          # stripes of a block, and where a secret may be any
 EDGES = 0, 1, 2, 3, 4, 7, 8, 16, 17, 32, 33, 63, 64, 65, 127, 128, 448, 449, 511, 512, 513, 1023, 1024, 1500, 2047, 2048
 FAR_OFF = 31_744, 32_000, 100_000, 1 << 40
 
 
-def points(count):
+def points(count, proof):
     """(q, u, b, j, f, L): edges and others, at random and the same each time."""
     draw = random.Random(5)
+    stripes = [*STRIPES, *(LONG_BLOCKS if proof.has_long_blocks() else ())]
     for k in range(count):
-        q = draw.choice(STRIPES)
+        q = draw.choice(stripes)
         j, b = draw.choice((0, q - 1, draw.randrange(q))), draw.choice((0, 1, draw.randrange(1 << 40)))
         f = min(512, max(0, draw.choice((64 * draw.randrange(9) + draw.randrange(-2, 3), draw.randrange(513)))))
         L = max(0, draw.choice((*EDGES, *FAR_OFF, 64 * draw.randrange(600), draw.randrange(3000))) + draw.randrange(-2, 3))
         if not f:
             b = j = 0
-        yield q, draw.choice((0, draw.randrange(8 if q < 24 else 1))), b, j, f, L
+        u = draw.choice((0, draw.randrange(min(8, proof.longest_secret - 63 - 8 * q))))
+        yield q, u, b, j, f, min(L, proof.longest_piece)
 
 
-def states(count):
-    for q, u, b, j, f, _ in points(count):
+def states(count, proof):
+    for q, u, b, j, f, _ in points(count, proof):
         if not (b or j) or q * b + j >= 4:
             yield q, u, b, j, f
 
@@ -48,27 +50,27 @@ def has(point, facts, said):
         all(value_at(fact, point) >= 0 for fact in facts)
 
 
-def without_update(cases, facts, count):
+def without_update(cases, proof, count):
     """Points that no update has."""
     cases, out = list(cases), []
-    for q, u, b, j, f, L in points(count):
+    for q, u, b, j, f, L in points(count, proof):
         point = variables(q, u, b, j, f, L)
         K, total = q * b + j, 64 * (q * b + j) + f + L
         taken = 0 if f + L <= 512 else point["g"] + point["n"]
         end = K + taken, total - 64 * (K + taken)
-        if not any(has(point, [*of_case, *facts], [(x, n) for x, n in zip(
+        if not any(has(point, [*of_case, *proof.facts], [(x, n) for x, n in zip(
                 (*start[0], start[1], length, *to[0], to[1]), (b, j, f, L, end[0] // q, end[0] % q, end[1]))])
                 for start, to, length, of_case, *_ in cases):
             out.append((q, u, b, j, f, L))
     return out
 
 
-def without_digest(cases, facts, count):
+def without_digest(cases, proof, count):
     cases, out = list(cases), []
-    for q, u, b, j, f in states(count):
+    for q, u, b, j, f in states(count, proof):
         g = max(0, f - 1) // 64
         point = {**variables(q, u, b, j, f), "g": g, "h": f - 1 - 64 * g, "y": g - (q - j)}
-        if not any(has(point, [*of_case, *facts], [(place[0], b), (place[1], j), (x, f)])
+        if not any(has(point, [*of_case, *proof.facts], [(place[0], b), (place[1], j), (x, f)])
                    for place, x, of_case, _ in cases):
             out.append((q, u, b, j, f))
     return out
@@ -82,18 +84,18 @@ def of_stripes(b, j, n):
         yield {"a": at // 4, "D": D, "e": e // 4 if unit == 4 else (n - front) % 16}
 
 
-def without_taken(cases, facts, names, count):
+def without_taken(cases, proof, names, count):
     """Stripes that no case has: of any number, and of many."""
     cases, out = list(cases), []
-    for q, u, b, j, f, L in points(count):
+    for q, u, b, j, f, L in points(count, proof):
         for name, least in names:
             if name == xxh3_updates.TAKE_WIDENED.name:
                 q, u, j = xxh3_updates.BLOCK, 0, j % xxh3_updates.BLOCK
-            n = least + L // 64
+            n = min(least + L // 64, proof.longest_piece // 64)
             point = variables(q, u, b, j, 0)
             D, e = divmod(n - (q - j), q)
             ways = [{"D": D, "e": e}, *(of_stripes(b, j, n) if q == 16 else ())]
-            if not any(has({**point, "n": n, **way}, [*of_case, *(facts if own is None else ())],
+            if not any(has({**point, "n": n, **way}, [*of_case, *(proof.facts if own is None else ())],
                            [(parts[0].start[0], b), (parts[0].start[1], j), (sum_of(parts), n)])
                        for (own, more), (summary, parts, of_case, *_) in cases
                        if summary.name == name and own in (None, q) and more in (None, u) for way in ways):
@@ -126,6 +128,5 @@ def left_out(proof, count):
     """Of so many points of each sort: updates, digests, and functions that take stripes."""
     taken = [(xxh3_updates.TAKE.name, 0), (xxh3_updates.TAKE_MANY.name, xxh3_updates.MANY)]
     taken += [(xxh3_updates.TAKE_WIDENED.name, xxh3_updates.BLOCK)] * proof.is_widened()
-    return [*without_update(proof.all_updates(), proof.facts, count),
-            *without_digest(proof.digests(), proof.facts, count),
-            *without_taken(proof.all_taken(), proof.facts, taken, count)]
+    return [*without_update(proof.all_updates(), proof, count), *without_digest(proof.digests(), proof, count),
+            *without_taken(proof.all_taken(), proof, taken, count)]

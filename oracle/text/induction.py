@@ -62,7 +62,7 @@ class Family:
 
 def moved(x, step, k):
     if isinstance(x, Address):
-        return Address(x.bases, plus(x.offset, times(step, k)))
+        return type(x)(x.bases, plus(x.offset, times(step, k)))
     return plus(x, times(step, k))
 
 
@@ -94,9 +94,12 @@ def named(cell):
 
 
 def name_of(cell):
-    if cell[0] in ("register", HALF):
-        return cell[1]
-    return f"v{cell[1]}[{cell[2]}]" if cell[0] == "lane" else f"{cell[0].name}[{cell[1]}]"
+    kind, *where = cell
+    if kind in ("register", HALF):
+        return where[0]
+    if kind == "lane":
+        return f"v{where[0]}[{where[1]}]"
+    return f"{kind} {where[0]}" if isinstance(kind, str) else f"{kind.name}[{where[0]}]"
 
 
 # ---- where loops begin
@@ -153,13 +156,26 @@ class Proof:
 
     def __init__(self, loops, cpu, head):
         self.loops, self.cpu, self.family, self.head = loops, cpu, loops.family, head
-        self.original, self.flags = cells_of(cpu), (cpu.flags, cpu.carry)
-        self.runs = {memory: memory.runs() for memory in [cpu.stack, *cpu.live]}
+        self.flags = cpu.flags, cpu.carry
+        self.begin([cpu.stack, *cpu.live])
+
+    def begin(self, memories):
+        """Keeps what is there at the head, and in these objects."""
+        self.original, self.runs = self.cells(), {memory: memory.runs() for memory in memories}
         self.forget()
+
+    def cells(self):
+        return cells_of(self.cpu)
 
     def forget(self):
         self.start = dict(self.original)
         self.words, self.places, self.unset, self.counts = {}, {}, set(), {}
+
+    def again(self):
+        """Forgets what was guessed, and makes the state what it was."""
+        self.forget()
+        self.enter(0)
+        self.cpu.flags, self.cpu.carry = self.flags
 
     def show(self):
         """Shows the loop, and leaves the processor at its head before the last turn: from there it runs on. False, and
@@ -174,9 +190,7 @@ class Proof:
                 self.loops.told.append(self.told(first))
                 self.loops.guesses[self.head] = self.known()
                 return True
-            self.forget()
-            self.enter(0)
-            self.cpu.flags, self.cpu.carry = self.flags
+            self.again()
         self.loops.tried.add((self.head, repr(first)))
         return False
 
@@ -237,9 +251,14 @@ class Proof:
 
     def enter(self, k, values=()):
         """Makes the state that of the head after k turns."""
-        cpu, now = self.cpu, dict(self.start)
+        now = dict(self.start)
         now.update({cell: moved(x, step, k) for cell, (x, step) in self.places.items()})
         now.update({cell: values[j] for cell, j in self.words.items()})
+        self.put(now)
+
+    def put(self, now):
+        """Makes the cells those of a dictionary, and what may be anything new symbols, or unset."""
+        cpu = self.cpu
         cpu.forget_flags()
         for cell, x in now.items():
             if cell[0] == "register":
@@ -280,7 +299,7 @@ class Proof:
 
     def compare(self, first, k):
         """That the state is that of the head after k turns; what else changes may be anything from here on."""
-        said, now = self.family.words(plus(first, times(self.step, k))), cells_of(self.cpu)
+        said, now = self.family.words(plus(first, times(self.step, k))), self.cells()
         if any(memory.runs() != runs for memory, runs in self.runs.items()):
             raise NotShown(f"{self.family.name}: a turn stores to a run")
         for cell in {*self.start, *now} - self.unset:
@@ -338,14 +357,14 @@ class Proof:
         try:
             with given(minus(self.family.total, plus(first, turns))):
                 self.turn()
-                once = cells_of(self.cpu)
+                once = self.cells()
                 if is_twice:
                     self.turn()
         except REFUSALS:
             return False
         finally:
             self.loops.is_guessing = False
-        twice = cells_of(self.cpu)
+        twice = self.cells()
         changed = {cell for cell in {*self.start, *once} if not same(self.start.get(cell), once.get(cell))}
         if not self.guess_words(first, changed, once):
             return False

@@ -15,6 +15,7 @@ from .values import WORD, Address, address, joined, low
 
 MOST_STEPS = 1 << 24
 RETURN = "return"                             # where the first function returns to
+BZERO = "bzero"                               # which macOS has: it fills with zeros, and answers nothing
 
 
 class ReturnTo:
@@ -59,6 +60,7 @@ class Processor:
     TABLE = {}                                    # (mnemonic, form) -> function
     REGISTERS, ARGUMENTS, KEPT, SCRATCH, LINK, ZERO = (), (), (), (), "", ""
     VECTORS, KEPT_LANES = 0, ()                   # how many there are, and whose lower lane the caller gets back
+    OUTER = OUTER                                 # what the text calls and another library has
     TOGETHER = 1                                  # accumulators of 32 bits that one-shots have in a cell
     PACE = 1                                      # instructions for one of a processor that loads and adds words anywhere
     carry = None                                  # what `flags` has
@@ -131,7 +133,7 @@ class Processor:
             raise Unsupported("too many instructions")
         if place in self.replaced:
             return self.replaced[place]()
-        if section in OUTER:
+        if section in self.OUTER:
             return self.call_outer(section)
         x = self.changed.get(place) or self.program.sections.get(section, {}).get(at)
         if x is None:
@@ -144,18 +146,20 @@ class Processor:
         return (section, x.end) if to is None else None if to == RETURN else to
 
     def call_outer(self, name):
-        """memcpy, memmove or memset, which are another's: they copy or fill, and leave what isn't kept, and all below the
-        stack pointer, as anything."""
+        """memcpy, memmove, memset or bzero, which are another's: they copy or fill, and leave what isn't kept, and all below
+        the stack pointer, as anything."""
         to, source, n = (self.registers[register] for register in self.ARGUMENTS[:3])
+        source, n = (0, source) if name == BZERO else (source, n)
         memory, at = self.registers["sp"].place()
         memory.forget_below(at)
         if not is_same(n, 0):
             room, first = to.place()
             if not isinstance(room, Words) or room is memory and not (isinstance(first, int) and first >= at):
                 raise Unsupported(f"a copy to {room.name}")
-        fill(to, source, n) if name == "memset" else copy(to, source, n, name == "memmove")
+        fill(to, source, n) if name in ("memset", BZERO) else copy(to, source, n, name == "memmove")
         place = self.return_from_another()
-        self.registers[self.ARGUMENTS[0]] = to
+        if name != BZERO:
+            self.registers[self.ARGUMENTS[0]] = to
         return place
 
     def stack_pointer(self):
@@ -179,6 +183,10 @@ class Processor:
         """Where the link leads to, or None behind the first function."""
         link = self.registers[self.LINK]
         return link.place if isinstance(link, ReturnTo) else None
+
+    def argument(self, where):
+        """What a function is given in a register, at its first instruction."""
+        return self.registers[where]
 
     # ---- registers
 

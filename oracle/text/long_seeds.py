@@ -24,7 +24,7 @@ class LongSeeds(EveryLength):
     def read(self):
         """The definition's texts."""
         suppositions.clear()
-        self.texts = definition.program(["twox_c"], ["generated_secret", "default_secret"]).run(traced=suppositions)
+        self.texts = definition.program(("twox_c",), ("generated_secret", "default_secret")).run(traced=suppositions)
 
     def show(self, size):
         """A secret of so many bytes, which is made of whole blocks and 1 to 64 bytes."""

@@ -33,6 +33,7 @@ PREFIXES = "data16", "cs"                     # of an instruction that does noth
 RELOCATED = Place(0, "rip", None, 1)          # what a relocation at an instruction's end says
 LINE = re.compile(r" *([0-9a-f]+):\t((?:[0-9a-f]{2} )+) *(?:\t(.*))?")
 MEMORY = re.compile(r"(-?0x[0-9a-f]+|-?[0-9]+)?\((%\w+)?(?:,(%\w+),([1248]))?\)")
+TEXT = ".text."                               # how a section of a function begins
 TARGET = re.compile(r"([0-9a-f]+)(?: <.*>)?")
 
 
@@ -99,6 +100,11 @@ class Program:
                     raise Unsupported(f"two functions are named {symbol.name}")
                 functions[symbol.name] = self.place_of(symbol)
         return functions, exports
+
+    @staticmethod
+    def title_of(section):
+        """The section's name, as it is in other versions too."""
+        return section
 
     def place_of(self, symbol):
         if symbol.section >= len(self.object.heads):

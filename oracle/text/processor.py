@@ -34,8 +34,11 @@ class Processor:
     begin."""
 
     ARGUMENTS = ARGUMENTS
-    TAKES_STRIPES = ARGUMENTS     # where the arguments lie of a function that gives a record in memory
-
+    # Where the arguments lie of a function that takes stripes: a register, or a place in its caller's frame.
+    TAKES_STRIPES = ARGUMENTS
+    OUTER = ARGUMENTS             # .. and of another library's
+    WITHIN, LANES_WITHIN = KEPT, ()      # what a function that the text itself calls leaves as it was: of vectors two lanes
+    RED, SHADOW = RED, 0          # bytes below the stack pointer that are a function's own, and above what it returns to
     TOGETHER = 1                  # accumulators of 32 bits that one-shots have in a cell
     library = ForC                # how its exports are called
 
@@ -72,19 +75,35 @@ class Processor:
         self.stack, self.count = Stack(), 0
         self.registers["rsp"] = address(self.stack, ENTRY)
         self.push(ReturnTo(OUT, 0))
-        for register, x in zip(into, arguments):
+        for where, x in zip(into, arguments):
             if isinstance(x, tuple):
                 value, width = x
-                x = joined((value, width), (self.fresh(register, WORD - width), WORD - width))
-            self.registers[register] = x
-        kept = {name: self.registers[name] for name in KEPT}
+                x = joined((value, width), (self.fresh(where, WORD - width), WORD - width))
+            if isinstance(where, int):
+                self.stack.cells[ENTRY + where] = WORD // 8, x
+            else:
+                self.registers[where] = x
+        names, vectors = (KEPT, ()) if into is self.ARGUMENTS else (self.WITHIN, self.LANES_WITHIN)
+        kept, lanes = {name: self.registers[name] for name in names}, {k: self.vectors[k][:2] for k in vectors}
         self.run(self.program.functions[name])
+        self.expect_kept(kept, lanes)
+        return self.registers["rax"], self.registers["rdx"]
+
+    def expect_kept(self, kept, lanes):
         for register, x in kept.items():
             if self.registers[register] is not x:
                 raise Unsupported(f"{register} isn't the caller's at the end")
+        if any(now is not x for k, pair in lanes.items() for now, x in zip(self.vectors[k], pair)):
+            raise Unsupported("a vector isn't the caller's at the end")
         if self.registers["rsp"].place() != (self.stack, ENTRY):
             raise Unsupported("the stack isn't the caller's at the end")
-        return self.registers["rax"], self.registers["rdx"]
+
+    def argument(self, where):
+        """What a function is given there, at its first instruction."""
+        if isinstance(where, int):
+            memory, at = self.frame()
+            return memory.load(at + where, WORD // 8)
+        return self.registers[where]
 
     @staticmethod
     def unset_lane():
@@ -140,9 +159,12 @@ class Processor:
         memory, at = self.registers["rsp"].place()
         memory.forget_below(at)
         for register in WIDE:
-            if register not in KEPT and register != "rsp":
+            if register not in self.WITHIN and register != "rsp":
                 self.registers[register] = self.fresh(register)
+        lanes = {k: self.vectors[k][:2] for k in self.LANES_WITHIN}
         self.forget_vectors()
+        for k, pair in lanes.items():
+            self.vectors[k][:2] = pair
         self.forget_flags()
         return self.pop()
 
@@ -181,7 +203,7 @@ class Processor:
         if not isinstance(found, Address):
             raise Undecided(f"{found} as an address")
         memory, at = found.place()
-        if memory is self.stack and not (isinstance(at, int) and at >= self.registers["rsp"].place()[1] - RED):
+        if memory is self.stack and not (isinstance(at, int) and at >= self.registers["rsp"].place()[1] - self.RED):
             raise Unsupported("a place below the stack")
         is_aligned = alignment == 1 or not memory.alignment % alignment and isinstance(at, int) and not at % alignment
         if not is_aligned:
@@ -264,11 +286,15 @@ class Processor:
 
 def call_of_outer(name, cpu, _):
     """memcpy, memmove or memset, which are another's."""
-    to, source, n = (cpu.registers[name] for name in ARGUMENTS[:3])
+    to, source, n = (cpu.registers[name] for name in cpu.OUTER[:3])
     memory, at = cpu.registers["rsp"].place()
     if (at + 8) % 16:
         raise Unsupported("a call with the stack at no multiple of 16")
     memory.forget_below(at)
+    if cpu.SHADOW:
+        if at + 8 + cpu.SHADOW > ENTRY:
+            raise Unsupported("a call without the room that it lends")
+        memory.clear(at + 8, cpu.SHADOW)
     places = [to] if name == "memset" else [to, source]
     if not all(isinstance(place, Address) for place in places) and not is_same(n, 0):
         raise Undecided("a copy from or to no place")

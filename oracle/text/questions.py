@@ -157,10 +157,10 @@ class OfRequest:
         return told
 
 
-def questions(entries, is_all, others, is_seeded):
-    """The requests, the shortest first, and the other calls. Where all streams are seeded none has a secret alone."""
+def questions(entries, is_all, others, library):
+    """The requests, the shortest first, and the other calls. Where all streams have seeds none has a secret alone."""
     asked = [twin for request in requests(is_all)
-             if not is_seeded or request.cuts is None or request.kind != "secret" for twin in with_twins(request)]
+             if not library.IS_SEEDED or request.cuts is None or request.kind != "secret" for twin in with_twins(request)]
     asked.sort(key=lambda request: request.length)
     return [*(OfRequest(request, entries) for request in asked), *map(Call, others)]
 
@@ -190,7 +190,9 @@ def further(asked, entries):
 def further_streams(is_plain):
     for k in range(1, 33 if is_plain else 65):
         yield from [(32, k), (64, k), (2 * k + 1, k), (5 * k + 40, k), (3 * k + 200, k)] if is_plain else \
-            [(BUFFERED, k), (BUFFERED + k, BUFFERED - k % 9), (k + 600, k), (k + 2100, k)]
+            [(BUFFERED, k), (k + 600, k), (k + 2100, k)]
+    for k in range(1, 0 if is_plain else 128):
+        yield BUFFERED + k, BUFFERED - k % 9
 
 
 def reaching(cpu, asked):
@@ -211,16 +213,19 @@ def some_secrets(cpu):
     return calls.made_secrets(cpu, [(135, 3), (136, 0), (143, 3), (200, 17), (256, 241)])
 
 
-OTHERS = [calls.canonical_forms, calls.is_equal, calls.compare, calls.version, calls.copies, calls.forgotten,
-          calls.without_mark, calls.out_of_range, calls.counters_stay, calls.refused_resets, calls.updates_of_nothing,
-          calls.null_pointers, calls.derived_secret, some_secrets]
+# What a library's texts are asked beside one-shots and cut streams: other calls, and what shows any updates of XXH3.
+Beside = collections.namedtuple("Beside", "calls updates")
+FOR_C = Beside([calls.canonical_forms, calls.is_equal, calls.compare, calls.version, calls.copies, calls.forgotten,
+                calls.without_mark, calls.out_of_range, calls.counters_stay, calls.refused_resets,
+                calls.updates_of_nothing, calls.null_pointers, calls.derived_secret, some_secrets],
+               xxh3_updates.Xxh3Updates)
 
 
 # ---- by induction
 
 def by_induction(program, asked, section, updates):
     """Some cases of updates of any lengths and of one-shots of every length, by the requests that run a section, and of a
-    function that takes stripes. `updates` is the kind of proof of XXH3's streams."""
+    function that takes stripes. `updates` shows those of XXH3."""
     found = {}
     for one in (question.request for question in asked):
         if one_shots.is_plain(one.hash_name):
@@ -266,7 +271,10 @@ def any_secret_of(name, way, k, cpu):
 
 
 def own_secret(name, way, k, cpu):
-    every_length.EveryLength(cpu, f"{name}:{way}").show(case_of(every_length.of_secret(), k))
+    """With a secret of 192 to 199 bytes: of x86-64-v4 those cases that its row has."""
+    is_widened = xxh3_updates.TAKE_WIDENED.name in cpu.program.functions
+    cases = every_length.of_secret_by_turns() if is_widened else every_length.of_secret()
+    every_length.EveryLength(cpu, f"{name}:{way}").show(case_of(cases, k))
 
 
 def xxh3_reset(updates, k, cpu):

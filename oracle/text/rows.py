@@ -183,7 +183,7 @@ def points_left_out(made, is_all, kind):
 
 def any_xxh3(make, what, part, kind):
     proof = kind(make())
-    asked, (some, parts) = proof.questions()[what], XXH3_CASES[what]
+    asked, (some, parts) = proof.questions(what), XXH3_CASES[what]
     return count_shown(proof, asked[::len(asked) // some] if part is None else asked[part::parts])
 
 
@@ -357,16 +357,23 @@ def machine_rows(texts, others, is_all):
 
 
 def change_rows(texts, is_all):
-    """Changes of one instruction; with --all of some draws, in parts."""
-    parts = [range(row, changes.DRAWS, changes.ROWS) for row in range(changes.ROWS)] if is_all else [[0]]
-    for name, program in texts.items():
-        is_v4 = name.endswith(V4)
-        title = f"changes of one instruction{' in the widened functions of' if is_v4 else ','} {name}"
-        count = changes.MANY // changes.DRAWS if is_all else changes.SOME if is_v4 else changes.FEW
-        for number, draws in enumerate(parts, 1):
-            words = f", part {number} of {len(parts)}" if is_all else ""
-            yield counted(title + words, count * len(draws), functools.partial(
-                changes.noticed, name, program, count, is_all, "widened" if is_v4 else "", draws))
+    """Changes of one instruction; of x86-64-v4 in the functions that it has by itself."""
+    for name, make in makers(texts).items():
+        if name == V4:
+            yield change_row(f"in the widened functions of {name}", (20, 100), is_all, name, make, is_drawn=is_widened)
+        else:
+            yield change_row(name, (40, 100), is_all, name, make)
+
+
+def is_widened(section):
+    return "widened" in section
+
+
+def change_row(where, counts, is_all, *asked, **more):
+    """So many changes of one draw, or with --all of each draw."""
+    count, draws = counts[is_all], changes.DRAWS if is_all else 1
+    return counted(f"changes of one instruction, {where}", count * draws,
+                   functools.partial(changes.noticed, *asked, count, is_all, **more))
 
 
 def beside_processor(programs, is_all):

@@ -14,7 +14,7 @@ from terms.nodes import Node
 from terms.polynomials import divided, given, is_natural, minus, plus, times, variable
 from terms.polynomials import is_same as is_same_number
 
-from .induction import Family, Proof, cells_of, moved, same
+from .induction import Family, Proof, moved, same
 from .memory import ENTRY
 from .values import Address
 
@@ -76,9 +76,7 @@ class StripesProof(Proof):
                 except REFUSALS as error:
                     self.loops.refused.append(f"{self.head[0]} {self.head[1]:x} from {part.start}: {error}")
                 self.family.restore(known)
-                self.forget()
-                self.enter(0)
-                self.cpu.flags, self.cpu.carry = self.flags
+                self.again()
         return False
 
     def by_places(self, part, done):
@@ -152,7 +150,7 @@ class StripesProof(Proof):
                 self.turn()
             except NotShown:          # with this turn the loop is left
                 return
-            now = cells_of(self.cpu)
+            now = self.cells()
             for cell, (x, step) in list(self.places.items()):
                 base = moved(x, step, minus(0, at))
                 if not is_same_number(step, 0) and not same(now.get(cell), moved(x, step, plus(k, 1))) \
@@ -217,17 +215,23 @@ class Summary:
 
     def registers(self, cpu):
         """Where its arguments lie."""
-        return cpu.ARGUMENTS[:5] if self.is_in_place else cpu.TAKES_STRIPES
+        return cpu.TAKES_STRIPES[:5] if self.is_in_place else cpu.TAKES_STRIPES
 
     def put_into(self, cpu, family, source, secret):
         """Calls of the function take parts of the family, of a message and under a secret, each an input."""
         cpu.replaced[cpu.program.functions[self.name]] = functools.partial(self.call, cpu, family, source, secret)
 
     def call(self, cpu, family, source, secret):
-        *records, stripes, length, own, own_length = (cpu.registers[name] for name in self.registers(cpu))
         stack, floor = cpu.frame()
-        self.expect("the places", all(isinstance(x, Address) for x in (*records, stripes, own)))
         self.expect("the stack", floor % 16 == 0 and floor >= LEAST_ENTRY)
+        arguments = list(map(cpu.argument, self.registers(cpu)))
+        self.take(cpu, family, source, secret, arguments, stack, floor)
+        return cpu.return_from_another()
+
+    def take(self, cpu, family, source, secret, arguments, stack, floor):
+        """Takes what a call is handed; its caller's part of the stack begins at a place."""
+        *records, stripes, length, own, own_length = arguments
+        self.expect("the places", all(isinstance(x, Address) for x in (*records, stripes, own)))
         (room, first), (memory, place) = records[0].place(), records[-1].place()
         if not self.is_in_place:
             is_apart = room is not memory or abs(first - place) >= self.size
@@ -245,7 +249,7 @@ class Summary:
         self.expect("the piece", is_same_number(length, 0) or is_at(stripes, source, times(64, at), length))
         has_whole = not self.has_length or is_same_number(own_length, secret.length)
         self.expect("the secret", has_whole and is_at(own, secret, 0, secret.length))
-        return self.leave(cpu, family, part, room, first)
+        self.leave(cpu, family, part, room, first)
 
     def leave(self, cpu, family, part, room, first):
         values = family.words(family.stripes(part.start))
@@ -256,7 +260,6 @@ class Summary:
             room.store(first + 8 * i, 8, x)
         if self.has_place:
             room.store(first + PLACE, 8, part.end[1])
-        return cpu.return_from_another()
 
     def expect(self, what, holds):
         if not holds:

@@ -70,6 +70,12 @@ def combined(a, b, sign):
     """a + sign * b, where one is an address."""
     if isinstance(b, int):
         return Address(a.bases, near_zero(plus(a.offset, sign * b)))
+    bases, offset = sum_of(a, b, sign)
+    return Address(bases, near_zero(offset)) if bases else wrapped(offset, WORD)
+
+
+def sum_of(a, b, sign):
+    """The bases and the offset of a + sign * b."""
     bases = {}
     for x, count in ((a, 1), (b, sign)):
         for base, often in x.bases if isinstance(x, Address) else ():
@@ -77,9 +83,8 @@ def combined(a, b, sign):
     offsets = [x.offset if isinstance(x, Address) else x for x in (a, b)]
     if not all(isinstance(x, (int, Poly)) for x in offsets):
         raise Undecided("an address that depends on symbols")
-    offset = plus(*offsets) if sign > 0 else minus(*offsets)
     left = tuple(sorted(((base, count) for base, count in bases.items() if count), key=lambda x: x[0].name))
-    return Address(left, near_zero(offset)) if left else wrapped(offset, WORD)
+    return left, plus(*offsets) if sign > 0 else minus(*offsets)
 
 
 def near_zero(offset):

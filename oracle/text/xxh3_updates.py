@@ -95,16 +95,22 @@ EMPTY = Start((0, 0), 0, 0, (0, 0), [])
 class Xxh3Updates:
     CORE = 0                      # where in a state the accumulators lie, and behind them all but what `own` has
     HAS_SEED = 0, 1               # whether a stream was made with a seed
+    longest_secret, longest_piece = LONGEST_KEPT, LONGEST
 
     def __init__(self, cpu):
         self.cpu, self.told, self.refused = cpu, [], []
         self.use(variable("q"))
 
+    @property
+    def library(self):
+        """How the exports are called."""
+        return self.cpu.library
+
     def use(self, q, u=None):
         """From here on a block has q stripes, and the secret u bytes more than these ask for, below 8."""
         u = variable("u") if u is None else u
         self.q, self.secret_length = q, plus(64, times(8, q), u)
-        self.facts = [minus(7, u), minus(q, LEAST), at_most(self.secret_length, LONGEST_KEPT)]
+        self.facts = [minus(7, u), minus(q, LEAST), at_most(self.secret_length, self.longest_secret)]
         self.read()
 
     def facts_of_any(self):
@@ -122,13 +128,15 @@ class Xxh3Updates:
         self.secret_source = Source("s", self.secret_length)
         self.secret = Bytes(self.secret_source, 0, self.secret_length)
 
-    def questions(self):
+    def questions(self, what):
         """All that is to be shown, by the words of a row."""
-        return {UPDATES: [functools.partial(self.update, *case) for case in self.all_updates()],
-                DIGESTS: [*(functools.partial(self.reset, *case) for case in self.resets()),
-                          *(functools.partial(self.digest, *case, has_seed, width) for case in self.digests()
-                            for has_seed in self.HAS_SEED for width in WIDTHS)],
-                STRIPES: [self.one_update, *(functools.partial(self.taken_of, *case) for case in self.all_taken())]}
+        if what == UPDATES:
+            return [functools.partial(self.update, *case) for case in self.all_updates()]
+        if what == DIGESTS:
+            return [*(functools.partial(self.reset, *case) for case in self.resets()),
+                    *(functools.partial(self.digest, *case, has_seed, width) for case in self.digests()
+                      for has_seed in self.HAS_SEED for width in WIDTHS)]
+        return [self.one_update, *(functools.partial(self.taken_of, *case) for case in self.all_taken())]
 
     def one_update(self):
         """An update has the same code for both widths."""
@@ -202,7 +210,7 @@ class Xxh3Updates:
         cells = [*self.words(ACCUMULATORS, self.accumulators(place)), *self.numbers(place, f),
                  *self.words(LAST, self.last), *self.seeds()]
         at = self.CORE + BUFFER
-        state = State("state", self.cpu.library.SIZES["3"], [(at, 8, x) for at, x in cells],
+        state = State("state", self.library.SIZES["3"], [(at, 8, x) for at, x in cells],
                       [*self.buffered(place, f), *self.secret_runs()], (at, at + ROOM))
         state.secret = self.secret_source
         return state
@@ -229,7 +237,7 @@ class Xxh3Updates:
             piece = Piece(self.source, begun, length)
             if not is_same_number(plus(begun, length), ended):
                 raise NotShown("the case's piece has another length")
-            self.run([state], self.cpu.library.update, parts, self.cpu, "3-64", state, piece, summaries=summaries)
+            self.run([state], self.library.update, parts, self.cpu, "3-64", state, piece, summaries=summaries)
             self.expect_state("an update", state, *end, self.last if last is None else last())
             if parts and not is_natural(minus(self.stripes(end[0]), 4)):
                 raise NotShown("fewer than four stripes are taken")
@@ -278,6 +286,17 @@ class Xxh3Updates:
         if to == "many":
             yield plus(minus(self.q, j), times(self.q, D), e), (plus(b, 1, D), e), [
                 minus(minus(self.q, 1), e), minus(plus(minus(self.q, j), times(self.q, D), e), MANY)]
+        if to == "many" and self.has_long_blocks():
+            yield self.within_block(place)
+
+    def has_long_blocks(self):
+        """Whether many stripes may lie within a block."""
+        return self.longest_secret >= 64 + 8 * (MANY + 1)
+
+    def within_block(self, place):
+        """Many stripes, from a place on: (turns, place behind them, facts)."""
+        n, (b, j) = variable("n"), place
+        return n, (b, plus(j, n)), [minus(n, MANY), minus(minus(self.q, 1), plus(j, n))]
 
     def pieces(self, to, begin, lefts):
         """Pieces that are taken through: as arguments of `update`."""
@@ -298,10 +317,14 @@ class Xxh3Updates:
         """As arguments of `update`."""
         yield from self.small_pieces()
         whole = [(64, []), *lengths("left", [(65, 127)])]
-        yield from self.pieces("none", starts(False, [8]), [*lengths("left", SHORT_COPIES), *whole])
-        yield from self.pieces("none", starts(False, [7]), whole[1:])
-        yield from self.pieces("some", [EMPTY, *starts(True)], whole)
-        yield from self.pieces("many", [EMPTY, *starts(False)], whole)
+        yield from self.pieces("none", self.starts(False, [8]), [*lengths("left", SHORT_COPIES), *whole])
+        yield from self.pieces("none", self.starts(False, [7]), whole[1:])
+        yield from self.pieces("some", [EMPTY, *self.starts(True)], whole)
+        yield from self.pieces("many", [EMPTY, *self.starts(False)], whole)
+
+    def starts(self, is_split, gs=None):
+        """Where updates begin that take stripes."""
+        return starts(is_split, gs)
 
 
     # ---- reset
@@ -321,7 +344,7 @@ class Xxh3Updates:
         arguments = [address(self.secret_source), self.secret_length] if is_own else []
         arguments += [seed] if "Seed" in name else []
         self.begin(0)
-        size = self.cpu.library.SIZES["3"]
+        size = self.library.SIZES["3"]
         with given(*self.facts):
             cells = [(at, 8, self.cpu.fresh("a state's word")) for at in range(0, size, 8)]
             state = State("state", size, cells, [], (0, 0))
@@ -368,7 +391,7 @@ class Xxh3Updates:
             needs_last = isinstance(f, int) and f < 64 and not is_same_number(self.stripes(place), 0)
             state = self.state(place, f, self.last_stripe(place) if needs_last else None, has_seed, seed)
             before = dict(state.cells)
-            value = self.run([state], self.cpu.library.digest, parts, self.cpu, f"3-{width}", state)
+            value = self.run([state], self.library.digest, parts, self.cpu, f"3-{width}", state)
             if state.cells.keys() != before.keys() or any(state.cells[at] is not x and not (
                     at != RUNS and same(state.cells[at][1], x[1])) for at, x in before.items()):
                 raise NotShown("a digest changes the state")
@@ -401,16 +424,23 @@ class Xxh3Updates:
                        alignment=8)
             piece = Piece(self.source, times(64, self.stripes(place)), times(64, turns))
             records = [taken] if summary.is_in_place else [to, taken]
-            self.run(records, summary.name, parts, *map(address, records), address(piece), piece.length,
-                     address(self.secret_source), *([self.secret_length] * summary.has_length), summaries=summaries,
-                     into=summary.registers(self.cpu))
+            self.run(records, self.taker(summary), parts, *map(address, records), address(piece), piece.length,
+                     address(self.secret_source), *([self.secret_length] * summary.has_length), summaries=summaries)
             expected = [self.after(self.stripes(end))(i) for i in range(8)] + [end[1]] * summary.has_place
             for memory, cells in zip(records, [expected, [x for *_, x in cells]]):
                 for k, x in enumerate(cells):
                     if not same(memory.load(8 * k, 8), x):
                         raise NotShown(f"{summary.name}: {memory.name} at {8 * k} is {memory.load(8 * k, 8)} and not {x}")
-            if min(self.cpu.stack.cells, default=ENTRY) < ENTRY - DEEP:
-                raise NotShown(f"{summary.name}: more than {DEEP} bytes of stack")
+            self.expect_stack(summary)
+
+    def taker(self, summary):
+        """What calls a function that takes stripes."""
+        return functools.partial(self.cpu.call, summary.name, into=summary.registers(self.cpu))
+
+    def expect_stack(self, summary):
+        """That a function has used no more of the stack than its summary says."""
+        if min(self.cpu.stack.cells, default=ENTRY) < ENTRY - DEEP:
+            raise NotShown(f"{summary.name}: more than {DEEP} bytes of stack")
 
     def all_taken(self):
         """As arguments of `taken`, with the stripes of a block and the secret's further bytes, or None where these are any
@@ -421,6 +451,8 @@ class Xxh3Updates:
             part, facts = self.to_another_block(self.q)
             yield ANY, (TAKE_MANY, [part], [*facts, of_q], [TAKE])
         b, D = variable("b"), variable("D")
+        turns, end, facts = self.within_block((b, variable("j")))
+        yield ANY, (TAKE_MANY, [Part((b, variable("j")), turns, end)], facts, [TAKE])
         yield OF_16, (TAKE_BLOCKS, [Part((b, 0), plus(BLOCK, times(BLOCK, D)), (plus(b, 1, D), 0))], [])
         longer = [minus(variable("u"), 1)] if self.is_widened() else []
         for parts, facts in self.by_fours():

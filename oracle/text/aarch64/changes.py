@@ -83,5 +83,6 @@ def noticed(program, is_all):
     """(changes that were tried, those that aren't noticed and have no reason)."""
     with tempfile.TemporaryDirectory(prefix="arm-text-") as room:
         changed = Changed(program, os.path.join(room, "text.o"))
-        return changes.noticed_of(Processor(program), functools.partial(drawn, changed), MANY if is_all else FEW,
-                                  changes.reasons(EQUAL), is_all)
+        some = changes.of_draws(functools.partial(drawn, changed), MANY if is_all else FEW)
+        texts, bad = changes.noticed_of(Processor(program), some, changes.reasons(EQUAL), is_all)
+    return len(texts), bad

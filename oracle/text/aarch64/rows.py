@@ -1,4 +1,4 @@
-"""The rows of oracle/arm-text: what is asked of the library's text for 64-bit ARM."""
+"""The rows of oracle/arm-text: what is asked of the text for C for 64-bit ARM, and of those below the cargo crate."""
 import functools
 import os
 import subprocess
@@ -9,10 +9,10 @@ from terms.processes import Row
 from terms.rows import title_of
 from terms.sides import TOP
 
-from .. import calls, every_length, one_shots, streams
+from .. import calls, cargo_whole, every_length, one_shots, streams
 from .. import rows as shared
-from ..questions import OTHERS
-from . import changes, on_qemu
+from ..questions import FOR_C
+from . import cargo, changes, on_qemu
 from .objects import Program
 from .table import Processor
 
@@ -41,13 +41,21 @@ def choose(given, found):
             out.append(compared(f"{title_of(*kind)}, streams of 5 to 700 bytes", found, kind, asked, True))
     for name in ("3-64", "3-128"):
         out.append(Row(f"XXH{name}, secrets of 0 to 135 bytes", functools.partial(short_secrets, found, name)))
-    out += [Row(f"the other calls: {ask.__name__.replace('_', ' ')}", functools.partial(other, found, ask)) for ask in OTHERS]
+    out += [Row(f"the other calls: {ask.__name__.replace('_', ' ')}", functools.partial(other, found, ask)) for ask in FOR_C.calls]
     made = {"aarch64": functools.partial(Processor, found)}
     out += every_length_rows(made, given.all)
     out.append(Row("the table of instructions beside qemu", on_qemu.tell))
     out.append(shared.counted("changes of one bit", changes.MANY if given.all else changes.FEW,
                               functools.partial(changes.noticed, found, given.all)))
+    out += cargo_text_rows(given.all)
     return [row for row in out if given.only in row.title]
+
+
+def cargo_text_rows(is_all):
+    """The rows of each text below the cargo crate."""
+    for name, found in cargo.programs().items():
+        made = functools.partial(cargo.CargoProcessor, found)
+        yield from cargo_whole.named(f"cargo's {name}", cargo_whole.choose(name, made, is_all))
 
 
 def every_length_rows(made, is_all):

@@ -12,7 +12,7 @@ from .processor import form
 from .vectors import of_words, words_of
 
 SIZES = {"b": 1, "h": 2}          # of ldrb, strh ..
-OPERATIONS = {"add": "add", "sub": "sub", "adds": "add", "subs": "sub", "cmp": "sub", "mul": "mul", "and": "and",
+OPERATIONS = {"add": "add", "sub": "sub", "adds": "add", "subs": "sub", "cmp": "sub", "cmn": "add", "mul": "mul", "and": "and",
               "ands": "and", "orr": "or", "eor": "xor", "udiv": "udiv"}
 
 
@@ -76,12 +76,13 @@ def page(cpu, x):
 
 @form("adds subs", "x x x, x x i, x x x lsr, w w w")
 @form("ands", "x x i")
-@form("cmp", "x x, x i, x x lsr, w i")
+@form("cmp", "x x, x i, x x lsr, w w, w i")
+@form("cmn", "x i")
 def with_flags(cpu, x):
     width, a, b = operands(cpu, x)
     word = OPERATIONS[x.mnemonic]
     answer = None if x.mnemonic == "cmp" else arithmetic(word, width, a, b)
-    if x.mnemonic != "cmp":
+    if x.mnemonic not in ("cmp", "cmn"):
         cpu.put(x.operands[0], answer)
     cpu.flags = word, width, a, b, answer
 
@@ -252,6 +253,7 @@ def never(cpu, x):
 
 
 @form("prfm", "p m")
+@form("nop", "")
 def nothing(cpu, x):
     pass
 

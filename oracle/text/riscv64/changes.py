@@ -1,17 +1,16 @@
 """Changes of single instructions of the text for 64-bit RISC-V, each of which has to be noticed, as ../changes.py says:
 another register, number, place in memory or operation, or an instruction left out."""
+import functools
 import os
 
-from .. import cargo_calls, calls, changes
+from .. import cargo_calls, changes
+from ..questions import Beside
 from .source import REGISTERS
 from .streams import Updates
 from .table import TABLE, Processor
 
 EQUAL = os.path.join(os.path.dirname(os.path.abspath(__file__)), "equal_changes.txt")
 MANY, FEW = 1000, 30              # changes with --all and without
-OTHERS = [cargo_calls.interface, cargo_calls.words, cargo_calls.derived_secret, cargo_calls.without_mark,
-          cargo_calls.out_of_range, cargo_calls.short_secrets, cargo_calls.reachable, cargo_calls.other_rests,
-          cargo_calls.other_accumulators, calls.null_pointers]
 ALIKE = [("add", "sub"), ("xor", "or"), ("and", "or"), ("slli", "srli"), ("addi", "xori"), ("beqz", "bnez"), ("beq", "bne"),
          ("bltu", "bgeu"), ("mul", "mulhu"), ("lbu", "lb"), ("lw", "lwu"), ("ld", "lwu"), ("neg", "not"), ("remu", "mul")]
 NOTHING = "mv"                    # of a register to itself
@@ -60,5 +59,6 @@ def written(x):
 
 def noticed(program, is_all):
     """(changes that were tried, those that aren't noticed and have no reason)."""
-    return changes.noticed_of(Processor(program), lambda places, draw: drawn(program, places, draw), MANY if is_all else FEW,
-                              changes.reasons(EQUAL), is_all, others=OTHERS, updates=Updates)
+    some = changes.of_draws(functools.partial(drawn, program), MANY if is_all else FEW)
+    texts, bad = changes.noticed_of(Processor(program), some, changes.reasons(EQUAL), is_all, Beside(cargo_calls.ALL, Updates))
+    return len(texts), bad

@@ -7,7 +7,7 @@ import re
 
 from terms.llvm_text import Unsupported
 
-from ..cargo import plain
+from ..cargo import plain, without_numbers
 from ..objects import OUTER
 
 # An instruction: `form` has a letter for each operand; `target` is (section or constant, offset), where it names one.
@@ -40,7 +40,7 @@ class Program:
         for section, at, text in self.lines:
             self.sections[section][at] = self.instruction(section, at, text)
         functions = [name for name, kind in self.kinds.items() if kind == "function"]
-        self.functions = {name: self.labels[known] for name, known in without_numbers(functions)}
+        self.functions = {name: self.labels[known] for name, known in without_numbers(functions).items()}
         self.exports = {plain(name): self.labels[name] for name in functions if self.marks[name]}
         if len(self.functions) < len(functions) or any(marks not in ({"weak", "hidden"}, set()) for marks in self.marks.values()):
             raise Unsupported("two functions of one name, or a name that others see")
@@ -139,13 +139,6 @@ class Program:
         if not found:
             raise Unsupported(f"{label} isn't at the upper part of a distance")
         return self.labels[found[1]]
-
-
-def without_numbers(names):
-    """(name without the number of the interface, and without that of its kind where there is one kind, the name)."""
-    short = {name: re.sub(r"\.\d+$", "", plain(name)) for name in names}
-    alike = collections.Counter(short.values())
-    return [(short[name] if alike[short[name]] == 1 else plain(name), name) for name in names]
 
 
 def bytes_of(name, text):

@@ -2,28 +2,15 @@
 
 Its loops over stripes are left by a place in memory, and ask behind the first stripe whether there is another one: so
 a case of any number of whole blocks, D, is two here, with none and with some."""
-import functools
 import itertools
 
 from terms.polynomials import Poly, is_sum_of_facts, minus, names_of, parts_of, variable
 
-from ..cargo_streams import CargoUpdates, with_value
+from ..cargo_streams import CargoUpdates, in_numbers
 
 BLOCKS = "D"                      # the variable that has them
 TRIED = 2                         # other facts by which one can't hold
 FOURTHS = {"a": range(3), "e": range(1, 4)}          # of a block, which such cases begin and end with
-
-
-def in_numbers(x, name, value):
-    """Polynomials with a number in the place of a variable, in whatever they stand."""
-    if isinstance(x, Poly):
-        return with_value(x, name, value)
-    if isinstance(x, functools.partial):
-        return functools.partial(x.func, *in_numbers(x.args, name, value))
-    if isinstance(x, (list, tuple)):
-        parts = [in_numbers(part, name, value) for part in x]
-        return type(x)(*parts) if hasattr(x, "_fields") else type(x)(parts)
-    return x
 
 
 def names_in(x):

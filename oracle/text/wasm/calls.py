@@ -2,7 +2,7 @@
 and restored on the way. A call that is answered has to write its value, and one that is refused nothing."""
 from terms.llvm_text import Unsupported
 from terms.memory import Memory, Piece
-from terms.nodes import Node, symbol
+from terms.nodes import Node
 
 from .values import address
 
@@ -89,7 +89,7 @@ def expect_kept(what, memory, cells):
 
 def anything(vm, name, size):
     """A memory that holds anything."""
-    return Memory(name, size, [(at, 8, symbol(vm.fresh(name), 64)) for at in range(0, size, 8)])
+    return Memory(name, size, [(at, 8, vm.fresh(name)) for at in range(0, size, 8)])
 
 
 class Stream:

@@ -17,11 +17,13 @@ from terms.loops import REFUSALS
 from terms.nodes import WrongRule
 from terms.sides import Request, differing_point
 
+from ..xxh3_updates import TAKE_BLOCKS
 from . import calls, every_length, refusals
 from .comparing import Texts, with_seed_0
 from .module import Malformed, Reader
 from .opcodes import OPCODES
-from .validator import Validator
+from .validator import Validator, ends_of
+from .xxh3_streams import ModuleUpdates
 
 EQUAL = os.path.join(os.path.dirname(os.path.abspath(__file__)), "equal_changes.txt")
 LENGTHS = [*range(10), *range(14, 36, 3), 63, 64, 65, 96, 97, 120, 128, 129, 145, 200, 240, 241, 256, 257, 300, 1030]
@@ -52,8 +54,39 @@ BY_HAND = [
     ("a store, as of bytes 8 further", "i64.store", None, None, -1, 8),
 ]
 EACH_BY_HAND = 3              # places at which each is tried
-REFUSING = calls.refused_one_shot, calls.refused_start, refusals.refuse_short_secret, refusals.refuse_record
+# Streams with pieces that are taken out of line, and each so manieth case of the functions that do so
+LONG_STREAMS, EACH_TAKEN = [(2300,), *((2300, 64 - r) for r in (1, 2, 5, 9, 20, 40)), (5300, 129)], 25
 CRASHES = AttributeError, IndexError, KeyError, TypeError, ValueError, RecursionError
+
+
+class Taken:
+    """A case of the functions that take stripes of long pieces (xxh3_streams.py), as a request."""
+    hash_name, kind, secret_length, what = "3-64", "seed", None, "stripes of long pieces"
+
+    def __init__(self, case):
+        self.case = case
+
+
+def take(vm, request):
+    """Shows a case, or raises."""
+    ModuleUpdates(vm).taken_of(*request.case)
+
+
+# What has no value: a call is refused, or a case shown.
+REFUSING = (calls.refused_one_shot, calls.refused_start, refusals.refuse_short_secret, refusals.refuse_record,
+            refusals.keep_counters, take)
+
+
+def long_pieces(vm, is_all):
+    """What covers the functions that take long pieces of streams."""
+    for n, *cuts in LONG_STREAMS if is_all else LONG_STREAMS[:2]:
+        yield Request("3-64", "seed", n, cuts=cuts), calls.stream
+        yield Request("3-128", "both", n, SECRETS[0], cuts=cuts), calls.stream
+    if not is_all:
+        return
+    cases = list(ModuleUpdates(vm).all_taken())
+    blocks = [case for case in cases if TAKE_BLOCKS in (case[1][0], *itertools.chain(*case[1][3:]))]
+    yield from ((Taken(case), take) for case in (*cases[::EACH_TAKEN], *blocks))
 
 
 def asked(is_all=True):
@@ -75,6 +108,7 @@ def refused():
             yield Request(hash_name, way, 300, size), answer
     for wrong in refusals.WRONG_RECORDS:
         yield refusals.WrongRecord(*wrong), refusals.refuse_record
+    yield from ((request, refusals.keep_counters) for request in refusals.of_counters())
 
 
 def kind_of(question):
@@ -88,7 +122,7 @@ class Covered:
     def __init__(self, vm, is_all):
         by_kind, seen, draw = collections.defaultdict(dict), collections.Counter(), random.Random(5)
         texts = Texts()
-        for question in asked(is_all):
+        for question in (*asked(is_all), *long_pieces(vm, is_all)):
             texts.make_room()
             vm.used, kind = set(), kind_of(question)
             question[1](vm, question[0])
@@ -147,6 +181,7 @@ def with_change(vm, function, whole):
     changed = copy.copy(vm)
     changed.module, changed.branches, changed.code = module, list(vm.branches), dict(vm.code)
     changed.branches[function.index] = Validator(module, other).check()
+    changed.ends = [ends_of(other.code) if k == function.index else ends for k, ends in enumerate(vm.ends)]
     changed.code.pop(function.index, None)
     changed.most_steps = STEPS
     return changed
@@ -220,7 +255,7 @@ def of_many_bytes(vm):
             proof = every_length.Proof(vm)
             for case in every_length.CASES[:2]:
                 proof.long(hash_name, "seed", case)
-            for case in (own[0], own[-5], own[-1]):
+            for case in (own[0], *own[-6:]):
                 proof.own_secret(hash_name, "both", case)
     except (*REFUSALS, *CRASHES):
         return BY_INDUCTION

@@ -5,13 +5,13 @@ loop's head after k turns some cells, the words, hold what the definition says; 
 a turn; some may be anything; the others are as at the start. Which cells are which is guessed from two first turns and
 then shown: the words are the definition's for k = 0, and a turn from any k, with words that are the definition's, leads
 to all of that for k + 1. A cell of the words or of the places is never let go."""
-from terms.loops import REFUSALS, NotShown, agree
+from terms.loops import REFUSALS, NotShown
 from terms.memory import RUNS
-from terms.nodes import symbol
-from terms.polynomials import divided, given, is_natural, is_number, minus, plus, times, variable
-from terms.polynomials import is_same as is_same_number
+from terms.polynomials import divided, given, is_natural, minus, plus, times, variable
 
-from .values import WORD, Address
+from ..induction import moved, step_between
+from ..induction import same as is_same_value
+from .values import WORD
 
 STEPS = 1, 2, 4, 8, 16       # stripes that a turn may take
 TURNS_LEFT = 64, 4           # stripes that are left where the first turns are tried
@@ -33,7 +33,7 @@ class Family:
         """Words that are the definition's after k stripes: new symbols, where k isn't a number."""
         if isinstance(k, int):
             return self.words(k)
-        values = [symbol(fresh("word"), self.width) for _ in range(self.count)]
+        values = [fresh("word", self.width) for _ in range(self.count)]
         self.suppose(k, values)
         return values
 
@@ -67,25 +67,10 @@ class NotOfFamily(Exception):
 
 # ---- values that go on
 
-def moved(x, step, k):
-    if isinstance(x, Address):
-        return Address(x.counts, plus(x.offset, times(step, k)))
-    return plus(x, times(step, k))
-
-
-def step_between(old, now):
-    if isinstance(old, Address) and isinstance(now, Address) and old.counts == now.counts:
-        return minus(now.offset, old.offset)
-    return minus(now, old) if is_number(old) and is_number(now) else None
-
-
 def same(a, b):
-    if isinstance(a, Address) or isinstance(b, Address):
-        is_both = isinstance(a, Address) and isinstance(b, Address)
-        return is_both and a.counts == b.counts and is_same_number(a.offset, b.offset)
     if isinstance(a, tuple) and isinstance(b, tuple):
-        return len(a) == len(b) and all(x is y or same(x, y) for x, y in zip(a, b))
-    return a is b or agree(a, b)
+        return len(a) == len(b) and all(x is y or is_same_value(x, y) for x, y in zip(a, b))
+    return is_same_value(a, b)
 
 
 def value_of(cell):
@@ -93,20 +78,17 @@ def value_of(cell):
     return cell[1] if isinstance(cell, tuple) and len(cell) == 2 and isinstance(cell[0], int) else cell
 
 
-class Proof:
-    def __init__(self, vm, frame, family):
-        self.vm, self.frame, self.family = vm, frame, family
-        self.code = vm.prepared(frame.function)
+class Head:
+    """The head of a loop that a call has come to, with what there is, and the ways on from it."""
+
+    def __init__(self, vm, frame):
+        self.vm, self.frame, self.code = vm, frame, vm.prepared(frame.function)
         self.head, self.end = frame.pc - 1, vm.ends[frame.function.index][frame.pc - 1]
         self.widths = [*frame.function.signature.takes, *frame.function.locals]
         self.memories = [vm.stack, *vm.loops.live]
-        self.start = self.state()
-        self.words, self.places, self.free, self.step = {}, {}, set(), None
-        self.counts = {}         # places that are as at the start at the begin of each block
-
-    # ---- the state, as cells
 
     def state(self):
+        """What there is, as cells."""
         out = {}
         for k, x in enumerate(self.frame.variables):
             out.update({("lane", k, lane): part for lane, part in enumerate(x)} if isinstance(x, tuple)
@@ -137,6 +119,34 @@ class Proof:
                 stack.append(x)
         self.frame.stack[:], self.frame.pc = stack, self.head + 1
 
+    def anything(self, cell):
+        """A new symbol for a cell that may hold anything."""
+        return self.vm.fresh("anything", self.widths[cell[1]] if cell[0] == "variable" else WORD)
+
+    def turn(self):
+        """From the head to the head."""
+        while True:
+            self.vm.step(self.frame, self.code)
+            if self.frame.pc == self.head:
+                return
+            if not self.head < self.frame.pc <= self.end:
+                raise NotShown("a turn leaves the loop")
+
+    def leave(self):
+        """From the head out of the loop."""
+        while self.head < self.frame.pc <= self.end:
+            self.vm.step(self.frame, self.code)
+        if self.frame.pc == self.head:
+            raise NotShown("the loop isn't left")
+
+
+class Proof(Head):
+    def __init__(self, vm, frame, family):
+        super().__init__(vm, frame)
+        self.family, self.start = family, self.state()
+        self.words, self.places, self.free, self.step = {}, {}, set(), None
+        self.counts = {}         # places that are as at the start at the begin of each block
+
     def after(self, k, values, j=0):
         """The state after k turns, j of them in a block, where the words have these values."""
         out = dict(self.start)
@@ -147,31 +157,12 @@ class Proof:
             if cell[0] == "memory":
                 out.pop(cell, None)
             else:
-                width = WORD if cell[0] == "lane" else self.widths[cell[1]]
-                out[cell] = symbol(self.vm.fresh("anything"), width)
+                out[cell] = self.anything(cell)
         return out
 
     def put(self, cell, x):
         """A value as a cell has it: one of memory keeps its size."""
         return (self.start[cell][0], x) if cell[0] == "memory" else x
-
-    # ---- turns
-
-    def turn(self):
-        """From the head to the head."""
-        while True:
-            self.vm.step(self.frame, self.code)
-            if self.frame.pc == self.head:
-                return
-            if not self.head < self.frame.pc <= self.end:
-                raise NotShown(f"{self.family.name}: a turn leaves the loop")
-
-    def leave(self):
-        """From the head out of the loop."""
-        while self.head < self.frame.pc <= self.end:
-            self.vm.step(self.frame, self.code)
-        if self.frame.pc == self.head:
-            raise NotShown(f"{self.family.name}: the loop isn't left")
 
     # ---- the proof
 
@@ -180,7 +171,7 @@ class Proof:
         family = self.family
         self.guess()
         turns, _ = divided(minus(family.total, family.first), self.step)
-        last, k = minus(turns, 1), variable(self.vm.fresh("k"))
+        last, k = minus(turns, 1), variable(self.vm.new_name("k"))
         if not is_natural(last):
             raise NotShown(f"{family.name}: no number of turns")
         with given(minus(minus(last, k), 1)):
@@ -272,7 +263,7 @@ class ProofByBlocks(Proof):
         if self.step != 1 or family.first != 0 or not is_natural(last) or not is_natural(minus(q, 1)):
             raise NotOfFamily("a turn of several stripes, or no number of them")
         self.find_counts()
-        b, j = (variable(self.vm.fresh(name)) for name in "bj")
+        b, j = (variable(self.vm.new_name(name)) for name in "bj")
         while not self.is_shown(b, j):
             pass
         self.enter_at(last, minus(q, 1))

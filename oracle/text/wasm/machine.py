@@ -6,14 +6,14 @@ places that aren't known (Address). Each access has to be shown to lie inside of
 from terms.llvm_text import Unsupported
 from terms.machine import copy
 from terms.memory import Memory, is_inside
-from terms.nodes import Node
+from terms.nodes import Node, symbol
 from terms.polynomials import is_natural, is_same, minus, plus
 
 from .meanings import PURE
 from .module import PAGE
 from .opcodes import BY_NAME
 from .validator import ends_of, validate
-from .values import Address, Trap, condition, decided, low
+from .values import WORD, Address, Trap, condition, decided, low
 
 STACK_POINTER = 0        # the global that it is
 STACK = 1 << 16          # bytes of the stack that a call may use
@@ -55,6 +55,7 @@ class Machine:
     has_asked   whether it was asked: then 0 is another case
     used        the instructions that were run, as (function, place), where they are wanted
     loops       asked at each loop whether it is shown by induction (induction.py)
+    replaced    what stands in the place of some of the module's functions, by their numbers
     """
 
     def __init__(self, module):
@@ -62,31 +63,40 @@ class Machine:
         self.ends = [ends_of(function.code) for function in module.functions]
         self.constants = [(place, Constants(content)) for place, content in module.segments]
         self.end_of_stack = module.globals[STACK_POINTER].value
-        self.seed, self.has_asked, self.used, self.loops, self.made = None, False, None, None, 0
+        self.seed, self.has_asked, self.used, self.loops, self.made, self.replaced = None, False, None, None, 0, {}
         self.most_steps, self.steps, self.stack, self.globals, self.objects = MOST_STEPS, 0, None, [], []
 
-    def fresh(self, prefix):
+    def new_name(self, prefix):
         """A name that no symbol has."""
         self.made += 1
         return f"{prefix}#{self.made}"
 
+    def fresh(self, prefix, width=WORD):
+        """A symbol of a new name."""
+        return symbol(f"{self.new_name(prefix)}:{width}", width)
+
     # ---- calls
 
     def call(self, name, arguments):
-        """Calls an export, and gives its results. The stack holds nothing at first, and the globals have to come
-        back."""
-        function = self.module.exported(name)
+        """Calls an export, and gives its results."""
+        return self.call_function(self.module.exported(name), arguments, [x.value for x in self.module.globals])
+
+    def call_function(self, function, arguments, globals_):
+        """Calls a function where the globals have these values, which have to come back. The stack holds nothing at
+        first."""
         if len(arguments) != len(function.signature.takes):
-            raise Unsupported(f"{len(arguments)} arguments of {name}")
+            raise Unsupported(f"{len(arguments)} arguments of function {function.index}")
         self.stack = Memory("the stack", STACK)
         self.objects = [(self.end_of_stack - STACK, self.stack), *self.constants]
-        self.globals, self.steps = [x.value for x in self.module.globals], 0
+        self.globals, self.steps = list(globals_), 0
         results = self.run(function, list(arguments))
-        if self.globals != [x.value for x in self.module.globals]:
+        if self.globals != globals_:
             raise Unsupported("a global that isn't as it was")
         return results
 
     def run(self, function, arguments):
+        if function.index in self.replaced:
+            return self.replaced[function.index](*arguments)
         frame, code = Frame(function, arguments), self.prepared(function)
         while frame.pc < len(code):
             self.step(frame, code)

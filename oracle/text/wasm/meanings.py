@@ -3,9 +3,8 @@ behind the instruction and of these values."""
 from terms.rules import ones
 
 from . import values
-from .values import Address, binary, compare, condition, decided, high, low, side_by_side
+from .values import HALF, WORD, Address, binary, compare, condition, decided, high, low, side_by_side
 
-WORD, HALF = 64, 32
 PURE = {}
 
 

@@ -8,7 +8,6 @@ stripe * b + s, for all numbers r and s; and a digest of one is the definition's
 from terms.definition import Bytes, suppositions
 from terms.loops import NotShown
 from terms.memory import Input, Memory, Piece
-from terms.nodes import symbol
 from terms.polynomials import at_most, given, minus, plus, times, variable
 from terms.sides import seed_symbol
 
@@ -60,7 +59,7 @@ class PlainStreams(every_length.Proof):
         if isinstance(a, int):
             accumulators = [self.after(a)(j) for j in range(4)]
         else:
-            accumulators = [symbol(self.vm.fresh("accumulator"), self.width) for _ in range(4)]
+            accumulators = [self.vm.fresh("accumulator", self.width) for _ in range(4)]
             self.suppose(a, accumulators)
         out = anything(self.vm, "the record", RECORDS[f"xxh{self.width}"])
         for at, size, x in self.numbers(a, r, accumulators):

@@ -1,13 +1,21 @@
 """Wrong modules that are planted: instructions at the begin of an export, each of which has to be refused."""
+import functools
+
 from terms.loops import REFUSALS
 from terms.nodes import is_same
+from terms.polynomials import Poly
+from terms.polynomials import is_same as is_same_number
 from terms.sides import Request
 
+from .. import covered
+from ..xxh3_updates import TAKE, TAKE_MANY
 from . import calls, every_length
 from .assembler import assembled, unsigned
 from .changes import with_change
-from .comparing import Texts, with_seed_0
+from .comparing import Texts, compare, with_seed_0
 from .module import Malformed, Reader
+from .stripes import Takers
+from .xxh3_streams import ModuleUpdates
 
 ONE_SHOT = "twox_xxh64"             # of a seed, the message's place and its length
 OTHER_SEED = "local.get 0; {}; i64.extend_i32_u; i64.add; local.set 0"
@@ -36,9 +44,9 @@ PLANTED = [
 ]
 
 
-def with_inserted(module, name, text):
-    """The bytes of a module with instructions at the begin of an export."""
-    function, whole, (first, end) = module.exported(name), module.whole, module.place_of_functions
+def with_inserted(module, function, text):
+    """The bytes of a module with instructions at the begin of a function."""
+    whole, (first, end) = module.whole, module.place_of_functions
     begin, place = function.at + len(size_before(whole, function)), function.code[0].at
     body = whole[begin:place] + assembled(text) + whole[place:function.end]
     functions = whole[first:function.at] + unsigned(len(body)) + body + whole[function.end:end]
@@ -85,7 +93,90 @@ def tell(machines):
     for name, vm in machines.items():
         bad += [f"{name} is refused: {why}" for why in [refusal(vm)] if why]
         for what, export, text in PLANTED:
-            wrong = with_change(vm, vm.module.exported(export), with_inserted(vm.module, export, text))
-            if not refusal(wrong):
+            function = vm.module.exported(export)
+            if not refusal(with_change(vm, function, with_inserted(vm.module, function, text))):
                 bad.append(f"{name} passes with {what}")
     return f"{len(PLANTED) * len(machines)} planted modules, each refused", bad
+
+
+# ---- streams of XXH3 of any updates
+
+FULL = "; ".join(["local.get 0; i32.wrap_i64; i64.load 656; i64.const 512; i64.eq", "if",
+                  "local.get 0; i32.wrap_i64; i64.const 1; i64.store 0", "end"])
+
+
+def of_full_buffer(vm, takers):
+    return takers.long_pieces, with_inserted(vm.module, takers.long_pieces, FULL)
+
+
+def with_other_byte(number, then, byte, bits):
+    """Of the function that takes many stripes: some bits of a number are others, before an instruction of a name."""
+    def make(vm, takers):
+        function, whole = takers.found[TAKE_MANY.name][0], bytearray(vm.module.whole)
+        x = next(x for x, behind in zip(function.code, function.code[1:])
+                 if x.given == number and behind.opcode.name == then)
+        whole[x.at + byte] ^= bits
+        return function, bytes(whole)
+    return make
+
+
+def long_update(proof):
+    """An update by a long piece, where stripes wait in the buffer."""
+    return functools.partial(proof.update, *next(map(proof.with_room, proof.pieces(
+        "many", proof.starts(False), [(64, [])]))))
+
+
+def taken(which):
+    """What the function for many stripes does, in a case of its own."""
+    def ask(proof):
+        return functools.partial(proof.taken_of, *next(
+            (secret, case) for secret, case in proof.all_taken() if case[0] is TAKE_MANY and which(*case[1])))
+    return ask
+
+
+def ends_a_block(first, *others):
+    """Whether a part of one stripe ends a block before the others."""
+    return bool(others) and is_same_number(first.turns, 1) and is_same_number(others[0].start[1], 0)
+
+
+def has_blocks(first, *others):
+    """Whether there are whole blocks behind the stripes to a block's end."""
+    return bool(others) and isinstance(first.turns, Poly)
+
+
+POINTS = 20                         # of the cases of which one is left out
+CUT = [Request("3-64", "seed", 1088, cuts=[512, 1000])]
+# What is wrong where only long pieces of a stream come, how it is planted, what has to notice it, words of the refusal
+OF_STREAMS = [("another accumulator where the buffer is exactly full", of_full_buffer, long_update, "64*g == 512"),
+              ("no scramble where a block ends before a fourth stripe", with_other_byte(16, "i64.ne", 1, 1),
+               taken(ends_a_block), "192 of s, which has u + 192"),
+              ("fewer stripes before the first of many blocks", with_other_byte(960, "i64.and", 2, 4),
+               taken(has_blocks), "as a condition")]
+
+
+def of_streams(vm, ask):
+    """Why a question of the streams of XXH3 is refused, or nothing."""
+    try:
+        ask(ModuleUpdates(vm))()
+    except REFUSALS as error:
+        return str(error)
+    return ""
+
+
+def tell_of_streams(machines):
+    """Each module with each of these: it passes what is asked elsewhere, and is refused by what is asked of streams."""
+    bad = []
+    for what, make, ask, words in OF_STREAMS:
+        wrong = {name: with_change(vm, *make(vm, Takers(vm))) for name, vm in machines.items()}
+        bad += [f"with {what}, elsewhere: {line}" for line in compare(wrong, CUT, calls.stream)[1]]
+        bad += [f"{name} with {what}: {why or 'it passes'}" for name, vm in wrong.items()
+                if words not in (why := of_streams(vm, ask))]
+    return f"{len(OF_STREAMS) * len(machines)} planted modules, each refused", bad
+
+
+def lacks_a_case(proof):
+    """Whether an update, a digest and stripes are missed that are left out."""
+    updates, digests, takers = map(list, (proof.all_updates(), proof.digests(), proof.all_taken()))
+    del updates[687], digests[310], takers[3]
+    return all([covered.without_update(updates, proof, POINTS), covered.without_digest(digests, proof, POINTS),
+                covered.without_taken(takers, proof, [(TAKE.name, 0)], POINTS)])

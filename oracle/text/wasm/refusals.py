@@ -1,4 +1,5 @@
-"""What the modules refuse, with nothing written: secrets of fewer than 136 bytes, and records that are no stream's."""
+"""What the modules refuse, with nothing written: secrets of fewer than 136 bytes, and records that are no stream's. And
+that a counter which is 2^64 - 1 stays so."""
 from terms.llvm_text import Unsupported
 from terms.memory import Memory
 from terms.sides import Request
@@ -11,7 +12,10 @@ LEAST_SECRET = 136
 SHORT, LONG = (240,), (241,)      # message lengths at which a seed and a secret need none, and where they do
 XXH3 = "3-64", "3-128"
 # Bytes taken, and fields that don't agree with that: (hash, bytes, what, (offset, size, value), ..)
-LOST = 0, 8, 2 ** 64 - 1      # a length that is no longer counted
+MOST = 2 ** 64 - 1
+LOST = 0, 8, MOST             # a length that is no longer counted
+COUNTERS = {"32": [0], "64": [0], "3-64": [680, 152]}         # where a record has those of bytes and of stripes
+PIECES = 5, 40, 200, 600, 3000
 WRONG_RECORDS = [
     ("32", 5, "fewer bytes wait", (48, 8, 4)), ("32", 5, "more bytes wait", (48, 8, 6)),
     ("32", 5, "a whole stripe waits", (48, 8, 16)), ("32", 5, "2^32 bytes more wait", (48, 8, 5 + 2 ** 32)),
@@ -115,3 +119,26 @@ def wrong_records(machines):
         for wrong in WRONG_RECORDS:
             refuse_record(vm, WrongRecord(*wrong))
     return f"{len(WRONG_RECORDS) * len(machines)} refused", []
+
+
+# ---- counters
+
+def of_counters():
+    return [Request(name, "seed", n, seed=7) for name in COUNTERS for n in PIECES]
+
+
+def keep_counters(vm, request):
+    """An update of a stream whose counters are 2^64 - 1, which they stay."""
+    it, places = started(vm, request, PIECES[0]), COUNTERS[request.hash_name]
+    for at in places:
+        it.record.store(at, 8, MOST)
+    answered(it.update(0, request.length))
+    if any(it.record.load(at, 8) != MOST for at in places):
+        raise Unsupported("a counter that isn't 2^64 - 1")
+
+
+def counters_stay(machines):
+    for vm in machines.values():
+        for request in of_counters():
+            keep_counters(vm, request)
+    return f"{len(of_counters()) * len(machines)} updates", []

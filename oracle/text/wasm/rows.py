@@ -7,7 +7,10 @@ from terms import comparison
 from terms.processes import Row
 from terms.rows import STREAM_SECRETS, title_of
 
-from . import calls, changes, comparing, engine, every_length, plain_streams, planted, refusals
+from .. import covered
+from .. import rows as of_texts
+from ..xxh3_updates import DIGESTS, STRIPES, UPDATES
+from . import calls, changes, comparing, engine, every_length, plain_streams, planted, refusals, xxh3_streams
 from .machine import STACK, Machine
 from .module import FUNCTION, GLOBAL, MEMORY, Module
 
@@ -16,6 +19,8 @@ NAMES = "twox_hash.wasm", "twox_hash_simd.wasm"
 SECRETS, GATE_SECRETS = (136, 137, 143, 144, 192, 256), (136,)
 GATE_EACH, GATE_STREAMS = 8, (33, 300)      # each so manieth length of the one-shots, and the lengths of streams
 GATE_KINDS, GATE_CASES = [("32", "seed"), ("64", "seed"), ("3-64", "seed"), ("3-128", "both")], 24
+# Cases of XXH3's streams: how many are a sample, and in how many parts all are.
+XXH3_CASES = {UPDATES: (8, 4), DIGESTS: (12, 2), STRIPES: (2, 2)}
 GATE_CHANGES, CHANGES = 30, 1000     # of a module
 PARTS = 4                            # the changes of a module are tried in so many rows
 
@@ -52,7 +57,7 @@ def checksums():
 def choose(given, machines):
     """The rows. The machines are made once, and each row has copies of its own, since it has a process."""
     out = lengths(given.all) + of_refusals() + induction(given.all) + streams_by_induction(given.all)
-    out += of_engine(given.all) + of_changes(given.all)
+    out += xxh3_streams_by_induction(given.all) + of_engine(given.all) + of_changes(given.all)
     titles = [title for title, _ in out]
     out.insert(0, ("the exports are those of the table, each with its row", functools.partial(exports, titles=titles)))
     return [Row(title, functools.partial(ask, machines)) for title, ask in out if given.only in title]
@@ -111,10 +116,11 @@ def compared(title, kind, asked, is_stream):
 
 
 def of_refusals():
-    return [("planted modules", planted.tell),
+    return [("planted modules", planted.tell), ("planted modules, streams of XXH3", planted.tell_of_streams),
             ("secrets of 0 to 135 bytes, one-shots", refusals.one_shots_with_short_secrets),
             ("secrets of 0 to 135 bytes, streams", refusals.streams_with_short_secrets),
-            ("records that are no stream's", refusals.wrong_records)]
+            ("records that are no stream's", refusals.wrong_records),
+            ("counters that stay at 2^64 - 1", refusals.counters_stay)]
 
 
 # ---- every length
@@ -144,6 +150,36 @@ def streams_by_induction(is_all):
 def streams_shown(machines, module, width, each):
     proof = plain_streams.show(machines[module], width, each)
     return f"{proof.cases} cases; {proof.told[-1]}", []
+
+
+def xxh3_streams_by_induction(is_all):
+    out = [("the cases of streams of XXH3 are all of them", functools.partial(
+        xxh3_cases_are_all, count=of_texts.COVERED[is_all] // 3))]
+    for module in NAMES:
+        for what, (some, parts) in XXH3_CASES.items():
+            title = f"XXH3, {module}: streams, {what}, to 2^64 - 1 bytes"
+            for part in range(parts) if is_all else [None]:
+                words = ", a sample" if part is None else f", part {part + 1} of {parts}"
+                out.append((title + words, functools.partial(
+                    xxh3_streams_shown, module=module, what=what, first=part or 0, some=None if is_all else some)))
+    return out
+
+
+def xxh3_cases_are_all(machines, count):
+    """Of so many points of each sort. The cases are those of both modules."""
+    proof = xxh3_streams.ModuleUpdates(machines[NAMES[0]])
+    found = covered.left_out(proof, count)
+    bad = [f"no case has {point}" for point in found[:5]]
+    return f"{3 * count} points", bad if planted.lacks_a_case(proof) else [*bad, "a case that is left out isn't missed"]
+
+
+def xxh3_streams_shown(machines, module, what, first, some):
+    """The cases of a part, or so many that are a sample."""
+    proof = xxh3_streams.ModuleUpdates(machines[module])
+    asked = proof.questions(what)
+    each = len(asked) // some if some else XXH3_CASES[what][1]
+    count, bad = of_texts.count_shown(proof, asked[first::each])
+    return f"{count} cases", bad
 
 
 def cases_are_all(machines):

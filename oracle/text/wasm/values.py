@@ -1,14 +1,18 @@
 """What lies on the stack: numbers, polynomials and terms below 2 ^ width, addresses, and vectors as pairs of lanes of
 64 bits."""
+import contextlib
+
 from terms import halves, operations
 from terms.llvm_text import Unsupported
 from terms.machine import BINARY, compare_numbers, rotated
 from terms.nodes import Node, Undecided
-from terms.polynomials import (Poly, constant_of, divided, is_natural, is_number, is_same, minus, plus, remainder, times,
-                               wrapped)
+from terms.polynomials import (Poly, at_most, divided, is_natural, is_number, is_same, made, minus, plus, remainder,
+                               times, wrapped)
 from terms.rules import ones, zeros_below
 
-WORD = 64
+from .. import values as of_text
+
+WORD, HALF = 64, 32
 SPACE = 1 << 32          # what is handed to a call ends below
 LEAST_PLACE = 1024       # no object begins before
 
@@ -23,7 +27,22 @@ def low(x, width):
         return x & ones(width)
     if x.__class__ is Address:
         raise Undecided(f"some bits of {x}")
-    return remainder(x, 1 << width) if isinstance(x, Poly) else operations.bits(x, 0, width)
+    return low_of_number(x, width) if isinstance(x, Poly) else operations.bits(x, 0, width)
+
+
+def low_of_number(x, width):
+    """The same of a polynomial."""
+    with contextlib.suppress(Undecided):
+        return divided(x, 1 << width)[1]
+    return remainder(nearest(x, width), 1 << width)
+
+
+def nearest(x, width):
+    """A number that is the same mod 2 ^ width, with coefficients as near to 0 as there are."""
+    half = 1 << width - 1
+    if isinstance(x, int):
+        return (x + half) % (2 * half) - half
+    return made({names: nearest(c, width) for names, c in x.parts.items()})
 
 
 def high(x, width):
@@ -55,77 +74,53 @@ def condition(x, what):
 
 # ---- addresses
 
-class Address:
+class Address(of_text.Address):
     """A sum of places of objects, which aren't known, and an offset. The objects lie from LEAST_PLACE on and end below
     2 ^ 32. None lies in another, be it empty."""
-    __slots__ = "counts", "offset"
-
-    def __init__(self, counts, offset):
-        self.counts, self.offset = counts, offset     # {object: how often its place is in the sum}
+    __slots__ = ()
 
     def __getattr__(self, name):
         """What terms have an address hasn't: its bits are unknown."""
         raise Undecided(f"{self} as a term")
 
-    def __repr__(self):
-        return " + ".join([*(f"{count} {memory.name}" for memory, count in self.counts.items()), str(self.offset)])
-
-    def place(self):
-        """(object, offset)"""
-        (memory, count), *others = self.counts.items()
-        if others or count != 1:
-            raise Undecided(f"an address by {self}")
-        return memory, self.offset
-
     def near(self):
         """The same, shown to be a number of 32 bits: in its object, at its end, or not far before it."""
         memory, offset = self.place()
-        c = constant_of(offset)
-        offset = plus(offset, (c + SPACE // 2) % SPACE - SPACE // 2 - c)      # an offset is one mod 2 ^ 32
+        offset = nearest(offset, HALF)
         if not (is_natural(plus(offset, LEAST_PLACE - 1)) and is_natural(minus(memory.length, offset))):
             raise Undecided(f"an address by {offset} of {memory.name}")
-        return Address(self.counts, offset)
+        return Address(self.bases, offset)
 
 
 def address(memory, at=0):
-    return Address({memory: 1}, at)
-
-
-def counts_of(x):
-    return x.counts if x.__class__ is Address else {}
+    return Address(((memory, 1),), at)
 
 
 def sum_of_addresses(width, a, b, sign):
     """a + b or a - b, where one is an address."""
-    counts = dict(counts_of(a))
-    for memory, count in counts_of(b).items():
-        counts[memory] = counts.get(memory, 0) + sign * count
-    counts = {memory: count for memory, count in counts.items() if count}
-    a, b = (x.offset if x.__class__ is Address else x for x in (a, b))
-    if not (is_number(a) and is_number(b)):
-        raise Undecided("an address that depends on bytes")
-    offset = plus(a, times(sign, b))
-    if counts:
-        return Address(counts, offset)
+    bases, offset = of_text.sum_of(a, b, sign)
+    if bases:
+        return Address(bases, offset)
     return offset % (1 << width) if isinstance(offset, int) else wrapped(offset, width)
 
 
 def is_far(x, least):
     """Whether the difference of two objects' places, which lie apart, is `least` or more, or else negative: then it is
     no less than that as a number of 64 bits."""
-    places = {count: memory for memory, count in x.counts.items()}
-    if len(x.counts) != 2 or set(places) != {1, -1} or not isinstance(x.offset, int) or not 0 <= least <= SPACE:
+    places = {count: memory for memory, count in x.bases}
+    if len(x.bases) != 2 or set(places) != {1, -1}:
         return False
-    is_behind = is_natural(minus(plus(places[-1].length, x.offset), least))
-    is_before = is_natural(minus(minus(places[1].length, x.offset), 1))
-    return is_behind and is_before and -SPACE < x.offset < SPACE
+    is_behind = minus(plus(places[-1].length, x.offset), least)
+    is_before = minus(minus(places[1].length, x.offset), 1)
+    are_small = least, at_most(least, SPACE), minus(plus(x.offset, SPACE), 1), at_most(x.offset, SPACE - 1)
+    return all(map(is_natural, (is_behind, is_before, *are_small)))
 
 
 def compare_addresses(test, width, a, b):
     if b.__class__ is int and b == 0 and test in ("eq", "ne"):       # no object lies at 0
         a.near()
         return int(test == "ne")
-    if width == WORD and isinstance(b, int) and test in ("lt_u", "ge_u") and is_far(a, b):
+    if width == WORD and is_number(b) and test in ("lt_u", "ge_u") and is_far(a, b):
         return int(test == "ge_u")
     raise Undecided(f"{test} of {a} and {b}")
 
