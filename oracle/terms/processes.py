@@ -1,4 +1,6 @@
-"""Rows of a check, each asked in a process of its own, so many at once, and what is said of them."""
+"""Rows of a check, each asked in a process of its own, so many at once, what is said of them, and the words that choose
+them."""
+import argparse
 import concurrent.futures
 import multiprocessing
 import resource
@@ -23,6 +25,15 @@ class Row:
     def __init__(self, title, ask, is_deep=True):
         self.title, self.ask = title, ask
         self.is_deep = is_deep     # long recursions need a thread with a large stack, and time limits the main one
+
+
+def options(usage, jobs=2):
+    """A parser of a check's words: --all, --only WORD and --jobs NUMBER."""
+    out = argparse.ArgumentParser(usage=usage)
+    out.add_argument("--all", action="store_true")
+    out.add_argument("--only", default="")
+    out.add_argument("--jobs", type=int, default=jobs)
+    return out
 
 
 def run(rows, jobs):

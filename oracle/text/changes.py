@@ -175,13 +175,14 @@ def is_equal(text, known):
 
 
 def more_ways(cpu, asked, entries, is_all, section, beside):
-    """Of a change in a section: the calls among some questions, and with --all further requests and inductions."""
+    """Of a change in a section: the calls among some questions, and with --all inductions, which are the cheapest, and
+    further requests."""
     requests = [question for question in asked if question.request]
     yield from (question.over_symbols for question in asked if not question.request)
-    if is_all:
-        yield from (question.twice for question in further(requests, entries))
     if is_all and beside.updates:
         yield from (question.over_symbols for question in by_induction(cpu.program, requests, section, beside.updates))
+    if is_all:
+        yield from (question.twice for question in further(requests, entries))
 
 
 def noticed(name, make, count, is_all, is_drawn=anywhere, beside=FOR_C):
