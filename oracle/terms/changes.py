@@ -309,7 +309,7 @@ def by_induction(module):
     """Tells of each of these: whether the induction refuses it, and a line."""
     out = []
     for words, path, old, new, kind in AT_LARGE_LENGTHS:
-        program = definition.program()
+        program = definition.read()
         with_text(program, path, old, new)
         try:
             every_length.show(module, kind, program)
@@ -340,7 +340,7 @@ def by_hand(module):
     out = []
     for path, old, new, hashes, is_equal in BY_HAND:
         nodes.forget()
-        program = definition.program()
+        program = definition.read()
         with_text(program, path, old, new)
         entries, others, asked_lengths, point = program.run(), 0, 0, None
         for name in hashes:

@@ -166,10 +166,12 @@ class Named(antt.Definitions):
         return self.modules[path].definitions[own]
 
 
-@functools.cache
-def program(crates=(), entries=()):
-    """The definitions, with those of further crates, which are read once."""
+def read(crates=(), entries=()):
+    """The definitions, with those of further crates: whoever changes their text reads them himself."""
     return antt.Program(Named(table.TOP, [*table.CRATES, *crates]), [*ENTRIES, *entries])
+
+
+program = functools.cache(read)      # the same, read once
 
 
 def value(entries, hash_name, kind, seed, secret, message):

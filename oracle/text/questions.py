@@ -210,7 +210,7 @@ def reaching(cpu, asked):
 
 
 def some_secrets(cpu):
-    calls.made_secrets(cpu, [(135, 3), (136, 0), (143, 3), (200, 17), (256, 241)])
+    return calls.made_secrets(cpu, [(135, 3), (136, 0), (143, 3), (200, 17), (256, 241)])
 
 
 # What a library's texts are asked beside one-shots and cut streams: other calls, and what shows any updates of XXH3.
