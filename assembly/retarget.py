@@ -117,8 +117,8 @@ def as_text(made, comment, tag):
     """Clang's text with no comment, no word of where it comes from, and labels that no other text has."""
     # What COFF says of a whole object, and to its linker of exports, is rustc's to say.
     made = re.sub(r'\t\.def\t@feat\.00;\n(?:.*\n)*?@feat\.00 = .*\n', '', made).split('\t.section\t.drectve', 1)[0]
-    for line in made.splitlines():
-        line = line.rstrip() if '"' in line else re.split(rf'\s*{comment}', line, maxsplit=1)[0].rstrip()
+    code = re.compile(rf'(?:"(?:\\.|[^"\\])*"|(?!{comment})[^"])*')
+    for line in (code.match(line)[0].rstrip() for line in made.splitlines()):
         if line.strip() and not LEFT_OUT.match(line):
             yield LABEL.sub(rf'\1\2.{tag}', line)
 

@@ -1,17 +1,16 @@
 """The streams of XXH3 of a text below the cargo crate, by induction over the updates, as xxh3_updates.py has them for
 the library for C. A stream has no mark and no secret: each call is given that. It always has a seed, which may be 0."""
-import functools
-
 from terms.every_length import LONGEST, LONGEST_SECRET
 from terms.loops import NotShown
 from terms.memory import Piece
 from terms.nodes import symbol
-from terms.polynomials import Poly, at_most, given, is_natural, minus, parts_of, plus, times, variable
+from terms.polynomials import at_most, given, is_natural, minus, plus, times, variable
 from terms.polynomials import is_same as is_same_number
 
 from .induction import same
 from .runs import State
 from .values import address
+from .whole_blocks import with_value
 from .xxh3_updates import BLOCK, ROOM, Xxh3Updates
 
 FAR = "twox_exports.stream_3.write_far"       # takes the pieces that the buffer has no room for
@@ -21,28 +20,6 @@ FEW = 64                                      # bytes of a piece up to which a w
 def length_in(f):
     """More bytes than a buffer has room for that holds f."""
     return plus(minus(ROOM + 1, f), variable("more"))
-
-
-def with_value(x, name, value):
-    """A polynomial with another one in the place of a variable."""
-    out = 0
-    for names, c in parts_of(x).items():
-        for one in names:
-            c = times(c, value if one == name else variable(one))
-        out = plus(out, c)
-    return out
-
-
-def in_numbers(x, name, value):
-    """Polynomials with a number in the place of a variable, in whatever they stand."""
-    if isinstance(x, Poly):
-        return with_value(x, name, value)
-    if isinstance(x, functools.partial):
-        return functools.partial(x.func, *in_numbers(x.args, name, value))
-    if isinstance(x, (list, tuple)):
-        parts = [in_numbers(part, name, value) for part in x]
-        return type(x)(*parts) if hasattr(x, "_fields") else type(x)(parts)
-    return x
 
 
 class CargoUpdates(Xxh3Updates):

@@ -16,7 +16,7 @@ from terms import definition, nodes
 
 from .instructions import PARTS, SETS, TABLE, VECTORS, letters
 from .objects import TEXT, Immediate, Place, Register
-from .questions import CRASH, FOR_C, by_induction, further, near, questions, reaching
+from .questions import CRASH, FOR_C, are_long, by_induction, further, near, questions, reaching
 
 FOLDER = os.path.join(os.path.dirname(os.path.abspath(__file__)), "equal_changes")
 LIMIT = 40_000                   # instructions of a changed text's call
@@ -34,13 +34,15 @@ ALIKE = [("je", "jne"), ("jb", "jbe"), ("ja", "jae"), ("jb", "jae"), ("sete", "s
 # ---- what becomes of a change
 
 def outcome(cpu, instructions, asked, draw, entries, more):
-    """By the requests that run it and others near to them, and by `more` ways to ask where none of these notices it. What
-    notices a change has to accept the text as it is: else it says nothing of the change."""
+    """By the requests that run it and others near to them, and by `more` ways to ask where none of these notices it; first
+    by these where only long requests run it. What notices a change has to accept the text as it is: else it says nothing
+    of the change."""
     before = [cpu.program.sections[x.section][x.at] for x in instructions]
     requests = [question for question in asked if question.request]
     few = draw.sample(requests[:MOST], min(FEWEST, len(requests[:MOST])))
-    ways = itertools.chain((question.twice for question in itertools.chain(requests, near(requests, entries, draw, NEAR))),
-                           (question.over_symbols for question in few), more)
+    with_near = itertools.chain(requests, near(requests, entries, draw, NEAR))
+    by_requests = itertools.chain((question.twice for question in with_near), (question.over_symbols for question in few))
+    ways = itertools.chain(*((more, by_requests) if are_long(requests) else (by_requests, more)))
     try:
         for x in instructions:
             cpu.change(x)

@@ -34,9 +34,10 @@ FAR = [("3-64", "default", None, 31_744), ("3-64", "secret", 136, 31_800), ("3-1
        ("3-128", "seed", None, 32_700)]
 LONG_STREAMS = [(2700 + 131 * k, 600 + 64 * k) for k in range(16)]
 OF_BLOCKS = 3146, 600             # bytes of a stream, whose second piece has two whole blocks and ends with the second
-# Of changes that these don't notice: bytes up to which a request has others near to it, and further requests: each short
-# length, and each number of stripes of two blocks.
-NEAR_TO, BUFFERED, LENGTHS = 10_000, 512, [*range(300), *range(300, 2400, 61)]
+# Bytes from which on a request takes longer than an induction, and has no others near to it.
+LONG = 10_000
+# Further requests, of changes that these don't notice: each short length, and each number of stripes of two blocks.
+BUFFERED, LENGTHS = 512, [*range(300), *range(300, 2400, 61)]
 OTHER_SECRETS = [(2200, 195), (3300, 193), (5000, 140), (16_000, 184), (32_000, 195)]
 
 
@@ -165,9 +166,14 @@ def questions(entries, is_all, others, library):
     return [*(OfRequest(request, entries) for request in asked), *map(Call, others)]
 
 
+def are_long(asked):
+    """Whether some requests take longer than an induction."""
+    return all(question.request.length >= LONG for question in asked)
+
+
 def near(asked, entries, draw, count):
     """Requests of lengths beside those of some others, and streams that are cut elsewhere, of extreme numbers."""
-    requests = [question.request for question in asked if question.request.length < NEAR_TO]
+    requests = [question.request for question in asked if question.request.length < LONG]
     for one in draw.choices(requests, k=count if requests else 0):
         n = max(0, one.length + draw.randrange(-2, 3))
         cuts = None if one.cuts is None else [max(0, min(n, cut + draw.randrange(-2, 3))) for cut in one.cuts]

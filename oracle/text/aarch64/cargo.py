@@ -18,7 +18,7 @@ SYSTEMS_OWN = re.compile(r"\b[xw]18\b")      # the register of the last two
 # Clang takes the vectors in the words of macOS, too.
 ASSEMBLER = "clang", "--target=aarch64-linux-gnu", "-x", "assembler", "-c", "-o"
 # What the text for macOS says in words of its own object format, and how it is said in that of Linux.
-WORDS = [(r'^([^"\n;]*?)[ \t]*;.*$', r"\1"), (r"^Lloh\d+:\n", ""),
+WORDS = [(r"^Lloh\d+:\n", ""),
          (r"^(\t\.(globl|loh|cfi_\w+)\b|\t?\.subsections_via_symbols|\t\.section\s__TEXT,__text).*\n", ""),
          (r"\b_(twox_|mem|bzero)", r"\1"), (r"\b([\w.]+)@PAGEOFF\b", r":lo12:\1"), (r"@PAGE\b", ""),
          (r"\.weak_definition\b", ".weak"), (r"\.private_extern\b", ".hidden"),

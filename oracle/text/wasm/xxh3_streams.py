@@ -14,9 +14,9 @@ from terms.polynomials import at_most, given, minus, plus, times, variable
 from terms.polynomials import is_same as is_same_number
 from terms.sides import Request
 
-from ..cargo_streams import CargoUpdates, in_numbers
+from ..cargo_streams import CargoUpdates
 from ..induction import same
-from ..riscv64.streams import BLOCKS, parted
+from ..whole_blocks import BLOCKS, in_numbers, parted
 from ..xxh3_updates import STRIPES, Start
 from . import calls, every_length
 from .stripes import UPDATE, Loops, Takers
