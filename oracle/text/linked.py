@@ -11,7 +11,7 @@ from terms.polynomials import is_same
 
 from .memory import ENTRY, Constants, Stack, Words, copy, fill
 from .objects import OUTER
-from .values import WORD, Address, address, joined, low
+from .values import WORD, Address, address, joined, low, place_of
 
 MOST_STEPS = 1 << 24
 RETURN = "return"                             # where the first function returns to
@@ -153,7 +153,7 @@ class Processor:
         memory, at = self.registers["sp"].place()
         memory.forget_below(at)
         if not is_same(n, 0):
-            room, first = to.place()
+            room, first = place_of(to)
             if not isinstance(room, Words) or room is memory and not (isinstance(first, int) and first >= at):
                 raise Unsupported(f"a copy to {room.name}")
         fill(to, source, n) if name in ("memset", BZERO) else copy(to, source, n, name == "memmove")
@@ -209,9 +209,7 @@ class Processor:
 
     def inside(self, found):
         """(object, offset) of an address, which doesn't lie below the stack's end."""
-        if not isinstance(found, Address):
-            raise Undecided(f"{found} as an address")
-        memory, at = found.place()
+        memory, at = place_of(found)
         if memory is self.stack and not (isinstance(at, int) and at >= self.registers["sp"].place()[1]):
             raise Unsupported("a place below the stack")
         return memory, at

@@ -12,6 +12,8 @@ from terms.operations import bits
 from terms.polynomials import WORD, Poly, divided, is_natural, is_same, lifted, minus, plus
 from terms.rules import ones
 
+from .values import place_of
+
 STACK = 1 << 14                   # bytes of stack that a call may use
 ENTRY = STACK - 64                # where the caller's frame begins, a multiple of 16
 RED = 128                         # bytes below the stack pointer that are a function's own
@@ -125,7 +127,7 @@ def copy(to, source, n, may_overlap):
     """memcpy, or memmove where they may overlap, from one address to another."""
     if is_same(n, 0):
         return
-    (memory, at), (source, first) = to.place(), source.place()
+    (memory, at), (source, first) = place_of(to), place_of(source)
     if memory.keeps_runs(at, n):
         memory.take(at, n, source, first)
         return
@@ -140,7 +142,7 @@ def copy(to, source, n, may_overlap):
 
 def fill(to, byte, n):
     """memset, of a number of words."""
-    memory, at = to.place()
+    memory, at = place_of(to)
     if not isinstance(byte, int) or not isinstance(n, int) or n % 8:
         raise Unsupported(f"{n} bytes of {byte}")
     for k in range(0, n, 8):

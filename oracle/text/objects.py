@@ -5,6 +5,7 @@ byte of a section belongs to one instruction. What a linker could make something
 one name, sections that are written to or that run before a program, relocations in constants, another place of a
 mergeable constant than its first byte, and a name that another library may take the place of."""
 import collections
+import functools
 import os
 import re
 import struct
@@ -218,5 +219,6 @@ def operand(text):
     return Place(int(displacement or "0", 16), base and base[1:], index and index[1:], int(scale or 1))
 
 
+@functools.cache
 def operands(text):
     return tuple(operand(part) for part in re.split(r",(?![^(]*\))", text)) if text else ()

@@ -20,7 +20,8 @@ from .processor import KEPT, LANES, VECTORS_COUNT, Processor
 from .values import address
 
 ROUNDS = 40                       # inputs of an instruction
-EDGES = 0, 1, 127, 128, 255
+EDGES = bytes((0, 1, 127, 128, 255)[byte % 5] for byte in range(256))      # of a random byte, one of these
+MOSTLY = bytes(255 if byte < 180 else 0 for byte in range(256))
 FEATURES = {V3: {"avx2", "bmi2", "movbe"}, V4: {"avx512f", "avx512bw", "avx512cd", "avx512dq", "avx512vl"}}
 BEHIND = "jmp", "call", "ret", "push", "pop", "nop", "ud2", "vzeroupper", "j"      # those without operands, and stacks
 LOADED = [name for name in WIDE if name != "rsp"]
@@ -61,8 +62,13 @@ def asked(programs, each):
     for mnemonic, form in TABLE:
         is_here = TABLE[mnemonic, form][0] in sets
         if is_here and (mnemonic, form) not in forms and not mnemonic.startswith(BEHIND):
-            out[written(mnemonic, sample(mnemonic, form))] = mnemonic, form
+            out[sampled(mnemonic, form)] = mnemonic, form
     return out
+
+
+def sampled(mnemonic, form):
+    """An instruction of a form."""
+    return written(mnemonic, sample(mnemonic, form))
 
 
 def form_of(x):
@@ -157,7 +163,7 @@ def assembled(snippets, room):
 def inputs(mnemonic, lines, draw):
     data = bytearray(draw.randbytes(SIZE))
     if draw.random() < 0.4:
-        data = bytearray(draw.choice(EDGES) if draw.random() < 0.7 else byte for byte in data)
+        data = with_edges(data, draw)
     data[COMPARED:COMPARED + 4] = draw.randrange(3).to_bytes(4, "little")
     if draw.random() < 0.2:
         rax, rbx = (8 * LOADED.index(name) for name in ("rax", "rbx"))
@@ -167,6 +173,13 @@ def inputs(mnemonic, lines, draw):
         data[at:at + 8] = bytes(8)
         data[8 * LOADED.index(name)] |= 1
     return data
+
+
+def with_edges(data, draw):
+    """The bytes, of which most are edges instead."""
+    old, edges, mask = (int.from_bytes(x, "little") for x in (
+        data, draw.randbytes(SIZE).translate(EDGES), draw.randbytes(SIZE).translate(MOSTLY)))
+    return bytearray((old & ~mask | edges & mask).to_bytes(SIZE, "little"))
 
 
 def word(data, at):
@@ -210,9 +223,8 @@ def run_to(cpu, place, end):
         place = operation(cpu, instruction) or (place[0], instruction.end)
 
 
-def compare(programs, room, each):
-    """Of each instruction, or of each form: (how many there are, what differs)."""
-    texts = asked(programs, each)
+def compare(texts, room):
+    """Of instructions, each with its form, and of SNIPPETS: (how many there are, what differs)."""
     snippets = [*([text] for text in texts), *SNIPPETS]
     library, program = assembled(snippets, room)
     cpu, draw, wrong = Processor(program, processor_here()), random.Random(1), []

@@ -225,8 +225,9 @@ def has_a_wrong_join(_):
 
 def has_a_wrong_table(room):
     """A form of the table that does what another does."""
-    with unittest.mock.patch.dict(TABLE, {("shr", "iq"): TABLE["shl", "iq"]}):
-        return len(on_processor.compare([], room, each=False)[1]) == 1
+    form = "shr", "iq"
+    with unittest.mock.patch.dict(TABLE, {form: TABLE["shl", "iq"]}):
+        return len(on_processor.compare({on_processor.sampled(*form): form}, room)[1]) == 1
 
 
 def raises(kind, call):

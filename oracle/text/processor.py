@@ -8,7 +8,7 @@ in the table are errors."""
 import functools
 
 from terms.llvm_text import Unsupported
-from terms.nodes import Undecided, symbol
+from terms.nodes import symbol
 from terms.polynomials import is_natural, is_number, is_same, minus
 from terms.rules import ones
 
@@ -17,7 +17,7 @@ from .instructions import PARTS, VECTORS, WIDE, known
 from .library import ForC
 from .memory import ENTRY, RED, Constants, ReturnTo, Stack, Words, copy, fill
 from .objects import OUTER, Immediate, Register
-from .values import WORD, Address, address, arithmetic, bits, joined, low
+from .values import WORD, Address, address, arithmetic, bits, joined, low, place_of
 
 KEPT = "rbx", "rbp", "r12", "r13", "r14", "r15"          # of the caller, which gets them back
 ARGUMENTS = "rdi", "rsi", "rdx", "rcx", "r8", "r9"
@@ -199,10 +199,7 @@ class Processor:
 
     def place(self, operand, instruction, alignment=1):
         """The object and the offset that an operand says."""
-        found = self.effective(operand, instruction)
-        if not isinstance(found, Address):
-            raise Undecided(f"{found} as an address")
-        memory, at = found.place()
+        memory, at = place_of(self.effective(operand, instruction))
         if memory is self.stack and not (isinstance(at, int) and at >= self.registers["rsp"].place()[1] - self.RED):
             raise Unsupported("a place below the stack")
         is_aligned = alignment == 1 or not memory.alignment % alignment and isinstance(at, int) and not at % alignment
@@ -295,11 +292,8 @@ def call_of_outer(name, cpu, _):
         if at + 8 + cpu.SHADOW > ENTRY:
             raise Unsupported("a call without the room that it lends")
         memory.clear(at + 8, cpu.SHADOW)
-    places = [to] if name == "memset" else [to, source]
-    if not all(isinstance(place, Address) for place in places) and not is_same(n, 0):
-        raise Undecided("a copy from or to no place")
     if not is_same(n, 0):
-        room, first = to.place()
+        room, first = place_of(to)
         cpu.expect_writable(room)
         if room is memory and not is_natural(minus(first, at + 8)):
             raise Unsupported("a copy to what lies below the stack")

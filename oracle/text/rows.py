@@ -379,4 +379,4 @@ def change_row(where, counts, is_all, *asked, **more):
 def beside_processor(programs, is_all):
     on_processor.expect_processor()
     with tempfile.TemporaryDirectory(prefix="machine-text-") as room:
-        return on_processor.compare(programs, room, each=is_all)
+        return on_processor.compare(on_processor.asked(programs, is_all), room)

@@ -64,6 +64,13 @@ def address(memory, at=0):
     return Address(((memory, 1),), at)
 
 
+def place_of(x):
+    """(object, offset) of an address, which a number is not."""
+    if not isinstance(x, Address):
+        raise Undecided(f"{x} as an address")
+    return x.place()
+
+
 # ---- sums and differences of addresses
 
 def combined(a, b, sign):
