@@ -376,6 +376,14 @@ def change_row(where, counts, is_all, *asked, **more):
                    functools.partial(changes.noticed, *asked, count, is_all, **more))
 
 
+def parts_of_changes(title, asked, program, is_all):
+    """Few of the changes that a module asks, or with --all a row of each part of them."""
+    for part in range(changes.PARTS) if is_all else [None]:
+        words = f", part {part + 1} of {changes.PARTS}" if is_all else ""
+        yield counted(title + words, asked.MANY // changes.PARTS if is_all else asked.FEW,
+                      functools.partial(asked.noticed, program, part))
+
+
 def beside_processor(programs, is_all):
     on_processor.expect_processor()
     with tempfile.TemporaryDirectory(prefix="machine-text-") as room:

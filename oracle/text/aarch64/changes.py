@@ -79,10 +79,12 @@ def plain(operand):
     return tuple(operand) if isinstance(operand, tuple) else operand
 
 
-def noticed(program, is_all):
-    """(changes that were tried, those that aren't noticed and have no reason)."""
+def noticed(program, part):
+    """(changes that were tried, those that aren't noticed and have no reason): of all a part, or few of them."""
+    is_all = part is not None
     with tempfile.TemporaryDirectory(prefix="arm-text-") as room:
         changed = Changed(program, os.path.join(room, "text.o"))
         some = changes.of_draws(functools.partial(drawn, changed), MANY if is_all else FEW)
+        some = changes.part_of(some, part) if is_all else some
         texts, bad = changes.noticed_of(Processor(program), some, changes.reasons(EQUAL), is_all)
     return len(texts), bad

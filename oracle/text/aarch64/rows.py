@@ -45,8 +45,7 @@ def choose(given, found):
     made = {"aarch64": functools.partial(Processor, found)}
     out += every_length_rows(made, given.all)
     out.append(Row("the table of instructions beside qemu", on_qemu.tell))
-    out.append(shared.counted("changes of one bit", changes.MANY if given.all else changes.FEW,
-                              functools.partial(changes.noticed, found, given.all)))
+    out += shared.parts_of_changes("changes of one bit", changes, found, given.all)
     out += cargo_text_rows(given.all)
     return [row for row in out if given.only in row.title]
 

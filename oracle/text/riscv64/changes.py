@@ -57,8 +57,10 @@ def written(x):
     return f"{x.mnemonic} {', '.join(str(y) for y in parts if y is not None)}".strip()
 
 
-def noticed(program, is_all):
-    """(changes that were tried, those that aren't noticed and have no reason)."""
+def noticed(program, part):
+    """(changes that were tried, those that aren't noticed and have no reason): of all a part, or few of them."""
+    is_all = part is not None
     some = changes.of_draws(functools.partial(drawn, program), MANY if is_all else FEW)
+    some = changes.part_of(some, part) if is_all else some
     texts, bad = changes.noticed_of(Processor(program), some, changes.reasons(EQUAL), is_all, Beside(cargo_calls.ALL, Updates))
     return len(texts), bad

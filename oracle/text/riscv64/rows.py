@@ -18,8 +18,7 @@ TEXT = os.path.join(FOLDER, "riscv64.s")
 def choose(given, found):
     out = cargo_whole.choose("riscv64", functools.partial(Processor, found), given.all, riscv_streams.Updates)
     out.append(Row("the table of instructions beside qemu", on_qemu.tell))
-    out.append(shared.counted("changes of one instruction", changes.MANY if given.all else changes.FEW,
-                              functools.partial(changes.noticed, found, given.all)))
+    out += shared.parts_of_changes("changes of one instruction", changes, found, given.all)
     return [row for row in out if given.only in row.title]
 
 
