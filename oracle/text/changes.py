@@ -22,7 +22,7 @@ FOLDER = os.path.join(os.path.dirname(os.path.abspath(__file__)), "equal_changes
 LIMIT = 40_000                   # instructions of a changed text's call
 MOST, NEAR, FEWEST = 200, 40, 10  # the shortest requests, of which so few are asked over symbols; requests near to them
 DRAWS = 10                        # of changes with --all, and one without it
-PARTS = 4                         # the changes of the texts for ARM and RISC-V are tried in so many rows, with --all
+ROWS = 4                          # the changes of the texts for ARM and RISC-V are tried in so many rows, with --all
 IDLE = "nop", "prefetcht0", "vzeroupper", "ud2"
 UNNOTICED = "unnoticed"
 ALIKE = [("je", "jne"), ("jb", "jbe"), ("ja", "jae"), ("jb", "jae"), ("sete", "setne"), ("cmovb", "cmovae"),
@@ -205,7 +205,7 @@ def of_draws(one, count, draws=1):
 
 def part_of(changes, part):
     """Each so manieth of some changes, from one of the first on."""
-    return lambda places: itertools.islice(changes(places), part, None, PARTS)
+    return lambda places: itertools.islice(changes(places), part, None, ROWS)
 
 
 def noticed_of(cpu, changes, known, is_all, beside=FOR_C):

@@ -203,6 +203,7 @@ class Processor:
             memory, at = value.place() if isinstance(value, Address) else (None, 1)
             if memory is not self.stack or not isinstance(at, int) or at % 16:
                 raise Unsupported("another stack, or one at no multiple of 16")
+            memory.forget_below(at)     # which a signal may write to
         self.registers[register.name] = value
 
     # ---- memory

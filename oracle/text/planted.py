@@ -166,6 +166,9 @@ TEXTS = [
     Wrong("a store above the stack pointer of the caller", begun(VERSION, "movq $0x0,0x8(%rsp)"), calls.version,
           "the caller's frame"),
     Wrong("a register that the caller wants back", begun(VERSION, "xor %ebx,%ebx"), calls.version, "rbx isn't"),
+    Wrong("a register that is kept where a signal may write to", begun(
+        VERSION, "sub $0x108,%rsp", "mov %rbx,(%rsp)", "add $0x108,%rsp", "xor %ebx,%ebx", "sub $0x108,%rsp",
+        "mov (%rsp),%rbx", "add $0x108,%rsp"), calls.version, "byte .* of stack"),
     Wrong("a branch on a byte of the message", begun("XXH32", "cmpq $0x0,(%rdi)", "jne 1f", "1:"),
           request("32", "seed", 40), "== 0"),
     Wrong("a read behind the message", begun("XXH32", "mov 0x1(%rdi),%rax"), request("32", "seed", 8), "which has 8"),

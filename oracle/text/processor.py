@@ -176,8 +176,17 @@ class Processor:
     def pop(self):
         memory, at = self.registers["rsp"].place()
         x = memory.load(at, 8)
-        self.registers["rsp"] = arithmetic("add", WORD, self.registers["rsp"], 8)
+        self.move_stack(arithmetic("add", WORD, self.registers["rsp"], 8))
         return x
+
+    def move_stack(self, to):
+        """Sets the stack pointer. What lies below a function's own bytes may be anything from then on, as a signal leaves
+        it."""
+        memory, at = place_of(to)
+        if memory is not self.stack or not isinstance(at, int):
+            raise Unsupported("another stack")
+        memory.forget_below(at - self.RED)
+        self.registers["rsp"] = to
 
     # ---- places in memory
 
@@ -260,6 +269,8 @@ class Processor:
             above = self.fresh("bits of an address", WORD - width) if isinstance(old, Address) else \
                 bits(old, width, WORD - width)
             x = joined((x, width), (above, WORD - width))
+        if name == "rsp":
+            self.move_stack(x)
         self.registers[name] = x
 
     def lanes(self, operand, count=1, first=0):

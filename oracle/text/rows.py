@@ -378,9 +378,9 @@ def change_row(where, counts, is_all, *asked, **more):
 
 def parts_of_changes(title, asked, program, is_all):
     """Few of the changes that a module asks, or with --all a row of each part of them."""
-    for part in range(changes.PARTS) if is_all else [None]:
-        words = f", part {part + 1} of {changes.PARTS}" if is_all else ""
-        yield counted(title + words, asked.MANY // changes.PARTS if is_all else asked.FEW,
+    for part in range(changes.ROWS) if is_all else [None]:
+        words = f", part {part + 1} of {changes.ROWS}" if is_all else ""
+        yield counted(title + words, asked.MANY // changes.ROWS if is_all else asked.FEW,
                       functools.partial(asked.noticed, program, part))
 
 
