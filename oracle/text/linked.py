@@ -64,6 +64,7 @@ class Processor:
     TOGETHER = 1                                  # accumulators of 32 bits that one-shots have in a cell
     PACE = 1                                      # instructions for one of a processor that loads and adds words anywhere
     carry = None                                  # what `flags` has
+    has_moved = False                             # whether an instruction moved the stack pointer
 
     def __init__(self, program):
         self.program, self.changed, self.not_zero, self.used, self.made = program, {}, [], set(), 0
@@ -143,6 +144,8 @@ class Processor:
             raise Unsupported(f"{section} {at:#x}: the table has no {x.mnemonic} {x.form}")
         self.used.add(place)
         to = function(self, x)
+        if self.has_moved:
+            self.give_back()
         return (section, x.end) if to is None else None if to == RETURN else to
 
     def call_outer(self, name):
@@ -161,6 +164,12 @@ class Processor:
         if name != BZERO:
             self.registers[self.ARGUMENTS[0]] = to
         return place
+
+    def give_back(self):
+        """What lies below the stack pointer, once an instruction has moved it, may be anything: a signal may write there."""
+        memory, at = self.registers["sp"].place()
+        memory.forget_below(at)
+        self.has_moved = False
 
     def stack_pointer(self):
         return self.registers["sp"].place()[1]
@@ -203,7 +212,7 @@ class Processor:
             memory, at = value.place() if isinstance(value, Address) else (None, 1)
             if memory is not self.stack or not isinstance(at, int) or at % 16:
                 raise Unsupported("another stack, or one at no multiple of 16")
-            memory.forget_below(at)     # which a signal may write to
+            self.has_moved = True
         self.registers[register.name] = value
 
     # ---- memory
