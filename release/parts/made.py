@@ -12,7 +12,7 @@ from report import tail, want
 from tools import TOP, must
 
 # What makes the texts, and for which targets.
-TEXTS = {'c/build': ('x86-64', 'aarch64'), 'rust/build-library': ('x86-64', 'aarch64', 'riscv64', 'windows', 'arm')}
+TEXTS = {'c/build': ('x86-64', 'aarch64'), 'rust/build-library': ('x86-64', 'aarch64')}
 PLAIN_PATH = 'PATH=/usr/sbin:/usr/bin:/sbin:/bin'
 MAKE = os.path.join(TOP, 'release', 'make')
 
@@ -49,7 +49,7 @@ def proved_clone(room):
 
 
 def texts_are_made_anew(room):
-    """Every text, and the bitcode, made anew of what is proved, for the targets too that the gate has no time for."""
+    """Every text, made anew of what is proved, for the targets too that the gate has no time for."""
     clone = proved_clone(room)
     for build, targets in TEXTS.items():
         for target in targets:

@@ -116,7 +116,7 @@ def matched(tokens, places, at, pattern):
         if part.startswith('$'):
             if token.kind != 'word' or found.setdefault(part, token.text) != token.text:
                 return None
-        elif token.text != part or token.kind == 'string':
+        elif token.text != part:
             return None
     return found
 

@@ -22,7 +22,7 @@ use crate::erased::twox_words::words::IntoU128;
 /// hasher.write(b"some ");
 /// hasher.write(b"bytes");
 /// assert_eq!(hasher.finish_128(), Hasher::oneshot_with_seed(7, b"some bytes"));
-/// ```rattle
+/// ```
 pub type Hasher<A = Global> = BoxedStream<Finalize128, A>;
 
 /// A stream over a secret of the caller's, which takes no memory.

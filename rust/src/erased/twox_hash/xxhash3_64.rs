@@ -22,7 +22,7 @@ use crate::erased::twox_core::xxhash3::{CUTOFF, Secret, default_secret};
 /// hasher.write(b"some ");
 /// hasher.write(b"bytes");
 /// assert_eq!(hasher.finish(), Hasher::oneshot_with_seed(7, b"some bytes"));
-/// ```rattle
+/// ```
 pub type Hasher<A = Global> = BoxedStream<Finalize64, A>;
 
 /// A stream over a secret of the caller's, which takes no memory.
