@@ -17,6 +17,7 @@ from .instructions import OLDER, PARTS, SETS, TABLE, V3, V4, WIDE, letters, need
 from .memory import ENTRY, Stack, Words
 from .objects import Immediate, Place, Program, Register
 from .processor import KEPT, LANES, VECTORS_COUNT, Processor
+from .scalar import CONDITIONS
 from .values import address
 
 ROUNDS = 40                       # inputs of an instruction
@@ -37,7 +38,6 @@ SAMPLE = {"b": ["al", "cl", "dl"], "h": ["ah"], "w": ["ax", "cx", "dx"], "l": ["
           "q": ["rax", "rcx", "rbx"], "x": ["xmm1", "xmm2", "xmm3"], "y": ["ymm1", "ymm2", "ymm3"],
           "z": ["zmm1", "zmm2", "zmm31"]}
 NUMBERS = {"vpternlogq": 0x96}    # the one that the table has
-CONDITIONS = "e", "ne", "b", "ae", "a", "be"
 # Branches, calls and the stack.
 SNIPPETS = [*([f"cmp %{other},%rax", f"j{name} 1f", "not %rax", "1: not %rcx"] for name in CONDITIONS
               for other in ("rax", "rbx")),

@@ -5,36 +5,43 @@ import os
 import subprocess
 
 from report import tail, want
-from room import CRATES, SOURCE_PACKAGES, SourceRoom, errors_of, install_packages, must
+from room import SOURCE_PACKAGES, SourceRoom, errors_of, install_packages, must
 
 SUMS = os.path.join(os.path.dirname(os.path.abspath(__file__)), 'sums')
-# Target -> Debian's compiler, its package and the emulator. Node runs wasm32.
+# Target -> the name of Debian's compiler and of its C library for that processor, and the emulator. Node runs wasm32.
 TARGETS = {
-    'x86_64-unknown-linux-gnu': ('gcc', 'gcc', ''),
-    'aarch64-unknown-linux-gnu': ('aarch64-linux-gnu-gcc', 'gcc-aarch64-linux-gnu', 'qemu-aarch64'),
-    'i686-unknown-linux-gnu': ('i686-linux-gnu-gcc', 'gcc-i686-linux-gnu', 'qemu-i386'),
-    'armv7-unknown-linux-gnueabihf': ('arm-linux-gnueabihf-gcc', 'gcc-arm-linux-gnueabihf', 'qemu-arm'),
-    'powerpc-unknown-linux-gnu': ('powerpc-linux-gnu-gcc', 'gcc-powerpc-linux-gnu', 'qemu-ppc'),
-    's390x-unknown-linux-gnu': ('s390x-linux-gnu-gcc', 'gcc-s390x-linux-gnu', 'qemu-s390x'),
-    'riscv64gc-unknown-linux-gnu': ('riscv64-linux-gnu-gcc', 'gcc-riscv64-linux-gnu', 'qemu-riscv64'),
-    'wasm32-unknown-unknown': ('', 'nodejs', 'node'),
+    'x86_64-unknown-linux-gnu': ('', '', ''),
+    'aarch64-unknown-linux-gnu': ('aarch64-linux-gnu', 'arm64', 'qemu-aarch64'),
+    'i686-unknown-linux-gnu': ('i686-linux-gnu', 'i386', 'qemu-i386'),
+    'armv7-unknown-linux-gnueabihf': ('arm-linux-gnueabihf', 'armhf', 'qemu-arm'),
+    'powerpc-unknown-linux-gnu': ('powerpc-linux-gnu', 'powerpc', 'qemu-ppc'),
+    's390x-unknown-linux-gnu': ('s390x-linux-gnu', 's390x', 'qemu-s390x'),
+    'riscv64gc-unknown-linux-gnu': ('riscv64-linux-gnu', 'riscv64', 'qemu-riscv64'),
+    'wasm32-unknown-unknown': None,
 }
+
+
+def packages():
+    found = {**SOURCE_PACKAGES, 'gcc': 'gcc', 'node': 'nodejs', 'qemu-arm': 'qemu-user'}
+    for name, library, _ in filter(None, TARGETS.values()):
+        if name:
+            found.update({f'{name}-gcc': f'gcc-{name}', f'/usr/{name}/include/stdio.h': f'libc6-dev-{library}-cross'})
+    return found
 
 
 def sum_of(room, target, flags=''):
     """What the program for a target prints."""
-    compiler, _, emulator = TARGETS[target]
     environment = {**room.environment(), 'RUSTFLAGS': flags, 'RUSTC_BOOTSTRAP': '1', 'RUSTC': '/usr/bin/rustc'}
     folder = os.path.join(room.rust, 'checks', 'sums')
-    kind = 'staticlib' if compiler else 'cdylib'
+    kind = 'staticlib' if TARGETS[target] else 'cdylib'
     words = [room.cargo_program, 'rustc', '--release', '-Z', 'build-std=core', '--target', target, '--crate-type', kind]
     done = subprocess.run(words, cwd=folder, env=environment, stdout=subprocess.PIPE, stderr=subprocess.STDOUT, text=True)
     want(done.returncode == 0, tail(errors_of(done.stdout)))
     made = os.path.join(room.path, 'target', target, 'release')
-    if not compiler:
-        return must([emulator, os.path.join(SUMS, 'main.mjs'), os.path.join(made, 'sums.wasm')]).strip()
-    program = os.path.join(made, 'sum')
-    must([compiler, '-O1', '-static', os.path.join(SUMS, 'main.c'), os.path.join(made, 'libsums.a'), '-o', program])
+    if not TARGETS[target]:
+        return must(['node', os.path.join(SUMS, 'main.mjs'), os.path.join(made, 'sums.wasm')]).strip()
+    (name, _, emulator), program = TARGETS[target], os.path.join(made, 'sum')
+    must([f'{name}-gcc' if name else 'gcc', '-O1', '-static', os.path.join(SUMS, 'main.c'), os.path.join(made, 'libsums.a'), '-o', program])
     return must([*([emulator] if emulator else []), program]).strip()
 
 
@@ -45,8 +52,7 @@ def is_the_sum(room, target, wanted, flags=''):
 
 
 def check_sums_of_targets(report, path):
-    install_packages({**SOURCE_PACKAGES, **{compiler or emulator: package for compiler, package, emulator in TARGETS.values()},
-                      'qemu-arm': 'qemu-user', f'{CRATES}/xxhash-rust-0.8.5': 'librust-xxhash-rust-dev'})
+    install_packages(packages())
     must(['gcc', '-O2', os.path.join(SUMS, 'reference.c'), '-o', os.path.join(path, 'reference')])
     wanted, room = must([os.path.join(path, 'reference')]).strip(), SourceRoom(path, 'sums')
     for target in TARGETS:
