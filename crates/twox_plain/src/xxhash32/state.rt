@@ -139,13 +139,12 @@ impl StateInMemory {
         self.count(input.len());
         let mut rest = input;
         if used > 0 {
-            let room = BYTES_IN_STRIPE - used;
-            if input.len() < room {
-                copy_short(&mut self.buffer[used..used + input.len()], input);
+            if used + input.len() < BYTES_IN_STRIPE {
                 self.set_usage(used + input.len());
+                copy_short(&mut self.buffer[used..used + input.len()], input);
                 return;
             }
-            let (head, after) = input.split_at(room);
+            let (head, after) = input.split_at(BYTES_IN_STRIPE - used);
             copy_short(&mut self.buffer[used..], head);
             let mut core = self.core();
             core.write(&self.buffer);
