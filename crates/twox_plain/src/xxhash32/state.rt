@@ -137,6 +137,7 @@ impl StateInMemory {
     {
         let used = self.usage();
         self.count(input.len());
+        let mut core = self.core();
         let mut rest = input;
         if used > 0 {
             if used + input.len() < BYTES_IN_STRIPE {
@@ -146,11 +147,13 @@ impl StateInMemory {
             }
             let (head, after) = input.split_at(BYTES_IN_STRIPE - used);
             copy_short(&mut self.buffer[used..], head);
-            let mut core = self.core();
             core.write(&self.buffer);
-            self.set_core(core);
             rest = after;
+        } else if input.len() < BYTES_IN_STRIPE {
+            self.keep(input);
+            return;
         }
+        self.set_core(core);
         self.add_rest::<BLOCKS>(rest);
     }
 
@@ -172,12 +175,9 @@ impl StateInMemory {
     fn add_stripes(&mut self, input: &[u8])
         ensures { AfterRest self.old input.now self.new }
     {
-        let mut rest = input;
-        if input.len() >= BYTES_IN_STRIPE {
-            let mut core = self.core();
-            rest = core.write_many::<false>(input);
-            self.set_core(core);
-        }
+        let mut core = self.core();
+        let rest = core.write_many::<false>(input);
+        self.set_core(core);
         self.keep(rest);
     }
 
@@ -193,7 +193,7 @@ impl StateInMemory {
         self.keep(rest);
     }
 
-    // Keeps the bytes that fill no stripe.
+    // Puts the bytes that fill no stripe at the front of the buffer.
     #[inline(always)]
     fn keep(&mut self, rest: &[u8])
         requires { length rest.now ≤ 16 }

@@ -163,8 +163,8 @@ fn after_tail(value: u64, rest: &[u8]) -> u64
         value = take_four(value, u32_at(word, 0));
         left = after;
     }
-    // Its length, said anew, tells the compiler that few bytes are left, for which it unrolls no loop.
-    'bytes: for byte in &left[..left.len() % 4] {
+    // Its length, said by the whole's, tells the compiler that few bytes are left.
+    'bytes: for byte in &left[..rest.len() % 4] {
         value = take_byte(value, *byte);
     }
     value

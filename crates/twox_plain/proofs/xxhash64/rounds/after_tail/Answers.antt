@@ -50,13 +50,13 @@ bytes-init c =
           let word : w.u32_at.result ≡ word_at w32 m (0 + n / 8 * 8) =
           w.u32_at.ensures ∙ word_at-part w32 4 m four.word.now (n / 8 * 8) 0 (four.ensures.cases.0 ∙ ap (take 4) cut) (omega arith) ∙ ap (word_at w32 m) (omega arith) in
           record {
-            left = rw w.left-is (take_all (length four.after.now % 4) four.after.now (omega (arith, four.ensures.cases.2)) ∙ four.ensures.cases.1 ∙ ap (drop 4) cut ∙ drop-drop 4 (n / 8 * 8) m ∙ ap (λ (k : ℕ). drop k m) (omega arith));
+            left = rw w.left-is (take_all (n % 4) four.after.now (omega (arith, four.ensures.cases.2)) ∙ four.ensures.cases.1 ∙ ap (drop 4) cut ∙ drop-drop 4 (n / 8 * 8) m ∙ ap (λ (k : ℕ). drop k m) (omega arith));
             value = w.value-is ∙ w.take_four-value.ensures ∙ ap₂ take_four eights word ∙ sym (after_words_long m 0 c.args.value n long);
           }
       | in_default-split_first_chunk w ↦
           let short : n % 8 < 4 = omega (arith, w.in_default-split_first_chunk.ensures.cases) in
           record {
-            left = rw w.left-is (take_all (length c.eights.left.now % 4) c.eights.left.now (omega arith) ∙ cut ∙ ap (λ (k : ℕ). drop k m) (omega arith));
+            left = rw w.left-is (take_all (n % 4) c.eights.left.now (omega arith) ∙ cut ∙ ap (λ (k : ℕ). drop k m) (omega arith));
             value = w.value-is ∙ eights ∙ sym (after_words_short m 0 c.args.value n short);
           }
     ]

@@ -1,0 +1,61 @@
+use Rattle.std.proofs.Common.{◌≡◌, ◌+◌, ◌-◌, ◌*◌, ◌/◌, ◌<◌, length, length-drop, take, drop, refl, ap, arith}
+use Rattle.std.proofs.lemmas.List.{length-take-le}
+use Rattle.twox_plain.specs.Core64.{core_after_stripes}
+use Rattle.twox_plain.specs.Units.{after_units}
+use Rattle.twox_plain.specs.Record64.{parts, after_write}
+use Rattle.twox_plain.specs.StateInMemory64.{record_of}
+use Rattle.twox_plain.proofs.BlockStateFacts.{after_piece_short, after_piece_full, after_piece_empty}
+use Rattle.twox_plain.proofs.Usage64.{usage_marked}
+use Rattle.twox_plain.proofs.xxhash64.StateInMemory.take_piece.Goals as goal
+use Rattle.twox_plain.proofs.xxhash64.StateInMemory.take_piece.Goals.{then-used-gt0+else-used-input-lt-BYTES_IN_STRIPE, else-used-gt0+else-input-lt-BYTES_IN_STRIPE}
+
+pub returns-then-used-input-lt-BYTES_IN_STRIPE : goal.returns-then-used-input-lt-BYTES_IN_STRIPE
+unfolding after_write
+returns-then-used-input-lt-BYTES_IN_STRIPE c =
+    let old = record_of c.args.self.now in
+    let d = c.args.input.now in
+    let used = c.usage-used.result in
+    let width : used + length d - used ≡ length d = omega arith in
+    let kept = usage_marked (used + length d) (omega arith) in
+    record {
+      exact = rw (after_piece_short 32 core_after_stripes (parts old).state d (omega (arith, c.usage-used.ensures)) (omega (arith, c.usage-used.ensures)), c.set_usage.ensures, c.copy_short.ensures, c.saturating_add-self.ensures, c.into_u64.ensures, width, kept, c.usage-used.ensures) refl;
+      seed = rw (c.set_usage.ensures) refl;
+      in_range = rw (c.set_usage.ensures, kept) (omega arith);
+    }
+
+pub returns-then-input-lt-BYTES_IN_STRIPE : goal.returns-then-input-lt-BYTES_IN_STRIPE
+unfolding after_write core_after_stripes after_units
+returns-then-input-lt-BYTES_IN_STRIPE c =
+    let old = record_of c.args.self.now in
+    let d = c.args.input.now in
+    let none : length d / 32 ≡ 0 = omega arith in
+    let kept = usage_marked (length d) (omega arith) in
+    record {
+      exact = rw (after_piece_empty 32 core_after_stripes (parts old).state d (omega (arith, c.usage-used.ensures)), none, c.keep.ensures, c.saturating_add-self.ensures, c.into_u64.ensures, kept) refl;
+      seed = rw (c.keep.ensures) refl;
+      in_range = rw (c.keep.ensures, kept) (omega arith);
+    }
+
+pub returns : goal.returns
+unfolding after_write
+returns c =
+    let old = record_of c.args.self.now in
+    let d = c.args.input.now in
+    let rest = c.if-used-gt0.rest.now in
+    let cut = c.write_many-kept.ensures.rest in
+    let less : length c.write_many-kept.result.now < 32 = omega (arith, ap length cut, length-drop (length rest / 32 * 32) rest) in
+    let kept = usage_marked (length c.write_many-kept.result.now) (omega arith) in
+    elim c.if-used-gt0.branch [
+      | then-used-gt0+else-used-input-lt-BYTES_IN_STRIPE w ↦
+          let room : length (take (32 - old.buffer_usage) d) ≡ 32 - old.buffer_usage = length-take-le (32 - old.buffer_usage) d (omega (arith, c.usage-used.ensures)) in
+          record {
+            exact = rw (after_piece_full 32 core_after_stripes (parts old).state d (omega (arith, c.usage-used.ensures)) (omega (arith, c.usage-used.ensures)), c.keep-2.ensures, kept, c.set_core.ensures, c.write_many-kept.ensures.accumulators, cut, w.rest-is, w.self-is, w.core-is, w.write.ensures, c.core-core.ensures, w.copy_short-then-used-gt0.ensures, w.split_at.ensures.front, w.split_at.ensures.back, c.usage-used.ensures, room, c.saturating_add-self.ensures, c.into_u64.ensures) refl;
+            seed = rw (c.keep-2.ensures, c.set_core.ensures, w.self-is) refl;
+            in_range = rw (c.keep-2.ensures, kept) less;
+          }
+      | else-used-gt0+else-input-lt-BYTES_IN_STRIPE w ↦ record {
+        exact = rw (after_piece_empty 32 core_after_stripes (parts old).state d (omega (arith, c.usage-used.ensures)), c.keep-2.ensures, kept, c.set_core.ensures, c.write_many-kept.ensures.accumulators, cut, w.rest-is, w.self-is, w.core-is, c.core-core.ensures, c.saturating_add-self.ensures, c.into_u64.ensures) refl;
+        seed = rw (c.keep-2.ensures, c.set_core.ensures, w.self-is) refl;
+        in_range = rw (c.keep-2.ensures, kept) less;
+      }
+    ]
