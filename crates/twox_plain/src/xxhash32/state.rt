@@ -137,9 +137,8 @@ impl StateInMemory {
     {
         let used = self.usage();
         self.count(input.len());
-        let mut core = self.core();
         let mut rest = input;
-        if used > 0 {
+        let core = if used > 0 {
             if used + input.len() < BYTES_IN_STRIPE {
                 self.set_usage(used + input.len());
                 copy_short(&mut self.buffer[used..used + input.len()], input);
@@ -147,50 +146,51 @@ impl StateInMemory {
             }
             let (head, after) = input.split_at(BYTES_IN_STRIPE - used);
             copy_short(&mut self.buffer[used..], head);
-            core.write(&self.buffer);
             rest = after;
-        } else if input.len() < BYTES_IN_STRIPE {
-            self.keep(input);
-            return;
-        }
-        self.set_core(core);
-        self.add_rest::<BLOCKS>(rest);
+            let mut core = self.core();
+            core.write(&self.buffer);
+            core
+        } else {
+            if input.len() < BYTES_IN_STRIPE {
+                self.keep(input);
+                return;
+            }
+            self.core()
+        };
+        self.add_rest::<BLOCKS>(core, rest);
     }
 
-    // Adds bytes that are counted already, where none wait.
+    // Adds bytes that are counted already, where none wait and the accumulators are a value.
     #[inline(always)]
-    fn add_rest<const BLOCKS: bool>(&mut self, input: &[u8])
-        ensures { AfterRest self.old input.now self.new }
+    fn add_rest<const BLOCKS: bool>(&mut self, core: Core, input: &[u8])
+        ensures { AfterRest self.old core input.now self.new }
     {
         if BLOCKS && input.len() >= BYTES_IN_BLOCK {
+            self.set_core(core);
             self.add_blocks(input);
         } else {
-            self.add_stripes(input);
+            self.add_stripes::<false>(core, input);
         }
     }
 
-    // Takes the whole stripes, and keeps the bytes after them.
+    // Takes the whole stripes, with `BLOCKS` first the whole blocks, and keeps the bytes after them.
     #[inline(always)]
     #[tactic(auto, unfolding(crate::specs::StateInMemory32::after_rest))]
-    fn add_stripes(&mut self, input: &[u8])
-        ensures { AfterRest self.old input.now self.new }
+    fn add_stripes<const BLOCKS: bool>(&mut self, mut core: Core, input: &[u8])
+        ensures { AfterRest self.old core input.now self.new }
     {
-        let mut core = self.core();
-        let rest = core.write_many::<false>(input);
+        let rest = core.write_many::<BLOCKS>(input);
         self.set_core(core);
         self.keep(rest);
     }
 
     // The same with blocks, out of line, so that shorter pieces keep no registers for its calls.
     #[inline(never)]
-    #[tactic(auto, unfolding(crate::specs::StateInMemory32::after_rest))]
     fn add_blocks(&mut self, input: &[u8])
-        ensures { AfterRest self.old input.now self.new }
+        ensures { AfterRest self.old (record_of self.old).core input.now self.new }
     {
-        let mut core = self.core();
-        let rest = core.write_many::<true>(input);
-        self.set_core(core);
-        self.keep(rest);
+        let core = self.core();
+        self.add_stripes::<true>(core, input);
     }
 
     // Puts the bytes that fill no stripe at the front of the buffer.

@@ -106,7 +106,8 @@ impl StateInMemory {
         self.take_piece(input);
     }
 
-    // The way that is asked for first has the most to do. The accumulators are a value until all stripes are taken.
+    // A piece that only is kept leaves before a register is saved. The accumulators are a value until all stripes are
+    // taken.
     #[inline(always)]
     fn take_piece(&mut self, input: &[u8])
         requires { usage_of self.old < 32 }
@@ -114,9 +115,8 @@ impl StateInMemory {
     {
         let used = self.usage();
         self.total_len = self.total_len.saturating_add(input.len().into_u64());
-        let mut core = self.core();
         let mut rest = input;
-        if used > 0 {
+        let mut core = if used > 0 {
             if used + input.len() < BYTES_IN_STRIPE {
                 self.set_usage(used + input.len());
                 copy_short(&mut self.buffer[used..used + input.len()], input);
@@ -124,12 +124,17 @@ impl StateInMemory {
             }
             let (head, after) = input.split_at(BYTES_IN_STRIPE - used);
             copy_short(&mut self.buffer[used..], head);
-            core.write(&self.buffer);
             rest = after;
-        } else if input.len() < BYTES_IN_STRIPE {
-            self.keep(input);
-            return;
-        }
+            let mut core = self.core();
+            core.write(&self.buffer);
+            core
+        } else {
+            if input.len() < BYTES_IN_STRIPE {
+                self.keep(input);
+                return;
+            }
+            self.core()
+        };
         let kept = core.write_many(rest);
         self.set_core(core);
         self.keep(kept);

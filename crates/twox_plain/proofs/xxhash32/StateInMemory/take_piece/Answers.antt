@@ -45,13 +45,13 @@ returns g c =
       | then-used-gt0+else-used-input-lt-BYTES_IN_STRIPE w ↦
           let room : length (take (16 - old.buffer_usage) d) ≡ 16 - old.buffer_usage = length-take-le (16 - old.buffer_usage) d (omega (arith, c.usage-used.ensures)) in
           record {
-            exact = rw (after_piece_full 16 core_after_stripes (parts old).state d (omega (arith, c.usage-used.ensures)) (omega (arith, c.usage-used.ensures)), c.add_rest.ensures.exact, c.set_core.ensures, w.rest-is, w.self-is, w.core-is, w.write.ensures, c.core-core.ensures, w.copy_short-then-used-gt0.ensures, w.split_at.ensures.front, w.split_at.ensures.back, c.usage-used.ensures, room, c.count.ensures.others, c.count.ensures.total) refl;
-            seed = rw (c.add_rest.ensures.seed, c.set_core.ensures, w.self-is, c.count.ensures.others) refl;
+            exact = rw (after_piece_full 16 core_after_stripes (parts old).state d (omega (arith, c.usage-used.ensures)) (omega (arith, c.usage-used.ensures)), c.add_rest.ensures.exact, w.rest-is, w.self-is, w.core-is, w.write.ensures, w.core-core.ensures, w.copy_short-then-used-gt0.ensures, w.split_at.ensures.front, w.split_at.ensures.back, c.usage-used.ensures, room, c.count.ensures.others, c.count.ensures.total) refl;
+            seed = rw (c.add_rest.ensures.seed, w.self-is, c.count.ensures.others) refl;
             in_range = c.add_rest.ensures.in_range;
           }
       | else-used-gt0+else-input-lt-BYTES_IN_STRIPE w ↦ record {
-        exact = rw (after_piece_empty 16 core_after_stripes (parts old).state d (omega (arith, c.usage-used.ensures)), c.add_rest.ensures.exact, c.set_core.ensures, w.rest-is, w.self-is, w.core-is, c.core-core.ensures, c.count.ensures.others, c.count.ensures.total) refl;
-        seed = rw (c.add_rest.ensures.seed, c.set_core.ensures, w.self-is, c.count.ensures.others) refl;
+        exact = rw (after_piece_empty 16 core_after_stripes (parts old).state d (omega (arith, c.usage-used.ensures)), c.add_rest.ensures.exact, w.rest-is, w.self-is, w.core-is, w.core-core-else-used-gt0.ensures, c.count.ensures.others, c.count.ensures.total) refl;
+        seed = rw (c.add_rest.ensures.seed, w.self-is, c.count.ensures.others) refl;
         in_range = c.add_rest.ensures.in_range;
       }
     ]

@@ -49,12 +49,12 @@ returns c =
       | then-used-gt0+else-used-input-lt-BYTES_IN_STRIPE w ↦
           let room : length (take (32 - old.buffer_usage) d) ≡ 32 - old.buffer_usage = length-take-le (32 - old.buffer_usage) d (omega (arith, c.usage-used.ensures)) in
           record {
-            exact = rw (after_piece_full 32 core_after_stripes (parts old).state d (omega (arith, c.usage-used.ensures)) (omega (arith, c.usage-used.ensures)), c.keep-2.ensures, kept, c.set_core.ensures, c.write_many-kept.ensures.accumulators, cut, w.rest-is, w.self-is, w.core-is, w.write.ensures, c.core-core.ensures, w.copy_short-then-used-gt0.ensures, w.split_at.ensures.front, w.split_at.ensures.back, c.usage-used.ensures, room, c.saturating_add-self.ensures, c.into_u64.ensures) refl;
+            exact = rw (after_piece_full 32 core_after_stripes (parts old).state d (omega (arith, c.usage-used.ensures)) (omega (arith, c.usage-used.ensures)), c.keep-2.ensures, kept, c.set_core.ensures, c.write_many-kept.ensures.accumulators, cut, w.rest-is, w.self-is, w.core-is, w.write.ensures, w.core-core.ensures, w.copy_short-then-used-gt0.ensures, w.split_at.ensures.front, w.split_at.ensures.back, c.usage-used.ensures, room, c.saturating_add-self.ensures, c.into_u64.ensures) refl;
             seed = rw (c.keep-2.ensures, c.set_core.ensures, w.self-is) refl;
             in_range = rw (c.keep-2.ensures, kept) less;
           }
       | else-used-gt0+else-input-lt-BYTES_IN_STRIPE w ↦ record {
-        exact = rw (after_piece_empty 32 core_after_stripes (parts old).state d (omega (arith, c.usage-used.ensures)), c.keep-2.ensures, kept, c.set_core.ensures, c.write_many-kept.ensures.accumulators, cut, w.rest-is, w.self-is, w.core-is, c.core-core.ensures, c.saturating_add-self.ensures, c.into_u64.ensures) refl;
+        exact = rw (after_piece_empty 32 core_after_stripes (parts old).state d (omega (arith, c.usage-used.ensures)), c.keep-2.ensures, kept, c.set_core.ensures, c.write_many-kept.ensures.accumulators, cut, w.rest-is, w.self-is, w.core-is, w.core-core-else-used-gt0.ensures, c.saturating_add-self.ensures, c.into_u64.ensures) refl;
         seed = rw (c.keep-2.ensures, c.set_core.ensures, w.self-is) refl;
         in_range = rw (c.keep-2.ensures, kept) less;
       }
