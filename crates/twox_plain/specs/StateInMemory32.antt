@@ -4,7 +4,6 @@ use Rattle.std.specs.Int.{w32}
 use Rattle.twox_words.specs.Word.{wrap_sub}
 use Rattle.twox_plain.specs.Core32.{core_after_stripes}
 use Rattle.twox_plain.specs.Record32.{after_write}
-use Rattle.twox_plain.specs.declared.xxhash32.Core.{Core}
 use Rattle.twox_plain.specs.declared.xxhash32.SavedState.{SavedState}
 use Rattle.twox_plain.specs.declared.xxhash32.StateInMemory.{StateInMemory}
 use Rattle.twox_plain.specs.declared.xxhash32.TheConstants.{MARK}
@@ -26,20 +25,19 @@ record_of a = record {
   buffer_usage = usage_of a;
 }
 
--- the record after d, the rest of a piece that is counted already, where no byte of the buffer waits and the
--- accumulators are c
-unfoldable pub after_rest : SavedState → Core → List ℕ → SavedState
-after_rest s c d =
+-- the record after d, the rest of a piece that is counted already, where no byte of the buffer waits
+unfoldable pub after_rest : SavedState → List ℕ → SavedState
+after_rest s d =
     let rest = drop (length d / 16 * 16) d in
     record s {
-      core = core_after_stripes c d (length d / 16);
+      core = core_after_stripes s.core d (length d / 16);
       buffer = rest ++ drop (length rest) s.buffer;
       buffer_usage = length rest;
     }
 
 -- b is the memory a after such a rest d
-pub record AfterRest (a : StateInMemory) (c : Core) (d : List ℕ) (b : StateInMemory) : Type 0 where
-  pub exact : record_of b ≡ after_rest (record_of a) c d
+pub record AfterRest (a : StateInMemory) (d : List ℕ) (b : StateInMemory) : Type 0 where
+  pub exact : record_of b ≡ after_rest (record_of a) d
   pub seed : b.seed ≡ a.seed
   pub in_range : usage_of b < 16
 

@@ -138,7 +138,7 @@ impl StateInMemory {
         let used = self.usage();
         self.count(input.len());
         let mut rest = input;
-        let core = if used > 0 {
+        if used > 0 {
             if used + input.len() < BYTES_IN_STRIPE {
                 self.set_usage(used + input.len());
                 copy_short(&mut self.buffer[used..used + input.len()], input);
@@ -146,54 +146,54 @@ impl StateInMemory {
             }
             let (head, after) = input.split_at(BYTES_IN_STRIPE - used);
             copy_short(&mut self.buffer[used..], head);
-            rest = after;
             let mut core = self.core();
             core.write(&self.buffer);
-            core
-        } else {
-            if input.len() < BYTES_IN_STRIPE {
-                self.keep(input);
-                return;
-            }
-            self.core()
-        };
-        self.add_rest::<BLOCKS>(core, rest);
+            self.set_core(core);
+            rest = after;
+        }
+        self.add_rest::<BLOCKS>(rest);
     }
 
-    // Adds bytes that are counted already, where none wait and the accumulators are a value.
+    // Adds bytes that are counted already, where none wait.
     #[inline(always)]
-    fn add_rest<const BLOCKS: bool>(&mut self, core: Core, input: &[u8])
-        ensures { AfterRest self.old core input.now self.new }
+    fn add_rest<const BLOCKS: bool>(&mut self, input: &[u8])
+        ensures { AfterRest self.old input.now self.new }
     {
         if BLOCKS && input.len() >= BYTES_IN_BLOCK {
-            self.set_core(core);
             self.add_blocks(input);
         } else {
-            self.add_stripes::<false>(core, input);
+            self.add_stripes(input);
         }
     }
 
-    // Takes the whole stripes, with `BLOCKS` first the whole blocks, and keeps the bytes after them.
+    // Takes the whole stripes, and keeps the bytes after them.
     #[inline(always)]
     #[tactic(auto, unfolding(crate::specs::StateInMemory32::after_rest))]
-    fn add_stripes<const BLOCKS: bool>(&mut self, mut core: Core, input: &[u8])
-        ensures { AfterRest self.old core input.now self.new }
+    fn add_stripes(&mut self, input: &[u8])
+        ensures { AfterRest self.old input.now self.new }
     {
-        let rest = core.write_many::<BLOCKS>(input);
-        self.set_core(core);
+        let mut rest = input;
+        if input.len() >= BYTES_IN_STRIPE {
+            let mut core = self.core();
+            rest = core.write_many::<false>(input);
+            self.set_core(core);
+        }
         self.keep(rest);
     }
 
     // The same with blocks, out of line, so that shorter pieces keep no registers for its calls.
     #[inline(never)]
+    #[tactic(auto, unfolding(crate::specs::StateInMemory32::after_rest))]
     fn add_blocks(&mut self, input: &[u8])
-        ensures { AfterRest self.old (record_of self.old).core input.now self.new }
+        ensures { AfterRest self.old input.now self.new }
     {
-        let core = self.core();
-        self.add_stripes::<true>(core, input);
+        let mut core = self.core();
+        let rest = core.write_many::<true>(input);
+        self.set_core(core);
+        self.keep(rest);
     }
 
-    // Puts the bytes that fill no stripe at the front of the buffer.
+    // Keeps the bytes that fill no stripe.
     #[inline(always)]
     fn keep(&mut self, rest: &[u8])
         requires { length rest.now ≤ 16 }

@@ -2,7 +2,7 @@
 
 ghost use Rattle.std.specs.Prelude.{◌≡◌, ℕ, ◌+◌, ◌<◌, ◌≤◌, List, ◌++◌, drop, length};
 ghost use Rattle.twox_plain.specs.Xxh64.{xxh64};
-ghost use Rattle.twox_plain.specs.StateInMemory64.{AfterPiece, record_of, usage_of};
+ghost use Rattle.twox_plain.specs.StateInMemory64.{AfterRest, record_of, usage_of};
 
 use super::rounds::{BYTES_IN_STRIPE, finish_with};
 use super::{Core, MARK, SavedState, StateInMemory};
@@ -103,20 +103,10 @@ impl StateInMemory {
         ensures seed { self.new.seed ≡ self.old.seed }
         ensures in_range { usage_of self.new < 32 }
     {
-        self.take_piece(input);
-    }
-
-    // A piece that only is kept leaves before a register is saved. The accumulators are a value until all stripes are
-    // taken.
-    #[inline(always)]
-    fn take_piece(&mut self, input: &[u8])
-        requires { usage_of self.old < 32 }
-        ensures { AfterPiece self.old input.now self.new }
-    {
         let used = self.usage();
         self.total_len = self.total_len.saturating_add(input.len().into_u64());
         let mut rest = input;
-        let mut core = if used > 0 {
+        if used > 0 {
             if used + input.len() < BYTES_IN_STRIPE {
                 self.set_usage(used + input.len());
                 copy_short(&mut self.buffer[used..used + input.len()], input);
@@ -124,31 +114,26 @@ impl StateInMemory {
             }
             let (head, after) = input.split_at(BYTES_IN_STRIPE - used);
             copy_short(&mut self.buffer[used..], head);
-            rest = after;
             let mut core = self.core();
             core.write(&self.buffer);
-            core
-        } else {
-            if input.len() < BYTES_IN_STRIPE {
-                self.keep(input);
-                return;
-            }
-            self.core()
-        };
-        let kept = core.write_many(rest);
-        self.set_core(core);
-        self.keep(kept);
+            self.set_core(core);
+            rest = after;
+        }
+        self.add_stripes(rest);
     }
 
-    // Puts the bytes that fill no stripe at the front of the buffer.
+    // Adds bytes that are counted already, where none wait: takes the whole stripes, and keeps the bytes after them.
     #[inline(always)]
-    fn keep(&mut self, rest: &[u8])
-        requires { length rest.now ≤ 32 }
-        ensures { self.new ≡ record self.old {
-          buffer = rest.now ++ drop (length rest.now) self.old.buffer;
-          marked_usage = MARK + length rest.now;
-        } }
+    #[tactic(auto, unfolding(crate::specs::StateInMemory64::after_rest))]
+    fn add_stripes(&mut self, input: &[u8])
+        ensures { AfterRest self.old input.now self.new }
     {
+        let mut rest = input;
+        if input.len() >= BYTES_IN_STRIPE {
+            let mut core = self.core();
+            rest = core.write_many(input);
+            self.set_core(core);
+        }
         copy_front(&mut self.buffer, rest);
         self.set_usage(rest.len());
     }
