@@ -97,6 +97,9 @@ KERNELS = '''#[cfg(all(not(miri), target_arch = "x86_64"))] pub type Kernel = la
 KERNEL_32 = '''if input.len() >= crate::kernels::STRIPES_32 {
     let (stripes, rest) = input.split_at(input.len() / BYTES_IN_BLOCK * BYTES_IN_BLOCK);
     *self = crate::kernels::stripes_32(*self, stripes); return rest; } let mut rest = input; 'each_block'''
+STREAM = '''while let Some((stripe, after)) = rest.split_first_chunk::<BYTES_IN_STRIPE>() { core.write(stripe);
+core.v1 = crate::rattle::opaque_WORD(core.v1); core.v2 = crate::rattle::opaque_WORD(core.v2);
+core.v3 = crate::rattle::opaque_WORD(core.v3); core.v4 = crate::rattle::opaque_WORD(core.v4); rest = after; }'''
 WORD = 'bytes[i], bytes[i + 1], bytes[i + 2], bytes[i + 3]'
 # What a file has, what the erased one has in its place, and the files in which that may be.
 REPLACEMENTS = [(rows_of(old), rows_of(new), files) for old, new, files in (
@@ -110,6 +113,9 @@ REPLACEMENTS = [(rows_of(old), rows_of(new), files) for old, new, files in (
     ('mod parts;', 'pub(crate) mod parts;', 'twox_core/xxhash3'),
     ('pub type Kernel = lanes4::Impl;', KERNELS, 'twox_core/xxhash3/large'),
     ("let mut rest = input; 'each_block", KERNEL_32, 'twox_plain/xxhash32/rounds'),
+    ('rest = core.write_many::<false>(input);', STREAM.replace('WORD', 'u32'), 'twox_plain/xxhash32/state'),
+    ('rest = core.write_many(input);', STREAM.replace('WORD', 'u64'), 'twox_plain/xxhash64/state'),
+    ('let last = from.len() - N;', 'let last = crate::rattle::opaque_usize(from.len() - N);', 'twox_words/copies'),
     ('std::boxed::BoxedSlice', 'crate::rattle::BoxedSlice', '*'),
     ('use std::marker::Model;', '', '*'), ('marker::{Model, PhantomData}', 'marker::PhantomData', '*'),
     ('fn fmt<W: fmt::Write>(&self, f: &mut fmt::Formatter<W>)', "fn fmt(&self, f: &mut fmt::Formatter<'_>)", '*'),

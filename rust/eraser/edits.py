@@ -29,6 +29,14 @@ def load(word, size):
     return f'{word}::from_le_bytes([bytes[i], {rest}{comma}])'
 
 
+def stripes_of_stream(word):
+    """The loop of `write_many` over stripes, after each of which the accumulators are what the compiler can't see through."""
+    indent = '\n            '
+    lines = ['while let Some((stripe, after)) = rest.split_first_chunk::<BYTES_IN_STRIPE>() {', '    core.write(stripe);',
+             *(f'    core.v{k} = crate::rattle::opaque_{word}(core.v{k});' for k in range(1, 5)), '    rest = after;', '}']
+    return indent.join(lines)
+
+
 LOAD = 'rustc leaves a test of bounds for each byte: one test and one load of the same bytes'
 SHIM = 'the standard library of Rattle has it, and that of Rust has not'
 MSRV = '`as_chunks` is stable only since rustc 1.88'
@@ -92,6 +100,12 @@ EDITS = (
          '        }\n'
          '        let mut rest = input;', 1, 'many bytes are taken by the proved function, where the target has it',
          files='twox_plain/src/xxhash32/rounds.rt', function='write_blocks'),
+    Edit('stripes of a stream of XXH32', 'rest = core.write_many::<false>(input);', stripes_of_stream('u32'), 1, BARRIER,
+         files='twox_plain/src/xxhash32/state.rt', function='add_stripes'),
+    Edit('stripes of a stream of XXH64', 'rest = core.write_many(input);', stripes_of_stream('u64'), 1, BARRIER,
+         files='twox_plain/src/xxhash64/state.rt', function='add_stripes'),
+    Edit('last chunk', 'let last = from.len() - N;', 'let last = crate::rattle::opaque_usize(from.len() - N);', 1, LAST,
+         files='twox_words/src/copies.rt', function='copy_ends'),
     Edit('inlined', '#[inline(never)] fn write_through<V', '#[inline(always)] fn write_through<V', 1, ALWAYS),
 )
 

@@ -40,6 +40,7 @@ impl Hasher {
     /// from the input within one eight-byte word, the four-byte word or one byte of those after the last
     /// whole stripe of 32 bytes has another hash under the seed. Under 32 bytes, so has the input under every
     /// other seed.
+    #[inline]
     pub fn oneshot(seed: u64, input: &[u8]) -> u64 {
         impl_oneshot(seed, input)
     }

@@ -44,9 +44,17 @@ pub fn copy_front(to: &mut [u8], from: &[u8]) {
 }
 
 // Copies a slice of `N` to `2 * N` bytes over another of its length: the first `N` bytes, then the last `N`, which may
-// overlap them.
+// overlap them. Where the last begins is a value of its own, so that the address of each copy is seen to lie within its
+// slice.
 #[inline(always)]
 fn copy_ends<const N: usize>(to: &mut [u8], from: &[u8]) {
+    let last = crate::rattle::opaque_usize(from.len() - N);
+    copy_chunk::<N>(to, from);
+    copy_chunk::<N>(&mut to[last..], &from[last..]);
+}
+
+// Copies the first `N` bytes.
+#[inline(always)]
+fn copy_chunk<const N: usize>(to: &mut [u8], from: &[u8]) {
     *to.first_chunk_mut::<N>().unwrap() = *from.first_chunk().unwrap();
-    *to.last_chunk_mut::<N>().unwrap() = *from.last_chunk().unwrap();
 }

@@ -95,16 +95,31 @@ impl StateInMemory {
         self.take_piece::<true>(input);
     }
 
-    // A piece that only is kept comes first, with one test.
+    // Adds a piece. With `BLOCKS` a long one is taken by blocks.
     #[inline(always)]
     pub(super) fn take_piece<const BLOCKS: bool>(&mut self, input: &[u8]) {
         let used = self.usage();
-        if input.len() < BYTES_IN_STRIPE - used {
-            self.count(input.len());
-            self.set_usage(used + input.len());
-            copy_short(&mut self.buffer[used..used + input.len()], input);
-            return;
+        self.count(input.len());
+        let mut rest = input;
+        if used > 0 {
+            if used + input.len() < BYTES_IN_STRIPE {
+                self.set_usage(used + input.len());
+                copy_short(&mut self.buffer[used..used + input.len()], input);
+                return;
+            }
+            let (head, after) = input.split_at(BYTES_IN_STRIPE - used);
+            copy_short(&mut self.buffer[used..], head);
+            let mut core = self.core();
+            core.write(&self.buffer);
+            self.set_core(core);
+            rest = after;
         }
+        self.add_rest::<BLOCKS>(rest);
+    }
+
+    // Adds bytes that are counted already, where none wait.
+    #[inline(always)]
+    fn add_rest<const BLOCKS: bool>(&mut self, input: &[u8]) {
         if BLOCKS && input.len() >= BYTES_IN_BLOCK {
             self.add_blocks(input);
         } else {
@@ -112,45 +127,37 @@ impl StateInMemory {
         }
     }
 
-    // Adds a piece that fills a stripe.
+    // Takes the whole stripes, and keeps the bytes after them.
     #[inline(always)]
     fn add_stripes(&mut self, input: &[u8]) {
-        let rest = self.fill_buffer(input);
-        let mut core = self.core();
-        let kept = core.write_many::<false>(rest);
-        self.keep(core, kept);
+        let mut rest = input;
+        if input.len() >= BYTES_IN_STRIPE {
+            let mut core = self.core();
+            while let Some((stripe, after)) = rest.split_first_chunk::<BYTES_IN_STRIPE>() {
+                core.write(stripe);
+                core.v1 = crate::rattle::opaque_u32(core.v1);
+                core.v2 = crate::rattle::opaque_u32(core.v2);
+                core.v3 = crate::rattle::opaque_u32(core.v3);
+                core.v4 = crate::rattle::opaque_u32(core.v4);
+                rest = after;
+            }
+            self.set_core(core);
+        }
+        self.keep(rest);
     }
 
-    // Takes a piece that may hold blocks, out of line, so that shorter pieces keep no registers for its calls.
+    // The same with blocks, out of line, so that shorter pieces keep no registers for its calls.
     #[inline(never)]
     fn add_blocks(&mut self, input: &[u8]) {
-        let rest = self.fill_buffer(input);
         let mut core = self.core();
-        let kept = core.write_many::<true>(rest);
-        self.keep(core, kept);
-    }
-
-    // Counts a piece that fills a stripe, takes that stripe if its first bytes wait in the buffer, and gives the rest.
-    #[inline(always)]
-    fn fill_buffer<'d>(&mut self, input: &'d [u8]) -> &'d [u8] {
-        self.count(input.len());
-        let before = self.usage();
-        let mut taken = 0;
-        if before > 0 {
-            let room = BYTES_IN_STRIPE - before;
-            copy_short(&mut self.buffer[before..], &input[..room]);
-            let mut core = self.core();
-            core.write(&self.buffer);
-            self.set_core(core);
-            taken = room;
-        }
-        &input[taken..]
-    }
-
-    // Puts the accumulators back, and keeps the bytes that fill no stripe.
-    #[inline(always)]
-    fn keep(&mut self, core: Core, rest: &[u8]) {
+        let rest = core.write_many::<true>(input);
         self.set_core(core);
+        self.keep(rest);
+    }
+
+    // Keeps the bytes that fill no stripe.
+    #[inline(always)]
+    fn keep(&mut self, rest: &[u8]) {
         copy_front(&mut self.buffer, rest);
         self.set_usage(rest.len());
     }

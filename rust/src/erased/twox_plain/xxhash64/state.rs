@@ -77,34 +77,41 @@ impl StateInMemory {
     /// The caller shows that less than a stripe waits.
     #[inline(always)]
     pub fn add_piece(&mut self, input: &[u8]) {
-        // A piece that only is kept comes first, with one test.
         let used = self.usage();
-        if used + input.len() < BYTES_IN_STRIPE {
-            self.total_len = self.total_len.saturating_add(input.len().into_u64());
-            self.set_usage(used + input.len());
-            copy_short(&mut self.buffer[used..used + input.len()], input);
-            return;
-        }
-        self.add_stripes(input);
-    }
-
-    // Adds a piece that fills a stripe.
-    #[inline(always)]
-    fn add_stripes(&mut self, input: &[u8]) {
         self.total_len = self.total_len.saturating_add(input.len().into_u64());
-        let before = self.usage();
-        let mut taken = 0;
-        if before > 0 {
-            let room = BYTES_IN_STRIPE - before;
-            copy_short(&mut self.buffer[before..], &input[..room]);
+        let mut rest = input;
+        if used > 0 {
+            if used + input.len() < BYTES_IN_STRIPE {
+                self.set_usage(used + input.len());
+                copy_short(&mut self.buffer[used..used + input.len()], input);
+                return;
+            }
+            let (head, after) = input.split_at(BYTES_IN_STRIPE - used);
+            copy_short(&mut self.buffer[used..], head);
             let mut core = self.core();
             core.write(&self.buffer);
             self.set_core(core);
-            taken = room;
+            rest = after;
         }
-        let mut core = self.core();
-        let rest = core.write_many(&input[taken..]);
-        self.set_core(core);
+        self.add_stripes(rest);
+    }
+
+    // Adds bytes that are counted already, where none wait: takes the whole stripes, and keeps the bytes after them.
+    #[inline(always)]
+    fn add_stripes(&mut self, input: &[u8]) {
+        let mut rest = input;
+        if input.len() >= BYTES_IN_STRIPE {
+            let mut core = self.core();
+            while let Some((stripe, after)) = rest.split_first_chunk::<BYTES_IN_STRIPE>() {
+                core.write(stripe);
+                core.v1 = crate::rattle::opaque_u64(core.v1);
+                core.v2 = crate::rattle::opaque_u64(core.v2);
+                core.v3 = crate::rattle::opaque_u64(core.v3);
+                core.v4 = crate::rattle::opaque_u64(core.v4);
+                rest = after;
+            }
+            self.set_core(core);
+        }
         copy_front(&mut self.buffer, rest);
         self.set_usage(rest.len());
     }
