@@ -235,6 +235,7 @@ def shuffle_two(cpu, x):
 
 
 @form(V1, "punpckldq", "xx mx")
+@form(V3, "vpunpckldq", "xxx mxx")
 def unpack_halves(cpu, x):
     (a, _), (b, _) = two(cpu, x)
     write(cpu, x.operands[-1], x, of_halves([half for pair in zip(halves(a), halves(b)) for half in pair]))
@@ -249,7 +250,7 @@ def unpack(cpu, x):
     write(cpu, x.operands[-1], x, [side[k + is_high] for k in range(0, len(a), 2) for side in (a, b)])
 
 
-@form(V3, "vpalignr", "ixxx ixmx iyyy iymy")
+@form(V3, "vpalignr", "ixxx imxx iyyy imyy")
 def align(cpu, x):
     """In each 128 bits those of both sources, shifted by whole words."""
     if x.operands[0].value != LANE:

@@ -293,6 +293,16 @@ def shift_in(cpu, x):
         cpu.forget_flags()
 
 
+@form(V1, "shrd", "ill iqq")
+def shift_in_from_above(cpu, x):
+    k, source, to = x.operands
+    width = cpu.width(x)
+    k = k.value % width
+    if k:
+        cpu.put(to, width, side_shifted(width, cpu.get(source, width, x), cpu.get(to, width, x), width - k), x)
+        cpu.forget_flags()
+
+
 @form(V1, "rol", "il iq l q")
 def rotate_in_place(cpu, x):
     to, width = x.operands[-1], cpu.width(x)

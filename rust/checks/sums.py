@@ -22,7 +22,7 @@ TARGETS = {
 
 
 def packages():
-    found = {**SOURCE_PACKAGES, 'gcc': 'gcc', 'node': 'nodejs', 'qemu-arm': 'qemu-user'}
+    found = {**SOURCE_PACKAGES, 'gcc': 'gcc', 'node': 'nodejs', 'wasm-ld': 'lld', 'qemu-arm': 'qemu-user'}
     for name, library, _ in filter(None, TARGETS.values()):
         if name:
             found.update({f'{name}-gcc': f'gcc-{name}', f'/usr/{name}/include/stdio.h': f'libc6-dev-{library}-cross'})
@@ -31,6 +31,7 @@ def packages():
 
 def sum_of(room, target, flags=''):
     """What the program for a target prints."""
+    flags += '' if TARGETS[target] else ' -C linker=wasm-ld'
     environment = {**room.environment(), 'RUSTFLAGS': flags, 'RUSTC_BOOTSTRAP': '1', 'RUSTC': '/usr/bin/rustc'}
     folder = os.path.join(room.rust, 'checks', 'sums')
     kind = 'staticlib' if TARGETS[target] else 'cdylib'

@@ -27,7 +27,10 @@ mod erased;
         target_os = "linux",
         target_pointer_width = "64",
         any(target_env = "gnu", target_env = "musl"),
-        any(target_arch = "x86_64", all(target_arch = "aarch64", target_endian = "little"))
+        any(
+            target_arch = "x86_64",
+            all(target_arch = "aarch64", target_endian = "little")
+        )
     ),
     path = "kernels/assembly.rs"
 )]
@@ -37,7 +40,10 @@ mod erased;
         target_os = "linux",
         target_pointer_width = "64",
         any(target_env = "gnu", target_env = "musl"),
-        any(target_arch = "x86_64", all(target_arch = "aarch64", target_endian = "little"))
+        any(
+            target_arch = "x86_64",
+            all(target_arch = "aarch64", target_endian = "little")
+        )
     )),
     path = "kernels/source.rs"
 )]

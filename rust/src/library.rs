@@ -1,21 +1,23 @@
 // SPDX-License-Identifier: MIT
 //! The hashes by their erased source, and which inputs take a call of [`kernels`](crate::kernels): few bytes are hashed in
 //! the caller, many by a kernel.
-#![allow(dead_code, reason = "each hash is a feature, and so are the calls that it makes")]
+#![allow(
+    dead_code,
+    reason = "each hash is a feature, and so are the calls that it makes"
+)]
 
 #[cfg(feature = "alloc")]
 use alloc::boxed::Box;
 
-use crate::erased::twox_core::xxhash3::{derive_secret, derived_secret, DEFAULT_SECRET_RAW};
-pub use crate::erased::twox_core::xxhash3::OneshotWithSecretError;
-use crate::erased::twox_core::xxhash3::{default_secret, Secret, CUTOFF};
+use crate::erased::twox_core::xxhash3::{
+    default_secret, derive_secret, OneshotWithSecretError, Secret, CUTOFF, DEFAULT_SECRET_RAW,
+};
 use crate::erased::twox_core::{width_128, width_64};
 pub use crate::erased::twox_plain::xxhash32::StateInMemory as Record32;
 pub use crate::erased::twox_plain::xxhash64::StateInMemory as Record64;
 use crate::erased::twox_plain::{xxhash32, xxhash64};
 use crate::erased::twox_words::words::IntoU128;
 use crate::kernels;
-pub use crate::kernels::Stream;
 
 /// Inputs of up to so many bytes are tested for first, so that they pay no more than this test.
 const VERY_FEW: usize = 16;
@@ -196,9 +198,17 @@ macro_rules! oneshots {
         }
 
         #[inline(always)]
-        pub fn $with_both(input: &[u8], secret: &[u8], seed: u64) -> Result<$value, OneshotWithSecretError> {
+        pub fn $with_both(
+            input: &[u8],
+            secret: &[u8],
+            seed: u64,
+        ) -> Result<$value, OneshotWithSecretError> {
             if input.len() <= CUTOFF {
-                return Ok($value_of($width::oneshot_short(default_secret(), seed, input)));
+                return Ok($value_of($width::oneshot_short(
+                    default_secret(),
+                    seed,
+                    input,
+                )));
             }
             Secret::new(secret)?;
             Ok(kernels::$with_secret(input, secret))
@@ -213,7 +223,7 @@ oneshots! { width_128, u128, IntoU128::into_u128, xxh3_128, xxh3_128_with_seed, 
 #[cfg(feature = "alloc")]
 #[inline(always)]
 pub fn boxed_secret(seed: u64) -> Box<[u8; 192]> {
-    Box::new(derived_secret(seed))
+    Box::new(crate::erased::twox_core::xxhash3::derived_secret(seed))
 }
 
 /// Writes the secret that a seed derives over bytes that are there.

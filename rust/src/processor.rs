@@ -20,7 +20,8 @@ macro_rules! target_has {
 }
 
 /// True if the compiler was told of x86-64-v3.
-pub const IS_BUILT_FOR_V3: bool = target_has!("avx2", "bmi1", "bmi2", "f16c", "fma", "lzcnt", "movbe");
+pub const IS_BUILT_FOR_V3: bool =
+    target_has!("avx2", "bmi1", "bmi2", "f16c", "fma", "lzcnt", "movbe");
 
 /// True if the compiler was told of x86-64-v4.
 pub const IS_BUILT_FOR_V4: bool =
@@ -78,7 +79,13 @@ fn asked() -> Level {
         return Level::Base;
     }
     // SAFETY: as above.
-    let (first, seventh, extended) = unsafe { (__cpuid(1).ecx, __cpuid_count(7, 0).ebx, __cpuid(0x8000_0001).ecx) };
+    let (first, seventh, extended) = unsafe {
+        (
+            __cpuid(1).ecx,
+            __cpuid_count(7, 0).ebx,
+            __cpuid(0x8000_0001).ecx,
+        )
+    };
     let has_v3 = first & FMA_MOVBE_OSXSAVE_AVX_F16C == FMA_MOVBE_OSXSAVE_AVX_F16C
         && seventh & BMI1_AVX2_BMI2 == BMI1_AVX2_BMI2
         && extended & LZCNT == LZCNT;
@@ -89,7 +96,9 @@ fn asked() -> Level {
     let saved = unsafe { saved_registers() };
     if saved & SAVES_YMM != SAVES_YMM {
         Level::Base
-    } else if saved & SAVES_ZMM == SAVES_ZMM && seventh & AVX512_F_DQ_CD_BW_VL == AVX512_F_DQ_CD_BW_VL {
+    } else if saved & SAVES_ZMM == SAVES_ZMM
+        && seventh & AVX512_F_DQ_CD_BW_VL == AVX512_F_DQ_CD_BW_VL
+    {
         Level::V4
     } else {
         Level::V3
@@ -113,7 +122,8 @@ mod tests {
     #[test]
     fn the_level_is_what_the_standard_library_finds() {
         let has_v3 = processor_has!("avx2", "bmi1", "bmi2", "f16c", "fma", "lzcnt", "movbe");
-        let has_v4 = has_v3 && processor_has!("avx512f", "avx512bw", "avx512cd", "avx512dq", "avx512vl");
+        let has_v4 =
+            has_v3 && processor_has!("avx512f", "avx512bw", "avx512cd", "avx512dq", "avx512vl");
         assert_eq!(level() >= Level::V3, has_v3);
         assert_eq!(level() == Level::V4, has_v4);
     }

@@ -2,7 +2,10 @@
 //! Stands in for the parts of Rattle's standard library that the erased source uses and Rust's has not.
 //!
 //! Nothing here is proved. The proofs of the source rest on the contracts of Rattle's library, which each item quotes.
-#![allow(dead_code, reason = "a target or a set of features needs only some of it")]
+#![allow(
+    dead_code,
+    reason = "a target or a set of features needs only some of it"
+)]
 
 pub mod simd;
 
@@ -48,7 +51,10 @@ impl<T: Copy, A: Allocator> BoxedSlice<T, A> {
     /// "`Ok` of a slice with these items, or `Err` if an allocation failed."
     #[cfg(feature = "alloc")]
     pub fn from_slice(_: A, items: &[T]) -> Result<Self, AllocError> {
-        Ok(BoxedSlice { items: items.into(), allocator: PhantomData })
+        Ok(BoxedSlice {
+            items: items.into(),
+            allocator: PhantomData,
+        })
     }
 
     #[cfg(not(feature = "alloc"))]
@@ -69,7 +75,10 @@ impl<T: Copy, A: Allocator> BoxedSlice<T, A> {
 
 impl<T: Clone, A: TryClone> TryClone for BoxedSlice<T, A> {
     fn try_clone(&self) -> Result<Self, AllocError> {
-        Ok(BoxedSlice { items: self.items.clone(), allocator: PhantomData })
+        Ok(BoxedSlice {
+            items: self.items.clone(),
+            allocator: PhantomData,
+        })
     }
 }
 
@@ -79,7 +88,10 @@ pub fn as_chunks<T, const N: usize>(items: &[T]) -> (&[[T; N]], &[T]) {
     let count = items.len() / N;
     let (whole, rest) = items.split_at(count * N);
     // SAFETY: `whole` has `count` times `N` items, and an array lies as its items do.
-    (unsafe { core::slice::from_raw_parts(whole.as_ptr().cast(), count) }, rest)
+    (
+        unsafe { core::slice::from_raw_parts(whole.as_ptr().cast(), count) },
+        rest,
+    )
 }
 
 /// The `N` bytes from byte `i` on.

@@ -5,7 +5,8 @@
 use alloc::boxed::Box;
 use core::fmt;
 
-use crate::library::{self, Stream};
+use crate::kernels::Stream;
+use crate::library;
 
 /// The fewest bytes that a secret may have.
 pub const SECRET_MINIMUM_LENGTH: usize = 136;

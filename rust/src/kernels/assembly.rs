@@ -6,7 +6,10 @@
 //! in the same order. The names hold the number of the interface, which changes with every change of a call or of a record,
 //! so that two versions of this crate can be linked into one program. The assembler may put the sources of several versions
 //! into one module, so each local name ends in that number too.
-#![allow(dead_code, reason = "each hash is a feature, and so are the calls that it makes")]
+#![allow(
+    dead_code,
+    reason = "each hash is a feature, and so are the calls that it makes"
+)]
 
 use core::mem::MaybeUninit;
 
@@ -21,9 +24,15 @@ use crate::processor::{level, Level, IS_BUILT_FOR_V3, IS_BUILT_FOR_V4};
 #[cfg(target_arch = "x86_64")]
 core::arch::global_asm!(include_str!("../../asm/x86-64.s"), options(att_syntax, raw));
 #[cfg(target_arch = "x86_64")]
-core::arch::global_asm!(include_str!("../../asm/x86-64-v3.s"), options(att_syntax, raw));
+core::arch::global_asm!(
+    include_str!("../../asm/x86-64-v3.s"),
+    options(att_syntax, raw)
+);
 #[cfg(target_arch = "x86_64")]
-core::arch::global_asm!(include_str!("../../asm/x86-64-v4.s"), options(att_syntax, raw));
+core::arch::global_asm!(
+    include_str!("../../asm/x86-64-v4.s"),
+    options(att_syntax, raw)
+);
 #[cfg(target_arch = "aarch64")]
 core::arch::global_asm!(include_str!("../../asm/aarch64.s"), options(raw));
 
@@ -147,10 +156,19 @@ pub const STRIPES_32: usize = 256;
 #[cold]
 #[inline(never)]
 pub fn stripes_32(core: Core, stripes: &[u8]) -> Core {
-    let mut record = StateInMemory::of_parts(0, 0, [core.v1, core.v2, core.v3, core.v4], [0; 16], 0);
-    let code = call!(level_to_v3(), xxh32_write(&mut record, stripes.as_ptr(), stripes.len()));
+    let mut record =
+        StateInMemory::of_parts(0, 0, [core.v1, core.v2, core.v3, core.v4], [0; 16], 0);
+    let code = call!(
+        level_to_v3(),
+        xxh32_write(&mut record, stripes.as_ptr(), stripes.len())
+    );
     expect_done(code);
-    Core { v1: record.v1, v2: record.v2, v3: record.v3, v4: record.v4 }
+    Core {
+        v1: record.v1,
+        v2: record.v2,
+        v3: record.v3,
+        v4: record.v4,
+    }
 }
 
 // ---- One-shots of XXH3 ----
@@ -162,24 +180,38 @@ pub fn xxh3_64(input: &[u8]) -> u64 {
 
 #[inline(never)]
 pub fn xxh3_64_with_seed(input: &[u8], seed: u64) -> u64 {
-    call!(level_for(input.len()), xxh3_64_with_seed(input.as_ptr(), input.len(), seed))
+    call!(
+        level_for(input.len()),
+        xxh3_64_with_seed(input.as_ptr(), input.len(), seed)
+    )
 }
 
 /// The secret has at least 136 bytes.
 #[inline(never)]
 pub fn xxh3_64_with_secret(input: &[u8], secret: &[u8]) -> u64 {
     let (start, length) = (secret.as_ptr(), secret.len());
-    value_of(call!(level_for(input.len()), xxh3_64_with_secret(input.as_ptr(), input.len(), start, length)))
+    value_of(call!(
+        level_for(input.len()),
+        xxh3_64_with_secret(input.as_ptr(), input.len(), start, length)
+    ))
 }
 
 #[inline(never)]
 pub fn xxh3_128(input: &[u8]) -> u128 {
-    call!(level_for(input.len()), xxh3_128(input.as_ptr(), input.len())).into_u128()
+    call!(
+        level_for(input.len()),
+        xxh3_128(input.as_ptr(), input.len())
+    )
+    .into_u128()
 }
 
 #[inline(never)]
 pub fn xxh3_128_with_seed(input: &[u8], seed: u64) -> u128 {
-    call!(level_for(input.len()), xxh3_128_with_seed(input.as_ptr(), input.len(), seed)).into_u128()
+    call!(
+        level_for(input.len()),
+        xxh3_128_with_seed(input.as_ptr(), input.len(), seed)
+    )
+    .into_u128()
 }
 
 /// The secret has at least 136 bytes.
@@ -187,8 +219,10 @@ pub fn xxh3_128_with_seed(input: &[u8], seed: u64) -> u128 {
 pub fn xxh3_128_with_secret(input: &[u8], secret: &[u8]) -> u128 {
     let mut value = Wide { low: 0, high: 0 };
     let (start, length) = (secret.as_ptr(), secret.len());
-    let code =
-        call!(level_for(input.len()), xxh3_128_with_secret(input.as_ptr(), input.len(), start, length, &mut value));
+    let code = call!(
+        level_for(input.len()),
+        xxh3_128_with_secret(input.as_ptr(), input.len(), start, length, &mut value)
+    );
     expect_done(code);
     value.into_u128()
 }
@@ -237,7 +271,12 @@ impl Stream {
     #[inline(always)]
     pub fn keep_first(&mut self, word: u64) {
         // SAFETY: the buffer has 512 bytes.
-        unsafe { self.buffer.as_mut_ptr().cast::<[u8; 8]>().write(word.to_ne_bytes()) };
+        unsafe {
+            self.buffer
+                .as_mut_ptr()
+                .cast::<[u8; 8]>()
+                .write(word.to_ne_bytes())
+        };
         self.buffer_usage = 8;
         self.total_bytes = 8;
     }
@@ -249,7 +288,10 @@ impl Stream {
             return None;
         }
         // SAFETY: the first bytes of a stream are the first of its buffer, and were written.
-        Some((unsafe { &*self.buffer.as_ptr().cast::<[u8; 8]>() }, self.seed))
+        Some((
+            unsafe { &*self.buffer.as_ptr().cast::<[u8; 8]>() },
+            self.seed,
+        ))
     }
 
     /// A secret of 192 bytes, as the default one has, needs no test.
@@ -257,21 +299,33 @@ impl Stream {
     pub fn write(&mut self, secret: &[u8], input: &[u8]) {
         let (input, count) = (input.as_ptr(), input.len());
         let code = match secret.try_into() {
-            Ok(secret) => call!(level_for_stream(count), xxh3_write_192(self, secret, input, count)),
-            Err(_) => call!(level_for_stream(count), xxh3_write(self, secret.as_ptr(), secret.len(), input, count)),
+            Ok(secret) => call!(
+                level_for_stream(count),
+                xxh3_write_192(self, secret, input, count)
+            ),
+            Err(_) => call!(
+                level_for_stream(count),
+                xxh3_write(self, secret.as_ptr(), secret.len(), input, count)
+            ),
         };
         expect_done(code);
     }
 
     #[inline(always)]
     pub fn finish_64(&self, secret: &[u8]) -> u64 {
-        value_of(call!(level_to_v3(), xxh3_64_finish(self, secret.as_ptr(), secret.len())))
+        value_of(call!(
+            level_to_v3(),
+            xxh3_64_finish(self, secret.as_ptr(), secret.len())
+        ))
     }
 
     #[inline(always)]
     pub fn finish_128(&self, secret: &[u8]) -> u128 {
         let mut value = Wide { low: 0, high: 0 };
-        expect_done(call!(level_to_v3(), xxh3_128_finish(self, secret.as_ptr(), secret.len(), &mut value)));
+        expect_done(call!(
+            level_to_v3(),
+            xxh3_128_finish(self, secret.as_ptr(), secret.len(), &mut value)
+        ));
         value.into_u128()
     }
 }

@@ -4,14 +4,18 @@
 //!
 //! The source is generic over its kernel. On x86-64 it is compiled a second time for AVX2, over the same files of one
 //! kernel, and the processor decides.
-#![allow(dead_code, reason = "each hash is a feature, and so are the calls that it makes")]
+#![allow(
+    dead_code,
+    reason = "each hash is a feature, and so are the calls that it makes"
+)]
 
 use crate::erased::twox_core::short_pieces::keep_few;
-use crate::erased::twox_core::xxhash3::{
-    default_secret, derived_secret, Algorithm, CoreState, Finalize, Kernel, Secret, Vector, BUFFERED_BYTES, CUTOFF,
-};
 use crate::erased::twox_core::width_128::Finalize128;
 use crate::erased::twox_core::width_64::Finalize64;
+use crate::erased::twox_core::xxhash3::{
+    default_secret, derived_secret, Algorithm, CoreState, Finalize, Kernel, Secret, Vector,
+    BUFFERED_BYTES, CUTOFF,
+};
 use crate::erased::twox_plain::xxhash32::Core;
 use crate::library::secret_of_stream;
 
@@ -37,7 +41,10 @@ impl Stream {
     /// A stream of no bytes yet.
     #[inline(always)]
     pub fn new(seed: u64) -> Self {
-        Stream { seed, core: CoreState::new() }
+        Stream {
+            seed,
+            core: CoreState::new(),
+        }
     }
 
     #[inline(always)]
@@ -91,13 +98,23 @@ impl Stream {
         if self.core.total_bytes > CUTOFF as u64 {
             return long();
         }
-        finalize.small(default_secret(), self.seed, &self.core.buffer[..self.core.total_bytes as usize])
+        finalize.small(
+            default_secret(),
+            self.seed,
+            &self.core.buffer[..self.core.total_bytes as usize],
+        )
     }
 }
 
 /// Above 128 bytes: up to 240 in a function of their own, and more by the kernel.
 #[inline(always)]
-fn oneshot<F: Finalize>(finalize: F, secret: Secret<'_>, seed: u64, input: &[u8], long: impl FnOnce() -> F::Output) -> F::Output {
+fn oneshot<F: Finalize>(
+    finalize: F,
+    secret: Secret<'_>,
+    seed: u64,
+    input: &[u8],
+    long: impl FnOnce() -> F::Output,
+) -> F::Output {
     if input.len() <= CUTOFF {
         finalize.small(secret, seed, input)
     } else {
@@ -113,7 +130,9 @@ pub fn xxh3_64(input: &[u8]) -> u64 {
 
 #[inline(never)]
 pub fn xxh3_64_with_seed(input: &[u8], seed: u64) -> u64 {
-    oneshot(Finalize64, default_secret(), seed, input, || long_64_with_seed(seed, input))
+    oneshot(Finalize64, default_secret(), seed, input, || {
+        long_64_with_seed(seed, input)
+    })
 }
 
 #[inline(never)]
@@ -130,7 +149,9 @@ pub fn xxh3_128(input: &[u8]) -> u128 {
 
 #[inline(never)]
 pub fn xxh3_128_with_seed(input: &[u8], seed: u64) -> u128 {
-    oneshot(Finalize128, default_secret(), seed, input, || long_128_with_seed(seed, input))
+    oneshot(Finalize128, default_secret(), seed, input, || {
+        long_128_with_seed(seed, input)
+    })
 }
 
 #[inline(never)]
@@ -146,17 +167,32 @@ fn write_by<V: Vector>(v: V, core: &mut CoreState, secret: Secret<'_>, input: &[
 }
 
 #[inline(always)]
-fn finish_by<V: Vector, F: Finalize>(v: V, finalize: F, stream: &Stream, secret: Secret<'_>) -> F::Output {
+fn finish_by<V: Vector, F: Finalize>(
+    v: V,
+    finalize: F,
+    stream: &Stream,
+    secret: Secret<'_>,
+) -> F::Output {
     stream.core.finish(v, &finalize, Some(stream.seed), secret)
 }
 
 #[inline(always)]
-fn long_by<V: Vector, F: Finalize>(v: V, finalize: F, secret: Secret<'_>, input: &[u8]) -> F::Output {
+fn long_by<V: Vector, F: Finalize>(
+    v: V,
+    finalize: F,
+    secret: Secret<'_>,
+    input: &[u8],
+) -> F::Output {
     Algorithm(v).oneshot(secret, input, finalize)
 }
 
 #[inline(always)]
-fn long_with_seed_by<V: Vector, F: Finalize>(v: V, finalize: F, seed: u64, input: &[u8]) -> F::Output {
+fn long_with_seed_by<V: Vector, F: Finalize>(
+    v: V,
+    finalize: F,
+    seed: u64,
+    input: &[u8],
+) -> F::Output {
     match Secret::new(&derived_secret(seed)) {
         Ok(derived) => long_by(v, finalize, derived, input),
         Err(_) => unreachable!(),

@@ -15,7 +15,23 @@ use std::time::{Duration, Instant};
 
 const SEED: u64 = 0x1234_5678_9abc_def0;
 const LENGTHS: [usize; 17] = [
-    0, 1, 4, 8, 16, 17, 32, 64, 128, 129, 240, 241, 512, 1 << 10, 16 << 10, 64 << 10, 1 << 20,
+    0,
+    1,
+    4,
+    8,
+    16,
+    17,
+    32,
+    64,
+    128,
+    129,
+    240,
+    241,
+    512,
+    1 << 10,
+    16 << 10,
+    64 << 10,
+    1 << 20,
 ];
 const PIECES: [usize; 13] = [1, 4, 8, 16, 24, 32, 40, 64, 128, 240, 256, 1000, 4096];
 // A turn takes some 20 microseconds, so that a turn that nothing interrupts is among a few hundred.

@@ -24,7 +24,9 @@ struct Sum(u64);
 
 impl Sum {
     fn add(&mut self, hash: u64) {
-        self.0 = (self.0 ^ hash).wrapping_mul(0x0000_0100_0000_01b3).rotate_left(17);
+        self.0 = (self.0 ^ hash)
+            .wrapping_mul(0x0000_0100_0000_01b3)
+            .rotate_left(17);
     }
 
     fn add_wide(&mut self, hash: u128) {
@@ -77,7 +79,8 @@ fn add_streams(sum: &mut Sum, random: &mut Random, seed: u64, input: &[u8]) {
     let mut rest = input;
     while !rest.is_empty() {
         let most = if input.len() % 2 == 0 { 700 } else { 9 };
-        let (piece, after) = rest.split_at((1 + random.next() as u16 as usize % most).min(rest.len()));
+        let (piece, after) =
+            rest.split_at((1 + random.next() as u16 as usize % most).min(rest.len()));
         plain_32.write(piece);
         plain_64.write(piece);
         of_64.write(piece);

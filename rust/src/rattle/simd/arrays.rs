@@ -63,7 +63,11 @@ macro_rules! vector {
                 let mut out = self.0;
                 let mut i = 0;
                 while i < $n {
-                    out[i] = if places[i] < $n { self.0[places[i]] } else { other.0[places[i] - $n] };
+                    out[i] = if places[i] < $n {
+                        self.0[places[i]]
+                    } else {
+                        other.0[places[i] - $n]
+                    };
                     i += 1;
                 }
                 $name(out)
@@ -143,6 +147,10 @@ vector!(u32x8, u32, 8, u8x32, 32);
 impl u32x4 {
     /// The items as wider ones.
     #[inline(always)]
+    #[allow(
+        clippy::extra_unused_type_parameters,
+        reason = "callers name it, as in Rattle"
+    )]
     pub fn cast<T>(self) -> u64x4 {
         u64x4(self.0.map(u64::from))
     }

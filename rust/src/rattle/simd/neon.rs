@@ -1,6 +1,11 @@
 // SPDX-License-Identifier: MIT
 //! The vectors of `std::simd` that the source uses, in registers of 64-bit ARM.
-#![allow(non_camel_case_types, unsafe_op_in_unsafe_fn, unused, reason = "the names of `std::simd`; the set of vectors is whole")]
+#![allow(
+    non_camel_case_types,
+    unsafe_op_in_unsafe_fn,
+    unused,
+    reason = "the names of `std::simd`; the set of vectors is whole"
+)]
 
 use core::arch::aarch64::*;
 use core::mem::transmute;
@@ -11,10 +16,19 @@ vectors! { uint64x2_t, by, u64x2 u32x4 u8x16 1 2 4 16; u64x4 u32x8 u8x32 2 4 8 3
 impl u32x4 {
     /// The items as wider ones.
     #[inline(always)]
+    #[allow(
+        clippy::extra_unused_type_parameters,
+        reason = "callers name it, as in Rattle"
+    )]
     pub fn cast<T>(self) -> u64x4 {
         let halves = by::halves(self.0[0]);
         // SAFETY: every 64-bit ARM that this module is compiled for has NEON.
-        u64x4(unsafe { [vmovl_u32(vget_low_u32(halves)), vmovl_u32(vget_high_u32(halves))] })
+        u64x4(unsafe {
+            [
+                vmovl_u32(vget_low_u32(halves)),
+                vmovl_u32(vget_high_u32(halves)),
+            ]
+        })
     }
 }
 
@@ -54,19 +68,28 @@ mod by {
     // Lane by lane: of a count that is the same constant in each LLVM makes one instruction.
     #[inline(always)]
     pub unsafe fn shr64(a: uint64x2_t, b: uint64x2_t) -> uint64x2_t {
-        let (a, b): ([u64; 2], [u64; 2]) = (transmute(a), transmute(b));
-        transmute([a[0] >> b[0], a[1] >> b[1]])
+        let (a, b) = (
+            transmute::<uint64x2_t, [u64; 2]>(a),
+            transmute::<uint64x2_t, [u64; 2]>(b),
+        );
+        transmute::<[u64; 2], uint64x2_t>([a[0] >> b[0], a[1] >> b[1]])
     }
 
     #[inline(always)]
     pub unsafe fn shl64(a: uint64x2_t, b: uint64x2_t) -> uint64x2_t {
-        let (a, b): ([u64; 2], [u64; 2]) = (transmute(a), transmute(b));
-        transmute([a[0] << b[0], a[1] << b[1]])
+        let (a, b) = (
+            transmute::<uint64x2_t, [u64; 2]>(a),
+            transmute::<uint64x2_t, [u64; 2]>(b),
+        );
+        transmute::<[u64; 2], uint64x2_t>([a[0] << b[0], a[1] << b[1]])
     }
 
     #[inline(always)]
     pub unsafe fn shl32(a: uint64x2_t, b: uint64x2_t) -> uint64x2_t {
-        let (a, b): ([u32; 4], [u32; 4]) = (transmute(a), transmute(b));
-        transmute([a[0] << b[0], a[1] << b[1], a[2] << b[2], a[3] << b[3]])
+        let (a, b) = (
+            transmute::<uint64x2_t, [u32; 4]>(a),
+            transmute::<uint64x2_t, [u32; 4]>(b),
+        );
+        transmute::<[u32; 4], uint64x2_t>([a[0] << b[0], a[1] << b[1], a[2] << b[2], a[3] << b[3]])
     }
 }

@@ -37,13 +37,13 @@ macro_rules! vector {
             #[inline(always)]
             pub fn from_array(items: [$item; $items]) -> Self {
                 // SAFETY: registers have any bits, and the sizes are equal.
-                $name(unsafe { transmute(items) })
+                $name(unsafe { transmute::<[$item; $items], [$register; $n]>(items) })
             }
 
             #[inline(always)]
             pub fn to_array(self) -> [$item; $items] {
                 // SAFETY: integers have any bits, and the sizes are equal.
-                unsafe { transmute(self.0) }
+                unsafe { transmute::<[$register; $n], [$item; $items]>(self.0) }
             }
 
             /// "Item `i` of the result is item `places[i]`."
@@ -64,7 +64,11 @@ macro_rules! vector {
                 let (a, b, mut out) = (self.to_array(), other.to_array(), [0; $items]);
                 let mut i = 0;
                 while i < $items {
-                    out[i] = if places[i] < $items { a[places[i]] } else { b[places[i] - $items] };
+                    out[i] = if places[i] < $items {
+                        a[places[i]]
+                    } else {
+                        b[places[i] - $items]
+                    };
                     i += 1;
                 }
                 Self::from_array(out)
@@ -100,13 +104,23 @@ macro_rules! bytes {
             #[inline(always)]
             pub fn from_slice(bytes: &[u8]) -> Self {
                 // SAFETY: the slice has so many bytes, and the address needs no alignment.
-                $name(unsafe { bytes[..$count].as_ptr().cast::<[$register; $n]>().read_unaligned() })
+                $name(unsafe {
+                    bytes[..$count]
+                        .as_ptr()
+                        .cast::<[$register; $n]>()
+                        .read_unaligned()
+                })
             }
 
             #[inline(always)]
             pub fn copy_to_slice(self, bytes: &mut [u8]) {
                 // SAFETY: as above.
-                unsafe { bytes[..$count].as_mut_ptr().cast::<[$register; $n]>().write_unaligned(self.0) }
+                unsafe {
+                    bytes[..$count]
+                        .as_mut_ptr()
+                        .cast::<[$register; $n]>()
+                        .write_unaligned(self.0)
+                }
             }
         }
     };
@@ -122,4 +136,3 @@ macro_rules! vectors {
         operator!($halves, $n, Shl, shl, $set::shl32);
     )*};
 }
-
