@@ -85,7 +85,7 @@ def differences(proved, ours):
         if symbol.info & 15 != FUNCTION or not symbol.section:
             continue
         head = proved.heads[symbol.section]
-        filled = [at - symbol.value for at, _, _ in proved.relocations_of(head)]
+        filled = [at - symbol.value for at, *_ in proved.relocations_of(head)]
         code = masked(proved.body(head)[symbol.value:symbol.value + symbol.size], filled)
         if symbol.name not in ours.places:
             yield f'{symbol.name}: only in what is proved'

@@ -26,6 +26,16 @@ ARM_GCC, ON_ARM = 'aarch64-linux-gnu-gcc', 'run=qemu-aarch64 -L /usr/aarch64-lin
 # A function, what stands in its text in place of a constant, the goal that notices, and a word of what that says.
 WRONG_TEXTS = (('XXH64', '$0x9e3779b185ebca87', '$0x9e3779b185ebca89', 'check-values', 'differ'),
                ('XXH64_reset', '$0x60ea27eeadc0b5d6', '$0x60ea27eeadc0b5d7', 'check-names', 'a stream of XXH64'))
+# What isn't a function's bytes: a word of the text, another in its place, and the part that then differs, or the section that the
+# word lies in.
+OTHER_TEXTS = {
+    'a place in a mergeable section': (r'\.L90_10\(%rip\)', '.L90_0+0x10(%rip)', None),
+    'a function that chooses another': (r'(\.type \S+\.products_of_block),@function', r'\1,@gnu_indirect_function',
+                                        '.text.twox_plain.xxhash32.rounds.impl_from_128'),
+    "a section's flags": (r'(\.section \.rodata\.static\.0),"a"', r'\1,"aw"', '.rodata.static.0'),
+    'the visibility of a name': (r'\.globl XXH64\n', r'\g<0>\t.hidden XXH64\n', 'names'),
+    'a note': ('0xc0000002,4,2,0', '0xc0000002,4,3,0', 'notes'),
+    'a frame': (r'\.cfi_def_cfa_offset 16\n', '.cfi_def_cfa_offset 24\n', 'frames')}
 COMPILERS = ('clang', 'g++', 'clang++', 'gcc -flto', 'clang -flto=thin')
 
 
@@ -106,6 +116,18 @@ def wrong_text_is_noticed(copy, function, right, wrong, goal, word):
         is_refused(copy, word, 'out=out/wrong', goal)
         is_refused(copy, f'{sections[-1]}: other than what was proved', 'out=out/wrong', 'check-bytes')
     return sections[-1]
+
+
+def other_text_is_noticed(copy, right, wrong, part):
+    """A text whose functions have the same bytes, and of which a linker makes another program."""
+    sections = []
+
+    def change(text):
+        found = re.search(right, text)
+        sections[:] = re.findall(r'\.section (\S+?),"ax"', text[:found.start()])
+        return text[:found.start()] + found.expand(wrong) + text[found.end():]
+    with Changed(copy, 'asm/x86-64-v2.s', change):
+        return is_refused(copy, f'{part or sections[-1]}: other than what was proved', 'out=out/other', 'check-bytes')
 
 
 def uncalled_name_is_noticed(copy):
@@ -231,6 +253,8 @@ def check_makefile(report, copy, room):
     report.attempt('install and uninstall', is_taken_away, copy, room)
     for wrong in WRONG_TEXTS:
         report.attempt(f'a wrong text of {wrong[0]} is noticed', wrong_text_is_noticed, copy, *wrong)
+    for what, words in OTHER_TEXTS.items():
+        report.attempt(f'{what} is noticed', other_text_is_noticed, copy, *words)
     report.attempt('a name that is not called is noticed', uncalled_name_is_noticed, copy)
     check_refusals(report, copy, room)
 
