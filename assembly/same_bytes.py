@@ -15,9 +15,8 @@ The parts of an object are its loaded sections, `names`, `notes` and `frames`.
 - `notes` has the notes that are loaded, except the properties that list which instructions an object uses.
 - `frames` has the frame at each instruction of each function, as an unwinder reads it from .eh_frame.
 
-What was proved has no notes, and the frames of its compiler are wrong on 64-bit ARM: text.py writes both. PROVED OURS doesn't
-compare them, --against does. Not compared at all: local names, empty sections, and the contents of sections that aren't
-loaded.
+What was proved has neither notes nor frames: text.py writes both. PROVED OURS doesn't compare them, --against does. Not compared
+at all: local names, empty sections, and the contents of sections that aren't loaded.
 
 The last line is `same: ..`, or `differ: ..` after a line for each difference. The status is 0 if they are the same, 1 if they
 differ, and 2 if a file is not an object that this program reads."""
