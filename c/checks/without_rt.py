@@ -176,19 +176,19 @@ def folders_stay_apart(copy):
         out = f'out/apart-{number}'
         make(copy, f'out={out}', f'lib={out}/{place}', 'all', 'check-values', 'check-bytes')
         found = names_of(copy, f'{out}/{place}')
-        want(found == 58, f'with lib={out}/{place} it has {found} names')
+        want(found == 59, f'with lib={out}/{place} it has {found} names')
     return f'{len(places)} folders'
 
 
 def processors_stay_apart(copy):
     """Two processors in one tree, in any order and by one folder: each library has the names of its processor."""
     arm = f'CC={ARM_GCC}'
-    for words, names in (([arm], 49), ([], 58), ([arm], 49), ([arm, 'lib=out/arm'], 49), (['lib=out/other'], 58),
-                         (['lib=out/arm'], 58), ([arm, 'lib=out/arm'], 49)):
+    for words, names in (([arm], 50), ([], 59), ([arm], 50), ([arm, 'lib=out/arm'], 50), (['lib=out/other'], 59),
+                         (['lib=out/arm'], 59), ([arm, 'lib=out/arm'], 50)):
         make(copy, *words)
         lib = next((word[4:] for word in words if word.startswith('lib=')), 'out/lib')
         want(names_of(copy, lib) == names, f'{words}: {names_of(copy, lib)} names')
-    return '49 and 58 names, in turns'
+    return '50 and 59 names, in turns'
 
 
 def files_below(folder):
