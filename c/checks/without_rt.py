@@ -36,7 +36,7 @@ OTHER_TEXTS = {
     'the visibility of a name': (r'\.globl XXH64\n', r'\g<0>\t.hidden XXH64\n', 'names'),
     'a note': ('0xc0000002,4,2,0', '0xc0000002,4,3,0', 'notes'),
     'a frame': (r'\.cfi_def_cfa_offset 16\n', '.cfi_def_cfa_offset 24\n', 'frames')}
-COMPILERS = ('clang', 'g++', 'clang++', 'gcc -flto', 'clang -flto=thin')
+COMPILERS = ('clang', 'g++', 'clang++', 'gcc -flto', 'clang -flto=thin', 'gcc -std=c89 -pedantic -Werror')
 
 
 class Made(Built):
@@ -72,7 +72,14 @@ def passes_make_check(copy, compiler, out, *words):
     said = make(copy, f'CC={compiler}', f'out={out}', *words, 'check')
     same, names = re.findall(r'^same: .*', said, re.M), re.findall(r'^all \d+ names', said, re.M)
     want('all values' in said and same and names, f'it says {tail(said)}')
+    want('pragma' not in said and 'warning' not in said, f'it warns: {said[:300]}')
     return '; '.join([*names, *same])
+
+
+def passes_in_a_folder(copy, folder):
+    """make check where the path has characters that make and the shell split words at."""
+    shutil.copytree(copy, folder, ignore=shutil.ignore_patterns('out'))
+    return passes_make_check(folder, 'cc', 'out')
 
 
 def is_refused(copy, word, *words, **variables):
@@ -247,6 +254,7 @@ def check_makefile(report, copy, room):
     report.attempt('make check', passes_make_check, copy, 'cc', 'out')
     for number, compiler in enumerate(COMPILERS):
         report.attempt(f'make check by {compiler}', passes_make_check, copy, compiler, f'out/by-{number}')
+    report.attempt('make check in a path with a space', passes_in_a_folder, copy, f"{room}/a user's copy, 1")
     report.attempt("musl: the oracle's table by a static program", static_table_agrees, copy, room, 'musl-gcc',
                    'out/musl')
     report.attempt('folders of one name', folders_stay_apart, copy)
