@@ -7,7 +7,7 @@ import subprocess
 import on_debian
 from report import tail, want
 from library import C
-from tools import TOP, must
+from tools import TOP, must, path_without
 
 HEADER = '/usr/include/xxhash.h'
 STATES = '''#define XXH_STATIC_LINKING_ONLY
@@ -132,9 +132,10 @@ def unreadable(room):
     verdict_is('unknown', f'{room}/nowhere')
     done = subprocess.run([os.path.join(C, 'suits'), f'{room}/nowhere', '/bin/true'], stdout=subprocess.PIPE, text=True)
     want(done.returncode == 3 and '/bin/true: yes: ' in done.stdout, f'of the second: {done.stdout}')
+    verdict_is('yes', '/bin/true', PATH=path_without(room, 'dpkg-query'))
     named = programs.compiled('x\n\udcff: yes: ', empty)
     want(said_of(named)[1].count('\n') == 1, 'a name of two lines has two lines')
-    return 'static, for another loader, without sections, none, a name of two lines'
+    return 'static, for another loader, without sections, none, a name of two lines; no dpkg-query'
 
 
 def loading(room):
