@@ -8,6 +8,7 @@ import tempfile
 import time
 
 import aarch64
+import arm_roots
 import launcher
 import made
 import suits
@@ -289,7 +290,7 @@ def check_arm(report, copy, room):
     report.attempt('make check for 64-bit ARM', passes_make_check, copy, ARM_GCC, 'out', 'lib=out/aarch64', ON_ARM)
     report.attempt('two processors in one tree', processors_stay_apart, copy)
     report.attempt("musl for 64-bit ARM: the oracle's table by a static program", static_table_agrees, copy, room,
-                   aarch64.musl_gcc(room), 'out/arm-musl', ['qemu-aarch64'])
+                   arm_roots.musl_gcc(room), 'out/arm-musl', ['qemu-aarch64'])
 
 
 def check_all(report, target, has_v3, examples):
