@@ -11,7 +11,8 @@ each text it wants that
 - the prefetches of its module are those of prefetch.py, and a module that lacks one of their places is refused;
 - a module that is another in one number or one line beside what is added is not compiled (tried with two of them);
 - what is compiled for x86-64-v4 has instructions of mnemonics.txt alone, and another is noticed;
-- 15 wrong texts are noticed, by the object and by the sums: a constant, a register, an offset, a jump, a word of data;
+- 18 wrong texts are noticed, by the object and by the sums: a constant, a register, an offset, a jump, a word of data, a
+  place in a mergeable section;
 - it says the frame at each instruction, and wrong directives are noticed; of the library for C on x86-64 the unwinder of
   libgcc comes to the caller from each instruction that runs.
 
@@ -43,7 +44,7 @@ BUILDS = {'c': 'c/build', 'rust': 'rust/build-library'}
 SETS = {('c', 'x86-64'): ('x86-64-v2', 'x86-64-v3', 'x86-64-v4'), ('rust', 'x86-64'): ('x86-64', 'x86-64-v3', 'x86-64-v4'),
         ('c', 'aarch64'): ('aarch64',), ('rust', 'aarch64'): ('aarch64',)}
 WIDE = 'x86-64-v4'
-WRONG_TEXTS = 15
+WRONG_TEXTS = 18
 
 
 def run(words, **more):
@@ -111,29 +112,16 @@ def assemblers_for(target, sysroot):
 # ---- wrong texts ----
 
 # Where a text is made wrong: the pattern's group is what changes, and the other word that comes in its place.
-def other_number(word):
+def other_number(word, _):
     return hex(int(word, 16) ^ 1)
 
 
-def other_register(digit):
+def other_register(digit, _):
     return str((int(digit) + 1) % 8)
 
 
-def other_offset(word):
+def other_offset(word, _):
     return str(int(word) + 32)
-
-
-WORD_OF_DATA = r'\t\.quad (0x[0-9a-f]+)', other_number
-WRONG = {
-    'x86-64': {'a constant': (r'\tmovabs \$(0x[0-9a-f]+),', other_number),
-               'a register': (r'\t\w+ .*%[xy]mm(\d)$', other_register),
-               'an offset': (r'\t\w+ (0x[0-9a-f]+)\(%r', other_number),
-               'a jump': (r'\tj\w+ (\.L[\w.]+)', None), 'a word of data': WORD_OF_DATA},
-    'aarch64': {'a constant': (r'\tmovk? \w+, #(0x[0-9a-f]+)', other_number),
-                'a register': (r'\t\w+ v(\d)\.', other_register),
-                'an offset': (r'\tldp .*, #(\d+)\]', other_offset),
-                'a jump': (r'\tb\.\w+ (\.L[\w.]+)', None), 'a word of data': WORD_OF_DATA},
-}
 
 
 def other_label(label, lines):
@@ -141,6 +129,29 @@ def other_label(label, lines):
     function = label.split('_')[0]
     others = sorted({line[:-1] for line in lines if line.startswith(f'{function}_') and line[:-1] != label})
     return others[0] if others else f'{label}+1'
+
+
+def place_from_first(label, _):
+    """The same address, from the first label of its section."""
+    section, place, tag = re.fullmatch(r'(\.L\d+_)([0-9a-f]+)(.*)', label).groups()
+    return f'{section}0{tag}+0x{place}'
+
+
+WORD_OF_DATA = r'\t\.quad (0x[0-9a-f]+)', other_number
+# A constant of 16 bytes: of the sections of data only the mergeable ones have labels within them.
+CONSTANT = r'(\.L\d+_[0-9a-f]*[1-9a-f]0[.\w]*)'
+WRONG = {
+    'x86-64': {'a constant': (r'\tmovabs \$(0x[0-9a-f]+),', other_number),
+               'a register': (r'\t\w+ .*%[xy]mm(\d)$', other_register),
+               'an offset': (r'\t\w+ (0x[0-9a-f]+)\(%r', other_number),
+               'a jump': (r'\tj\w+ (\.L[\w.]+)', other_label), 'a word of data': WORD_OF_DATA,
+               'a place in a mergeable section': (rf'\t\S+ {CONSTANT}\(%rip\)', place_from_first)},
+    'aarch64': {'a constant': (r'\tmovk? \w+, #(0x[0-9a-f]+)', other_number),
+                'a register': (r'\t\w+ v(\d)\.', other_register),
+                'an offset': (r'\tldp .*, #(\d+)\]', other_offset),
+                'a jump': (r'\tb\.\w+ (\.L[\w.]+)', other_label), 'a word of data': WORD_OF_DATA,
+                'a place in a mergeable section': (rf'\tldr q\d+, \[x\d+, #:lo12:{CONSTANT}\]', place_from_first)},
+}
 
 
 def wrong_texts(lines, target, count):
@@ -153,7 +164,7 @@ def wrong_texts(lines, target, count):
         want(places, f'the text has no {kind}')
         at = draw.choice(places)
         found = re.match(pattern, lines[at])
-        word = change(found[1]) if change else other_label(found[1], lines)
+        word = change(found[1], lines)
         line = lines[at][:found.start(1)] + word + lines[at][found.end(1):]
         section = next(line.split()[1].split(',')[0] for line in reversed(lines[:at]) if line.startswith('\t.section'))
         yield f'{kind}, line {at + 1}', section, [*lines[:at], line, *lines[at + 1:]]
