@@ -194,14 +194,13 @@ def bundles_for_node(folder, node):
     """esbuild's bundles for Node, with the modules beside them, run from another folder."""
     entries = {"import": 'import { load, toHex, xxh64 } from "twox_hash";', "require": 'const { load, toHex, xxh64 } = require("twox_hash");'}
     for given, form, end in (("import", "esm", "mjs"), ("import", "cjs", "cjs"), ("require", "cjs", "cjs")):
-        out = os.path.join(folder, f"node-{given}-{form}", "dist")
-        os.makedirs(out)
-        app = write(folder, f"for-node-{given}.{'mjs' if given == 'import' else 'cjs'}", f"{entries[given]} (async () => {{ {SAMPLE} }})();")
-        bundled = os.path.join(out, f"app.{end}")
-        must(["esbuild", app, "--bundle", "--platform=node", "--log-level=error", f"--format={form}", f"--outfile={bundled}"], folder)
-        for module in MODULES:
-            shutil.copy(os.path.join(WEB, module), out)
-        said = must([node, bundled], "/")
+        with tempfile.TemporaryDirectory(dir=folder) as room:
+            app = write(room, f"app.{'mjs' if given == 'import' else 'cjs'}", f"{entries[given]} (async () => {{ {SAMPLE} }})();")
+            bundled = os.path.join(room, "dist", "here", f"app.{end}")
+            must(["esbuild", app, "--bundle", "--platform=node", "--log-level=error", f"--format={form}", f"--outfile={bundled}"], room)
+            for module in MODULES:
+                shutil.copy(os.path.join(WEB, module), os.path.dirname(bundled))
+            said = must([node, bundled], "/")
         want(said == OF_SAMPLE, f"{given}, {form}: {said}")
 
 
