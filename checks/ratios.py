@@ -57,8 +57,8 @@ def ratios(table, names, columns, are_medians):
 def that_differ():
     """Each ratio that a page says and no table has so, and each that it says and nobody looks at."""
     seen = {page: set(APART) for page, _ in SECTIONS}
-    for page, words, table, names, columns in SAID + MEDIANS:
-        found = ratios(table, names, columns, (page, words, table, names, columns) in MEDIANS)
+    for are_medians, (page, words, table, names, columns) in [*((False, it) for it in SAID), *((True, it) for it in MEDIANS)]:
+        found = ratios(table, names, columns, are_medians)
         said = re.search(words.replace('<>', f'({RATIO})'), text_of(page))
         wanted = (found[0], found[-1])[:words.count('<>')]
         if not said or said.groups() != wanted:
