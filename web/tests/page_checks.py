@@ -223,6 +223,7 @@ def clear(page):
 
 
 STALE = "Hashed with another seed or secret. Hash again to use this one."
+NO_VERDICT = "return document.querySelector('.card .verdicts').textContent === ''"
 
 
 def again(page):
@@ -236,7 +237,8 @@ def again(page):
     for seed, secret in (("1234", ""), ("", "ab" * 136), ("12x", "")):
         page.set_key(seed, secret)
         card = page.wait_for("again.bin", "!('xxh64' in card.digests)")
-        want(card["words"] == STALE and card["button"] == "Hash again" and page.text_of(".card .verdicts") == "", card)
+        want(card["words"] == STALE and card["button"] == "Hash again", card)
+        page.browser.wait(NO_VERDICT, seconds=5)
         page.browser.wait("return document.getElementById('verdict').textContent === 'Hash again to compare it: the digests are of another seed or secret.'", seconds=5)
     page.set_key()
     page.wait_for("again.bin", "'xxh64' in card.digests")
@@ -259,7 +261,8 @@ def changed_while_hashed(page):
     page.set_key("1234")
     card = page.wait_for("slow.bin", "!card.isRunning", 300)
     os.remove(path)
-    want(card["words"] == STALE and not card["digests"] and page.text_of(".card .verdicts") == "", card)
+    want(card["words"] == STALE and not card["digests"], card)
+    page.browser.wait(NO_VERDICT, seconds=5)
 
 
 # What keeps the page's files asks for them by itself.
