@@ -224,7 +224,7 @@ def complement(cpu, x):
 
 # ---- products and quotients
 
-@form(V1, "imul", "qq ll iml imq ill iqq")
+@form(V1, "imul", "qq ll mq iml imq ill iqq")
 def product(cpu, x):
     width, to = cpu.width(x), x.operands[-1]
     a, b = (cpu.get(y, width, x) for y in x.operands[:2])
