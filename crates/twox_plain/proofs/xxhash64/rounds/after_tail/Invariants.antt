@@ -1,22 +1,12 @@
-use Rattle.std.proofs.Common.{◌≡◌, ◌+◌, ◌*◌, ◌/◌, length, drop, slice_index}
+use Rattle.std.proofs.Common.{◌≡◌, ◌+◌, ◌*◌, ◌/◌, length, slice_index}
 use Rattle.std.specs.Int.{w64}
 use Rattle.twox_words.specs.Word.{word_at}
 use Rattle.twox_plain.specs.Units.{after_units}
 use Rattle.twox_plain.specs.Xxh64.{take_eight, take_byte, after_words}
-use Rattle.twox_plain.proofs.UnitFacts.{IsRest, taken}
 use Rattle.twox_plain.proofs.xxhash64.rounds.after_tail.Given as goal
 
 abbrev pub invariant-eights : goal.invariant-eights
-invariant-eights l = record {
-  rest : IsRest 8 l.rest l.left;
-  value : l.value ≡ after_units take_eight (λ u. word_at w64 l.rest (0 + u * 8)) l.fn.value (taken 8 l.rest l.left);
-}
-
-abbrev pub decreases-eights : goal.decreases-eights
-decreases-eights l = length l.left
+invariant-eights l = l.value ≡ after_units take_eight (λ u. word_at w64 l.rest (0 + u * 8)) l.fn.value l.u
 
 abbrev pub invariant-bytes : goal.invariant-bytes
-invariant-bytes l = record {
-  left : l.byte-items ≡ drop (length l.rest / 4 * 4) l.rest;
-  value : l.value ≡ after_units take_byte (λ u. slice_index l.rest (0 + length l.rest / 4 * 4 + u)) (after_words l.rest 0 l.fn.value (length l.rest)) l.byte-index;
-}
+invariant-bytes l = l.value ≡ after_units take_byte (λ u. slice_index l.rest (0 + length l.rest / 4 * 4 + u)) (after_words l.rest 0 l.fn.value (length l.rest)) l.u
