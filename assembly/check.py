@@ -37,7 +37,7 @@ import prefetch
 import unwinding
 import wide
 from report import Fault, Report, want
-from same_bytes import compare, compare_sums, Object
+from same_bytes import compare, compare_sums
 from library import sets_here
 
 BUILDS = {'c': 'c/build', 'rust': 'rust/build-library'}

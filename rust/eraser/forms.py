@@ -1,7 +1,5 @@
 """The forms that the eraser knows. Whatever else stands in a source is refused, with its line."""
-import re
-
-from tokens import Refused, closing, following, preceding
+from tokens import Refused, closing
 
 # Words of Rust with a meaning of their own that no rule here was made for.
 REFUSED_WORDS = {

@@ -14,14 +14,16 @@ import tempfile
 from terms.llvm_text import Unsupported
 from terms.sides import TOP
 
+from .. import lanes, scalar
 from ..cargo import ForCargo
 from ..objects import (CODE, CONSTANTS, FRAMES, FUNCTION, LOADED, MERGEABLE, NOTE, PC32, PLT32, RELA, Instruction, Program,
                        is_global, split)
 from ..instructions import known
 from ..processor import Processor
 
+TABLES = lanes, scalar            # they fill the table of instructions
 SOURCE = os.path.join(TOP, "rust", "src")
-EXPORTS = os.path.join(os.path.dirname(os.path.abspath(__file__)), "exports.rs")
+EXPORTS = os.path.join(os.path.dirname(os.path.abspath(__file__)), "exports.rs.in")
 FLAGS = ("--edition", "2021", "--crate-type", "lib", "--emit", "obj", "-C", "opt-level=3", "-C", "panic=abort", "-C",
          "codegen-units=1", "-C", "force-unwind-tables=no", "--cap-lints", "allow", "--crate-name", "erased_source")
 BY_TABLE = 9, 41, 42              # relocations by the global offset table
@@ -34,7 +36,7 @@ def program(set_name, source=SOURCE):
     with tempfile.TemporaryDirectory(prefix="rust-object-") as room:
         folder, made = os.path.join(room, "src"), os.path.join(room, "made.o")
         shutil.copytree(source, folder)
-        root = shutil.copy(EXPORTS, folder)
+        root = shutil.copy(EXPORTS, os.path.join(folder, "exports.rs"))
         subprocess.run(["rustc", *FLAGS, "-C", f"target-cpu={set_name}", root, "-o", made], check=True)
         return RustProgram(set_name, made)
 
