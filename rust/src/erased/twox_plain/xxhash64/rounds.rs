@@ -123,18 +123,15 @@ impl Core {
 // Takes the bytes that fill no stripe: eight at a time, then four, then one.
 #[inline(always)]
 fn after_tail(value: u64, rest: &[u8]) -> u64 {
-    let (mut value, mut left) = (value, rest);
-    'eights: while let Some((word, after)) = left.split_first_chunk::<8>() {
-        value = take_eight(value, u64_at(word, 0));
-        left = after;
+    let mut value = value;
+    'eights: for u in 0..rest.len() / 8 {
+        value = take_eight(value, u64_at(rest, u * 8));
     }
-    if let Some((word, after)) = left.split_first_chunk::<4>() {
-        value = take_four(value, u32_at(word, 0));
-        left = after;
+    if rest.len() % 8 >= 4 {
+        value = take_four(value, u32_at(rest, rest.len() / 8 * 8));
     }
-    // Its length, said by the whole's, tells the compiler that few bytes are left.
-    'bytes: for byte in &left[..rest.len() % 4] {
-        value = take_byte(value, *byte);
+    'bytes: for u in 0..rest.len() % 4 {
+        value = take_byte(value, rest[rest.len() / 4 * 4 + u]);
     }
     value
 }
