@@ -2,6 +2,7 @@
 
 A pattern is a row of tokens, `$name` stands for one word, and white space doesn't count. A row that applies more or fewer
 times than it says fails, and so does one whose match holds a comment."""
+import functools
 import re
 from dataclasses import dataclass
 
@@ -135,6 +136,7 @@ def matched(tokens, places, at, pattern):
     return found
 
 
+@functools.cache
 def parts_of(pattern):
     """The tokens of a pattern, with `$name` as one."""
     return significant(re.sub(r'\$(\w+)', r'ˑ\1', pattern)) if '$' not in pattern else [
@@ -156,6 +158,8 @@ def places_in(tokens, function):
 def apply(edit, tokens):
     """Applies an edit wherever it matches. Returns how often."""
     pattern, count = parts_of(edit.old), 0
+    if not {part for part in pattern if not part.startswith('$')} <= {token.text for token in tokens}:
+        return 0
     places = places_in(tokens, edit.function)
     at = 0
     while at < len(places):
