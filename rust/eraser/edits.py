@@ -49,6 +49,7 @@ ALWAYS = 'a function with target features holds the code of what it calls only i
 BARRIER = 'LLVM otherwise makes a vector of the four accumulators of a stream, which is slower'
 LAST = 'LLVM otherwise regroups this index, and keeps the record of a stream in memory'
 KERNEL = 'each target takes the kernel that is fastest there: all are proved to compute the same'
+BLOCKS = 'the products of a block are slow without the instruction for them: blocks are for the proved function'
 IN_PARTS = 'a second set of vectors takes in the same file'
 
 X86_64 = 'all(not(miri), target_arch = "x86_64")'
@@ -107,6 +108,13 @@ EDITS = (
          files='twox_plain/src/xxhash64/state.rt', function='add_stripes'),
     Edit('last chunk', 'let last = from.len() - N;', 'let last = crate::rattle::opaque_usize(from.len() - N);', 1, LAST,
          files='twox_words/src/copies.rt', function='copy_ends'),
+    Edit('inlined', '#[inline]', '#[inline(always)]', 7, ALWAYS, files='twox_core/src/xxhash3/large/(four|lanes4).rt'),
+    Edit('one-shots of XXH64', '#[inline(never)] fn impl_long', '#[inline(always)] fn impl_long', 1,
+         'a call costs more than the registers that it saves', files='twox_plain/src/xxhash64/rounds.rt'),
+    Edit('long pieces of XXH32', 'input.len() >= BYTES_IN_BLOCK', 'input.len() >= crate::kernels::STRIPES_32', 1, BLOCKS,
+         files='twox_plain/src/xxhash32/state.rt', function='add_rest'),
+    Edit('long one-shots of XXH32', 'input.len() < BYTES_IN_BLOCK', 'input.len() < crate::kernels::STRIPES_32', 1, BLOCKS,
+         files='twox_plain/src/xxhash32/rounds.rt', function='impl_oneshot'),
     Edit('inlined', '#[inline(never)] fn write_through<V', '#[inline(always)] fn write_through<V', 1, ALWAYS),
 )
 

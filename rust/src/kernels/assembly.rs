@@ -149,7 +149,7 @@ fn level_to_v3() -> Level {
 // ---- XXH32 ----
 
 /// The fewest bytes of whole stripes of XXH32 that [`stripes_32`] takes.
-pub const STRIPES_32: usize = 256;
+pub const STRIPES_32: usize = 512;
 
 /// The accumulators after whole stripes. They cross by value: if the address of a stream's record left its caller, the
 /// record would stay in memory.

@@ -195,7 +195,7 @@ pub(super) fn finish_with(seed: u32, len: u64, core: &Core, rest: &[u8]) -> u32 
 pub(super) fn impl_oneshot(seed: u32, input: &[u8]) -> u32 {
     if input.len() < BYTES_IN_STRIPE {
         impl_short(seed, input)
-    } else if input.len() < BYTES_IN_BLOCK {
+    } else if input.len() < crate::kernels::STRIPES_32 {
         impl_long::<false>(seed, input)
     } else {
         impl_from_128(seed, input)

@@ -120,7 +120,7 @@ impl StateInMemory {
     // Adds bytes that are counted already, where none wait.
     #[inline(always)]
     fn add_rest<const BLOCKS: bool>(&mut self, input: &[u8]) {
-        if BLOCKS && input.len() >= BYTES_IN_BLOCK {
+        if BLOCKS && input.len() >= crate::kernels::STRIPES_32 {
             self.add_blocks(input);
         } else {
             self.add_stripes(input);

@@ -165,8 +165,7 @@ fn impl_short(seed: u64, input: &[u8]) -> u64 {
     avalanche(after_tail(value, input))
 }
 
-#[inline(never)]
-fn impl_long(seed: u64, input: &[u8]) -> u64 {
+#[inline(always)] fn impl_long(seed: u64, input: &[u8]) -> u64 {
     let mut core = Core::new(seed);
     let rest = core.write_many(input);
     // Its length, said by the input's, tells the compiler that few words are left, for which it unrolls no loop.

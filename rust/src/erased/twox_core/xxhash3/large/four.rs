@@ -15,7 +15,7 @@ pub(super) trait HalvesProducts: Copy {
 
 // Four accumulators: each gains its neighbour's word and the product of the halves of its own word under its key.
 // The neighbours come first, so that the accumulators before are done with and their registers are free.
-#[inline]
+#[inline(always)]
 pub(super) fn accumulate_four<K: HalvesProducts>(
     kernel: K,
     acc: [u64; 4],
@@ -54,7 +54,7 @@ pub(super) fn accumulate_four_by_four<K: HalvesProducts>(
     sum_with_exchange(own, sum(sum(sum(first, second), third), fourth))
 }
 
-#[inline]
+#[inline(always)]
 fn sum(a: [u64; 4], b: [u64; 4]) -> [u64; 4] {
     let [a0, a1, a2, a3] = a;
     let [b0, b1, b2, b3] = b;
@@ -62,7 +62,7 @@ fn sum(a: [u64; 4], b: [u64; 4]) -> [u64; 4] {
 }
 
 // Four accumulators, each with its neighbour's word.
-#[inline]
+#[inline(always)]
 fn sum_with_exchange(acc: [u64; 4], words: [u64; 4]) -> [u64; 4] {
     let [a0, a1, a2, a3] = acc;
     let [w0, w1, w2, w3] = words;

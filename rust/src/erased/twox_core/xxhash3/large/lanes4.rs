@@ -72,7 +72,7 @@ impl HalvesProducts for Products {
     }
 }
 
-#[inline]
+#[inline(always)]
 fn scramble_four(acc: [u64; 4], keys: [u64; 4]) -> [u64; 4] {
     let [a0, a1, a2, a3] = acc;
     let [k0, k1, k2, k3] = keys;
@@ -83,7 +83,7 @@ fn scramble_four(acc: [u64; 4], keys: [u64; 4]) -> [u64; 4] {
 
 // Each word times the prime, modulo 2^64. A processor's vectors mostly have no product of 64 bits, and LLVM makes one
 // outside of vectors on 64-bit ARM. So the upper half is multiplied as a word of 32 bits, where it stands.
-#[inline]
+#[inline(always)]
 fn times_prime(words: [u64; 4]) -> [u64; 4] {
     let prime = PRIME32_1 as u32;
     let factors = u32x8::from_array([0, prime, 0, prime, 0, prime, 0, prime]);
@@ -95,14 +95,14 @@ fn times_prime(words: [u64; 4]) -> [u64; 4] {
 }
 
 // The halves of each word, the lower one first.
-#[inline]
+#[inline(always)]
 fn halves_of(words: [u64; 4]) -> u32x8 {
     let [a, b, c, d] = words;
     u32x8::from_le_bytes(u64x4::from_array([a, b, c, d]).to_le_bytes())
 }
 
 // The words of these halves.
-#[inline]
+#[inline(always)]
 fn joined(halves: [u32; 8]) -> [u64; 4] {
     let [a, b, c, d, e, f, g, h] = halves;
     let halves = u32x8::from_array([a, b, c, d, e, f, g, h]);
