@@ -3,12 +3,12 @@ second reader or by a planted source. The others write what rustc refuses to com
 import functools
 import os
 import shutil
-import subprocess
 
 import reader
 from erasers import Eraser
 from planted_sources import CHANGED_CRATES, PLANTED
 from report import tail, want
+from room import Room, install_packages
 
 RUST = os.path.dirname(os.path.dirname(os.path.abspath(__file__)))
 PARTS, CRATES = os.path.join(RUST, 'eraser'), os.path.join(os.path.dirname(RUST), 'crates')
@@ -130,17 +130,30 @@ def is_noticed(room, number, file, old, new):
     return f'by {found}'
 
 
+def cargos_tests(eraser, path):
+    """What cargo's tests say of the crate with the tree that an eraser writes: their status, and the text."""
+    room = Room(path)
+    want(not eraser.tree(os.path.join(room.rust, 'src', 'erased')), 'the eraser notices it')
+    done = room.cargo(room.rust, 'test')
+    return done.returncode, done.stdout
+
+
+def tests_pass(path):
+    """The right eraser's tree: else a wrong one would fail for another reason."""
+    status, text = cargos_tests(Eraser(PARTS), path)
+    want(status == 0, tail(text))
+
+
 def is_noticed_by_rustc(room, number, file, old, new):
-    """cargo's tests fail over the tree that the eraser writes."""
-    eraser, crate = Eraser(wrong_parts(room, number, file, old, new)), os.path.join(room, f'crate-{number}')
-    shutil.copytree(RUST, crate, ignore=shutil.ignore_patterns('out', 'target'))
-    want(not eraser.tree(os.path.join(crate, 'src', 'erased')), 'the eraser notices it')
-    done = subprocess.run(['cargo', 'test', '--offline'], cwd=crate, stdout=subprocess.PIPE, stderr=subprocess.STDOUT, text=True)
-    want(done.returncode != 0, 'it was not noticed')
-    return tail(done.stdout)[-100:]
+    status, text = cargos_tests(Eraser(wrong_parts(room, number, file, old, new)), os.path.join(room, f'crate-{number}'))
+    want(status != 0, 'it was not noticed')
+    return tail(text)[-100:]
 
 
 def check(report, room, is_all):
+    if is_all:
+        install_packages()
+        report.attempt("cargo's tests over the tree made anew", tests_pass, os.path.join(room, 'crate'))
     for number, (name, *change) in enumerate(WRONG):
         if name not in BY_RUSTC:
             report.attempt(f'a wrong eraser: {name}', is_noticed, room, number, *change)
