@@ -9,7 +9,7 @@ LOWEST_ROWS, DISPATCH, XXHSUM = (SPEED, '## The lowest rows'), (SPEED, 'behind t
 RUST = 'docs/RUST.md', '## Speed'
 SECTIONS = [('README.md', '## Speed')]
 RATIO = r'(?<![\d.])\d+\.\d\d(?![\d.])'
-EACH, PLAIN, PLAIN_BESIDE_XXHASH_RUST = slice(None), slice(0, 1), slice(1, 2)
+EACH, PLAIN, PLAIN_BESIDE_XXHASH_RUST, NATIVE, SOURCE = slice(None), *(slice(at, at + 1) for at in range(4))
 # A page, what it says, with <> for the lowest and perhaps one for the highest ratio, and where both are: a table, the names
 # of its rows, and its columns behind the name.
 SAID = [
@@ -18,6 +18,8 @@ SAID = [
     ('README.md', r'of 16 KiB to 1 MiB: <> to <>\)', DISPATCH, 'one-shots of (16 KiB|64 KiB|1 MiB)', EACH),
     ('README.md', r'beside `twox-hash`: <> at the lowest', RUST, '', PLAIN),
     ('README.md', r'beside `xxhash-rust`: <> at the lowest', RUST, '', PLAIN_BESIDE_XXHASH_RUST),
+    ('README.md', r'`target-cpu=native`: <> at the lowest', RUST, '', NATIVE),
+    ('README.md', r'any target but Linux: <> at the lowest', RUST, '', SOURCE),
     ('README.md', r"Debian's: <> at x86-64-v2", XXHSUM, '1024 MiB', slice(1, 2)),
     ('README.md', r'<> at x86-64-v3', XXHSUM, '1024 MiB', slice(2, 3)),
 ]
