@@ -6,17 +6,15 @@
 It proves and builds both, or the one that is named; with --of-ci over the libraries that `rt ci` left in this tree. Of
 each text it wants that
 
-- text and sums made anew of the object that was proved are those that are committed, and so is all else that is made of
-  it: the text for macOS on x86-64, the code of a hash of a word, the bitcode;
+- text and sums made anew of the object that was proved are those that are committed;
 - each assembler on the machine (GNU as, clang, rustc) makes that object of the text, as same_bytes.py compares two;
 - the prefetches of its module are those of prefetch.py, and a module that lacks one of their places is refused;
 - a module that is another in one number or one line beside what is added is not compiled (tried with two of them);
 - what is compiled for x86-64-v4 has instructions of mnemonics.txt alone, and another is noticed;
-- 15 wrong texts are noticed, by the object and by the sums: a constant, a register, an offset, a jump, a word of data;
+- 18 wrong texts are noticed, by the object and by the sums: a constant, a register, an offset, a jump, a word of data, a
+  place in a mergeable section;
 - it says the frame at each instruction, and wrong directives are noticed; of the library for C on x86-64 the unwinder of
   libgcc comes to the caller from each instruction that runs.
-
-With the crate's texts for x86-64 it looks at the frames of those for RISC-V, macOS, Android and Windows, too.
 
 It needs rt, and takes what assemblers there are. One line a check; the status is 1 where one failed."""
 import argparse
@@ -35,20 +33,18 @@ sys.path[:0] = [ASSEMBLY, os.path.join(TOP, 'c', 'checks'), os.path.join(TOP, 'c
 sys.dont_write_bytecode = True
 
 import compile as compiling
-import frames_of_text
-import macho
 import prefetch
 import unwinding
 import wide
 from report import Fault, Report, want
-from same_bytes import compare, compare_sums, Object
+from same_bytes import compare, compare_sums
 from library import sets_here
 
 BUILDS = {'c': 'c/build', 'rust': 'rust/build-library'}
 SETS = {('c', 'x86-64'): ('x86-64-v2', 'x86-64-v3', 'x86-64-v4'), ('rust', 'x86-64'): ('x86-64', 'x86-64-v3', 'x86-64-v4'),
         ('c', 'aarch64'): ('aarch64',), ('rust', 'aarch64'): ('aarch64',)}
 WIDE = 'x86-64-v4'
-WRONG_TEXTS = 15
+WRONG_TEXTS = 18
 
 
 def run(words, **more):
@@ -116,29 +112,16 @@ def assemblers_for(target, sysroot):
 # ---- wrong texts ----
 
 # Where a text is made wrong: the pattern's group is what changes, and the other word that comes in its place.
-def other_number(word):
+def other_number(word, _):
     return hex(int(word, 16) ^ 1)
 
 
-def other_register(digit):
+def other_register(digit, _):
     return str((int(digit) + 1) % 8)
 
 
-def other_offset(word):
+def other_offset(word, _):
     return str(int(word) + 32)
-
-
-WORD_OF_DATA = r'\t\.quad (0x[0-9a-f]+)', other_number
-WRONG = {
-    'x86-64': {'a constant': (r'\tmovabs \$(0x[0-9a-f]+),', other_number),
-               'a register': (r'\t\w+ .*%[xy]mm(\d)$', other_register),
-               'an offset': (r'\t\w+ (0x[0-9a-f]+)\(%r', other_number),
-               'a jump': (r'\tj\w+ (\.L[\w.]+)', None), 'a word of data': WORD_OF_DATA},
-    'aarch64': {'a constant': (r'\tmovk? \w+, #(0x[0-9a-f]+)', other_number),
-                'a register': (r'\t\w+ v(\d)\.', other_register),
-                'an offset': (r'\tldp .*, #(\d+)\]', other_offset),
-                'a jump': (r'\tb\.\w+ (\.L[\w.]+)', None), 'a word of data': WORD_OF_DATA},
-}
 
 
 def other_label(label, lines):
@@ -146,6 +129,29 @@ def other_label(label, lines):
     function = label.split('_')[0]
     others = sorted({line[:-1] for line in lines if line.startswith(f'{function}_') and line[:-1] != label})
     return others[0] if others else f'{label}+1'
+
+
+def place_from_first(label, _):
+    """The same address, from the first label of its section."""
+    section, place, tag = re.fullmatch(r'(\.L\d+_)([0-9a-f]+)(.*)', label).groups()
+    return f'{section}0{tag}+0x{place}'
+
+
+WORD_OF_DATA = r'\t\.quad (0x[0-9a-f]+)', other_number
+# A constant of 16 bytes: of the sections of data only the mergeable ones have labels within them.
+CONSTANT = r'(\.L\d+_[0-9a-f]*[1-9a-f]0[.\w]*)'
+WRONG = {
+    'x86-64': {'a constant': (r'\tmovabs \$(0x[0-9a-f]+),', other_number),
+               'a register': (r'\t\w+ .*%[xy]mm(\d)$', other_register),
+               'an offset': (r'\t\w+ (0x[0-9a-f]+)\(%r', other_number),
+               'a jump': (r'\tj\w+ (\.L[\w.]+)', other_label), 'a word of data': WORD_OF_DATA,
+               'a place in a mergeable section': (rf'\t\S+ {CONSTANT}\(%rip\)', place_from_first)},
+    'aarch64': {'a constant': (r'\tmovk? \w+, #(0x[0-9a-f]+)', other_number),
+                'a register': (r'\t\w+ v(\d)\.', other_register),
+                'an offset': (r'\tldp .*, #(\d+)\]', other_offset),
+                'a jump': (r'\tb\.\w+ (\.L[\w.]+)', other_label), 'a word of data': WORD_OF_DATA,
+                'a place in a mergeable section': (rf'\tldr q\d+, \[x\d+, #:lo12:{CONSTANT}\]', place_from_first)},
+}
 
 
 def wrong_texts(lines, target, count):
@@ -158,7 +164,7 @@ def wrong_texts(lines, target, count):
         want(places, f'the text has no {kind}')
         at = draw.choice(places)
         found = re.match(pattern, lines[at])
-        word = change(found[1]) if change else other_label(found[1], lines)
+        word = change(found[1], lines)
         line = lines[at][:found.start(1)] + word + lines[at][found.end(1):]
         section = next(line.split()[1].split(',')[0] for line in reversed(lines[:at]) if line.startswith('\t.section'))
         yield f'{kind}, line {at + 1}', section, [*lines[:at], line, *lines[at + 1:]]
@@ -248,10 +254,8 @@ def is_made_anew(text, made):
 
 def are_all_made_anew(library, target):
     """What else is made of the object that was proved, or of its module."""
-    made = [(os.path.join(library, 'out', 'asm', target), os.path.join(library, 'asm'))]
-    made += [('rust/out/lto', 'rust/lto')] if (library, target) == ('rust', 'x86-64') else []
-    files = [(os.path.join(anew, name), os.path.join(committed, name))
-             for anew, committed in made for name in sorted(os.listdir(os.path.join(TOP, anew)))]
+    made, committed = os.path.join(library, 'out', 'asm', target), os.path.join(library, 'asm')
+    files = [(os.path.join(made, name), os.path.join(committed, name)) for name in sorted(os.listdir(os.path.join(TOP, made)))]
     other = [committed for anew, committed in files
              if not filecmp.cmp(os.path.join(TOP, anew), os.path.join(TOP, committed), shallow=False)]
     want(files and not other, f'{", ".join(other)}: {library}/out has it anew')
@@ -262,16 +266,6 @@ def is_same(assembler, text, proved, room):
     has_sums(assembler, text, room)
     found = compare(proved, os.path.join(room, 'assembled.o'))
     want(not found, ' / '.join(line[:200] for line in found[:3]))
-
-
-def is_same_for_macos(text, proved, made, room):
-    """The text with the directives of macOS, which clang assembles wherever it runs."""
-    for_macos, out = text.replace('.s', '-macos.s'), os.path.join(room, 'macos.o')
-    with open(for_macos) as committed, open(os.path.join(made, os.path.basename(for_macos))) as anew:
-        want(committed.read() == anew.read(), f'{os.path.relpath(for_macos, TOP)} is another: {made} has it anew')
-    run(['clang', '--target=x86_64-apple-darwin', '-c', for_macos, '-o', out])
-    found = [fault for fault in macho.differences(Object(proved), macho.MachObject(out)) if fault]
-    want(not found, ' / '.join(found[:3]))
 
 
 def check_texts(report, library, target, sysroot=None):
@@ -294,9 +288,6 @@ def check_texts(report, library, target, sysroot=None):
             if name == WIDE:
                 report.attempt(f'{shown}: instructions of mnemonics.txt alone', other_instructions_are_noticed, text, room)
             check_frames(report, library, target, text, room)
-            if (library, target) == ('rust', 'x86-64') and name != WIDE and shutil.which('clang'):
-                report.attempt(f'{shown} with the directives of macOS', is_same_for_macos, text, proved,
-                               os.path.join(out, 'asm', target), room)
 
 
 def other_instructions_are_noticed(text, room):
@@ -332,20 +323,6 @@ def check_frames(report, library, target, text, room):
         report.attempt(f'{shown}: unwound at each instruction', unwinding.unwinds, assembler, text, room)
 
 
-def check_frames_elsewhere(report):
-    """The crate's texts of targets that the toolchain doesn't compile for."""
-    folder = os.path.join(TOP, 'rust', 'asm')
-    texts = {'riscv64': frames_of_text.of_riscv, 'aarch64-macos': frames_of_text.of_arm,
-             'aarch64-android': frames_of_text.of_arm, 'x86-64-windows': frames_of_text.of_windows,
-             'x86-64-v3-windows': frames_of_text.of_windows,
-             **{f'{name}-macos': frames_of_text.as_on_linux(os.path.join(folder, f'{name}.s'))
-                for name in SETS['rust', 'x86-64'] if name != WIDE}}
-    for name, read in texts.items():
-        path = os.path.join(folder, f'{name}.s')
-        report.attempt(f'rust/asm/{name}.s: the frames', frames_of_text.are_right, path, read)
-        report.attempt(f'rust/asm/{name}.s: wrong frames are noticed', frames_of_text.wrong_ones_are_noticed, path, read)
-
-
 def has_sums(assembler, text, room):
     out = os.path.join(room, 'assembled.o')
     assembler.assemble(text, out)
@@ -373,8 +350,6 @@ def main():
             words.error(f'{library} is neither c nor rust')
         report.attempt(f'{BUILDS[library]} --target {chosen.target}', is_built, library, chosen.target, chosen.of_ci)
         check_texts(report, library, chosen.target)
-        if (library, chosen.target) == ('rust', 'x86-64'):
-            check_frames_elsewhere(report)
     sys.exit(report.end())
 
 

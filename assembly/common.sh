@@ -41,14 +41,16 @@ prove_into() {
     [ -f "$file" ] || fail "rt made no $file: $3"
 }
 
-# write_text OBJECT FOLDER NAME TITLE [TAG]: gives the object's functions the text's names, and writes the text and its
-# sums to FOLDER/NAME.s and FOLDER/NAME.sums.
+# write_text OBJECT FOLDER NAME TITLE [TAG]: gives the object's functions the text's names, and writes the text to
+# FOLDER/NAME.s. If GNU as makes the object of it again, the sums of what it made go to FOLDER/NAME.sums.
 write_text() {
-    local object=$1 file=$2/$3 title=$4
+    local object=$1 file=$2/$3 title=$4 same=$assembly/same_bytes.py
     shift 4
     python3 -B "$assembly/names.py" "$object" "$@" || fail "the functions of $object got no names"
     python3 -B "$assembly/text.py" "$object" "$title" "$@" > "$file.s" || fail "$file.s was not written"
-    python3 -B "$assembly/same_bytes.py" --sums "$object" > "$file.sums" || fail "$file.sums was not written"
+    "${tools}as" "$file.s" -o "$room/text.o" || fail "$file.s was not assembled"
+    python3 -B "$same" "$object" "$room/text.o" >&2 || fail "$file.s is not the text of $object"
+    python3 -B "$same" --sums "$room/text.o" > "$file.sums" || fail "$file.sums was not written"
 }
 
 # settle MADE COMMITTED UPDATE: says which files that were made aren't those that are committed. Where UPDATE isn't

@@ -16,26 +16,43 @@ def number(data, at, is_signed=False):
             return (value - (1 << shift) if is_signed and byte & 64 else value), at
 
 
+# By the processor's number in ELF: the relocation of a distance, the stack pointer, and the register of the return address.
+PROCESSORS = {62: (2, 7, 16), 183: (261, 31, 30)}
+
+
 class Table:
-    """Frames of each function, which has a section of its own: pairs of a place and the frame from there on. A frame is how far
-    the stack pointer is below the CFA, and pairs of a register's number and its place below the CFA."""
+    """`functions` has the frames of each function, which is all of a section: pairs of a place and the frame from there on. A
+    frame is the distance from the stack pointer to the CFA, and pairs of a register's number and its place below the CFA."""
 
     def __init__(self, object_):
-        head = next(head for head in object_.heads if head.name == '.eh_frame')
-        self.data, self.heads, self.functions = object_.body(head), {}, {}
-        sections = {symbol.name: object_.heads[symbol.section].name for symbol in object_.symbols if symbol.section}
-        leads = {at: target.rpartition('+')[0] for at, _, target in object_.relocations_of(head)}
-        at = 0
+        self.heads, self.functions = {}, {}
+        self.distance, self.stack, self.returns = PROCESSORS[object_.machine]
+        tables = [head for head in object_.heads if head.name == '.eh_frame']
+        if [head.flags for head in tables] not in ([], [2]):
+            raise ValueError('.eh_frame is there twice, or is not a table to read')
+        for head in tables:
+            self.read(object_, head)
+
+    def read(self, object_, table):
+        self.data, at = object_.body(table), 0
+        leads = {place: target for place, *target in object_.relocations_of(table)}
+        sizes = {head.name: head.size for head in object_.heads}
+        places = {symbol.name: (object_.heads[symbol.section].name, symbol.value) for symbol in object_.symbols
+                  if symbol.section and symbol.info >> 4}
         while at < len(self.data):
             size, kind = struct.unpack_from('<II', self.data, at)
-            if not size:
-                break
             if kind:
-                where = leads[at + 8]
-                self.functions[sections.get(where, where)] = self.function(at, at + 4 - kind, at + 4 + size)
+                relocation, name, offset, add = leads.pop(at + 8)
+                section, offset = places.get(name, (name, offset))
+                length, = struct.unpack_from('<I', self.data, at + 12)
+                if (relocation, offset, add, length) != (self.distance, 0, 0, sizes[section]) or section in self.functions:
+                    raise ValueError(f'.eh_frame has at {at:#x} another place than a whole section')
+                self.functions[section] = self.function(at, at + 4 - kind, at + 4 + size)
             else:
                 self.heads[at] = self.head(at, at + 4 + size)
             at += 4 + size
+        if at != len(self.data) or leads:
+            raise ValueError('.eh_frame has more than functions')
 
     def head(self, at, end):
         """What the functions of one head have in common: the units of places, and the frame that a call leaves."""
@@ -43,15 +60,17 @@ class Table:
             raise ValueError(f'.eh_frame has a head of another kind at {at:#x}')
         code, at = number(self.data, at + 12)
         units, at = number(self.data, at, is_signed=True)
-        _, at = number(self.data, at)
-        size, at = number(self.data, at)
-        frame, _ = self.followed(at + size, end, code, units, (0, {}), {})
+        # The return address, how the places of functions are encoded, and the first directive.
+        if self.data[at:at + 4] != bytes((self.returns, 1, 0x1b, DEF_CFA)):
+            raise ValueError(f'.eh_frame has a head of another kind at {at:#x}')
+        frame, _ = self.followed(at + 3, end, code, units, (0, {}), {})
         return code, units, frame[-1][1]
 
     def function(self, at, head, end):
         code, units, entry = self.heads[head]
-        size, at = number(self.data, at + 16)
-        return self.followed(at + size, end, code, units, (entry[0], dict(entry[1])), dict(entry[1]))[0]
+        if self.data[at + 16]:
+            raise ValueError(f'.eh_frame has a function with data of its own at {at:#x}')
+        return self.followed(at + 17, end, code, units, (entry[0], dict(entry[1])), dict(entry[1]))[0]
 
     def followed(self, at, end, code, units, frame, entry):
         """The frames that a run of directives says, from the entry's on."""
@@ -71,7 +90,9 @@ class Table:
                 step, = struct.unpack_from(WIDE_ADVANCES[low], self.data, at)
                 place, at = place + step * code, at + struct.calcsize(WIDE_ADVANCES[low])
             elif low in (CFA_OFFSET, DEF_CFA):
-                _, at = number(self.data, at) if low == DEF_CFA else (0, at)
+                base, at = number(self.data, at) if low == DEF_CFA else (self.stack, at)
+                if base != self.stack:
+                    raise ValueError(f'.eh_frame has a frame that register {base} leads to')
                 depth, at = number(self.data, at)
             elif low == 0x05:
                 name, at = number(self.data, at)
@@ -84,6 +105,11 @@ class Table:
                 raise ValueError(f'.eh_frame has a directive {low:#x}, which is not read here')
         rows = [row for row in rows if row[0] != place] + [(place, (depth, dict(saved)))]
         return rows, at
+
+    def sorted_frames(self):
+        """Each function and its frames, in one order."""
+        return [(name, [(place, depth, sorted(saved.items())) for place, (depth, saved) in rows])
+                for name, rows in sorted(self.functions.items())]
 
     def at(self, section, place):
         return [frame for begin, frame in self.functions[section] if begin <= place][-1]

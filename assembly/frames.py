@@ -2,7 +2,7 @@
 
 A frame is how far the stack pointer lies below the CFA, which is where it was before the call, and where below the CFA the
 registers lie that the caller wants back. It is found by following the instructions and their jumps, since LLVM's own tables
-are wrong for 64-bit ARM and RISC-V. The code that is framed here moves the stack pointer by numbers alone. What else writes
+are wrong for 64-bit ARM. The code that is framed here moves the stack pointer by numbers alone. What else writes
 it is refused, as is a place that two ways reach with different frames, and a function that returns with a frame left.
 
 An unwinder, a debugger or a profiler rests on these directives; no value does."""
@@ -60,19 +60,6 @@ class X86(Processor):
         return depth
 
 
-class Windows(X86):
-    """x86-64 in Windows' convention, as clang writes it: six registers more are kept by their whole 16 bytes."""
-    numbers = {name: name for name in ('rbx', 'rbp', 'rdi', 'rsi', 'r12', 'r13', 'r14', 'r15',
-                                       *(f'xmm{n}' for n in range(6, 16)))}
-
-    def moved(self, text, depth, saved):
-        if found := re.fullmatch(r'v?mov(?:[au]ps|dq[au]) %(xmm\d+), (\d*)\(%rsp\)', text):
-            self.keep(saved, found[1], int(found[2] or '0') - depth)
-        elif found := re.fullmatch(r'v?mov(?:[au]ps|dq[au]) (\d*)\(%rsp\), %(xmm\d+)', text):
-            self.take_back(saved, found[2], int(found[1] or '0') - depth)
-        return super().moved(text, depth, saved)
-
-
 class Arm(Processor):
     entry = 0
     returns, ends = re.compile(r'ret'), re.compile(r'b |br |udf|brk')
@@ -97,24 +84,8 @@ class Arm(Processor):
         return depth
 
 
-class RiscV(Processor):
-    entry = 0
-    returns, ends, jumps = re.compile(r'ret'), re.compile(r'j |jr |tail |unimp'), re.compile(r'(b\w+|j|tail) ')
-    numbers = {'ra': 1, 's0': 8, 's1': 9, **{f's{n}': 16 + n for n in range(2, 12)}}
-
-    def moved(self, text, depth, saved):
-        if found := re.fullmatch(r'addi sp, sp, (-?\d+)', text):
-            return depth - int(found[1])
-        if found := re.fullmatch(r'(sd|ld) (\w+), (-?\d+)\(sp\)', text):
-            (self.keep if found[1] == 'sd' else self.take_back)(saved, found[2], int(found[3]) - depth)
-        elif re.match(r'(?!s[bhwd]|b|j|call|tail)\S+ sp\b', text):
-            raise ValueError(f'{text}: it moves the stack pointer')
-        return depth
-
-
-# By the machine's number in ELF, or by what clang calls it.
-X86_64, WINDOWS, ARM, RISCV = X86(), Windows(), Arm(), RiscV()
-BY_MACHINE = {62: X86_64, 183: ARM, 243: RISCV}
+# By the machine's number in ELF.
+BY_MACHINE = {62: X86(), 183: Arm()}
 
 
 def frames(processor, steps):

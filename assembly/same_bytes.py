@@ -1,38 +1,47 @@
 #!/usr/bin/env python3
-"""Says whether two objects are the same to the linker. This is what has to be believed of the assembly text:
+"""Compares objects as a linker sees them. To trust the assembly text, read this program and eh_frame.py:
 
     assembly/same_bytes.py PROVED OURS             compares an object with the one that was proved
     assembly/same_bytes.py --sums OBJECT           prints a sum for each part of an object
-    assembly/same_bytes.py --against SUMS OBJECT   compares an object with such sums of the one that was proved
+    assembly/same_bytes.py --against SUMS OBJECT   compares an object with such sums
 
-The parts of an object are its loaded sections and `names`.
+The parts of an object are its loaded sections, `names`, `notes` and `frames`.
 
-- Of a section its name, kind, flags, alignment, bytes and relocations count. A relocation counts by its place, its kind
-  and what it leads to: a global name, or a section and an offset in it.
-- `names` is the processor, the order of the sections, each global name with its place, size, kind, binding and
-  visibility, the names that are wanted from elsewhere, sections for the linker alone, and whether the stack may be
-  executed.
+- A section has a name, kind, flags, size, alignment, bytes and relocations. A relocation has a place, a kind and a target:
+  a global name and an addend, or a section and an offset in it. A linker moves the entries of a mergeable section before it
+  adds the addend, so there the offset of the symbol and the addend are compared separately.
+- `names` has the processor, the order of the sections, each global name with its place, size, kind, binding and visibility,
+  the undefined names, the sections that aren't loaded, and whether the stack is executable.
+- `notes` has the notes that are loaded, except the properties that list which instructions an object uses.
+- `frames` has the frame at each instruction of each function, as an unwinder reads it from .eh_frame.
 
-Local names, comments, an assembler's own notes and the frames of functions (.eh_frame) don't count: no code and no data
-depend on them, and check.py looks at frames. The last line is
-`same: ..`, or `differ: ..` with a line for each difference before it. The status is 0 where they are the same, 1 where
-they differ, and 2 where a file is no object."""
+What was proved has neither notes nor frames: text.py writes both. PROVED OURS doesn't compare them, --against does. Not compared
+at all: local names, empty sections, and the contents of sections that aren't loaded.
+
+The last line is `same: ..`, or `differ: ..` after a line for each difference. The status is 0 if they are the same, 1 if they
+differ, and 2 if a file is not an object that this program reads."""
 import hashlib
 import struct
 import sys
 from collections import namedtuple
+
+from eh_frame import Table
 
 Head = namedtuple('Head', 'name kind flags address offset size link info align entry')
 Symbol = namedtuple('Symbol', 'name info other section value size')
 Part = namedtuple('Part', 'head body relocations')
 
 NONE, SYMTAB, STRTAB, RELA, NOTE, NOBITS, REL = 0, 2, 3, 4, 7, 8, 9
-LOADED, EXECUTED = 2, 4
+LOADED, EXECUTED, MERGED = 2, 4, 0x10
+# Kinds of local symbols that stand for their address: none, data, function, section.
+PLAIN, SECTION = (0, 1, 2, 3), 3
 FRAMES = '.eh_frame'
 # What no linker makes code or data of: how LLVM was called, and which functions it may fold.
 WITHOUT_MEANING = ('.comment', '.llvm_addrsig', '.note.GNU-stack')
 # A call of a local name: LLVM writes the one kind, GNU as the other, and the linker makes the same bytes of both.
 X86_64, PC32, PLT32 = 62, 2, 4
+# The note of properties, and the properties that list what an object uses: neither linker nor loader acts on those.
+PROPERTIES, USED = (5, b'GNU\0'), range(0xc0010000, 0xc0018000)
 
 
 class Object:
@@ -47,7 +56,10 @@ class Object:
         size, count, names = struct.unpack_from('<HHH', self.data, 58)
         heads = [Head(*struct.unpack_from('<IIQQQQIIQQ', self.data, start + size * at)) for at in range(count)]
         self.heads = [head._replace(name=self.text(heads[names], head.name)) for head in heads]
-        self.symbols = [symbol for head in self.heads if head.kind == SYMTAB for symbol in self.symbols_of(head)]
+        tables = [head for head in self.heads if head.kind == SYMTAB]
+        if len(tables) > 1:
+            raise ValueError(f'{path} has two tables of symbols')
+        self.symbols = [symbol for head in tables for symbol in self.symbols_of(head)]
 
     def body(self, head):
         return b'' if head.kind == NOBITS else self.data[head.offset:head.offset + head.size]
@@ -64,12 +76,12 @@ class Object:
         """The heads of what a program loads, without notes and without the frames that an unwinder reads."""
         return [head for head in self.heads if head.flags & LOADED and head.size and head.kind != NOTE and head.name != FRAMES]
 
-    def place(self, symbol, add=0):
+    def place(self, symbol):
         """A section, and an offset in it."""
-        return f'{self.heads[symbol.section].name}{symbol.value + add:+#x}'
+        return f'{self.heads[symbol.section].name}{symbol.value:+#x}'
 
     def relocations_of(self, section):
-        """Each relocation of a section: its place, its kind, and what it leads to."""
+        """Each relocation of a section: its place, its kind, and its target: a name, an offset, and an addend."""
         found = []
         for head in self.heads:
             if head.kind in (RELA, REL) and self.heads[head.info] is section:
@@ -81,10 +93,15 @@ class Object:
     def relocation(self, offset, info, add):
         symbol, kind = self.symbols[info >> 32], info & 0xffffffff
         if is_global(symbol):
-            return offset, kind, f'{symbol.name}{add:+#x}'
+            return offset, kind, symbol.name, 0, add
         if self.machine == X86_64 and kind == PLT32:
             kind = PC32
-        return offset, kind, self.place(symbol, add)
+        section = self.heads[symbol.section]
+        name = section.name if symbol.info & 15 in PLAIN else f'{section.name} by a symbol of kind {symbol.info & 15}'
+        # The addend of a mergeable section itself is an offset in it.
+        if section.flags & MERGED and symbol.info & 15 != SECTION:
+            return offset, kind, name, symbol.value, add
+        return offset, kind, name, symbol.value + add, 0
 
     def parts(self):
         found = {}
@@ -95,6 +112,19 @@ class Object:
                                     self.relocations_of(head))
         return {**found, 'names': self.names(list(found))}
 
+    def added(self):
+        """The parts that the text adds to what was proved."""
+        return {'notes': Part((), b'', sorted(self.notes())),
+                'frames': Part((), b'', Table(self).sorted_frames())}
+
+    def notes(self):
+        """The notes that are loaded: the section's name and flags, the note's kind and name, and its content."""
+        for head in self.heads:
+            if head.kind == NOTE and head.flags & LOADED:
+                for key, content in notes_of(self.body(head), max(head.align, 4)):
+                    contents = properties_of(content) if key == PROPERTIES else [content]
+                    yield from ((head.name, head.flags, *key, content) for content in contents)
+
     def names(self, sections):
         defined = sorted((symbol.name, self.place(symbol), symbol.size, symbol.info, symbol.other)
                          for symbol in self.symbols if is_global(symbol) and symbol.section)
@@ -104,7 +134,7 @@ class Object:
         for_linker = [head.name for head in self.heads if not head.flags & LOADED
                       and head.kind not in (NONE, SYMTAB, STRTAB, RELA, REL) and head.name not in WITHOUT_MEANING]
         stack = [head.flags & EXECUTED for head in self.heads if head.name == '.note.GNU-stack']
-        return Part((self.machine, self.flags, sections), b'',
+        return Part((self.machine, self.flags, self.data[6:9], sections), b'',
                     [*defined, *wanted, *for_linker, f'the stack may be executed: {stack != [0]}'])
 
 
@@ -112,7 +142,28 @@ def is_global(symbol):
     return symbol.info >> 4 != 0
 
 
-def sums(parts):
+def notes_of(data, align):
+    """Each note: its kind and its name, and its content."""
+    at = 0
+    while at < len(data):
+        name, size, kind = struct.unpack_from('<III', data, at)
+        begin = at + 12 + (name + 3 & -4)
+        yield (kind, data[at + 12:at + 12 + name]), data[begin:begin + size]
+        at = begin + (size + align - 1 & -align)
+
+
+def properties_of(content):
+    """Each property of 64-bit ELF: its kind and its value."""
+    at = 0
+    while at < len(content):
+        kind, size = struct.unpack_from('<II', content, at)
+        if kind not in USED:
+            yield content[at:at + 8 + size]
+        at += 8 + (size + 7 & -8)
+
+
+def sums(object_):
+    parts = {**object_.parts(), **object_.added()}
     return {name: hashlib.sha256(repr(tuple(part)).encode()).hexdigest() for name, part in parts.items()}
 
 
@@ -150,12 +201,12 @@ def compare(proved, ours):
 
 def compare_sums(path, ours):
     """The lines for the sums of an object, and an object."""
-    return list(differences(read_sums(path), sums(Object(ours).parts()), lambda *_: 'other than what was proved'))
+    return list(differences(read_sums(path), sums(Object(ours)), lambda *_: 'other than what was proved'))
 
 
 def main(words):
     if len(words) == 2 and words[0] == '--sums':
-        for name, total in sums(Object(words[1]).parts()).items():
+        for name, total in sums(Object(words[1])).items():
             print(f'{total}  {name}')
         return 0
     if len(words) == 3 and words[0] == '--against':
@@ -175,6 +226,6 @@ def main(words):
 if __name__ == '__main__':
     try:
         sys.exit(main(sys.argv[1:]))
-    except (OSError, ValueError, IndexError, struct.error) as fault:
+    except (OSError, ValueError, LookupError, struct.error) as fault:
         print(f'same_bytes.py: {fault}', file=sys.stderr)
         sys.exit(2)

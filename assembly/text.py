@@ -130,7 +130,7 @@ class Text:
     def steps(self, section, rows):
         """The instructions of a section as frames are found of them."""
         processor = frames.BY_MACHINE[self.object.machine]
-        leaving = {at for at, _, _ in self.object.relocations_of(self.sections[section])}
+        leaving = {at for at, *_ in self.object.relocations_of(self.sections[section])}
         numbers, steps = {row.at: number for number, row in enumerate(rows)}, []
         for row in rows:
             target = re.search(r'\b([0-9a-f]+) <.*>$', row.text) if processor.jumps.match(row.text) else None
@@ -143,21 +143,24 @@ class Text:
         self.marks[section].add(at)
         return f'.L{self.numbers[section]}_{at:x}{self.tag}'
 
-    def target(self, where, offset):
-        """The name of a place: a local function, a label, or a global name."""
-        if where in self.sections:
-            function = self.functions.get((where, offset))
-            return function.name if function and not is_global(function) else self.label(where, offset)
-        name = where if where in self.globals() else self.processor.outside(where)
-        return name + (f'{offset:+#x}' if offset else '')
+    def target(self, where, offset, add):
+        """The name of a place: a local function, a label, or a global name. A place in a mergeable section is a label and what
+        is added to it, since a linker moves the label first."""
+        if where not in self.sections:
+            name = where if where in self.globals() else self.processor.outside(where)
+        elif self.sections[where].flags & MERGED:
+            name = self.label(where, offset)
+        else:
+            function = self.functions.get((where, offset + add))
+            return function.name if function and not is_global(function) else self.label(where, offset + add)
+        return name + (f'{add:+#x}' if add else '')
 
     def globals(self):
         return {symbol.name for symbol in self.object.symbols if is_global(symbol) and symbol.section}
 
     def written(self, section, rows):
         """The instructions as they are to be assembled. Without a text their bytes are to stand."""
-        hits = {at: re.fullmatch(r'(.*)([+-]0x[0-9a-f]+)', target).groups()
-                for at, _, target in self.object.relocations_of(self.sections[section])}
+        hits = {at: target for at, _, *target in self.object.relocations_of(self.sections[section])}
         return [row._replace(text=self.assembled(section, row, hits)) for row in rows]
 
     def assembled(self, section, row, hits):
@@ -165,9 +168,9 @@ class Text:
         if self.processor.filling.match(row.text):
             return None
         if hit is not None:
-            where, offset = hits[hit]
+            where, offset, add = hits[hit]
             end = self.processor.end_of_relocation(row, hit)
-            return self.processor.relocated(row.text, self.target(where, int(offset, 16) + end))
+            return self.processor.relocated(row.text, self.target(where, offset, add + end))
         jump = self.processor.leads.match(row.text) and re.search(r'\b([0-9a-f]+) <.*>$', row.text)
         if jump:
             end = int(jump[1], 16) - self.sections[section].address

@@ -14,14 +14,12 @@ four things are other than there. All but the first are no step of a computation
 - With --vectors each function has the feature simd128. The kit itself compiles for WebAssembly without."""
 import os
 import re
+import shutil
 import subprocess
 import sys
 
-sys.dont_write_bytecode = True
-sys.path.insert(0, os.path.dirname(os.path.abspath(__file__)))
-
-from retarget import clang_of_kit, text_of, words_of
-
+# Words of clang that name the toolchain's own target, where it lies, or what it reads and writes.
+OWN = ('--target=', '--sysroot=', '-march=', '-mcpu=', '-mllvm -no-x86-call-frame-opt', '-Werror', '-x ', '-o ', '-c')
 TARGET = 'wasm64-unknown-unknown'
 # The body that wasm-opt puts into its export, since an export into which clang does writes the stack's end back. It is compiled
 # for size, and so smaller than the loop of XXH64, which is to stay a call.
@@ -68,6 +66,23 @@ MERGE = re.compile(r'^define internal noundef i64 @"twox_plain::xxhash64::rounds
                    r'\(i64 noundef %a0, i64 noundef %a1\) .*\{\nstart:\n', re.M)
 # Hands the accumulator on, by an assembly of no instruction.
 HANDED_ON = '  %a1 = call i64 asm "", "=r,0"(i64 %from_loop)\n'
+
+
+def clang_of_kit():
+    kit = os.path.dirname(os.path.dirname(os.path.realpath(shutil.which('rt') or sys.exit('webassembly.py: no rt'))))
+    return os.path.join(kit, 'toolchain', 'bin', 'clang')
+
+
+def text_of(path):
+    with open(path) as file:
+        return file.read()
+
+
+def words_of(folder):
+    """The words by which clang compiled the module, but for those of its own target."""
+    words = re.sub(r'^(-mllvm|-Xclang|-x|-o)\n', r'\1 ', text_of(os.path.join(folder, 'words')), flags=re.M).splitlines()
+    kept = [word for word in words if not word.startswith(OWN) and not word.endswith(('.bc', '.ll'))]
+    return [part for word in kept for part in word.split(' ')]
 
 
 def stop(why):

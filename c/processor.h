@@ -22,12 +22,12 @@ struct features {
     unsigned leaf_1, leaf_7, extended, kept;
 };
 
-static inline int has_all(unsigned word, unsigned bits)
+static __inline__ int has_all(unsigned word, unsigned bits)
 {
     return (word & bits) == bits;
 }
 
-static inline struct features features_here(void)
+static __inline__ struct features features_here(void)
 {
     struct features found = { 0, 0, 0, 0 };
     unsigned a, b, c, d;
@@ -38,17 +38,17 @@ static inline struct features features_here(void)
     return found;
 }
 
-static inline int has_avx2(struct features here)
+static __inline__ int has_avx2(struct features here)
 {
     return has_all(here.leaf_7, LEAF_7_AVX2) && has_all(here.kept, KEEPS_AVX);
 }
 
-static inline int has_avx512(struct features here)
+static __inline__ int has_avx512(struct features here)
 {
     return has_avx2(here) && has_all(here.leaf_7, LEAF_7_AVX512F) && has_all(here.kept, KEEPS_AVX512);
 }
 
-static inline int has_v3(struct features here)
+static __inline__ int has_v3(struct features here)
 {
     return has_avx2(here) && has_all(here.leaf_1, LEAF_1_V3) && has_all(here.leaf_7, LEAF_7_BMI)
         && has_all(here.extended, EXTENDED_LZCNT);

@@ -3,16 +3,21 @@
 import { lineOf } from "./lines.js";
 import { NAMES, copy, copyOf, keyInWords, sizeInWords } from "./words.js";
 
+const OF_ANOTHER_KEY = "Hashed with another seed or secret. Hash again to use this one.";
+
 /** The element is made when it is first shown: of thousands of files most are not. */
 export class Card {
   #item;
+  #digests;
+  #keyId;
   #words;
   #verdicts = [];
   #judged = "";
 
   /**
    * `list` is asked to `start` and to `stop` a card, is told by `changed` what may matter to others, and says by
-   * `shownKinds(card)` which digests are shown. `name` is the file's path as far as the page knows it.
+   * `shownKinds(card)` which digests are shown and by `keyId` which seed and secret the fields hold. `name` is the file's
+   * path as far as the page knows it.
    */
   constructor(list, name, blob) {
     this.list = list;
@@ -38,6 +43,7 @@ export class Card {
     this.#part(".name").textContent = this.name;
     this.#part("progress").setAttribute("aria-label", `Progress of ${this.name}`);
     this.#part(".remove").setAttribute("aria-label", `Remove ${this.name}`);
+    this.#part(".more").setAttribute("aria-label", `All four digests of ${this.name}`);
     this.#part(".act").addEventListener("click", () => this.act());
     this.#part(".more").addEventListener("click", () => this.open(!this.isOpen));
     this.#part(".remove").addEventListener("click", () => this.list.remove(this));
@@ -60,6 +66,21 @@ export class Card {
     return this.state === "waiting" || this.state === "running";
   }
 
+  /** Whether the fields hold another seed or secret than the one that it was started with. */
+  get isStale() {
+    return this.#keyId !== this.list.keyId;
+  }
+
+  /** The digests under the seed and secret that the fields hold, if there are any. */
+  get digests() {
+    return this.state === "done" && !this.isStale ? this.#digests : undefined;
+  }
+
+  /** The fields hold another seed or secret now. */
+  keyChanged() {
+    if (this.#item && this.state === "done") this.#draw();
+  }
+
   wait() {
     this.state = "waiting";
     this.show("Waiting");
@@ -70,6 +91,7 @@ export class Card {
     this.state = "running";
     this.started = performance.now();
     this.used = keyInWords(key.seed, key.secret);
+    this.#keyId = key.id;
     this.job = this.list.start(this, key);
     this.show(sizeInWords(this.size));
   }
@@ -86,7 +108,7 @@ export class Card {
   }
 
   finish(digests, milliseconds) {
-    this.digests = digests;
+    this.#digests = digests;
     const speed = milliseconds >= 1 && this.size > 1e6 ? `, ${sizeInWords(this.size / milliseconds * 1000)}/s` : "";
     this.end("done", `${sizeInWords(this.size)}${speed}${this.used}`);
   }
@@ -99,7 +121,7 @@ export class Card {
   }
 
   show(words) {
-    if (this.state !== "done") this.digests = undefined;
+    if (this.state !== "done") this.#digests = undefined;
     this.#words = words;
     if (this.#item) this.#draw();
     this.list.changed();
@@ -150,7 +172,7 @@ export class Card {
   }
 
   #drawButton() {
-    const word = this.isBusy() ? "Stop" : this.state === "done" ? "" : "Start again";
+    const word = this.isBusy() ? "Stop" : this.state !== "done" ? "Start again" : this.isStale ? "Hash again" : "";
     this.#part(".act").hidden = !word;
     this.#part(".act").textContent = word;
     this.#part(".act").setAttribute("aria-label", `${word}: ${this.name}`);
@@ -158,7 +180,7 @@ export class Card {
 
   tell(words) {
     this.#words = words;
-    if (this.#item) this.#part(".state").textContent = words;
+    if (this.#item) this.#part(".state").textContent = this.state === "done" && this.isStale ? OF_ANOTHER_KEY : words;
   }
 
   /** Shows how it compares: each verdict says whether it is the same, and in words what. */

@@ -20,18 +20,20 @@ export function isExpected(digests) {
 export function compareWithField(cards) {
   const wanted = readExpectedField();
   const done = wanted ? cards.filter((card) => card.digests) : [];
+  const isStale = cards.some((card) => card.state === "done" && card.isStale);
   const verdicts = new Map(done.map((card) => [card, verdictOf(wanted, card, "")]));
   const same = done.filter((card) => verdicts.get(card).isSame);
-  $("verdict").textContent = wanted ? fieldInWords(wanted, done, same, cards.length) : "";
+  $("verdict").textContent = wanted ? fieldInWords(wanted, done, same, cards.length, isStale) : "";
   $("verdict").className = same.length ? "same" : done.length ? "different" : "quiet";
   return verdicts;
 }
 
-function fieldInWords(wanted, done, same, all) {
+function fieldInWords(wanted, done, same, all, isStale) {
   if (all === 0) return "There is nothing to compare it with yet.";
+  if (done.length === 0 && isStale) return "Hash again to compare it: the digests are of another seed or secret.";
   if (done.length === 0) return "There is no digest to compare it with yet.";
   const left = done.length < all ? ` ${inThousands(all - done.length)} more have no digest.` : "";
-  if (same.length === 0) return `Different: ${done.length === 1 ? `no digest of ${done[0].name}` : `none of the ${inThousands(done.length)}`} is this one.${left}${otherInWords(wanted)}`;
+  if (same.length === 0) return `Different${done[0].used}: ${done.length === 1 ? `no digest of ${done[0].name}` : `none of the ${inThousands(done.length)}`} is this one.${left}${otherInWords(wanted)}`;
   const others = done.length > same.length ? ` Different from ${counted(done.length - same.length, "other")}.` : "";
   return `Same: ${NAMES[sameKind(wanted, same[0].digests)]} of ${same.map(({ name }) => name).join(", ")}.${others}${left}`;
 }
@@ -42,14 +44,17 @@ function otherInWords({ digits, mayBe }) {
 
 function verdictOf(wanted, card, where) {
   const kind = sameKind(wanted, card.digests);
-  return kind ? { isSame: true, words: `Same${where}: ${NAMES[kind]}` } : { isSame: false, words: `Different${where || " from the expected digest"}` };
+  return kind ? { isSame: true, words: `Same${where}: ${NAMES[kind]}` } : { isSame: false, words: `Different${where || " from the expected digest"}${card.used}` };
 }
 
 /** What a row of a checksum file says, by its card's state. */
-const WITHOUT_DIGEST = { failed: "can't be read", stopped: "stopped", waiting: "waiting", running: "waiting" };
+const WITHOUT_DIGEST = { failed: "can't be read", stopped: "stopped", waiting: "waiting", running: "waiting", done: "hash again" };
+
+/** Words of rows that say nothing of the file yet. */
+const OPEN = ["waiting", "hash again"];
 
 /** The order in which the kinds of rows are counted. */
-const COUNTED = ["same", "different", "can't be read", "not here", "stopped", "waiting"];
+const COUNTED = ["same", "different", "can't be read", "not here", "stopped", "hash again", "waiting"];
 
 /** From how many lines on those that aren't the same can be shown alone. */
 const FILTERED_FROM = 20;
@@ -81,7 +86,7 @@ class Line {
   #draw() {
     const place = this.#item.querySelector(".word");
     place.textContent = this.word;
-    place.className = `word ${this.word === "same" ? "same" : this.word === "waiting" ? "quiet" : "different"}`;
+    place.className = `word ${this.word === "same" ? "same" : OPEN.includes(this.word) ? "quiet" : "different"}`;
   }
 }
 
@@ -119,12 +124,13 @@ export class Checklist {
     matched(this.entries, cards, this.name).forEach((card, i) => {
       const verdict = card?.digests && verdictOf(this.entries[i], card, ` as in ${this.name}`);
       const word = verdict ? (verdict.isSame ? "same" : "different") : card ? WITHOUT_DIGEST[card.state] : "not here";
-      if (verdict) verdicts.set(card, verdict.isSame ? verdict : { ...verdict, words: `Different from ${this.name}` });
+      if (verdict) verdicts.set(card, verdict.isSame ? verdict : { ...verdict, words: `Different from ${this.name}${card.used}` });
       counts[word] = (counts[word] ?? 0) + 1;
       this.lines[i].show(word);
     });
     this.showRows();
     this.showCounts(counts);
+    this.showKey([...verdicts].find(([, { isSame }]) => !isSame)?.[0].used ?? "");
     return verdicts;
   }
 
@@ -134,12 +140,18 @@ export class Checklist {
     this.rows.set(areOthersLeftOut ? this.lines.filter(({ word }) => word !== "same") : this.lines);
   }
 
+  /** Says which seed and secret its files were hashed with: the lines of the command have none. */
+  showKey(used) {
+    const words = used && `Hashed ${used.slice(2)}. xxhsum has no seed and no secret: to verify its lines, empty both fields and hash again.`;
+    if (this.part(".keyed").textContent !== words) this.part(".keyed").textContent = words;
+  }
+
   showCounts(counts) {
     const words = COUNTED.filter((word) => counts[word]).map((word) => `${inThousands(counts[word])} ${word}`);
     if (this.others) words.push(`${counted(this.others, "line")} not understood`);
     const place = this.part(".counts");
     const isGood = counts.same === this.entries.length && !this.others;
-    place.className = `counts ${isGood ? "same" : counts.waiting ? "quiet" : "different"}`;
+    place.className = `counts ${isGood ? "same" : OPEN.some((word) => counts[word]) ? "quiet" : "different"}`;
     const text = `${counted(this.entries.length + this.others, "line")}: ${words.join(", ")}.`;
     if (place.textContent !== text) place.textContent = text;
     this.part(".hint").hidden = !counts["not here"];

@@ -48,10 +48,14 @@ export function readField(field, read) {
   return { value, error };
 }
 
-/** The seed and the secret; `wrong` names the fields that are wrong, and is empty where none is. */
+/**
+ * The seed and the secret. `wrong` names the fields that are wrong, and is empty where none is. `id` is one text for each
+ * seed and secret, and undefined where a field is wrong.
+ */
 export function readKey() {
   const seed = readField("seed", readSeed);
   const secret = readField("secret", readSecret);
   const wrong = [seed.error && "the seed", secret.error && "the secret"].filter(Boolean).join(" and ");
-  return { seed: seed.value, secret: secret.value, wrong };
+  const id = wrong ? undefined : `${seed.value ?? ""} ${secret.value ?? ""}`;
+  return { seed: seed.value, secret: secret.value, wrong, id };
 }

@@ -28,6 +28,14 @@ export const ENDINGS = { xxh32: "xxh32", xxh64: "xxh64", xxh3_64: "xxh3", xxh3_1
 const BEGINNING = /^\uFEFF?(#|\s|\\?(XXH(32|64|128|3)(_LE)? \(|(XXH3_)?[0-9a-f]{8}))/i;
 export const BEGINNING_BYTES = 16;
 
+/** A longer line says nothing: no file has such a name, and the command refuses it. In bytes of UTF-8. */
+const LONGEST_LINE = 32767;
+
+function isTooLong(line) {
+  if (line.length > LONGEST_LINE) return true;
+  return line.length * 3 > LONGEST_LINE && new TextEncoder().encode(line).length > LONGEST_LINE;
+}
+
 /** Whether a line of a checksum file is a comment, which says nothing and isn't meant to. */
 export function isComment(line) {
   return line.startsWith("#");
@@ -38,7 +46,7 @@ export function isComment(line) {
  * carriage return at its end is no part of it, since lists from Windows have one.
  */
 export function readLine(line) {
-  if (isComment(line)) return null;
+  if (isComment(line) || isTooLong(line)) return null;
   const text = line.replace(/\r$/, "").split("\0", 1)[0];
   const isEscaped = /^[ \t]*\\/.test(text);
   const shown = readText(isEscaped ? text.slice(1) : text);

@@ -1,10 +1,14 @@
 // SPDX-License-Identifier: MIT
 /** twox_hash.js for Node, which reads the WebAssembly module from its file, and a hash for Node's streams. */
 import { readFile } from "node:fs/promises";
+import { pathToFileURL } from "node:url";
 import { load as loadFrom } from "./twox_hash.js";
 
 export * from "./twox_hash.js";
 export { Hash, createHash } from "./node_hash.js";
+
+/** Where this file is, or the bundle that it is part of: as CommonJS that has no `import.meta.url`. */
+const here = import.meta.url ?? pathToFileURL(__filename).href;
 
 /** As `load` of twox_hash.js, and a `file:` address is read. */
 export function load(source = besideThisFile) {
@@ -12,12 +16,12 @@ export function load(source = besideThisFile) {
 }
 
 function besideThisFile(hasVectors) {
-  return new URL(hasVectors ? "twox_hash_simd.wasm" : "twox_hash.wasm", import.meta.url);
+  return new URL(hasVectors ? "twox_hash_simd.wasm" : "twox_hash.wasm", here);
 }
 
 async function read(source, hasVectors) {
   if (typeof source === "function") return read(await source(hasVectors), hasVectors);
   if (typeof source !== "string" && !(source instanceof URL)) return source;
-  const url = new URL(source, import.meta.url);
+  const url = new URL(source, here);
   return url.protocol === "file:" ? readFile(url) : url;
 }

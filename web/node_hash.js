@@ -11,7 +11,9 @@ export class Hash extends Transform {
   #stream;
   #value; // of a stream that was piped into it and has ended
 
+  /** For `createHash` and `copy`. */
   constructor(stream) {
+    if (!(stream instanceof Stream)) throw new TwoxHashError("kind", "A Hash is made by createHash, and not by new.");
     super();
     this.#stream = stream;
   }

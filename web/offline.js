@@ -12,16 +12,21 @@ async function keepAll() {
 }
 
 async function answer(request) {
-  const kept = await caches.open(KEPT);
+  let fresh;
   try {
-    const fresh = await fetch(request);
-    if (fresh.ok && await kept.match(request)) await kept.put(request, fresh.clone());
-    return fresh;
+    fresh = await fetch(request);
   } catch (error) {
-    const older = await kept.match(request);
+    const older = await (await caches.open(KEPT)).match(request);
     if (older) return older;
     throw error;
   }
+  if (fresh.ok) await renew(request, fresh.clone()).catch(() => {}); // without room the older one stays
+  return fresh;
+}
+
+async function renew(request, fresh) {
+  const kept = await caches.open(KEPT);
+  if (await kept.match(request)) await kept.put(request, fresh);
 }
 
 addEventListener("install", (event) => event.waitUntil(keepAll().then(() => skipWaiting())));

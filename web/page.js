@@ -6,7 +6,7 @@ import { filesOfDrop, filesOfInput } from "./gather.js";
 import { readKey } from "./key.js";
 import { BEGINNING_BYTES, ENDINGS, mayBeList } from "./lines.js";
 import { Rows } from "./rows.js";
-import { $, NAMES, copy, counted, inThousands, say, sizeInWords } from "./words.js";
+import { $, NAMES, copy, counted, inThousands, keyInWords, say, sizeInWords } from "./words.js";
 
 const MILLISECONDS_AFTER_TYPING = 120;
 const MILLISECONDS_BEFORE_COMPARING = 30;
@@ -75,6 +75,7 @@ let foundDigest = "";
 /** What a card asks of the page. */
 const list = {
   isCompact: false,
+  keyId: undefined, // of the seed and secret in the fields
 
   start(card, { seed, secret }) {
     const job = ++jobs;
@@ -358,7 +359,7 @@ const ANSWERS = {
   unsupported: ({ message }) => showUnsupported(message),
   progress: ({ done }, card) => card.progress(done),
   done: ({ digests, milliseconds }, card) => {
-    if (card !== text && isExpected(digests)) stopSearch();
+    if (card !== text && !card.isStale && isExpected(digests)) stopSearch();
     card.finish(digests, milliseconds);
     if (!list.isCompact) say(`${card.name}: done`);
   },
@@ -409,13 +410,25 @@ $("save").addEventListener("click", save);
 $("stop-all").addEventListener("click", stopAll);
 $("expected").addEventListener("input", compare);
 
+/** Notes which seed and secret the fields hold. Digests of others are none to compare with: their cards say so. */
+function takeKey() {
+  const key = readKey();
+  const used = keyInWords(key.seed, key.secret);
+  $("key-used").textContent = used && ` (${used.slice(2)})`;
+  if (key.id === list.keyId) return;
+  list.keyId = key.id;
+  for (const card of files) card.keyChanged();
+  list.changed();
+}
+
 let typing;
 for (const field of [$("text"), $("seed"), $("secret"), ...document.querySelectorAll("[name=form]")]) {
   field.addEventListener("input", () => {
     clearTimeout(typing);
-    typing = setTimeout(() => { hashText(); list.startNext(); }, MILLISECONDS_AFTER_TYPING);
+    typing = setTimeout(() => { takeKey(); hashText(); list.startNext(); }, MILLISECONDS_AFTER_TYPING);
   });
 }
+takeKey(); // a browser may keep what the fields held
 
 addEventListener("dragover", (event) => {
   event.preventDefault();

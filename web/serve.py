@@ -15,6 +15,11 @@ PUBLIC = ("/web/", "/docs/", "/crates/", "/README.md", "/CALLING.md", "/CONTRIBU
           "/oracle/vectors.txt")
 
 
+def is_public(path):
+    """Whether a whole path is one of `PUBLIC`, or lies below one that ends with a slash."""
+    return any(path + "/" == TOP + it or path.startswith(TOP + it) if it.endswith("/") else path == TOP + it for it in PUBLIC)
+
+
 class Handler(http.server.SimpleHTTPRequestHandler):
     """The files of `PUBLIC`, with sources and pages as text."""
 
@@ -31,7 +36,7 @@ class Handler(http.server.SimpleHTTPRequestHandler):
             self.send_header("Location", "/web/")
             self.end_headers()
             return None
-        if not os.path.realpath(self.translate_path(self.path)).startswith(tuple(TOP + it.rstrip("/") for it in PUBLIC)):
+        if not is_public(os.path.realpath(self.translate_path(self.path))):
             self.send_error(404)
             return None
         return super().send_head()

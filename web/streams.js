@@ -59,11 +59,12 @@ export async function hashBlob(kind, blob, { progress, signal, ...key } = {}) {
  * has several, as on another thread; left out, this thread does.
  */
 export async function takeBlob(streams, blob, { progress, signal, size = blob.size, read = readHere } = {}) {
+  const all = [...streams]; // once, since an iterable may have them only once
   let done = 0;
   signal?.throwIfAborted();
   for await (const piece of piecesOf(blob, size, size > PIECE_BYTES ? read : readHere)) {
     signal?.throwIfAborted();
-    updateAll(streams, piece);
+    updateAll(all, piece);
     done += piece.byteLength;
     progress?.(done, size);
   }

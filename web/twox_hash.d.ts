@@ -16,7 +16,7 @@ export type Bytes = ArrayBuffer | SharedArrayBuffer | ArrayBufferView;
 /** What is hashed: bytes, or text, which is taken as UTF-8. */
 export type Input = string | Bytes;
 
-/** A whole number from 0 to 2^32 - 1 for XXH32, and to 2^64 - 1 for the others. */
+/** A whole number from 0 to 2^32 - 1 for XXH32, and to 2^64 - 1 for the others: from 2^53 on a bigint. */
 export type Seed = number | bigint;
 
 /** What a hash answers: of 32 bits a number, and of more a bigint. */
@@ -129,5 +129,5 @@ export class Stream<K extends Kind = Kind> {
   free(): void;
 }
 
-/** Has several streams take the same piece, which is carried to the module once. */
+/** Has several streams take the same piece, which is carried to the module once. If one of them was freed, none takes it. */
 export function updateAll(streams: Iterable<Stream>, piece: Input): void;

@@ -358,9 +358,11 @@ function wordOr(value, otherwise) {
 /** The seed as a BigInt of the hash's range. */
 function asSeed(seed, bits) {
   if (seed === 0 || seed === 0n) return 0n;
-  const isWhole = typeof seed === "bigint" || Number.isSafeInteger(seed);
-  if (!isWhole) {
+  if (typeof seed !== "bigint" && !Number.isInteger(seed)) {
     throw new TwoxHashError("seed", `The seed must be a BigInt or a whole number, and not ${shown(seed)}.`);
+  }
+  if (seed > Number.MAX_SAFE_INTEGER && typeof seed === "number") {
+    throw new TwoxHashError("seed", `The seed ${seed} may be a rounded number: one of 2^53 or more must be a BigInt.`);
   }
   const value = BigInt(seed);
   if (value < 0n || value >> BigInt(bits)) {
@@ -423,7 +425,7 @@ function refuse(code) {
  */
 export function toHex(value, kind) {
   const bits = VALUE_BITS[asKind(kind)];
-  if (typeof value !== "bigint" && !(bits === 32 && Number.isSafeInteger(value))) {
+  if (typeof value !== "bigint" && !(bits === 32 && Number.isInteger(value))) {
     const wanted = bits === 32 ? "a whole number" : "a BigInt";
     throw new TwoxHashError("value", `The value must be ${wanted}, and not ${shown(value)}.`);
   }
@@ -494,8 +496,8 @@ export function xxh3_128(input, options = {}) {
 
 function hash(kind, given, options) {
   const memory = room();
+  const key = asKey(kind, options); // first, since a getter of the options may change the input
   const input = asInput(given);
-  const key = asKey(kind, options);
   const whole = lengthOf(input);
   if (whole > CHUNK_BYTES) return hashInPieces(kind, input, options);
   const { end, length } = memory.putPiece(input, whole, 0);
@@ -542,6 +544,9 @@ function oneshotWithSecret(memory, kind, seed, secret, length) {
 /** Has a stream take bytes that lie in the module's memory; no method, so that callers don't. */
 let updateFromMemory;
 
+/** Refuses what is no stream, and a stream that was freed. */
+let refuseUnlessOpen;
+
 /** Bytes or text that come in pieces. `update` takes a piece, and `digest` answers the hash of all so far. */
 export class Stream {
   #kind;
@@ -554,6 +559,10 @@ export class Stream {
 
   static {
     updateFromMemory = (stream, start, length) => stream.#updateFrom(start, length);
+    refuseUnlessOpen = (stream) => {
+      if (Object(stream) !== stream || !(#places in stream)) throw new TwoxHashError("input", `A Stream is needed, and not ${nameOf(stream)}.`);
+      if (stream.#places === null) throw new TwoxHashError("freed", "The stream was freed.");
+    };
   }
 
   /**
@@ -585,7 +594,7 @@ export class Stream {
    * @returns {this}
    */
   update(piece) {
-    updateAll([this], piece);
+    takePiece([this], piece);
     return this;
   }
 
@@ -751,20 +760,29 @@ export class Stream {
 }
 
 /**
- * Has several streams take the same piece, which is carried to the module once.
+ * Has several streams take the same piece, which is carried to the module once. If one of them was freed, none takes it.
  *
  * @param {Iterable<Stream>} streams
  * @param {string | BufferSource} piece
  */
 export function updateAll(streams, piece) {
+  if (typeof streams?.[Symbol.iterator] !== "function") {
+    throw new TwoxHashError("input", `The streams must be iterable, and not ${nameOf(streams)}.`);
+  }
+  const all = [...streams];
+  all.forEach(refuseUnlessOpen);
+  takePiece(all, piece);
+}
+
+/** Has streams take a piece. No code of a caller's runs meanwhile, so that the piece keeps its length. */
+function takePiece(streams, piece) {
   const memory = room();
   const input = asInput(piece);
   const whole = lengthOf(input);
-  const all = [...streams];
   let at = 0;
   do {
     const { end, length } = memory.putPiece(input, whole, at);
-    for (const stream of all) updateFromMemory(stream, memory.chunk, length);
+    for (const stream of streams) updateFromMemory(stream, memory.chunk, length);
     at = end;
   } while (at < whole);
 }

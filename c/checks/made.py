@@ -22,6 +22,25 @@ int main()
     return XXH32_digest(&first) != XXH32("", 0, 7) || XXH64_digest(&second) != XXH64("", 0, 7);
 }
 '''
+# Both libraries have other results for it: the C library reads the secret as it is at the digest.
+CHANGES_ITS_SECRET = '''#include <stdio.h>
+#include <string.h>
+#include <xxhash.h>
+LINE
+int main(void)
+{
+    unsigned char secret[XXH3_SECRET_SIZE_MIN];
+    XXH3_state_t *state = XXH3_createState();
+    XXH3_generateSecret(secret, sizeof secret, "a key", 5);
+    XXH3_64bits_reset_withSecret(state, secret, sizeof secret);
+    XXH3_64bits_update(state, "some bytes", 10);
+    memset(secret, 0, sizeof secret);
+    printf("%016llx", (unsigned long long)XXH3_64bits_digest(state));
+    return 0;
+}
+'''
+# The digest that docs/C.md prints for these bytes and this key.
+KEYED = '17863e6937e92ba0'
 ASKS = '#include <xxh_x86dispatch.h>\nint main(void) { return XXH_featureTest(); }\n'
 
 
@@ -66,7 +85,27 @@ def features_are_known(built):
     return f'{here} here, and on {len(others)} others'
 
 
+def demands_this_library(built, compiler, *flags):
+    """With TWOX_HASH_REQUIRED a program stops at its start on the C library. Without it, it prints another digest there."""
+    found = []
+    for line in ('', 'TWOX_HASH_REQUIRED;'):
+        path = os.path.join(built.room, f'changes-its-secret-{len(line)}')
+        must([compiler, '-x', 'c++' if '++' in compiler else 'c', '-', '-I', built.include, '-pedantic', '-Wall', '-Wextra', '-Werror',
+              *flags, '-x', 'none', built.plain, '-o', path], input=CHANGES_ITS_SECRET.replace('LINE', line))
+        for folder in (built.folder, os.path.dirname(THEIRS)):
+            done = subprocess.run([path], stdout=subprocess.PIPE, stderr=subprocess.PIPE, text=True,
+                                  env={**os.environ, 'LD_LIBRARY_PATH': folder})
+            found.append((done.returncode == 0, done.stdout, 'twox_hash_library' in done.stderr))
+    (_, ours, _), (_, theirs, _), with_ours, with_theirs = found
+    want(ours == KEYED and theirs not in ('', KEYED), f'{ours} on ours, {theirs} on the other')
+    want((with_ours, with_theirs) == ((True, KEYED, False), (False, '', True)), f'with the line: {with_ours}, {with_theirs}')
+    return f'without it {theirs}'
+
+
 def check_all(report, built, paths):
+    for words in (['gcc'], ['gcc', '-std=c89', '-Wno-long-long'], ['gcc', '-no-pie'], ['clang'], ['g++'],
+                  ['gcc', '-O2', '-ffunction-sections', '-fdata-sections', '-Wl,--gc-sections']):
+        report.attempt(f'TWOX_HASH_REQUIRED by {" ".join(words)}', demands_this_library, built, *words)
     headers = {'theirs': their_header(built.room), 'ours': built.include}
     for compiler in ('gcc', 'clang'):
         for name, folder in headers.items():

@@ -1,11 +1,13 @@
 """What c/suits says of programs: of Debian's, and of some that are made here."""
 import os
+import re
 import shutil
 import subprocess
 
+import on_debian
 from report import tail, want
 from library import C
-from tools import must
+from tools import TOP, must, path_without
 
 HEADER = '/usr/include/xxhash.h'
 STATES = '''#define XXH_STATIC_LINKING_ONLY
@@ -31,20 +33,20 @@ LISTED = {'/usr/bin/gdb': 'unknown', '/usr/sbin/lighttpd': 'unknown', '/usr/bin/
 STATUS = {'yes': 0, 'no': 1, 'unknown': 3}
 # What dpkg-query answers in a room where rsync is of some release.
 DPKG = '''#!/bin/sh
-case $1 in -S) case $2 in */rsync) echo "rsync: $2" ;; *) exec /usr/bin/dpkg-query "$@" ;; esac ;;
+case $1 in -S) case $2 in *'*'*) echo "rsync: /usr/bin/rsync" ;; */rsync) echo "rsync: $2" ;; *) exec /usr/bin/dpkg-query "$@" ;; esac ;;
 *) case $4 in rsync) echo RELEASE ;; *) exec /usr/bin/dpkg-query "$@" ;; esac ;; esac
 '''
 
 
-def said_of(path, **variables):
+def said_of(path, folder='/', **variables):
     done = subprocess.run([os.path.join(C, 'suits'), path], stdout=subprocess.PIPE, stderr=subprocess.STDOUT, text=True,
-                          env={**os.environ, **variables})
+                          cwd=folder, env={**os.environ, **variables})
     return done.returncode, done.stdout
 
 
-def verdict_is(words, path, of=None, **variables):
+def verdict_is(words, path, of=None, **more):
     """The verdict on a program, whose line is of the program itself or of a library."""
-    status, out = said_of(path, **variables)
+    status, out = said_of(path, **more)
     want(f'{of or path}: {words}: ' in out and status == STATUS[words],
          f'{path}: not "{words}" with status {STATUS[words]}: {tail(out)}, {status}')
 
@@ -69,16 +71,18 @@ class Programs:
         text = STATES.replace('KINDbits', kind + bits).replace('KIND', kind).replace('RESET', reset)
         return self.compiled(name or f'states of {kind}{bits}', text, '-lxxhash')
 
-    def with_library(self, name, folder):
-        """A program that names a library by its path, which has a blank, and so gets no arrow in ldd's line. It is the
-        library that has states of XXH3."""
-        os.makedirs(os.path.join(self.room, folder))
-        library = os.path.join(self.room, folder, 'lib inner.so')
+    def library(self, path):
+        """A library that has states of XXH3."""
+        path = os.path.join(self.room, path)
+        os.makedirs(os.path.dirname(path))
         text = STATES.replace('KINDbits', 'XXH3_64bits').replace('KIND', 'XXH3').replace('int main', 'int inner')
-        with open(library + '.c', 'w') as file:
+        with open(path + '.c', 'w') as file:
             file.write(text.replace('RESET', 'XXH3_64bits_reset(&state)'))
-        must(['gcc', '-shared', '-fPIC', library + '.c', '-I', self.headers, '-lxxhash', '-o', library])
-        return self.compiled(name, 'int inner(void);\nint main(void) { return inner(); }\n', library), library
+        must(['gcc', '-shared', '-fPIC', path + '.c', '-I', self.headers, '-lxxhash', '-o', path])
+        return path
+
+    def of_library(self, name, *words):
+        return self.compiled(name, 'int inner(void);\nint main(void) { return inner(); }\n', *words)
 
 
 def own_states(room):
@@ -88,24 +92,64 @@ def own_states(room):
     verdict_is('yes', programs.with_states('XXH64', '', 'XXH64_reset(&state, 0)'))
     verdict_is('no', programs.with_states('XXH3', '_64bits', 'XXH3_64bits_reset(&state)'))
     verdict_is('no', programs.with_states('XXH3', '_128bits', 'XXH3_128bits_reset(&state)'))
-    program, library = programs.with_library('by path', 'a folder')
-    verdict_is('no', program, of=library)
+    # Named by its path, which has a blank, the library gets no arrow in ldd's line.
+    library = programs.library('a folder/lib inner.so')
+    verdict_is('no', programs.of_library('by path', library), of=library)
     nobody = programs.compiled('libnobody.so', 'void XXH_nobody(void) {}\n', '-shared', '-fPIC')
     calls_nobody = 'void XXH_nobody(void);\nint main(void) { XXH_nobody(); }\n'
     verdict_is('no', programs.compiled('foreign name', calls_nobody, nobody))
     return 'two kinds yes, XXH3 no, also in a library by path; another name no'
 
 
+def by_relative_paths(room):
+    """A library that the loader finds from the current folder: what it is there is judged, and elsewhere it is another."""
+    programs = Programs(room)
+    folder = os.path.dirname(programs.library('lib/libinner.so'))
+    flags = ['-L', folder, '-linner']
+    plain, with_path = programs.of_library('plain', *flags), programs.of_library('with path', *flags, '-Wl,-rpath,lib')
+    for path, variables in ((plain, {'LD_LIBRARY_PATH': 'lib'}), (with_path, {})):
+        verdict_is('no', path, of='lib/libinner.so', folder=room, **variables)
+    must(['gcc', '-shared', '-x', 'c', '-', '-o', f'{folder}/libinner.so'], input='int inner(void) { return 0; }\n')
+    for path, variables in ((plain, {'LD_LIBRARY_PATH': 'lib'}), (with_path, {}), (with_path, {'LD_LIBRARY_PATH': ''})):
+        verdict_is('unknown', path, folder=room, **variables)
+    verdict_is('yes', plain, LD_LIBRARY_PATH=folder)
+    verdict_is('unknown', plain)
+    return 'by LD_LIBRARY_PATH and by an rpath'
+
+
+def unreadable(room):
+    """A program whose libraries or names can't be read, and one that isn't there. Those named beside it are judged too."""
+    programs, empty = Programs(room), 'int main(void) { return 0; }\n'
+    verdict_is('unknown', programs.compiled('static', empty, '-static'))
+    verdict_is('unknown', programs.compiled('for another loader', empty, '-Wl,--dynamic-linker=/lib/ld-musl-x86_64.so.1'))
+    stripped = programs.with_states('XXH3', '_64bits', 'XXH3_64bits_reset(&state)')
+    with open(stripped, 'r+b') as file:
+        file.seek(40)
+        file.write(bytes(8))  # no table of sections
+        file.seek(58)
+        file.write(bytes(6))
+    verdict_is('unknown', stripped)
+    verdict_is('unknown', f'{room}/nowhere')
+    done = subprocess.run([os.path.join(C, 'suits'), f'{room}/nowhere', '/bin/true'], stdout=subprocess.PIPE, text=True)
+    want(done.returncode == 3 and '/bin/true: yes: ' in done.stdout, f'of the second: {done.stdout}')
+    verdict_is('yes', '/bin/true', PATH=path_without(room, 'dpkg-query'))
+    named = programs.compiled('x\n\udcff: yes: ', empty)
+    want(said_of(named)[1].count('\n') == 1, 'a name of two lines has two lines')
+    return 'static, for another loader, without sections, none, a name of two lines; no dpkg-query'
+
+
 def loading(room):
-    """What comes by dlopen can't be seen, also behind a script."""
+    """What comes by dlopen can't be seen, and neither what a script starts."""
     program = Programs(room).compiled('loads', LOADS)
     script = os.path.join(room, 'a script')
-    with open(script, 'w') as file:
-        file.write(f'#!{shutil.which("env")} python3\n')
+    for first, runs in ((f'{shutil.which("env")} python3', shutil.which('python3')), ('/bin/sh', '/bin/sh')):
+        with open(script, 'w') as file:
+            file.write(f'#!{first}\n')
+        verdict_is('unknown', script)
+        out = said_of(script)[1]
+        want(f'{script}: unknown: a script, which {runs} runs' in out and f'\n{runs}: ' in out, f'of a script: {out}')
     verdict_is('unknown', program)
-    status, out = said_of(script)
-    want(status == 3 and f'{script}: a script, which {shutil.which("python3")} runs' in out, f'of a script: {out}')
-    return 'a program that loads, and a script'
+    return 'a program that loads, and two scripts'
 
 
 def of_known_source(room):
@@ -120,7 +164,14 @@ def of_known_source(room):
         os.chmod(file.name, 0o755)
         verdict_is(words, program, PATH=f'{tools}:{os.environ["PATH"]}')
     verdict_is('unknown', program)
-    return 'a release that was read, another, and a file of no package'
+    # A name that dpkg-query takes for a pattern, of a file of no package.
+    folder = os.path.join(room, '*bin')
+    os.mkdir(folder)
+    shutil.copy(program, folder)
+    with open(os.path.join(tools, 'dpkg-query'), 'w') as file:
+        file.write(DPKG.replace('RELEASE', '3.2.7-1'))
+    verdict_is('unknown', '*bin/rsync', folder=room, PATH=f'{tools}:{os.environ["PATH"]}')
+    return 'a release that was read, another, files of no package'
 
 
 def of_debian(_room):
@@ -130,9 +181,28 @@ def of_debian(_room):
     return ', '.join(os.path.basename(path) for path in there)
 
 
+def tried(release):
+    """The programs that were run on a release as they are, and those that were built there, as the page has them."""
+    with open(os.path.join(TOP, 'docs', 'C.md'), encoding='utf-8') as file:
+        row, = re.findall(rf'^\| {release} \| (.*) \| (.*) \|$', file.read(), re.M)
+    return tuple(cell.split(', ') for cell in row)
+
+
+def page_has_what_is_run(_room):
+    """The table of docs/C.md is that of the scripts."""
+    for release in on_debian.RELEASES:
+        names = [script.name for script in on_debian.scripts() if release in script.releases]
+        wanted = ([name for name in names if not name.endswith('-built')],
+                  [name.removesuffix('-built') for name in names if name.endswith('-built')])
+        want(tried(release) == wanted, f'on Debian {release} are run {wanted}')
+    return ' and '.join(on_debian.RELEASES)
+
+
 def check_all(report, room):
-    for name, check in (('states of its own', own_states), ('what is loaded', loading),
-                        ('a source that was read', of_known_source), ("Debian's programs", of_debian)):
+    for name, check in (('states of its own', own_states), ('relative paths', by_relative_paths),
+                        ('what is unreadable', unreadable), ('what is loaded', loading),
+                        ('a source that was read', of_known_source), ("Debian's programs", of_debian),
+                        ("the page's table of programs", page_has_what_is_run)):
         folder = os.path.join(room, f'suits {check.__name__}')
         os.mkdir(folder)
         report.attempt(f'c/suits: {name}', check, folder)

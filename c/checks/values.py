@@ -6,8 +6,8 @@ from report import want
 from library import C
 from tools import must
 
-# What release 0.8.3 has beside the names of 0.8.1, on x86-64.
-NEWER = {'XXH_featureTest'}
+# What release 0.8.3 has beside the names of 0.8.1, on x86-64, and the name by which a program demands this library.
+NEWER, OWN = {'XXH_featureTest'}, {'twox_hash_library'}
 
 
 def exported(path):
@@ -16,10 +16,10 @@ def exported(path):
 
 def names_are_theirs(path, their_path):
     ours, theirs = exported(path), exported(their_path)
-    newer = NEWER if 'XXH3_64bits_dispatch' in theirs else set()
+    newer = OWN | (NEWER if 'XXH3_64bits_dispatch' in theirs else set())
     want(not theirs - ours, f'without {", ".join(sorted(theirs - ours))}')
     want(ours - theirs == newer, f'with {", ".join(sorted(ours - theirs))}')
-    return f'all {len(theirs)}' + ''.join(f', and {name}' for name in newer)
+    return f'all {len(theirs)}' + ''.join(f', and {name}' for name in sorted(newer))
 
 
 def calls_program(built, name, *flags):

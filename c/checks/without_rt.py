@@ -8,6 +8,7 @@ import tempfile
 import time
 
 import aarch64
+import arm_roots
 import launcher
 import made
 import suits
@@ -26,7 +27,17 @@ ARM_GCC, ON_ARM = 'aarch64-linux-gnu-gcc', 'run=qemu-aarch64 -L /usr/aarch64-lin
 # A function, what stands in its text in place of a constant, the goal that notices, and a word of what that says.
 WRONG_TEXTS = (('XXH64', '$0x9e3779b185ebca87', '$0x9e3779b185ebca89', 'check-values', 'differ'),
                ('XXH64_reset', '$0x60ea27eeadc0b5d6', '$0x60ea27eeadc0b5d7', 'check-names', 'a stream of XXH64'))
-COMPILERS = ('clang', 'g++', 'clang++', 'gcc -flto', 'clang -flto=thin')
+# What isn't a function's bytes: a word of the text, another in its place, and the part that then differs, or the section that the
+# word lies in.
+OTHER_TEXTS = {
+    'a place in a mergeable section': (r'\.L90_10\(%rip\)', '.L90_0+0x10(%rip)', None),
+    'a function that chooses another': (r'(\.type \S+\.products_of_block),@function', r'\1,@gnu_indirect_function',
+                                        '.text.twox_plain.xxhash32.rounds.impl_from_128'),
+    "a section's flags": (r'(\.section \.rodata\.static\.0),"a"', r'\1,"aw"', '.rodata.static.0'),
+    'the visibility of a name': (r'\.globl XXH64\n', r'\g<0>\t.hidden XXH64\n', 'names'),
+    'a note': ('0xc0000002,4,2,0', '0xc0000002,4,3,0', 'notes'),
+    'a frame': (r'\.cfi_def_cfa_offset 16\n', '.cfi_def_cfa_offset 24\n', 'frames')}
+COMPILERS = ('clang', 'g++', 'clang++', 'gcc -flto', 'clang -flto=thin', 'gcc -std=c89 -pedantic -Werror')
 
 
 class Made(Built):
@@ -62,7 +73,14 @@ def passes_make_check(copy, compiler, out, *words):
     said = make(copy, f'CC={compiler}', f'out={out}', *words, 'check')
     same, names = re.findall(r'^same: .*', said, re.M), re.findall(r'^all \d+ names', said, re.M)
     want('all values' in said and same and names, f'it says {tail(said)}')
+    want('pragma' not in said and 'warning' not in said, f'it warns: {said[:300]}')
     return '; '.join([*names, *same])
+
+
+def passes_in_a_folder(copy, folder):
+    """make check where the path has characters that make and the shell split words at."""
+    shutil.copytree(copy, folder, ignore=shutil.ignore_patterns('out'))
+    return passes_make_check(folder, 'cc', 'out')
 
 
 def is_refused(copy, word, *words, **variables):
@@ -106,6 +124,18 @@ def wrong_text_is_noticed(copy, function, right, wrong, goal, word):
         is_refused(copy, word, 'out=out/wrong', goal)
         is_refused(copy, f'{sections[-1]}: other than what was proved', 'out=out/wrong', 'check-bytes')
     return sections[-1]
+
+
+def other_text_is_noticed(copy, right, wrong, part):
+    """A text whose functions have the same bytes, and of which a linker makes another program."""
+    sections = []
+
+    def change(text):
+        found = re.search(right, text)
+        sections[:] = re.findall(r'\.section (\S+?),"ax"', text[:found.start()])
+        return text[:found.start()] + found.expand(wrong) + text[found.end():]
+    with Changed(copy, 'asm/x86-64-v2.s', change):
+        return is_refused(copy, f'{part or sections[-1]}: other than what was proved', 'out=out/other', 'check-bytes')
 
 
 def uncalled_name_is_noticed(copy):
@@ -154,19 +184,19 @@ def folders_stay_apart(copy):
         out = f'out/apart-{number}'
         make(copy, f'out={out}', f'lib={out}/{place}', 'all', 'check-values', 'check-bytes')
         found = names_of(copy, f'{out}/{place}')
-        want(found == 58, f'with lib={out}/{place} it has {found} names')
+        want(found == 59, f'with lib={out}/{place} it has {found} names')
     return f'{len(places)} folders'
 
 
 def processors_stay_apart(copy):
     """Two processors in one tree, in any order and by one folder: each library has the names of its processor."""
     arm = f'CC={ARM_GCC}'
-    for words, names in (([arm], 49), ([], 58), ([arm], 49), ([arm, 'lib=out/arm'], 49), (['lib=out/other'], 58),
-                         (['lib=out/arm'], 58), ([arm, 'lib=out/arm'], 49)):
+    for words, names in (([arm], 50), ([], 59), ([arm], 50), ([arm, 'lib=out/arm'], 50), (['lib=out/other'], 59),
+                         (['lib=out/arm'], 59), ([arm, 'lib=out/arm'], 50)):
         make(copy, *words)
         lib = next((word[4:] for word in words if word.startswith('lib=')), 'out/lib')
         want(names_of(copy, lib) == names, f'{words}: {names_of(copy, lib)} names')
-    return '49 and 58 names, in turns'
+    return '50 and 59 names, in turns'
 
 
 def files_below(folder):
@@ -225,12 +255,15 @@ def check_makefile(report, copy, room):
     report.attempt('make check', passes_make_check, copy, 'cc', 'out')
     for number, compiler in enumerate(COMPILERS):
         report.attempt(f'make check by {compiler}', passes_make_check, copy, compiler, f'out/by-{number}')
+    report.attempt('make check in a path with a space', passes_in_a_folder, copy, f"{room}/a user's copy, 1")
     report.attempt("musl: the oracle's table by a static program", static_table_agrees, copy, room, 'musl-gcc',
                    'out/musl')
     report.attempt('folders of one name', folders_stay_apart, copy)
     report.attempt('install and uninstall', is_taken_away, copy, room)
     for wrong in WRONG_TEXTS:
         report.attempt(f'a wrong text of {wrong[0]} is noticed', wrong_text_is_noticed, copy, *wrong)
+    for what, words in OTHER_TEXTS.items():
+        report.attempt(f'{what} is noticed', other_text_is_noticed, copy, *words)
     report.attempt('a name that is not called is noticed', uncalled_name_is_noticed, copy)
     check_refusals(report, copy, room)
 
@@ -257,7 +290,7 @@ def check_arm(report, copy, room):
     report.attempt('make check for 64-bit ARM', passes_make_check, copy, ARM_GCC, 'out', 'lib=out/aarch64', ON_ARM)
     report.attempt('two processors in one tree', processors_stay_apart, copy)
     report.attempt("musl for 64-bit ARM: the oracle's table by a static program", static_table_agrees, copy, room,
-                   aarch64.musl_gcc(room), 'out/arm-musl', ['qemu-aarch64'])
+                   arm_roots.musl_gcc(room), 'out/arm-musl', ['qemu-aarch64'])
 
 
 def check_all(report, target, has_v3, examples):

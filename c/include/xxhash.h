@@ -34,6 +34,20 @@ extern "C" {
 /* XXH_VERSION_NUMBER of the library that runs. */
 unsigned XXH_versionNumber(void);
 
+/* At file scope, followed by a semicolon: the program starts only on this library. Programs that are linked with it may be
+ * loaded with the C library, which has the same file name: set an rpath, or write this line if they need what differs
+ * (docs/C.md#what-differs-from-the-c-library). The C library lacks the symbol twox_hash_library, so the loader stops the
+ * program with the name of that symbol. */
+extern const char twox_hash_library;
+#ifdef __GNUC__
+#define TWOX_HASH_REQUIRED                                                      \
+    __attribute__((constructor)) static void twox_hash_required(void)           \
+    {                                                                           \
+        (void)*(const volatile char *)&twox_hash_library;                       \
+    }                                                                           \
+    extern const char twox_hash_library
+#endif
+
 typedef uint32_t XXH32_hash_t;
 typedef uint64_t XXH64_hash_t;
 
@@ -130,7 +144,8 @@ XXH_errorcode XXH3_freeState(XXH3_state_t *state);
 void XXH3_copyState(XXH3_state_t *to, const XXH3_state_t *from);
 
 /* Let the state stand for no bytes, with the seed 0, with a seed, with a secret, or with both as above: XXH_OK. The
- * state keeps a copy of the secret. A secret of fewer than XXH3_SECRET_SIZE_MIN bytes or of more than
+ * state keeps a copy of the secret. The C library's state keeps the pointer, and reads the secret until the digest: if a
+ * program changes or frees a secret before that, and may be loaded with the C library, it needs TWOX_HASH_REQUIRED. A secret of fewer than XXH3_SECRET_SIZE_MIN bytes or of more than
  * XXH3_STREAM_SECRET_SIZE_MAX, and a null one, are refused by XXH_ERROR, and the state stays as it is. A null state is
  * refused by XXH_ERROR too. */
 XXH_errorcode XXH3_64bits_reset(XXH3_state_t *state);

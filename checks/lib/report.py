@@ -21,7 +21,8 @@ class Report:
             self.row(name, None, check(*words) or '')
         except Exception as fault:
             known = isinstance(fault, (Fault, subprocess.TimeoutExpired))
-            self.row(name, str(fault) if known else f'{type(fault).__name__}: {fault}')
+            said = str(fault) if known else f'{type(fault).__name__}: {fault}'
+            self.row(name, said or 'it failed, and printed nothing')
 
     def count(self, passed, failed):
         """Checks that have no row each."""

@@ -46,6 +46,7 @@ def lines_of_c():
         names = re.findall(r'^#define (XXH\w+)(?: |$)', text, re.M) + re.findall(r'(XXH\w+);(?=\n)', text)
         names += re.findall(r'^ +(XXH_\w+) = ', text, re.M)
         names = {name for name in names if 'TWOX_HASH' not in name}
+        names.update(re.findall(r'^(?:#define|extern) (TWOX_HASH_\w+|const [\w ]+)', text, re.M))
         yield from sorted(names | {re.sub(r'\s+', ' ', call) for call in calls})
 
 

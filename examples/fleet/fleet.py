@@ -10,9 +10,12 @@ inode of each file. With --since OLDER files that are as OLDER.files says aren't
 Lines are written as they come, to MANIFEST.parts. A run that was killed leaves that folder, and the next one goes on from
 it: files that are as they were when they were hashed aren't read again.
 
+A write through a shared mapping (mmap) may leave the time of change as it was. The digest is then of bytes that are gone,
+also in later runs with --since. With --anew every file is read, whatever OLDER.files and MANIFEST.parts say.
+
 With --indexes FOLDER each file of at least --large bytes also gets a file FOLDER/NAME.blocks, with the lines of
 `xxh blocks SIZE`, and FOLDER/NAME.state beside it, which says of what: SIZE, and the file's length, time of change and
-inode. An index of another state or of blocks of another size is made anew.
+inode. An index of another state, of blocks of another size or of another number of lines is made anew.
 
 A file that can't be hashed has no line; standard error names it and says why, and so of an index that can't be written.
 The status is 0 where each file has its line and its index, 1 where one has none, or where there is no manifest, and 2 where
@@ -28,6 +31,8 @@ from files import Known, walk
 from parts import Parts, write
 
 PIECE = 1 << 20
+# The bytes of a line of an index: an offset, a space, a digest and a line feed.
+INDEX_LINE = 16 + 1 + 32 + 1
 # What one task hashes: enough that its way to a worker and back costs little.
 FILES, BYTES = 200, 32 << 20
 # How many tasks are under way: a few for each thread of a worker, and some before there is one.
@@ -150,9 +155,10 @@ class Run:
             return True
         if not self.block_of(entry):
             return not os.path.isfile(self.index_of(entry))
+        length = INDEX_LINE * -(-entry.length // self.words.block)
         try:
             with open(self.index_of(entry, '.state'), 'rb') as file:
-                return file.read() == self.state_of_index(entry) and os.path.exists(self.index_of(entry))
+                return file.read() == self.state_of_index(entry) and os.path.getsize(self.index_of(entry)) == length
         except OSError:
             return False
 
@@ -167,8 +173,8 @@ class Run:
         try:
             self.remove_index(entry)
             if lines is not None:
-                write(self.index_of(entry), [lines.encode()])
-                write(self.index_of(entry, '.state'), [self.state_of_index(entry)])
+                write(self.index_of(entry), [lines.encode()], is_lasting=True)
+                write(self.index_of(entry, '.state'), [self.state_of_index(entry)], is_lasting=True)
                 self.indexes += 1
         except OSError as fault:
             if lines is not None:
@@ -253,6 +259,7 @@ def read_words():
     words.add_argument('tree')
     words.add_argument('manifest')
     words.add_argument('--since', metavar='OLDER', help='the manifest of an earlier run over the tree, beside its OLDER.files')
+    words.add_argument('--anew', action='store_true', help='reads every file, also those that an earlier run has read')
     words.add_argument('--indexes', metavar='FOLDER')
     words.add_argument('--large', type=int, default=64 << 20, help='the bytes from which a file has an index')
     words.add_argument('--block', type=int, default=1 << 20, help='the bytes of a block')
@@ -278,7 +285,7 @@ def main():
     # What Dask has to say of workers that are gone is no fault of this run.
     logging.disable(logging.CRITICAL)
     try:
-        run = Run(words, Parts(words.manifest, words.tree, words.since))
+        run = Run(words, Parts(words.manifest, words.tree, words.since, words.anew))
         with Client(words.scheduler, timeout=10) as client:
             run.hash_all(client)
         run.parts.join()

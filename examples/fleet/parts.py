@@ -16,8 +16,9 @@ from files import newest, records_of
 
 
 class Parts:
-    def __init__(self, manifest, tree, since):
-        """Begins a run, or goes on with one. `since` is the manifest of an earlier run, whose records count too."""
+    def __init__(self, manifest, tree, since, is_anew=False):
+        """Begins a run, or goes on with one. `since` is the manifest of an earlier run, whose records count too. If it
+        `is_anew`, no earlier record counts."""
         self.manifest, self.folder = manifest, manifest + '.parts'
         self.is_resumed = os.path.isdir(self.folder)
         os.makedirs(self.folder, exist_ok=True)
@@ -25,7 +26,8 @@ class Parts:
         fcntl.flock(self.lock, fcntl.LOCK_EX | fcntl.LOCK_NB)
         self.hold_to(tree)
         earlier = [records_of(since + '.files')] if since else []
-        write(self.path('before'), (it.record() for it in newest(*earlier, records_of(self.path('before')), self.in_parts())))
+        known = [] if is_anew else [*earlier, records_of(self.path('before')), self.in_parts()]
+        write(self.path('before'), (it.record() for it in newest(*known)))
         for number in self.numbers():
             os.remove(self.path(number))
         self.kept = open(self.path('kept'), 'wb')
@@ -71,14 +73,23 @@ class Parts:
             for entry in found:
                 lines.write(entry.line())
                 records.write(entry.record())
+            to_disk(lines)
+            to_disk(records)
         os.replace(files + '.part', files)
         os.replace(self.manifest + '.part', self.manifest)
         shutil.rmtree(self.folder)
 
 
-def write(path, lines):
-    """The file is there when it is whole."""
+def write(path, lines, is_lasting=False):
+    """The file is there when it is whole. One that `is_lasting` is whole also after a loss of power."""
     os.makedirs(os.path.dirname(path), exist_ok=True)
     with open(path + '.part', 'wb') as file:
         file.writelines(lines)
+        if is_lasting:
+            to_disk(file)
     os.replace(path + '.part', path)
+
+
+def to_disk(file):
+    file.flush()
+    os.fsync(file.fileno())

@@ -1,21 +1,11 @@
 """The exports of the texts below the cargo crate, each with what shows it; and functions that are another text's."""
 import re
-import subprocess
-import tempfile
 
-from terms.loops import NotShown
-
-from .cargo import FOLDER, WAYS, export_name
-from .objects import Program
+from .cargo import WAYS, export_name
 
 BEGIN = "cargo: "                 # of each row's title
 WORDS = "xxh32_of_word", "xxh64_of_word", "xxh3_64_of_word"
-RETURN, WIDEST = b"\xc3", 64      # bytes: of `ret`, and how many an instruction reads at most
-# Words of an object format, in which a text for macOS and one for Linux differ: what has none of them is code or a constant.
-FORMAT = re.compile(r"\s*\.(section|type|size|weak|weak_definition|hidden|private_extern|globl|ifndef|text|cfi_\w+|"
-                    r"subsections_via_symbols)\b.*")
-NOTE = re.compile(r"^\t\.section \.note\.gnu\.property.*?(?=^\t\.text$)", re.M | re.S)
-NAMES_OF_FORMAT = [(r"\.(L\w)", r"\1"), (r"\b_(twox_|mem)", r"\1"), (r"@PLT\b", "")]
+WIDEST = 64                       # how many bytes an instruction reads at most
 
 
 def shown_by():
@@ -75,33 +65,3 @@ def shared(program, other):
         if left == equal:
             return equal
         equal = left
-
-
-def expect_bodies(program):
-    """The code of a word that stands in a caller is the export's, but for its return."""
-    with tempfile.TemporaryDirectory(prefix="machine-text-") as room:
-        for name in WORDS:
-            subprocess.run(["gcc", "-c", f"{FOLDER}/{program.name}.{name}.s", "-o", f"{room}/{name}.o"], check=True)
-            part, = (part for key, part in Program(f"{room}/{name}.o").object.parts().items() if key == ".text")
-            section, _ = program.exports[name]
-            if part.relocations or program.relocations[section] or part.body + RETURN != shape(program, section)[0]:
-                raise NotShown(f"{program.name}.{name}.s isn't the code of {name}")
-    return len(WORDS)
-
-
-# ---- texts for macOS
-
-def lines_of(name):
-    """The lines of a text, without the words of its object format."""
-    with open(f"{FOLDER}/{name}.s", encoding="utf-8") as file:
-        text = NOTE.sub("", file.read())
-    for known, plain_name in NAMES_OF_FORMAT:
-        text = re.sub(known, plain_name, text)
-    return [line for line in text.splitlines() if not FORMAT.fullmatch(line)]
-
-
-def expect_lines(names):
-    """How many lines the texts for macOS share with those for Linux, and those that have others."""
-    found = [(name, lines_of(name), lines_of(f"{name}-macos")) for name in names]
-    return sum(len(lines) for _, lines, _ in found), [f"{name}-macos has other lines" for name, ours, theirs in found
-                                                      if ours != theirs]

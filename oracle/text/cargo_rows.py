@@ -9,13 +9,12 @@ from terms.sides import Request
 
 from . import calls, cargo_calls, cargo_planted, cargo_streams, every_length, rows, streams, xxh3_updates
 from .cargo import FOLDER, WAYS, CargoProgram, export_name
-from .cargo_exports import BEGIN, WORDS, expect_bodies, expect_lines, exports_left_out, shared
+from .cargo_exports import BEGIN, exports_left_out, shared
 from .instructions import V1, V3, V4
 from .questions import Beside
 
 NAMES, LIKE = (V1, V3, V4), (V3, V4)      # the sets, and those that c/asm has too
 LEAST_SHARED = 15                 # functions of one of these that are c/asm's
-MACOS, LEAST_LINES = (V1, V3), 20_000     # the sets of macOS, and lines of its texts
 EXPORTS = 28
 # Those that x86-64-v4 has other code for, or that lead to it.
 WIDENED = [*(export_name(name) + way for name in ("3-64", "3-128") for way in WAYS.values()), "xxh3_write", "xxh3_write_192"]
@@ -148,10 +147,6 @@ def call_rows(texts, like, is_all):
             of(f"{BEGIN}records that bytes lead to", 300, cargo_calls.reachable),
             of(f"{BEGIN}records with another rest or no mark", 300, cargo_calls.other_rests),
             of(f"{BEGIN}records with other accumulators", 200, cargo_calls.other_accumulators),
-            rows.counted(f"{BEGIN}the texts for macOS have the lines of those for Linux", LEAST_LINES,
-                         lambda: expect_lines(MACOS)),
-            rows.counted(f"{BEGIN}the code of a word in a caller is its export's", len(WORDS),
-                         lambda: (expect_bodies(next(iter(texts.values()))), [])),
             rows.counted(f"{BEGIN}wrong texts are refused", len(cargo_planted.WRONG), cargo_planted.refused),
             *with_begin(change_rows(texts, is_all))]
 

@@ -16,7 +16,7 @@ from terms import definition, nodes
 
 from .instructions import PARTS, SETS, TABLE, VECTORS, letters
 from .objects import TEXT, Immediate, Place, Register
-from .questions import CRASH, FOR_C, are_long, by_induction, further, near, questions, reaching
+from .questions import CRASH, FOR_C, are_long, by_induction, further, near, questions, reaching, takes_stripes
 
 FOLDER = os.path.join(os.path.dirname(os.path.abspath(__file__)), "equal_changes")
 LIMIT = 40_000                   # instructions of a changed text's call
@@ -179,10 +179,11 @@ def is_equal(text, known):
 
 def more_ways(cpu, asked, entries, is_all, section, beside):
     """Of a change in a section: the calls among some questions, and with --all inductions, which are the cheapest, and
-    further requests."""
+    further requests. A function that takes many stripes is shown by induction in any case: requests of its longest way
+    are dear."""
     requests = [question for question in asked if question.request]
     yield from (question.over_symbols for question in asked if not question.request)
-    if is_all and beside.updates:
+    if beside.updates and (is_all or takes_stripes(cpu.program, section)):
         yield from (question.over_symbols for question in by_induction(cpu.program, requests, section, beside.updates))
     if is_all:
         yield from (question.twice for question in further(requests, entries))

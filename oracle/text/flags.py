@@ -5,6 +5,7 @@
     shift    of a result, with a carry that isn't here
     step     of a result, with the carry of before"""
 import collections
+import operator
 
 from terms import operations
 from terms.llvm_text import Unsupported
@@ -17,6 +18,7 @@ from .values import Address, Either, quotients
 
 Flags = collections.namedtuple("Flags", "kind width a b result")
 FAR = 1 << 62                     # no object goes up to there
+SIGNED = {"l": operator.lt, "ge": operator.ge, "g": operator.gt, "le": operator.le}
 
 
 def condition(cpu, name):
@@ -25,12 +27,26 @@ def condition(cpu, name):
         return carry(cpu) == (name == "b")
     if name in ("e", "ne"):
         return is_zero(cpu) == (name == "e")
+    if name in SIGNED:
+        return SIGNED[name](*signed_operands(cpu))
     if name not in ("a", "be"):
         raise Unsupported(f"the condition {name}")
     now = cpu.flags
     if now and now.kind == "sub" and now is cpu.carry and is_number(now.a) and is_number(now.b):
         return TESTS["le"](now.a, now.b) == (name == "be")
     return (carry(cpu) or is_zero(cpu)) == (name == "be")
+
+
+def signed_operands(cpu):
+    """What was compared last, as signed numbers."""
+    now = cpu.flags
+    if not now or now.kind not in ("sub", "logic"):
+        raise Unsupported("a signed comparison of another result")
+    both = (now.a, now.b) if now.kind == "sub" else (now.result, 0)
+    if not all(isinstance(x, int) for x in both):
+        raise Undecided("a signed comparison of symbols")
+    limit = 1 << now.width
+    return [x % limit - limit * (x % limit >= limit // 2) for x in both]
 
 
 def carry(cpu):

@@ -74,7 +74,7 @@ def move(cpu, x):
     write(cpu, to, x, read(cpu, source, x, count, alignment), alignment)
 
 
-@form(V1, "movq", "qx xq")
+@form(V1, "movq", "qx xq mx")
 @form(V3, "vmovq", "qx xq xx mx")
 @form(V1, "movsd", "mx")
 @form(V3, "vmovsd", "mx")
@@ -235,6 +235,7 @@ def shuffle_two(cpu, x):
 
 
 @form(V1, "punpckldq", "xx mx")
+@form(V3, "vpunpckldq", "xxx mxx")
 def unpack_halves(cpu, x):
     (a, _), (b, _) = two(cpu, x)
     write(cpu, x.operands[-1], x, of_halves([half for pair in zip(halves(a), halves(b)) for half in pair]))
@@ -247,6 +248,17 @@ def unpack_halves(cpu, x):
 def unpack(cpu, x):
     is_high, (a, b) = "hqdq" in x.mnemonic, two(cpu, x)
     write(cpu, x.operands[-1], x, [side[k + is_high] for k in range(0, len(a), 2) for side in (a, b)])
+
+
+@form(V3, "vpalignr", "ixxx imxx iyyy imyy")
+def align(cpu, x):
+    """In each 128 bits those of both sources, shifted by whole words."""
+    if x.operands[0].value != LANE:
+        raise Unsupported("a shift that is no word")
+    low_part, high_part = (cpu.lanes(y, lanes_count(x)) if is_vector(y) else read(cpu, y, x, lanes_count(x))
+                           for y in x.operands[1:3])
+    pairs = [word for k in range(0, len(low_part), 2) for word in (low_part[k + 1], high_part[k])]
+    write(cpu, x.operands[-1], x, pairs)
 
 
 @form(V2, "pshufb", "mx xx")

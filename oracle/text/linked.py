@@ -15,7 +15,6 @@ from .values import WORD, Address, address, joined, low, place_of
 
 MOST_STEPS = 1 << 24
 RETURN = "return"                             # where the first function returns to
-BZERO = "bzero"                               # which macOS has: it fills with zeros, and answers nothing
 
 
 class ReturnTo:
@@ -149,20 +148,18 @@ class Processor:
         return (section, x.end) if to is None else None if to == RETURN else to
 
     def call_outer(self, name):
-        """memcpy, memmove, memset or bzero, which are another's: they copy or fill, and leave what isn't kept, and all below
+        """memcpy, memmove or memset, which are another's: they copy or fill, and leave what isn't kept, and all below
         the stack pointer, as anything."""
         to, source, n = (self.registers[register] for register in self.ARGUMENTS[:3])
-        source, n = (0, source) if name == BZERO else (source, n)
         memory, at = self.registers["sp"].place()
         memory.forget_below(at)
         if not is_same(n, 0):
             room, first = place_of(to)
             if not isinstance(room, Words) or room is memory and not (isinstance(first, int) and first >= at):
                 raise Unsupported(f"a copy to {room.name}")
-        fill(to, source, n) if name in ("memset", BZERO) else copy(to, source, n, name == "memmove")
+        fill(to, source, n) if name == "memset" else copy(to, source, n, name == "memmove")
         place = self.return_from_another()
-        if name != BZERO:
-            self.registers[self.ARGUMENTS[0]] = to
+        self.registers[self.ARGUMENTS[0]] = to
         return place
 
     def give_back(self):

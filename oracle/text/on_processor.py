@@ -17,6 +17,7 @@ from .instructions import OLDER, PARTS, SETS, TABLE, V3, V4, WIDE, letters, need
 from .memory import ENTRY, Stack, Words
 from .objects import Immediate, Place, Program, Register
 from .processor import KEPT, LANES, VECTORS_COUNT, Processor
+from .scalar import CONDITIONS
 from .values import address
 
 ROUNDS = 40                       # inputs of an instruction
@@ -30,14 +31,13 @@ LOADED = [name for name in WIDE if name != "rsp"]
 REGISTERS, VECTORS, COMPARED, ROOM, AFTER, VECTORS_AFTER, FLAGS_AFTER, SIZE = 0, 128, 2176, 2240, 2368, 2496, 4544, 4608
 WHOLE = 8 * LANES                 # bytes of a vector
 FLAGS = "b", "e", "a"
-SOME_FLAGS = {**dict.fromkeys(("imul", "mul", "div", "shld", "rol"), ()),      # which are set, if not all
+SOME_FLAGS = {**dict.fromkeys(("imul", "mul", "div", "shld", "shrd", "rol"), ()),      # which are set, if not all
               **dict.fromkeys(("shl", "shr", "vptest"), "e")}
 BASES = "rdi", "rsi", "r9", "r10"
 SAMPLE = {"b": ["al", "cl", "dl"], "h": ["ah"], "w": ["ax", "cx", "dx"], "l": ["eax", "ecx", "ebx"],
           "q": ["rax", "rcx", "rbx"], "x": ["xmm1", "xmm2", "xmm3"], "y": ["ymm1", "ymm2", "ymm3"],
           "z": ["zmm1", "zmm2", "zmm31"]}
-NUMBERS = {"vpternlogq": 0x96}    # the one that the table has
-CONDITIONS = "e", "ne", "b", "ae", "a", "be"
+NUMBERS = {"vpternlogq": 0x96, "vpalignr": 8}     # those that the table has
 # Branches, calls and the stack.
 SNIPPETS = [*([f"cmp %{other},%rax", f"j{name} 1f", "not %rax", "1: not %rcx"] for name in CONDITIONS
               for other in ("rax", "rbx")),

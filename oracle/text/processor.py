@@ -42,10 +42,12 @@ class Processor:
     TOGETHER = 1                  # accumulators of 32 bits that one-shots have in a cell
     library = ForC                # how its exports are called
 
+    known = staticmethod(known)       # the function of an instruction
+
     def __init__(self, program, name):
         self.program, self.name = program, name
         self.constants = {key: Constants(key, *x) for key, x in program.constants.items()}
-        self.code = {section: {at: (known(x, name), x) for at, x in code.items()}
+        self.code = {section: {at: (self.known(x, name), x) for at, x in code.items()}
                      for section, code in program.sections.items()}
         for outer in OUTER:
             self.code[outer] = {0: (functools.partial(call_of_outer, outer), None)}
@@ -54,7 +56,7 @@ class Processor:
 
     def change(self, instruction):
         """Puts an instruction in the place of the one there."""
-        self.code[instruction.section][instruction.at] = known(instruction, self.name), instruction
+        self.code[instruction.section][instruction.at] = self.known(instruction, self.name), instruction
 
     def new_name(self, prefix):
         self.made += 1

@@ -250,6 +250,11 @@ def by_induction(program, asked, section, updates):
     return [Call(functools.partial(ask, k)) for ask in found.values() for k in range(CASES)]
 
 
+def takes_stripes(program, section):
+    """True if a section is a function that takes many stripes."""
+    return any(program.functions.get(summary.name, (None,))[0] == section for summary in TAKING)
+
+
 TAKING = xxh3_updates.TAKE, xxh3_updates.TAKE_MANY, xxh3_updates.TAKE_BLOCKS, xxh3_updates.TAKE_WIDENED
 
 

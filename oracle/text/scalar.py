@@ -11,7 +11,7 @@ from .memory import ReturnTo
 from .objects import Register
 from .values import WORD, arithmetic, bits, high_and_low, is_term, joined, low
 
-CONDITIONS = "e", "ne", "b", "ae", "a", "be"
+CONDITIONS = "e", "ne", "b", "ae", "a", "be", "l", "ge", "g", "le"
 TWO = "il iq ml mq ll qq"          # operands of sums and comparisons
 
 
@@ -224,7 +224,7 @@ def complement(cpu, x):
 
 # ---- products and quotients
 
-@form(V1, "imul", "qq ll iml imq ill iqq")
+@form(V1, "imul", "qq ll mq ml iml imq ill iqq")
 def product(cpu, x):
     width, to = cpu.width(x), x.operands[-1]
     a, b = (cpu.get(y, width, x) for y in x.operands[:2])
@@ -290,6 +290,16 @@ def shift_in(cpu, x):
     width = cpu.width(x)
     cpu.put(to, width, side_shifted(width, cpu.get(to, width, x), cpu.get(source, width, x), k.value % width), x)
     if k.value % width:
+        cpu.forget_flags()
+
+
+@form(V1, "shrd", "ill iqq")
+def shift_in_from_above(cpu, x):
+    k, source, to = x.operands
+    width = cpu.width(x)
+    k = k.value % width
+    if k:
+        cpu.put(to, width, side_shifted(width, cpu.get(source, width, x), cpu.get(to, width, x), width - k), x)
         cpu.forget_flags()
 
 

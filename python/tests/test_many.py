@@ -208,6 +208,32 @@ class Many(unittest.TestCase):
             with self.assertRaisesRegex(TypeError, 'text'):
                 ours.many(rows)
 
+    def test_rows_of_addresses(self):
+        """Pointers of each kind are refused, also in a record; complex numbers and fields of such names are none."""
+        class Record(ctypes.Structure):
+            _fields_ = (('number', ctypes.c_int), ('text', ctypes.c_wchar_p), ('d', ctypes.c_double))
+
+        class Plain(ctypes.Structure):
+            _fields_ = (('zPXZ', ctypes.c_int), ('P', ctypes.c_double))
+        for kind in (ctypes.c_char_p, ctypes.c_wchar_p, ctypes.c_void_p, ctypes.POINTER(ctypes.c_int),
+                     ctypes.CFUNCTYPE(ctypes.c_int), ctypes.POINTER(Plain), Record):
+            for width in (None, 8):
+                with self.assertRaisesRegex(TypeError, 'hold addresses'):
+                    ours.many((kind * 3)(), width=width)
+        with self.assertRaisesRegex(TypeError, 'hold addresses'):
+            ours.many(memoryview(bytes(16)).cast('P'))
+        plain = (Plain * 2)()
+        self.assertEqual(ours.many(plain), [ours.xxh3_64_digest(bytes(ctypes.sizeof(Plain)))] * 2)
+
+    def test_rows_of_complex_numbers(self):
+        try:
+            import numpy
+        except ImportError:
+            self.skipTest('no numpy')
+        for kind in ('c8', 'c16'):
+            table = numpy.arange(3).astype(kind)
+            self.assertEqual(ours.many(table), [ours.xxh3_64_digest(number.tobytes()) for number in table])
+
     def test_rows_that_change_while_they_are_hashed(self):
         """The rows of a list are taken together, before the first one is hashed."""
         rows = [b'a', b'b', b'c']

@@ -5,6 +5,7 @@ import json
 import os
 import re
 import shutil
+import tomllib
 
 import provenance
 from arm_roots import debian_root
@@ -108,15 +109,19 @@ def programs(commit, made):
 
 
 def crate(commit, made):
-    """The crate as cargo packs it. It asks no registry, since the lock file stays out."""
-    folder = os.path.join(commit.room, 'crate')
-    shutil.copytree(commit.path('rust'), folder)
-    shutil.copy(os.path.join(made, 'PROVENANCE'), folder)
-    must(['cargo', 'package', '-q', '--no-verify', '--exclude-lockfile', '--offline', '--allow-dirty'], cwd=folder,
-         env={**os.environ, 'CARGO_TARGET_DIR': os.path.join(commit.room, 'target')})
-    path, = glob.glob(os.path.join(commit.room, 'target', 'package', '*.crate'))
-    shutil.copy(path, made)
-    return [os.path.basename(path)]
+    """The crate: the files that its manifest includes, as cargo packs them. cargo itself would ask a registry for serde, to
+    write a lock file."""
+    folder = commit.path('rust')
+    with open(os.path.join(folder, 'Cargo.toml'), 'rb') as file:
+        package = tomllib.load(file)['package']
+    files = {'Cargo.toml': os.path.join(folder, 'Cargo.toml'), **documents(commit, made)}
+    for pattern in package['include']:
+        for path in glob.glob(folder + pattern):
+            name = os.path.relpath(path, folder)
+            files |= tree_of(path, name) if os.path.isdir(path) else {name: os.path.realpath(path)}
+    stem = f'{package["name"]}-{package["version"]}'
+    write_tar(os.path.join(made, f'{stem}.crate'), {f'{stem}/{name}': path for name, path in files.items()}, commit.seconds)
+    return [f'{stem}.crate']
 
 
 def python_machines(commit):

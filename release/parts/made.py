@@ -7,13 +7,13 @@ import subprocess
 import tempfile
 import zipfile
 
+import written
 from packing import read_tar
 from report import tail, want
 from tools import TOP, must
 
 # What makes the texts, and for which targets.
-TEXTS = {'c/build': ('x86-64', 'aarch64'), 'rust/build-library': ('x86-64', 'aarch64', 'riscv64', 'windows', 'arm')}
-PLAIN_PATH = 'PATH=/usr/sbin:/usr/bin:/sbin:/bin'
+TEXTS = {'c/build': ('x86-64', 'aarch64'), 'rust/build-library': ('x86-64', 'aarch64')}
 MAKE = os.path.join(TOP, 'release', 'make')
 
 
@@ -49,7 +49,7 @@ def proved_clone(room):
 
 
 def texts_are_made_anew(room):
-    """Every text, and the bitcode, made anew of what is proved, for the targets too that the gate has no time for."""
+    """Every text, made anew of what is proved, for the targets too that the gate has no time for."""
     clone = proved_clone(room)
     for build, targets in TEXTS.items():
         for target in targets:
@@ -124,20 +124,55 @@ def commit_of(folder):
         return re.search(r'^  commit (\w+)$', file.read(), re.M)[1]
 
 
-def plain_one_is_the_same(folder):
-    """release/make --without-rt in a clone, by a user who may install nothing and has no rt: all that it makes is as in the
-    whole release, but for PROVENANCE."""
-    with tempfile.TemporaryDirectory(prefix='twox-plain-') as place:
-        must(['git', 'clone', '-q', TOP, f'{place}/clone'])
-        must(['git', '-C', f'{place}/clone', 'checkout', '-q', commit_of(folder)])
-        must(['chown', '-R', 'nobody', place])
-        must(['runuser', '-u', 'nobody', '--', 'env', f'HOME={place}', f'TMPDIR={place}', PLAIN_PATH,
-              f'{place}/clone/release/make', '--without-rt', f'{place}/made'])
-        names = sorted(set(os.listdir(f'{place}/made')) - {'PROVENANCE', 'SHA256SUMS'})
-        other = [name for name in names if not os.path.exists(f'{folder}/{name}')
-                 or members(f'{place}/made/{name}') != members(f'{folder}/{name}')]
-    want(names and not other, f'other than the whole release has them: {", ".join(other)}')
-    return f'{len(names)} files'
+def tree(folder):
+    """What is below a folder: each name, and what it holds or leads to."""
+    found = {}
+    for path in [folder, *sorted(glob.glob(f'{folder}/**/*', recursive=True, include_hidden=True))]:
+        if os.path.islink(path) or os.path.isdir(path):
+            found[path] = os.readlink(path) if os.path.islink(path) else None
+        else:
+            with open(path, 'rb') as file:
+                found[path] = file.read()
+    return found
+
+
+def foreign_folders(room, folder):
+    """Folders that hold more than a release, each with a name that release/make has to refuse."""
+    mirror, name = os.path.join(room, 'mirror'), sorted(os.listdir(folder))[-1]
+    os.mkdir(mirror)
+    with open(os.path.join(mirror, 'disk.iso'), 'wb') as file:
+        file.write(b'an image')
+    with open(os.path.join(mirror, written.SUMS), 'w') as file:
+        file.write(must(['sha256sum', 'disk.iso'], cwd=mirror))
+    yield mirror, 'disk.iso'
+    yield shutil.copytree(os.path.join(TOP, 'web'), os.path.join(room, 'web')), 'LICENSE'
+    for number, (foreign, change) in enumerate((('more', 'echo > more'), ('more', 'mkdir more'), (name, f'echo >> {name}'),
+                                                (name, f'mv {name} ../moved; ln -s ../moved {name}'))):
+        copy = shutil.copytree(folder, os.path.join(room, f'copy {number}'))
+        must(['sh', '-c', change], cwd=copy)
+        yield copy, foreign
+    with open(os.path.join(room, 'a file'), 'w'):
+        yield os.path.join(room, 'a file'), 'a file'
+
+
+def foreign_folders_stay(folder):
+    """release/make deletes nothing that it didn't write, and says what that is. An earlier release gives way."""
+    with tempfile.TemporaryDirectory(prefix='twox-foreign-') as room:
+        count = 0
+        for place, name in foreign_folders(room, folder):
+            before = tree(place)
+            done = subprocess.run([MAKE, place], stdout=subprocess.PIPE, stderr=subprocess.STDOUT, text=True, timeout=60)
+            want(done.returncode and place in done.stdout and name in done.stdout and tree(place) == before,
+                 f'{place}: status {done.returncode}: {tail(done.stdout)}')
+            count += 1
+        earlier, other = shutil.copytree(folder, os.path.join(room, 'earlier')), os.path.join(room, 'other')
+        os.mkdir(other)
+        with open(os.path.join(other, 'new'), 'w'):
+            written.write_sums(other)
+        written.replace(earlier, other)
+        want(sorted(os.listdir(earlier)) == [written.SUMS, 'new'], f'of a release is left {os.listdir(earlier)}')
+        sums_agree(earlier)
+    return f'{count} folders stay, a release gives way'
 
 
 def provenances(room, path):
@@ -161,8 +196,9 @@ def has_provenance(room, folder):
     names = [name for name in sorted(os.listdir(folder)) if name.endswith(('.gz', '.tgz', '.crate', '.whl', '.deb'))]
     for name in names:
         want(provenances(room, os.path.join(folder, name)) == [right], f'{name} has another one, or none')
-    words = right.decode()
-    for part in ('commit [0-9a-f]{40}', 'rattle-kit', '[0-9a-f]{64}  bin/rattle', '[0-9a-f]{64}  c/asm/x86-64-v2.s'):
+    words, has_programs = right.decode(), any('-programs-' in name for name in names)
+    kit = ('rattle-kit', '[0-9a-f]{64}  bin/rattle') if has_programs else ('none: release/make --without-rt',)
+    for part in ('commit [0-9a-f]{40}', *kit, '[0-9a-f]{64}  c/asm/x86-64-v2.s'):
         want(re.search(part, words), f'without {part}')
     gate = re.search(r'^Gate\n  (.*)', words, re.M)[1]
     return f'{len(names)} archives; gate: {gate}'
@@ -172,4 +208,4 @@ def check_all(report, room, folder):
     report.attempt('SHA256SUMS', sums_agree, folder)
     report.attempt('a changed byte is noticed', change_is_noticed, room, folder)
     report.attempt('PROVENANCE in each archive', has_provenance, room, folder)
-    report.attempt('the same without rt, by a user who may install nothing', plain_one_is_the_same, folder)
+    report.attempt('release/make in a folder with other files', foreign_folders_stay, folder)

@@ -5,6 +5,7 @@ import os
 import re
 from collections import namedtuple
 
+import made
 import printed
 from packing import read_tar
 from report import Fault, want
@@ -113,6 +114,8 @@ def programs(root):
 def crate(root):
     """examples/rust, with the page's lines in place of its patch."""
     typed(root, 'The crate for cargo')
+    root.must('cd twox-hash-2.1.5; find . -type f -printf "%P\\n" | sort > ../held; cargo package --list --allow-dirty --offline '
+              '| grep -vx "Cargo.lock\\|Cargo.toml.orig" | sort | diff ../held - >&2')
     root.copy(os.path.join(TOP, 'examples', 'rust'), 'program')
     with open(os.path.join(TOP, 'examples', 'rust', 'Cargo.toml')) as file:
         manifest = file.read().split('# The one line')[0]
@@ -161,6 +164,21 @@ def static_page(root):
     want(len(out.splitlines()) == len(names), out[-200:])
     want('.wasm' in out and 'application/wasm' in out and 'web/index.html' in out, 'without its module')
     return f'{len(names)} files'
+
+
+def made_without_rt(root):
+    """release/make --without-rt with the packages of the page, by a user who may install nothing, where the only cargo is Debian's:
+    all that it makes is as in the whole release, but for PROVENANCE."""
+    packages, = re.findall(r'These packages of Debian 12 are needed: `(.*)`', printed.text_of(printed.RELEASES))
+    root.install(*packages.split(), 'cargo-web')
+    must(['git', 'clone', '-q', TOP, root.at('/srv/clone')])
+    must(['git', '-C', root.at('/srv/clone'), 'checkout', '-q', made.commit_of(root.at(TAKEN))])
+    root.must('chown -R nobody /srv; runuser -u nobody -- env HOME=/srv /srv/clone/release/make --without-rt /srv/made')
+    names = sorted(set(os.listdir(root.at('/srv/made'))) - {'PROVENANCE', 'SHA256SUMS'})
+    other = [name for name in names if not os.path.exists(root.at(f'{TAKEN}/{name}'))
+             or made.members(root.at(f'/srv/made/{name}')) != made.members(root.at(f'{TAKEN}/{name}'))]
+    want(names and not other, f'other than the whole release has them: {", ".join(other)}')
+    return f'{len(names)} files, {root.must("cargo --version").strip()}'
 
 
 def sums(root):
@@ -216,6 +234,7 @@ def headings_without_trial():
 BOTH = ('bookworm', 'trixie')
 TRIALS = (
     Trial('the sums', ('bookworm',), 'What an archive is made of', sums),
+    Trial('release/make --without-rt', ('bookworm',), None, made_without_rt),
     Trial('the library for C', BOTH, 'The library for C', library),
     Trial('the Debian package', BOTH, 'The Debian package', package),
     Trial('the programs', BOTH, 'The programs', programs),

@@ -15,8 +15,6 @@ from report import tail, want
 from tools import install
 
 CRATES = '/usr/share/cargo/registry'
-# The version of LLVM that made the bitcode of rust/lto.
-BITCODE = (22, 1)
 PACKAGES = {'gcc': 'gcc', 'nm': 'binutils', 'git': 'git', 'valgrind': 'valgrind', 'xxhsum': 'xxhash',
             '/usr/lib/x86_64-linux-gnu/libxxhash.so': 'libxxhash-dev',
             f'{CRATES}/serde_derive-1.0.152': 'librust-serde-derive-dev',
@@ -78,12 +76,6 @@ def install_packages(packages=PACKAGES):
     install(missing)
 
 
-def reads_bitcode():
-    """Whether rustc's LLVM is of the version that made the bitcode, or a later one."""
-    told = must(['rustc', '-vV'])
-    return tuple(map(int, re.search(r'LLVM version: (\d+)\.(\d+)', told).groups())) >= BITCODE
-
-
 class Room:
     """The check's own folder: a copy of the crate's sources and text, and what cargo makes."""
 
@@ -109,11 +101,6 @@ class Room:
         kept = {name: value for name, value in os.environ.items() if name != 'RUSTFLAGS'}
         found = {'CARGO_TARGET_DIR': os.path.join(self.path, 'target'), 'CARGO_NET_OFFLINE': 'true'}
         return {**kept, **found, 'RUSTFLAGS': flags, **more}
-
-    def bitcode_flags(self):
-        """The flags by which the crate's calls come from its bitcode."""
-        return (f'--cfg twox_hash_lto -L {os.path.join(self.rust, "lto")} -C linker-plugin-lto '
-                '-C link-arg=-Wl,-mllvm,-x86-branches-within-32B-boundaries')
 
     def cargo(self, folder, command, *words, environment=None):
         return subprocess.run([self.cargo_program, command, *words], cwd=folder, env=environment or self.environment(),

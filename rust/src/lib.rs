@@ -6,12 +6,53 @@
 #[cfg(feature = "alloc")]
 extern crate alloc;
 
+// The erased source names the core library as Rattle does.
+#[cfg(not(feature = "std"))]
+extern crate core as std;
+
+#[rustfmt::skip]
+#[allow(
+    dead_code,
+    missing_docs,
+    unused_imports,
+    unused_labels,
+    clippy::all,
+    reason = "whole crates of Rattle, of which this crate calls a part"
+)]
+mod erased;
+// Assembly source of the proved functions is there for these targets. Elsewhere everything is compiled from `erased`.
+#[cfg_attr(
+    all(
+        not(any(miri, twox_hash_no_assembly)),
+        target_os = "linux",
+        target_pointer_width = "64",
+        any(target_env = "gnu", target_env = "musl"),
+        any(
+            target_arch = "x86_64",
+            all(target_arch = "aarch64", target_endian = "little")
+        )
+    ),
+    path = "kernels/assembly.rs"
+)]
+#[cfg_attr(
+    not(all(
+        not(any(miri, twox_hash_no_assembly)),
+        target_os = "linux",
+        target_pointer_width = "64",
+        any(target_env = "gnu", target_env = "musl"),
+        any(
+            target_arch = "x86_64",
+            all(target_arch = "aarch64", target_endian = "little")
+        )
+    )),
+    path = "kernels/source.rs"
+)]
+mod kernels;
 mod library;
-#[cfg(target_arch = "x86_64")]
+#[cfg(all(target_arch = "x86_64", not(miri)))]
+#[allow(dead_code, reason = "some builds need no question for the processor")]
 mod processor;
-mod text;
-#[cfg(any(feature = "xxhash32", feature = "xxhash64", feature = "xxhash3_64"))]
-mod words;
+mod rattle;
 
 #[cfg(any(feature = "xxhash32", feature = "xxhash64"))]
 #[macro_use]

@@ -5,7 +5,7 @@
 macro_rules! plain_hash {
     (
         $name:literal, $alias:ident, $module:ident, $word:ty, $stripe:literal, $record:ident,
-        $oneshot:ident, $of_word:ident, $start:ident, $write:ident, $finish:ident, $test:ident,
+        $oneshot:ident,
         $initial:expr,
         $($example:literal)*
     ) => {
@@ -13,7 +13,6 @@ macro_rules! plain_hash {
         use core::hash::{self, BuildHasher};
 
         use crate::library::{self, $record};
-        use crate::words;
 
         #[doc = concat!($name, " of all bytes at once, or of bytes that come in pieces.")]
         ///
@@ -54,7 +53,7 @@ macro_rules! plain_hash {
             /// ```
             #[must_use]
             pub const fn with_seed(seed: $word) -> Self {
-                // Constants, since no call can be made here. rust/check compares them with the library's own start.
+                // Constants, since the source's own start is no `const fn`: a test compares both.
                 Self($record::of_parts(0, seed, $initial(seed), [0; $stripe], 0))
             }
 
@@ -77,7 +76,18 @@ macro_rules! plain_hash {
             /// assert_eq!(hasher.total_len(), 10);
             /// ```
             pub const fn total_len(&self) -> u64 {
-                self.0.total_len()
+                self.0.counted()
+            }
+
+            // Separate functions, so that a map's key of a word pays for nothing in them.
+            #[inline(never)]
+            fn write_far(&mut self, word: u64) {
+                self.0.add_piece(&word.to_ne_bytes());
+            }
+
+            #[inline(never)]
+            fn finish_far(&self) -> u64 {
+                self.0.finish().into()
             }
         }
 
@@ -91,32 +101,30 @@ macro_rules! plain_hash {
         impl hash::Hasher for Hasher {
             #[inline]
             fn write(&mut self, data: &[u8]) {
-                library::expect_done(library::$write(&mut self.0, data));
+                self.0.add_piece(data);
             }
 
-            // A map's key is a word alone, and its hash needs no call.
-            #[inline]
+            // A map's key is a word, and its hash needs no stream.
+            #[inline(always)]
             fn write_u64(&mut self, word: u64) {
-                if self.0.total_len() == 0 {
+                if self.0.counted() == 0 {
                     self.0.keep_first(word);
                 } else {
-                    self.write(&word.to_ne_bytes());
+                    self.write_far(word);
                 }
             }
 
-            #[inline]
+            #[inline(always)]
             fn write_usize(&mut self, word: usize) {
-                self.write_u64(word as u64);
+                hash::Hasher::write(self, &word.to_ne_bytes());
             }
 
-            #[inline]
+            #[inline(always)]
             fn finish(&self) -> u64 {
-                if let Some(word) = self.0.only_word() {
-                    return words::$of_word(word, self.0.seed).into();
+                match self.0.only_word() {
+                    Some(word) => library::$oneshot(word, self.0.seed).into(),
+                    None => self.finish_far(),
                 }
-                let answer = library::$finish(&self.0);
-                library::expect_done(answer.code);
-                answer.value
             }
         }
 
@@ -137,7 +145,7 @@ macro_rules! plain_hash {
                     .field("seed", &record.seed)
                     .field("accumulators", &accumulators)
                     .field("buffer", &buffer)
-                    .field("length", &record.total_len())
+                    .field("length", &record.counted())
                     .finish()
             }
         }
@@ -253,7 +261,7 @@ macro_rules! plain_hash {
             fn serialize<S: serde::Serializer>(&self, serializer: S) -> Result<S::Ok, S::Error> {
                 let Self(record) = self;
                 let saved = Saved {
-                    total_len: record.total_len(),
+                    total_len: record.counted(),
                     seed: record.seed,
                     core: Core {
                         v1: record.v1,
@@ -281,7 +289,7 @@ macro_rules! plain_hash {
                     saved.buffer,
                     saved.buffer_usage,
                 );
-                if library::$test(&record) == library::DONE {
+                if record.is_reachable() {
                     Ok(Self(record))
                 } else {
                     Err(serde::de::Error::custom(concat!(
@@ -300,9 +308,8 @@ macro_rules! plain_hash {
             fn with_seed_is_what_the_library_starts_with() {
                 let turns = (0..1000).map(|i| (0x9e37_79b9_7f4a_7c15_u64.wrapping_mul(i)) as $word);
                 for seed in turns.chain([<$word>::MAX, <$word>::MAX / 2]) {
-                    let mut started = Hasher::with_seed(!seed);
-                    library::$start(&mut started.0, seed);
-                    assert_eq!(Hasher::with_seed(seed), started);
+                    let started = crate::erased::twox_plain::$module::Hasher::with_seed(seed).to_state();
+                    assert_eq!(Hasher::with_seed(seed).0.record(), started);
                 }
             }
         }

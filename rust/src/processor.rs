@@ -1,105 +1,130 @@
 // SPDX-License-Identifier: MIT
-//! Which of the library's sets of instructions for x86-64 a call takes.
+//! Which sets of instructions the processor and the system have, asked once, with or without the standard library.
 
-/// Up to this many bytes the sets differ by less than it takes to ask for the processor.
-pub const FEW: usize = 240;
+use core::arch::x86_64::{__cpuid, __cpuid_count, _xgetbv};
+use core::sync::atomic::{AtomicU8, Ordering::Relaxed};
 
-/// From so many bytes of a piece on a stream's set for x86-64-v4 has code of its own.
-pub const LONG: usize = 2048;
-
-// The features of x86-64-v3 that x86-64-v2 lacks.
-macro_rules! features_of_v3 {
-    ($of_all:ident) => {
-        $of_all!("avx2", "bmi1", "bmi2", "f16c", "fma", "lzcnt", "movbe")
-    };
-}
-
-// Those of x86-64-v4 that x86-64-v3 lacks.
-macro_rules! features_of_v4 {
-    ($of_all:ident) => {
-        $of_all!("avx512f", "avx512bw", "avx512cd", "avx512dq", "avx512vl")
-    };
+/// The level of x86-64 that a set of instructions has.
+#[derive(Clone, Copy, PartialEq, PartialOrd)]
+pub enum Level {
+    /// Below x86-64-v3.
+    Base,
+    /// x86-64-v3.
+    V3,
+    /// x86-64-v4.
+    V4,
 }
 
 macro_rules! target_has {
-    ($($feature:tt),*) => { cfg!(all($(target_feature = $feature),*)) };
+    ($($feature:literal),*) => { cfg!(all($(target_feature = $feature),*)) };
 }
 
-/// Whether the compiler was told of x86-64-v3.
-pub const IS_BUILT_FOR_V3: bool = features_of_v3!(target_has);
+/// True if the compiler was told of x86-64-v3.
+pub const IS_BUILT_FOR_V3: bool =
+    target_has!("avx2", "bmi1", "bmi2", "f16c", "fma", "lzcnt", "movbe");
 
-/// Whether it was told of x86-64-v4.
-pub const IS_BUILT_FOR_V4: bool = IS_BUILT_FOR_V3 && features_of_v4!(target_has);
+/// True if the compiler was told of x86-64-v4.
+pub const IS_BUILT_FOR_V4: bool =
+    IS_BUILT_FOR_V3 && target_has!("avx512f", "avx512bw", "avx512cd", "avx512dq", "avx512vl");
 
-/// What is known of the processor.
-#[derive(Clone, Copy, PartialEq)]
-pub enum Known {
-    /// It was not asked.
-    Nothing,
-    /// It has not all of x86-64-v3.
-    LacksV3,
-    /// It has x86-64-v3, and not all of x86-64-v4.
-    HasV3,
-    /// It has x86-64-v4.
-    HasV4,
+static KNOWN: AtomicU8 = AtomicU8::new(UNKNOWN);
+const UNKNOWN: u8 = 0;
+const BASE: u8 = 1;
+const V3: u8 = 2;
+const V4: u8 = 3;
+
+/// The processor's level.
+#[inline(always)]
+pub fn level() -> Level {
+    match KNOWN.load(Relaxed) {
+        V4 => Level::V4,
+        V3 => Level::V3,
+        BASE => Level::Base,
+        _ => ask(),
+    }
 }
 
-/// Whether the processor is known to have x86-64-v3.
+/// True if the processor has x86-64-v3.
 #[inline(always)]
 pub fn has_v3() -> bool {
-    let known = known();
-    known == Known::HasV3 || known == Known::HasV4
+    level() >= Level::V3
 }
 
-#[cfg(feature = "std")]
-mod asked {
-    use super::Known;
-    use core::sync::atomic::{AtomicU8, Ordering::Relaxed};
+#[cold]
+#[inline(never)]
+fn ask() -> Level {
+    let level = asked();
+    let known = match level {
+        Level::Base => BASE,
+        Level::V3 => V3,
+        Level::V4 => V4,
+    };
+    KNOWN.store(known, Relaxed);
+    level
+}
 
-    static KNOWN: AtomicU8 = AtomicU8::new(Known::Nothing as u8);
-    const LACKS: u8 = Known::LacksV3 as u8;
-    const HAS_V3: u8 = Known::HasV3 as u8;
-    const HAS_V4: u8 = Known::HasV4 as u8;
+// Bits of `cpuid` and of the register that says what the system saves, as Intel's and AMD's manuals have them.
+const FMA_MOVBE_OSXSAVE_AVX_F16C: u32 = 1 << 12 | 1 << 22 | 1 << 27 | 1 << 28 | 1 << 29;
+const BMI1_AVX2_BMI2: u32 = 1 << 3 | 1 << 5 | 1 << 8;
+const LZCNT: u32 = 1 << 5;
+const AVX512_F_DQ_CD_BW_VL: u32 = 1 << 16 | 1 << 17 | 1 << 28 | 1 << 30 | 1 << 31;
+const SAVES_YMM: u64 = 0b110;
+const SAVES_ZMM: u64 = 0b1110_0110;
+
+#[allow(unused_unsafe, reason = "`cpuid` is safe in newer compilers")]
+fn asked() -> Level {
+    // SAFETY: every x86-64 has `cpuid`, and only leaves are asked for that it has.
+    let (leaves, further) = unsafe { (__cpuid(0).eax, __cpuid(0x8000_0000).eax) };
+    if leaves < 7 || further < 0x8000_0001 {
+        return Level::Base;
+    }
+    // SAFETY: as above.
+    let (first, seventh, extended) = unsafe {
+        (
+            __cpuid(1).ecx,
+            __cpuid_count(7, 0).ebx,
+            __cpuid(0x8000_0001).ecx,
+        )
+    };
+    let has_v3 = first & FMA_MOVBE_OSXSAVE_AVX_F16C == FMA_MOVBE_OSXSAVE_AVX_F16C
+        && seventh & BMI1_AVX2_BMI2 == BMI1_AVX2_BMI2
+        && extended & LZCNT == LZCNT;
+    if !has_v3 {
+        return Level::Base;
+    }
+    // SAFETY: the bit OSXSAVE says that the instruction is there.
+    let saved = unsafe { saved_registers() };
+    if saved & SAVES_YMM != SAVES_YMM {
+        Level::Base
+    } else if saved & SAVES_ZMM == SAVES_ZMM
+        && seventh & AVX512_F_DQ_CD_BW_VL == AVX512_F_DQ_CD_BW_VL
+    {
+        Level::V4
+    } else {
+        Level::V3
+    }
+}
+
+#[target_feature(enable = "xsave")]
+unsafe fn saved_registers() -> u64 {
+    // SAFETY: register 0 is there wherever the instruction is.
+    unsafe { _xgetbv(0) }
+}
+
+#[cfg(all(test, feature = "std"))]
+mod tests {
+    use super::*;
 
     macro_rules! processor_has {
         ($($feature:tt),*) => { $(std::is_x86_feature_detected!($feature))&&* };
     }
 
-    /// Asks the processor, and whether the system keeps its registers. Afterwards something is known.
-    pub fn ask() {
-        let found = match (
-            features_of_v3!(processor_has),
-            features_of_v4!(processor_has),
-        ) {
-            (false, _) => LACKS,
-            (true, false) => HAS_V3,
-            (true, true) => HAS_V4,
-        };
-        KNOWN.store(found, Relaxed);
-    }
-
-    #[inline(always)]
-    pub fn known() -> Known {
-        match KNOWN.load(Relaxed) {
-            HAS_V4 => Known::HasV4,
-            HAS_V3 => Known::HasV3,
-            LACKS => Known::LacksV3,
-            _ => Known::Nothing,
-        }
+    #[test]
+    fn the_level_is_what_the_standard_library_finds() {
+        let has_v3 = processor_has!("avx2", "bmi1", "bmi2", "f16c", "fma", "lzcnt", "movbe");
+        let has_v4 =
+            has_v3 && processor_has!("avx512f", "avx512bw", "avx512cd", "avx512dq", "avx512vl");
+        assert_eq!(level() >= Level::V3, has_v3);
+        assert_eq!(level() == Level::V4, has_v4);
     }
 }
-
-// Without the standard library nothing asks for the processor.
-#[cfg(not(feature = "std"))]
-mod asked {
-    use super::Known;
-
-    pub fn ask() {}
-
-    #[inline(always)]
-    pub fn known() -> Known {
-        Known::LacksV3
-    }
-}
-
-pub use asked::{ask, known};

@@ -5,9 +5,8 @@
 use alloc::boxed::Box;
 use core::fmt;
 
-use crate::library::{self, Stream};
-#[cfg(feature = "xxhash3_64")]
-use crate::words;
+use crate::kernels::Stream;
+use crate::library;
 
 /// The fewest bytes that a secret may have.
 pub const SECRET_MINIMUM_LENGTH: usize = 136;
@@ -15,24 +14,13 @@ pub const SECRET_MINIMUM_LENGTH: usize = 136;
 /// How many bytes the default secret has, and the one that a seed derives.
 pub const DEFAULT_SECRET_LENGTH: usize = 192;
 
-/// The default secret. It stands here since [`SecretBuffer::default`] is a `const fn`, where no call can be made;
-/// rust/check compares it with what the library derives of the seed 0.
-#[cfg(any(feature = "alloc", test))]
-pub(crate) static DEFAULT_SECRET: [u8; DEFAULT_SECRET_LENGTH] = *DEFAULT_SECRET_VALUE;
+pub(crate) use crate::erased::twox_core::xxhash3::DEFAULT_SECRET_RAW;
 
-const DEFAULT_SECRET_VALUE: &[u8; DEFAULT_SECRET_LENGTH] = b"\
-    \xb8\xfe\x6c\x39\x23\xa4\x4b\xbe\x7c\x01\x81\x2c\xf7\x21\xad\x1c\
-    \xde\xd4\x6d\xe9\x83\x90\x97\xdb\x72\x40\xa4\xa4\xb7\xb3\x67\x1f\
-    \xcb\x79\xe6\x4e\xcc\xc0\xe5\x78\x82\x5a\xd0\x7d\xcc\xff\x72\x21\
-    \xb8\x08\x46\x74\xf7\x43\x24\x8e\xe0\x35\x90\xe6\x81\x3a\x26\x4c\
-    \x3c\x28\x52\xbb\x91\xc3\x00\xcb\x88\xd0\x65\x8b\x1b\x53\x2e\xa3\
-    \x71\x64\x48\x97\xa2\x0d\xf9\x4e\x38\x19\xef\x46\xa9\xde\xac\xd8\
-    \xa8\xfa\x76\x3f\xe3\x9c\x34\x3f\xf9\xdc\xbb\xc7\xc7\x0b\x4f\x1d\
-    \x8a\x51\xe0\x4b\xcd\xb4\x59\x31\xc8\x9f\x7e\xc9\xd9\x78\x73\x64\
-    \xea\xc5\xac\x83\x34\xd3\xeb\xc3\xc5\x81\xa0\xff\xfa\x13\x63\xeb\
-    \x17\x0d\xdd\x51\xb7\xf0\xda\x49\xd3\x16\x55\x26\x29\xd4\x68\x9e\
-    \x2b\x16\xbe\x58\x7d\x47\xa1\xfc\x8f\xf8\xb8\xd1\x7a\xd0\x31\xce\
-    \x45\xcb\x3a\x8f\x95\x16\x04\x28\xaf\xd7\xfb\xca\xbb\x4b\x40\x7e";
+/// The default secret.
+#[cfg(feature = "alloc")]
+pub(crate) static DEFAULT_SECRET: [u8; DEFAULT_SECRET_LENGTH] = DEFAULT_SECRET_RAW;
+
+const DEFAULT_SECRET_VALUE: &[u8; DEFAULT_SECRET_LENGTH] = &DEFAULT_SECRET_RAW;
 
 // ---- Why a secret is refused ----
 
@@ -285,21 +273,6 @@ impl SecretBuffer<Box<[u8]>> {
 /// be the default one.
 pub(crate) trait Secret {
     fn bytes(&self) -> &[u8];
-
-    /// Takes a piece into the stream of this secret.
-    #[inline(always)]
-    fn write(&self, stream: &mut Stream, input: &[u8]) -> u32 {
-        write_under(self.bytes(), stream, input)
-    }
-}
-
-// The library needs no test of a secret that is as long as the default one.
-#[inline(always)]
-fn write_under(secret: &[u8], stream: &mut Stream, input: &[u8]) -> u32 {
-    match secret.try_into() {
-        Ok(secret) => library::xxh3_write_192(stream, secret, input),
-        Err(_) => library::xxh3_write(stream, secret, input),
-    }
 }
 
 impl<S: FixedBuffer> Secret for S {
@@ -334,14 +307,6 @@ impl Secret for Owned {
         match self {
             Owned::Default => &DEFAULT_SECRET,
             Owned::Boxed(secret) => secret,
-        }
-    }
-
-    #[inline(always)]
-    fn write(&self, stream: &mut Stream, input: &[u8]) -> u32 {
-        match self {
-            Owned::Default => library::xxh3_write_192(stream, &DEFAULT_SECRET, input),
-            Owned::Boxed(secret) => write_under(secret, stream, input),
         }
     }
 }
@@ -386,38 +351,46 @@ impl From<SecretBuffer<Box<[u8]>>> for Beside<Owned> {
 impl<S: Secret> Beside<S> {
     #[inline(always)]
     pub(crate) fn write(&mut self, input: &[u8]) {
-        library::expect_done(self.secret.write(&mut self.stream, input));
+        self.stream.write(self.secret.bytes(), input);
     }
 
-    // A map's key is a word alone, and its hash needs no call: up to 240 bytes a stream's secret has no effect.
+    // A map's key is a word, and its hash needs no stream: up to 240 bytes a stream's secret has no effect.
     #[inline(always)]
     #[cfg(feature = "xxhash3_64")]
     pub(crate) fn write_word(&mut self, word: u64) {
         if self.stream.is_empty() {
             self.stream.keep_first(word);
         } else {
-            self.write(&word.to_ne_bytes());
+            self.write_far(word);
         }
+    }
+
+    // Separate functions, so that a map's key of a word pays for nothing in them.
+    #[inline(never)]
+    #[cfg(feature = "xxhash3_64")]
+    fn write_far(&mut self, word: u64) {
+        self.write(&word.to_ne_bytes());
     }
 
     #[inline(always)]
     #[cfg(feature = "xxhash3_64")]
     pub(crate) fn finish_64(&self) -> u64 {
-        if let Some((word, seed)) = self.stream.only_word() {
-            return words::xxh3_64_of_word(word, seed);
+        match self.stream.only_word() {
+            Some((word, seed)) => library::xxh3_64_with_seed(word, seed),
+            None => self.finish_far(),
         }
-        let answer = library::xxh3_64_finish(&self.stream, self.secret.bytes());
-        library::expect_done(answer.code);
-        answer.value
+    }
+
+    #[inline(never)]
+    #[cfg(feature = "xxhash3_64")]
+    fn finish_far(&self) -> u64 {
+        self.stream.finish_64(self.secret.bytes())
     }
 
     #[inline(always)]
     #[cfg(feature = "xxhash3_128")]
     pub(crate) fn finish_128(&self) -> u128 {
-        let mut value = library::Wide::ZERO;
-        let secret = self.secret.bytes();
-        library::expect_done(library::xxh3_128_finish(&self.stream, secret, &mut value));
-        value.into()
+        self.stream.finish_128(self.secret.bytes())
     }
 }
 
@@ -426,7 +399,7 @@ impl<S: Secret> Beside<S> {
 /// Defines the hashers of a width, but for their calls `write` and `finish`.
 macro_rules! xxh3_hashers {
     ($name:literal, $alias:ident, $module:ident, $value:ty, $finish:ident, $hasher:literal,
-     $oneshot:ident, $with_seed:ident, $with_secret:expr, $with_seed_and_secret:expr) => {
+     $oneshot:ident, $with_seed:ident, $with_secret:ident, $with_seed_and_secret:ident) => {
         #[cfg(feature = "alloc")]
         use crate::xxhash3::Owned;
         use crate::xxhash3::Beside;
@@ -467,7 +440,7 @@ macro_rules! xxh3_hashers {
             #[must_use]
             #[inline]
             pub fn oneshot(input: &[u8]) -> $value {
-                library::$oneshot(input).into()
+                library::$oneshot(input)
             }
 
             /// The hash of all bytes at once, with a seed: up to 240 bytes with the default secret, above with the one
@@ -481,7 +454,7 @@ macro_rules! xxh3_hashers {
             #[must_use]
             #[inline]
             pub fn oneshot_with_seed(seed: u64, input: &[u8]) -> $value {
-                library::$with_seed(input, seed).into()
+                library::$with_seed(input, seed)
             }
 
             /// The hash of all bytes at once, with a secret and the seed 0, at every length.
@@ -501,7 +474,7 @@ macro_rules! xxh3_hashers {
                 secret: &[u8],
                 input: &[u8],
             ) -> Result<$value, OneshotWithSecretError> {
-                $with_secret(input, secret)
+                library::$with_secret(input, secret).map_err(|_| OneshotWithSecretError::new())
             }
 
             /// The hash of all bytes at once: up to 240 bytes with the seed and the default secret, above with the
@@ -524,7 +497,8 @@ macro_rules! xxh3_hashers {
                 secret: &[u8],
                 input: &[u8],
             ) -> Result<$value, OneshotWithSecretError> {
-                $with_seed_and_secret(input, secret, seed)
+                library::$with_seed_and_secret(input, secret, seed)
+                    .map_err(|_| OneshotWithSecretError::new())
             }
         }
 
@@ -620,10 +594,9 @@ mod tests {
     use super::*;
 
     #[test]
-    fn the_default_secret_is_what_the_library_derives_of_the_seed_0() {
+    fn the_default_secret_is_what_the_seed_0_derives() {
         let mut derived = [0; DEFAULT_SECRET_LENGTH];
         library::overwrite_with_secret(&mut derived, 0);
-        assert_eq!(derived, DEFAULT_SECRET);
         assert_eq!(derived, *SecretBuffer::default().into_secret());
     }
 }

@@ -3,7 +3,7 @@
 
 plain_hash! {
     "XXH32", XxHash32, xxhash32, u32, 16, Record32,
-    xxh32, xxh32_of_word, xxh32_start, xxh32_write, xxh32_finish, xxh32_test,
+    xxh32,
     initial_accumulators,
     "let mut hasher = XxHash32::with_seed(1234);"
     "hasher.write(b\"some\");"

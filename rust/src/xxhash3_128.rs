@@ -1,26 +1,11 @@
 // SPDX-License-Identifier: MIT
 //! XXH3 of 128 bits.
 
-use crate::library::{self, Wide};
+use crate::library;
 
 xxh3_hashers! {
     "XXH3 of 128 bits", XxHash3_128, xxhash3_128, u128, finish_128, "",
-    xxh3_128, xxh3_128_with_seed,
-    |input, secret| written(|value| library::xxh3_128_with_secret(input, secret, value)),
-    |input, secret, seed| {
-        written(|value| library::xxh3_128_with_seed_and_secret(input, secret, seed, value))
-    }
-}
-
-// The library refuses nothing but a secret that is too short.
-#[inline(always)]
-fn written(write: impl FnOnce(&mut Wide) -> u32) -> Result<u128, OneshotWithSecretError> {
-    let mut value = Wide::ZERO;
-    if write(&mut value) == library::DONE {
-        Ok(value.into())
-    } else {
-        Err(OneshotWithSecretError::new())
-    }
+    xxh3_128, xxh3_128_with_seed, xxh3_128_with_secret, xxh3_128_with_seed_and_secret
 }
 
 #[cfg(feature = "alloc")]

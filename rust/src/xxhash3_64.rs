@@ -3,23 +3,11 @@
 
 use core::hash;
 
-use crate::library::{self, Answer};
+use crate::library;
 
 xxh3_hashers! {
     "XXH3 of 64 bits", XxHash3_64, xxhash3_64, u64, finish, "use std::hash::Hasher as _;",
-    xxh3_64, xxh3_64_with_seed,
-    |input, secret| value_of(library::xxh3_64_with_secret(input, secret)),
-    |input, secret, seed| value_of(library::xxh3_64_with_seed_and_secret(input, secret, seed))
-}
-
-// The library refuses nothing but a secret that is too short.
-#[inline(always)]
-fn value_of(answer: Answer) -> Result<u64, OneshotWithSecretError> {
-    if answer.code == library::DONE {
-        Ok(answer.value)
-    } else {
-        Err(OneshotWithSecretError::new())
-    }
+    xxh3_64, xxh3_64_with_seed, xxh3_64_with_secret, xxh3_64_with_seed_and_secret
 }
 
 #[cfg(feature = "alloc")]
@@ -36,7 +24,7 @@ impl hash::Hasher for Hasher {
 
     #[inline]
     fn write_usize(&mut self, word: usize) {
-        self.stream.write_word(word as u64);
+        hash::Hasher::write(self, &word.to_ne_bytes());
     }
 
     #[inline]
@@ -58,7 +46,7 @@ impl<S: FixedBuffer> hash::Hasher for RawHasher<S> {
 
     #[inline]
     fn write_usize(&mut self, word: usize) {
-        self.0.write_word(word as u64);
+        hash::Hasher::write(self, &word.to_ne_bytes());
     }
 
     #[inline]

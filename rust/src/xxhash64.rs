@@ -3,7 +3,7 @@
 
 plain_hash! {
     "XXH64", XxHash64, xxhash64, u64, 32, Record64,
-    xxh64, xxh64_of_word, xxh64_start, xxh64_write, xxh64_finish, xxh64_test,
+    xxh64,
     initial_accumulators,
     "let mut hasher = XxHash64::with_seed(1234);"
     "hasher.write(b\"some\");"

@@ -31,8 +31,8 @@ def expected(page):
     for digits in SOME_BYTES.values():
         other = digits[:-1] + ("0" if digits[-1] != "0" else "1")
         page.set_field("expected", other)
-        page.browser.wait("return document.getElementById('verdict').textContent.startsWith('Different: no digest of some.txt is this one.')", seconds=5)
-        want(page.text_of(".card .verdicts") == "Different from the expected digest", page.text_of(".card .verdicts"))
+        page.browser.wait("return document.getElementById('verdict').textContent.startsWith('Different, with seed 1234: no digest of some.txt is this one.')", seconds=5)
+        want(page.text_of(".card .verdicts") == "Different from the expected digest, with seed 1234", page.text_of(".card .verdicts"))
     page.set_field("expected", f"XXH64 {narrow}")
     page.browser.wait("return document.getElementById('verdict').textContent.startsWith('Different')", seconds=5)
     return f"{len(rows)} ways to write one"
@@ -104,6 +104,46 @@ def checksum_file(page):
         page.choose(paths[2])
         checked(page, [*rows[:2], [names[2], "same"]], "3 lines: 2 same, 1 different.")
     return f"{number + 1} forms"
+
+
+def under_a_seed(page):
+    """Under a seed, in a section that is closed, a checksum file's rows differ, and that says why. Without it they say
+    nothing until the files are hashed again."""
+    path = page.file("one.bin", b"one")
+    sums = page.file("sums.xxh64", line_of("one.bin", "xxh64", folder=page.room).encode())
+    page.set_key("1234")
+    page.browser.run("document.getElementById('key').open = false")
+    page.choose(path, sums)
+    checked(page, [["one.bin", "different"]], "1 line: 1 different.")
+    want("Hashed with seed 1234. xxhsum has no seed" in page.text_of(".checklist"), page.text_of(".checklist"))
+    want(page.text_of("#key summary") == "Seed and secret (with seed 1234)", page.text_of("#key summary"))
+    want(page.text_of(".card .verdicts").startswith("Different from sums.xxh64, with seed 1234"), page.text_of(".card .verdicts"))
+    page.set_key()
+    checked(page, [["one.bin", "hash again"]], "1 line: 1 hash again.")
+    want(page.text_of(".card .verdicts") == "", page.text_of(".card .verdicts"))
+    page.browser.click("#again")
+    checked(page, [["one.bin", "same"]], "1 line: 1 same.")
+    want("seed" not in page.text_of(".checklist") and page.text_of("#key summary") == "Seed and secret", page.text_of(".checklist"))
+
+
+def long_lines(page):
+    """A line of 32,767 bytes is read, as the command reads it, and a longer one is none: one of 16 MB holds nothing up."""
+    digits = "0" * 32
+    for name, row in (("a" * (32767 - 34), "not here"), ("\u00e9" * ((32767 - 34) // 2), "not here"), ("a" * (32767 - 33), None), ("\u00e9" * ((32767 - 34) // 2 + 1), None)):
+        page.open()
+        page.choose(page.file("list.xxh128", f"{digits}  {name}\n".encode()))
+        if row:
+            checked(page, [[name, row]], "1 line: 1 not here.")
+        else:
+            page.digests("list.xxh128")
+    page.open()
+    page.browser.run("""window.gap = 0; let last = performance.now();
+        window.turns = setInterval(() => { const now = performance.now(); window.gap = Math.max(window.gap, now - last); last = now; }, 10);""")
+    page.choose(page.file("list.xxh128", b"\\" + digits.encode() + b"  " + b"a" * ((16 << 20) - 40) + b"\n"))
+    page.digests("list.xxh128")
+    gap = page.browser.run("clearInterval(window.turns); return window.gap;")
+    want(gap < 1500, f"the longest wait was {gap:.0f} ms")
+    return f"the longest wait was {gap:.0f} ms"
 
 
 def improper_lines(page):
@@ -344,6 +384,8 @@ LIST_CHECKS = {
     "dragging over a scrolled page": dragged,
     "an expected digest among many": among_many,
     "a checksum file with its files": checksum_file,
+    "a checksum file under a seed": under_a_seed,
+    "long lines of a checksum file": long_lines,
     "improper lines of a checksum file": improper_lines,
     "a folder that is chosen": folder_chosen,
     "a folder that is dropped": folder_dropped,

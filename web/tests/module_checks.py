@@ -15,8 +15,11 @@ PACKAGED = ["LICENSE", "README.md", "SHA256SUMS", "inline.d.ts", "inline.js", "n
             "streams.d.ts", "streams.js", "twox_hash.d.ts", "twox_hash.js", "twox_hash.wasm", "twox_hash_simd.wasm",
             "xxhash_wasm.d.ts", "xxhash_wasm.js", "out/modules.js", "out/modules.cjs",
             *(f"out/{name}.{end}" for name in ("inline", "node", "node_hash", "streams", "twox_hash", "xxhash_wasm")
-              for end in ("cjs", "d.cts") if (name, end) != ("node_hash", "d.cts"))]
+              for end in ("cjs", "d.cts") if (name, end) != ("node_hash", "d.cts")),
+            "out/twox_hash.wasm", "out/twox_hash_simd.wasm"]
 MODULES = ["twox_hash.wasm", "twox_hash_simd.wasm"]
+SAMPLE = "await load(); console.log(toHex(xxh64('some bytes', 1234), 'xxh64'));"
+OF_SAMPLE = "eab55659a496d78b\n"
 TSC = ["tsc", "--strict", "--noEmit", "--target", "es2022", "--module", "node16", "--moduleResolution", "node16"]
 # Bundles for a browser: the file's form, esbuild's words, and how the entry is made there.
 BUNDLES = {
@@ -133,19 +136,72 @@ def text_of(folder, name):
         return file.read()
 
 
-def installed_from_folder(folder, node):
-    """`npm install FOLDER`, as a user has it from a clone: nothing was packed or built there."""
-    with tempfile.TemporaryDirectory(dir=folder) as room:
-        must(["git", "-C", os.path.dirname(WEB), "checkout-index", "-q", "-a", f"--prefix={room}/clone/"] if os.path.exists(os.path.join(os.path.dirname(WEB), ".git"))
-             else ["cp", "-r", os.path.dirname(WEB), f"{room}/clone"], folder)
-        shutil.rmtree(os.path.join(room, "clone", "web", "out"), ignore_errors=True)
-        user = os.path.join(room, "user")
-        os.makedirs(user)
-        write(user, "package.json", '{ "private": true }')
-        must(["npm", "install", "--offline", "--no-audit", "--no-fund", os.path.join(room, "clone", "web")], user)
-        for name in ("twox_hash", "twox_hash/inline"):
-            said = must([node, "--input-type=module", "-e", f'import {{ load, xxh64 }} from "{name}"; await load(); console.log(xxh64("some bytes", 1234).toString(16));'], user)
-            want(said.strip() == "eab55659a496d78b", said)
+def copy_of_clone(folder):
+    """The repository as a user has it from a clone, where nothing was packed or built."""
+    top = os.path.dirname(WEB)
+    must(["git", "-C", top, "checkout-index", "-q", "-a", f"--prefix={folder}/"] if os.path.exists(os.path.join(top, ".git"))
+         else ["cp", "-r", top, folder], top)
+    shutil.rmtree(os.path.join(folder, "web", "out"), ignore_errors=True)
+
+
+def files_of(web):
+    """The names in a copy of this folder but for what is built, with the text of package.json."""
+    return {name: name == "package.json" and text_of(web, name) for name in os.listdir(web) if name != "out"}
+
+
+def row_of_page(start):
+    """The second cell of the row of web/README.md that starts so."""
+    return re.search(rf"^\| {re.escape(start)} \| (.*) \|$", text_of(WEB, "README.md"), re.M)[1]
+
+
+def installed_as_printed(folder, node):
+    """Each way to install that the page names, its commands in one shell, in a folder beside a clone, which stays as it was."""
+    ways = [re.findall("`([^`]+)`", way) for way in row_of_page("the package, which depends on nothing").split("; or ")]
+    want(len(ways) == 2, f"{len(ways)} ways")
+    for way in ways:
+        with tempfile.TemporaryDirectory(dir=folder) as room:
+            copy_of_clone(os.path.join(room, "twox_hash"))
+            web, user = os.path.join(room, "twox_hash", "web"), os.path.join(room, "user")
+            before = files_of(web)
+            os.makedirs(user)
+            write(user, "package.json", '{ "private": true }')
+            must(["sh", "-e", "-c", "export npm_config_offline=true npm_config_audit=false npm_config_fund=false\n" + "\n".join(way)], user)
+            for name in ("twox_hash", "twox_hash/inline"):
+                said = must([node, "--input-type=module", "-e", f'import {{ load, toHex, xxh64 }} from "{name}"; {SAMPLE}'], user)
+                want(said == OF_SAMPLE, said)
+            want(files_of(web) == before, f"{way} changes the clone")
+    return "; ".join(" && ".join(way) for way in ways)
+
+
+def without_a_package(node):
+    """The files that the page names, copied, are enough, also where Node doesn't guess what kind of script a file is."""
+    names = re.findall("`([^`]+)`", row_of_page("it without a package"))
+    with tempfile.TemporaryDirectory() as room:  # below no other package.json
+        for name in names:
+            if name.startswith("{"):
+                write(room, "package.json", name)
+            elif name != "package.json":
+                shutil.copy(os.path.join(WEB, name), room)
+        write(room, "main.mjs", f'import {{ load, toHex, xxh64 }} from "./node.js"; {SAMPLE}')
+        guess = "--experimental-detect-module"
+        flags = must([node, "-p", f'process.allowedNodeEnvironmentFlags.has("{guess}") ? "--no{guess[1:]}" : ""'], room).split()
+        said = must([node, *flags, "main.mjs"], room)
+    want(said == OF_SAMPLE, said)
+    return ", ".join(names)
+
+
+def bundles_for_node(folder, node):
+    """esbuild's bundles for Node, with the modules beside them, run from another folder."""
+    entries = {"import": 'import { load, toHex, xxh64 } from "twox_hash";', "require": 'const { load, toHex, xxh64 } = require("twox_hash");'}
+    for given, form, end in (("import", "esm", "mjs"), ("import", "cjs", "cjs"), ("require", "cjs", "cjs")):
+        with tempfile.TemporaryDirectory(dir=folder) as room:
+            app = write(room, f"app.{'mjs' if given == 'import' else 'cjs'}", f"{entries[given]} (async () => {{ {SAMPLE} }})();")
+            bundled = os.path.join(room, "dist", "here", f"app.{end}")
+            must(["esbuild", app, "--bundle", "--platform=node", "--log-level=error", f"--format={form}", f"--outfile={bundled}"], room)
+            for module in MODULES:
+                shutil.copy(os.path.join(WEB, module), os.path.dirname(bundled))
+            said = must([node, bundled], "/")
+        want(said == OF_SAMPLE, f"{given}, {form}: {said}")
 
 
 def tests_of_commonjs(folder, node):
@@ -287,7 +343,9 @@ def check_package(checks, folder, nodes):
                    {"entry": "twox_hash", "node": "twox_hash", "streams": "twox_hash/streams"}, xxhash)
         checks.attempt(f"the package in {node}: all tests of what require gives", tests_of_commonjs, folder, node)
         checks.attempt(f"the package in {node}: the entry with the bytes inside", tests_in_node, folder, node, {"entry": "twox_hash/inline"})
-    checks.attempt("npm install of this folder", installed_from_folder, folder, nodes[0])
+        checks.attempt(f"the files alone in {node}, as the page says", without_a_package, node)
+        checks.attempt(f"bundles for {node}, with the modules beside them", bundles_for_node, folder, node)
+    checks.attempt("npm install, as the page says", installed_as_printed, folder, nodes[0])
     checks.attempt("the examples of web/README.md", page_example, folder, nodes[0])
     checks.attempt("the package's types, by tsc --strict", types, folder)
 

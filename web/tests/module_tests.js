@@ -143,6 +143,22 @@ function codeOf(call) {
   }
 }
 
+function messageOf(call) {
+  try {
+    return call();
+  } catch (error) {
+    return error.message;
+  }
+}
+
+/** Streams that shorten the piece while they are listed, where the engine can, take what is left. */
+function shrinksInTime() {
+  if (!ArrayBuffer.prototype.resize) return true;
+  const [stream, piece] = [new twox.Stream("xxh64"), new Uint8Array(new ArrayBuffer(1000, { maxByteLength: 1000 }))];
+  twox.updateAll({ * [Symbol.iterator]() { piece.buffer.resize(10); yield stream; } }, piece);
+  return stream.digest() === twox.xxh64(new Uint8Array(10));
+}
+
 const BYTES = Uint8Array.of(1, 2, 3);
 const SECRET = new Uint8Array(136);
 
@@ -183,7 +199,7 @@ function liars() {
   return [own, ...[Short, Long, Elsewhere].map((kind) => kind.from(new TextEncoder().encode("some bytes")))];
 }
 
-/** Calls that are refused, and the code. */
+/** Calls that are refused, and the code; of some also words of the message. */
 const REFUSED = [
   ["input", () => twox.xxh64(7)],
   ["input", () => twox.xxh64(undefined)],
@@ -193,7 +209,8 @@ const REFUSED = [
   ["seed", () => twox.xxh64(BYTES, -1)],
   ["seed", () => twox.xxh64(BYTES, 1.5)],
   ["seed", () => twox.xxh64(BYTES, "7")],
-  ["seed", () => twox.xxh64(BYTES, 2 ** 53)],
+  ["seed", () => twox.xxh64(BYTES, 2 ** 53), "2^53 or more must be a BigInt"],
+  ["seed", () => twox.xxh64(BYTES, Infinity)],
   ["seed", () => twox.xxh64(BYTES, 2n ** 64n)],
   ["seed", () => twox.xxh32(BYTES, 2 ** 32)],
   ["seed", () => twox.xxh3_64(BYTES, { seed: null })],
@@ -216,12 +233,18 @@ const REFUSED = [
   ["secret", () => twox.xxh3_64(BYTES, { secret: detached(new Uint8Array(200)) })],
   ["state", () => twox.Stream.load(detached(new Uint8Array(200)))],
   ["kind", () => new twox.Stream("xxh64").digest("xxh32")],
+  ["input", () => twox.updateAll([new twox.Stream("xxh64")], detached(new Uint8Array(10)))],
+  ["input", () => twox.updateAll([new twox.Stream("xxh64"), {}], BYTES), "A Stream is needed"],
+  ["input", () => twox.updateAll([null], BYTES), "A Stream is needed"],
+  ["input", () => twox.updateAll(new twox.Stream("xxh64"), BYTES), "must be iterable"],
+  ["input", () => twox.updateAll(undefined, BYTES), "must be iterable"],
   ["options", () => twox.xxh3_64(BYTES, 7)],
   ["options", () => twox.xxh3_64(BYTES, { sead: 7 })],
   ["value", () => twox.toHex(7, "xxh64")],
   ["value", () => twox.toHex(-1n, "xxh64")],
   ["value", () => twox.toHex(2n ** 32n, "xxh32")],
   ["value", () => twox.toHex(2 ** 32, "xxh32")],
+  ["value", () => twox.toHex(2 ** 53, "xxh32"), "isn't from 0 to 2^32 - 1"],
   ["value", () => twox.toHex(-1, "xxh32")],
   ["value", () => twox.toHex(1.5, "xxh32")],
   ["value", () => twox.toHex("7", "xxh32")],
@@ -371,7 +394,7 @@ const TESTS = {
     return { ok: wrong.length === 0, words: wrong.length ? wrong[0][0] : `${FORGED.length} states` };
   },
   "refused calls, by their codes": () => {
-    const wrong = REFUSED.filter(([code, call]) => codeOf(call) !== code);
+    const wrong = REFUSED.filter(([code, call, words]) => codeOf(call) !== code || !messageOf(call).includes(words ?? ""));
     return { ok: wrong.length === 0, words: wrong.length ? String(wrong[0]) : `${REFUSED.length} calls` };
   },
   "a freed stream is refused": () => {
@@ -471,6 +494,24 @@ const TESTS = {
     const streams = [new twox.Stream("xxh64", row.options), new twox.Stream("xxh64", row.options)];
     twox.updateAll(streams, row.input);
     return { ok: streams.every((stream) => BigInt(stream.digest()) === row.answer) };
+  },
+  "updateAll looks at the piece once it has the streams": () => {
+    const codes = [100, 200_000].map((length) => {
+      const [stream, piece] = [new twox.Stream("xxh64"), new Uint8Array(length)];
+      const detaching = { * [Symbol.iterator]() { detached(piece); yield stream; } };
+      return codeOf(() => twox.updateAll(detaching, piece));
+    });
+    return { ok: codes.every((code) => code === "input") && shrinksInTime(), words: codes.join(" ") };
+  },
+  "options that take the input away": () => {
+    const input = new Uint8Array(10);
+    return { ok: codeOf(() => twox.xxh3_64(input, { get seed() { detached(input); return 1; } })) === "input" };
+  },
+  "updateAll with a freed stream changes none": () => {
+    const [stream, freed] = [new twox.Stream("xxh64").update("some"), new twox.Stream("xxh64")];
+    freed.free();
+    const code = codeOf(() => twox.updateAll([stream, freed], " more"));
+    return { ok: code === "freed" && stream.digest() === twox.xxh64("some"), words: code };
   },
 };
 

@@ -160,17 +160,23 @@ const TESTS = {
   "createHash: the digest ends it": () => {
     const hash = twox.createHash("xxh32");
     hash.digest();
-    const codes = [() => hash.update("more"), () => hash.digest(), () => hash.copy()].map((call) => {
-      try {
-        call();
-        return "no error";
-      } catch (error) {
-        return error.code;
-      }
-    });
+    const codes = [() => hash.update("more"), () => hash.digest(), () => hash.copy()].map(codeOf);
     return { ok: codes.every((code) => code === "freed"), words: codes.join(" ") };
   },
+  "a Hash by new is refused": () => {
+    const codes = [() => new twox.Hash("xxh64"), () => new twox.Hash()].map(codeOf);
+    return { ok: codes.every((code) => code === "kind"), words: codes.join(" ") };
+  },
 };
+
+function codeOf(call) {
+  try {
+    call();
+    return "no error";
+  } catch (error) {
+    return error.code ?? String(error);
+  }
+}
 
 export async function runNodeHashTests(entry, digests) {
   twox = entry;

@@ -20,12 +20,13 @@ return { words: item.querySelector(".state").textContent, failed: item.classList
 
 
 class Requests(serve.Handler):
-    """Notes what is asked for, hands out bundles, and can hand out a worker in which something is missing, or withhold a
-    file."""
+    """Notes what is asked for, hands out bundles, and can hand out a worker in which something is missing, withhold a file,
+    or hand out another text in its place."""
 
     asked = []
     before_worker = b""
     withheld = None
+    changed = ("", b"")
     bundles = None
 
     def do_GET(self):
@@ -33,6 +34,8 @@ class Requests(serve.Handler):
         name = self.path.removeprefix("/bundles/")
         if self.path == Requests.withheld:
             self.send_error(404)
+        elif self.path == Requests.changed[0]:
+            self.send_file(os.path.join(WEB, "words.js"), Requests.changed[1] + b"\n")
         elif self.path == "/web/worker.js" and Requests.before_worker:
             self.send_file(os.path.join(WEB, "worker.js"), Requests.before_worker)
         elif name != self.path:

@@ -1,14 +1,16 @@
 """The page as a user uses it."""
 import functools
+import http.client
 import http.server
 import os
 import subprocess
 import tempfile
 import threading
+import time
 
 import table
 from module_checks import WEB
-from page import Page, Requests, Served
+from page import Page, Requests, Served, serve
 from report import want
 from values import SOME_BYTES, reference
 
@@ -16,6 +18,12 @@ MIB = 1 << 20
 
 
 def labels(page):
+    """Every control has a name, and one that is there for each file names the file."""
+    page.choose(*(page.file(f"{number}.bin", b"") for number in range(4)))
+    page.digests("3.bin")
+    nameless = page.browser.run("""return [...document.querySelectorAll(".card button")].filter((it) => !it.hidden && it.checkVisibility())
+        .filter((it) => !(it.ariaLabel || "").includes(it.closest(".card").querySelector(".name").textContent)).map((it) => it.outerHTML)""")
+    want(not nameless, str(nameless))
     lacking = page.browser.run("""return [...document.querySelectorAll("input, textarea, button, progress")]
         .filter((it) => !(it.labels?.length || it.ariaLabel || it.textContent.trim())).map((it) => it.outerHTML)""")
     want(not lacking, str(lacking))
@@ -214,14 +222,47 @@ def clear(page):
     want(focused(page) == "files", "the focus is lost")
 
 
+STALE = "Hashed with another seed or secret. Hash again to use this one."
+NO_VERDICT = "return document.querySelector('.card .verdicts').textContent === ''"
+
+
 def again(page):
+    """After another seed the card's digests are none, and nothing is compared with them, until they are made again. With the
+    first seed they are there without that."""
     page.set_key()
     page.choose(page.file("again.bin", b"some bytes"))
-    page.digests("again.bin")
+    first = page.digests("again.bin")
+    page.set_field("expected", SOME_BYTES["xxh64"])
+    page.browser.wait("return document.getElementById('verdict').textContent === 'Different: no digest of again.bin is this one.'", seconds=5)
+    for seed, secret in (("1234", ""), ("", "ab" * 136), ("12x", "")):
+        page.set_key(seed, secret)
+        card = page.wait_for("again.bin", "!('xxh64' in card.digests)")
+        want(card["words"] == STALE and card["button"] == "Hash again", card)
+        page.browser.wait(NO_VERDICT, seconds=5)
+        page.browser.wait("return document.getElementById('verdict').textContent === 'Hash again to compare it: the digests are of another seed or secret.'", seconds=5)
+    page.set_key()
+    page.wait_for("again.bin", "'xxh64' in card.digests")
+    want(page.digests("again.bin") == first, page.card("again.bin"))
     page.set_key("1234")
+    page.wait_for("again.bin", "!('xxh64' in card.digests)")
     page.browser.click("#again")
     page.wait_for("again.bin", "card.words.includes('seed 1234') && 'xxh64' in card.digests")
     want(page.digests("again.bin") == SOME_BYTES, page.card("again.bin"))
+    page.browser.wait("return document.getElementById('verdict').textContent === 'Same: XXH64 of again.bin.'", seconds=5)
+
+
+def changed_while_hashed(page):
+    """A file that was begun with one seed and ends under another has no digest to compare, and finds none that is expected."""
+    page.set_key()
+    path = page.file("slow.bin", b"x", 1500 * MIB)
+    page.set_field("expected", "ab" * 8)
+    page.choose(path)
+    page.wait_for("slow.bin", "card.isRunning && card.words.includes(' of ')")
+    page.set_key("1234")
+    card = page.wait_for("slow.bin", "!card.isRunning", 300)
+    os.remove(path)
+    want(card["words"] == STALE and not card["digests"], card)
+    page.browser.wait(NO_VERDICT, seconds=5)
 
 
 # What keeps the page's files asks for them by itself.
@@ -252,6 +293,25 @@ def offline(page):
     there.set_key("1234")
     there.browser.type("#text", "some bytes")
     want(there.digests("Text") == SOME_BYTES, there.card("Text"))
+
+
+def no_room_to_keep(page):
+    """Where a newer file can't be kept, for want of room, the page gets it as the network has it."""
+    with Served(Requests.bundles) as address:
+        there = Page(page.browser, f"{address}/web/", page.room)
+        there.open()
+        kept(there)
+        fresh = "return (await fetch('words.js')).text()"
+        want("fresh" not in there.browser.run(fresh), "the words are there before")
+        there.browser.devtools("Storage.overrideQuotaForOrigin", origin=address, quotaSize=1)
+        Requests.changed = ("/web/words.js", b"// fresh\n" + b"/" * MIB)
+        try:
+            said = there.browser.run(fresh)
+        finally:
+            Requests.changed = ("", b"")
+            there.browser.devtools("Storage.overrideQuotaForOrigin", origin=address)
+    want(said.startswith("// fresh"), said[:60])
+    return f"{len(said)} characters"
 
 
 def one_folder(page):
@@ -286,13 +346,30 @@ def links(page):
     want(not wrong, str(wrong))
 
 
+# Of each field and button that is seen, the contrast of its border with what lies on its two sides, by WCAG's formula.
+CONTRASTS = """const luminance = (color) => color.match(/[0-9.]+/g).slice(0, 3).map((it) => it / 255)
+    .map((it) => (it <= 0.04045 ? it / 12.92 : ((it + 0.055) / 1.055) ** 2.4)).reduce((sum, it, i) => sum + it * [0.2126, 0.7152, 0.0722][i], 0);
+const contrast = (...colors) => { const [low, high] = colors.map(luminance).sort((a, b) => a - b); return (high + 0.05) / (low + 0.05); };
+const ground = (it) => { const color = getComputedStyle(it).backgroundColor; return color.endsWith(", 0)") ? ground(it.parentElement) : color; };
+document.getElementById("key").open = true;
+return [...document.querySelectorAll("textarea, input:not([type]), select, button")].filter((it) => it.checkVisibility())
+    .flatMap((it) => [it, it.parentElement].map((side) => [it.id || it.textContent, contrast(getComputedStyle(it).borderTopColor, ground(side))]));"""
+
+
 def schemes(page):
-    grounds = set()
+    """Light and dark, with borders of fields and buttons that are seen in either."""
+    page.choose(*(page.file(f"{number}.bin", b"") for number in range(4)))
+    page.digests("3.bin")
+    grounds, lowest = set(), []
     for scheme in ("light", "dark"):
         page.browser.devtools("Emulation.setEmulatedMedia", features=[{"name": "prefers-color-scheme", "value": scheme}])
         grounds.add(page.browser.run("return getComputedStyle(document.documentElement).backgroundColor"))
+        time.sleep(0.5)  # until borders have changed
+        lowest.append(min(page.browser.run(CONTRASTS), key=lambda it: it[1]))
     page.browser.devtools("Emulation.setEmulatedMedia", features=[{"name": "prefers-color-scheme", "value": "light"}])
     want(len(grounds) == 2, grounds)
+    want(all(contrast >= 3 for _, contrast in lowest), lowest)
+    return f"the lowest contrasts: {', '.join(f'{contrast:.2f}' for _, contrast in lowest)}"
 
 
 class Lacking:
@@ -336,6 +413,35 @@ def no_webassembly(page):
     want(shown[0] is False and "There is no WebAssembly here" in shown[1] and shown[2] is True, shown)
 
 
+def served_and_no_more(folder):
+    """Without a browser: of a tree of its own, serve.py serves what is named there, and nothing that begins alike, or lies elsewhere."""
+    public = ["web/index.html", "docs/C.md", "docs/api/x", "crates/x/src/lib.rt", "README.md", "LICENSE", "oracle/vectors.txt"]
+    others = ["README.md.orig", "README.md/x", "docs.bak/x", "web-old/x", "LICENSE2", "oracle/vectors.txt~", "oracle/check", ".git/config",
+              "web/outside", "web/../.git/config", "docs/%2e%2e/.git/config"]
+    top, before = os.path.join(folder, "served"), serve.TOP
+    for name in [*public, "README.md.orig", "docs.bak/x", "web-old/x", "LICENSE2", "oracle/vectors.txt~", "oracle/check", ".git/config"]:
+        os.makedirs(os.path.dirname(os.path.join(top, name)), exist_ok=True)
+        with open(os.path.join(top, name), "w", encoding="utf-8") as file:
+            file.write(name)
+    os.symlink("../.git/config", os.path.join(top, "web", "outside"))
+    serve.TOP = os.path.realpath(top)
+    try:
+        with Served(None, serve.Handler) as address:
+            wrong = [name for name in public + others if (status_of(address, name) == 200) != (name in public)]
+            wrong += [name for name in ("web/", "docs/", "web") if status_of(address, name) not in (200, 301)]
+    finally:
+        serve.TOP = before
+    want(not wrong, str(wrong))
+
+
+def status_of(address, name):
+    asked = http.client.HTTPConnection(address.removeprefix("http://"))
+    asked.request("GET", f"/{name}")
+    status = asked.getresponse().status
+    asked.close()
+    return status
+
+
 PAGE_CHECKS = {
     "every control has a name": labels,
     "typed text is hashed, with the seed": text,
@@ -353,6 +459,7 @@ PAGE_CHECKS = {
     "the same while it is hashed": vanished_while_hashed,
     "the keyboard alone": keyboard,
     "hash again, with another seed": again,
+    "another seed while a file is hashed": changed_while_hashed,
     "clear": clear,
     "no request while hashing": no_network,
     "each link leads to a page": links,
@@ -361,6 +468,7 @@ PAGE_CHECKS = {
     "where no other thread reads, the one that hashes does": reads_by_itself,
     "a browser without WebAssembly is told so": no_webassembly,
     "without a network, once it was loaded": offline,
+    "a newer file for which there is no room": no_room_to_keep,
     "one folder on another host": one_folder,
 }
 

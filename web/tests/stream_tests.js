@@ -61,6 +61,13 @@ const TESTS = {
     const codes = await Promise.all(refused.map(async ([, kind, options]) => (await errorOf(streams.hashBlob(kind, new Blob([]), options))).code));
     return { ok: codes.every((code, i) => code === refused[i][0]), words: codes.join(" ") };
   },
+  "a blob in many pieces, for streams that are listed once": async () => {
+    const part = many();
+    const blob = new Blob(Array.from({ length: 20 }, () => part));
+    const [stream, value] = [new twox.Stream("xxh64"), await streams.hashBlob("xxh64", blob)];
+    await streams.takeBlob([stream].values(), blob);
+    return { ok: stream.digest() === value };
+  },
   "a blob of another size than was said": async () => {
     const error = await errorOf(streams.takeBlob([], new Blob(["four"]), { size: 5 }));
     return { ok: error.name === "NotReadableError", words: error.name };

@@ -25,7 +25,7 @@ record_of a = record {
   buffer_usage = usage_of a;
 }
 
--- the record after d, the rest of a piece that is counted already, for a buffer that is empty
+-- the record after d, the rest of a piece that is counted already, where no byte of the buffer waits
 unfoldable pub after_rest : SavedState → List ℕ → SavedState
 after_rest s d =
     let rest = drop (length d / 16 * 16) d in
@@ -34,6 +34,12 @@ after_rest s d =
       buffer = rest ++ drop (length rest) s.buffer;
       buffer_usage = length rest;
     }
+
+-- b is the memory a after such a rest d
+pub record AfterRest (a : StateInMemory) (d : List ℕ) (b : StateInMemory) : Type 0 where
+  pub exact : record_of b ≡ after_rest (record_of a) d
+  pub seed : b.seed ≡ a.seed
+  pub in_range : usage_of b < 16
 
 -- b is the memory a after the piece d
 pub record AfterPiece (a : StateInMemory) (d : List ℕ) (b : StateInMemory) : Type 0 where

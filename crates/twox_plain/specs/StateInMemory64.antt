@@ -1,7 +1,8 @@
 -- The record of a hasher, from its fields in the order in which they lie in memory.
-use Rattle.std.specs.Prelude.{ℕ}
+use Rattle.std.specs.Prelude.{◌≡◌, ℕ, List, ◌++◌, ◌*◌, ◌/◌, ◌<◌, drop, length}
 use Rattle.std.specs.Int.{w32}
 use Rattle.twox_words.specs.Word.{wrap_sub}
+use Rattle.twox_plain.specs.Core64.{core_after_stripes}
 use Rattle.twox_plain.specs.declared.xxhash64.SavedState.{SavedState}
 use Rattle.twox_plain.specs.declared.xxhash64.StateInMemory.{StateInMemory}
 use Rattle.twox_plain.specs.declared.xxhash64.TheConstants.{MARK}
@@ -18,3 +19,19 @@ record_of a = record {
   buffer = a.buffer;
   buffer_usage = usage_of a;
 }
+
+-- the record after d, the rest of a piece that is counted already, where no byte of the buffer waits
+unfoldable pub after_rest : SavedState → List ℕ → SavedState
+after_rest s d =
+    let rest = drop (length d / 32 * 32) d in
+    record s {
+      core = core_after_stripes s.core d (length d / 32);
+      buffer = rest ++ drop (length rest) s.buffer;
+      buffer_usage = length rest;
+    }
+
+-- b is the memory a after such a rest d
+pub record AfterRest (a : StateInMemory) (d : List ℕ) (b : StateInMemory) : Type 0 where
+  pub exact : record_of b ≡ after_rest (record_of a) d
+  pub seed : b.seed ≡ a.seed
+  pub in_range : usage_of b < 32

@@ -37,6 +37,13 @@ pub(crate) fn u64_member(value: &Value, name: &str) -> Option<u64>
     whole_number(value.get(name)?)
 }
 
+/// The member of that name, a whole number that is a length: below 2^64, and no more than the target's `usize` holds.
+pub(crate) fn usize_member(value: &Value, name: &str) -> Option<usize>
+    ensures { result ≡ number_member (2 ^ 64) name.now (view value.now) }
+{
+    usize::try_from(u64_member(value, name)?).ok()
+}
+
 /// The array of exactly N whole numbers below 256.
 #[tactic(auto, using(crate::proofs::ByteItems::bytes_of_other_length, crate::proofs::ByteItems::one_more, crate::proofs::ByteItems::all_read))]
 pub(crate) fn byte_array<const N: usize>(value: &Value) -> Option<[u8; N]>

@@ -1,4 +1,5 @@
 pub mod ChunksFront
+pub mod CopyFacts
 pub mod OneToOne
 pub mod OutsideVectors
 pub mod Rotations

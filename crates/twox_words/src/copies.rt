@@ -1,6 +1,6 @@
 //! Copies of short slices of bytes.
 
-ghost use Rattle.std.specs.Prelude.{◌≡◌, ◌+◌, ◌≤◌, ◌++◌, drop, length};
+ghost use Rattle.std.specs.Prelude.{◌≡◌, ◌+◌, ◌≤◌, ◌++◌, take, drop, length};
 
 /// Copies a slice of at most 32 bytes over another of its length.
 ///
@@ -55,7 +55,8 @@ pub fn copy_front(to: &mut [u8], from: &[u8])
 }
 
 // Copies a slice of `N` to `2 * N` bytes over another of its length: the first `N` bytes, then the last `N`, which may
-// overlap them.
+// overlap them. Where the last begins is a value of its own, so that the address of each copy is seen to lie within its
+// slice.
 #[inline(always)]
 fn copy_ends<const N: usize>(to: &mut [u8], from: &[u8])
     requires same { length to.old ≡ length from.now }
@@ -63,6 +64,17 @@ fn copy_ends<const N: usize>(to: &mut [u8], from: &[u8])
     requires covered { length from.now ≤ N + N }
     ensures { to.new ≡ from.now }
 {
+    let last = from.len() - N;
+    copy_chunk::<N>(to, from);
+    copy_chunk::<N>(&mut to[last..], &from[last..]);
+}
+
+// Copies the first `N` bytes.
+#[inline(always)]
+fn copy_chunk<const N: usize>(to: &mut [u8], from: &[u8])
+    requires long_enough { N ≤ length from.now }
+    requires room { N ≤ length to.old }
+    ensures { to.new ≡ take N from.now ++ drop N to.old }
+{
     *to.first_chunk_mut::<N>().unwrap() = *from.first_chunk().unwrap();
-    *to.last_chunk_mut::<N>().unwrap() = *from.last_chunk().unwrap();
 }

@@ -1,4 +1,4 @@
-"""The rows of oracle/arm-text: what is asked of the text for C for 64-bit ARM, and of those below the cargo crate."""
+"""The rows of oracle/arm-text: what is asked of the text for C for 64-bit ARM, and of the one below the cargo crate."""
 import functools
 import os
 import subprocess
@@ -51,10 +51,9 @@ def choose(given, found):
 
 
 def cargo_text_rows(is_all):
-    """The rows of each text below the cargo crate."""
-    for name, found in cargo.programs().items():
-        made = functools.partial(cargo.CargoProcessor, found)
-        yield from cargo_whole.named(f"cargo's {name}", cargo_whole.choose(name, made, is_all))
+    """The rows of the text below the cargo crate."""
+    made = functools.partial(cargo.CargoProcessor, cargo.program())
+    return cargo_whole.named(f"cargo's {cargo.NAME}", cargo_whole.choose(cargo.NAME, made, is_all))
 
 
 def every_length_rows(made, is_all):

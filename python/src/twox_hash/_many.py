@@ -9,6 +9,8 @@ Into = TypeVar('Into', bound=Sized)
 
 # The name of a field in the format of a buffer.
 FIELD = re.compile(':[^:]*:')
+# Addresses of bytes, text, anything, a function and a type. Before the letter of a float, Z is a complex number.
+POINTER = re.compile('[zPX&]|Z(?![efdgFDG])')
 # Integers in the machine's order of bytes, which is little-endian wherever the package runs.
 NATIVE_INTEGER = re.compile('[@=<]?[hHiIlLqQnN]')
 
@@ -32,8 +34,8 @@ def many(rows: Iterable[Any], algorithm: Union[str, HasherType] = 'xxh3_64', *, 
     a digest's size; all else gets the digests' bytes. `seed` and `secret` are as the algorithm's type takes them.
 
     ValueError: the lengths don't fit, `into` lies over a row, or there is no such algorithm. BufferError: a buffer isn't
-    contiguous, or can't be written. TypeError: the rows are a str or hold text as UTF-32, or one of them has no bytes.
-    OverflowError: there are more digests than a buffer can have. What a row raises names the row, and `into` is then as
+    contiguous, or can't be written. TypeError: the rows are a str, hold text as UTF-32, objects or addresses, or one of them has
+    no bytes. OverflowError: there are more digests than a buffer can have. What a row raises names the row, and `into` is then as
     it was."""
     hasher = begun(algorithm, key)
     if isinstance(rows, str):
@@ -70,11 +72,13 @@ def _view_of(rows: Any) -> Optional[memoryview]:
         view = memoryview(rows)
     except TypeError:
         return None
-    items = FIELD.sub('', view.format)
+    items = FIELD.sub(' ', view.format)
     if items == 'O' and view.ndim == 1:
         return None
     if 'O' in items:
         raise TypeError(f'these rows hold objects (format {view.format!r}) and not bytes')
+    if POINTER.search(items):
+        raise TypeError(f'these rows hold addresses (format {view.format!r}) and not what lies there')
     if 'w' in items or 'u' in items:
         raise TypeError(f'these rows hold text as it lies in memory (format {view.format!r}), and not its bytes in UTF-8: '
                         'rows.tolist() has it as str')

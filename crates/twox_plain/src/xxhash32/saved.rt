@@ -5,7 +5,7 @@ ghost use Rattle.serde_json.specs.View.{view};
 ghost use Rattle.twox_plain.specs.Saved32.{core_of_data, record_of_data, record_of_text, saved_text};
 
 use crate::saved_text::{
-    byte_array, byte_array_value, core_value, record_value, u32_member, u64_member,
+    byte_array, byte_array_value, core_value, record_value, u32_member, u64_member, usize_member,
 };
 use crate::xxhash32::{Core, SavedState};
 use serde_json::Value;
@@ -52,7 +52,7 @@ fn record_of_value(value: &Value) -> Option<SavedState>
     ensures { result ≡ record_of_data (view value.now) }
 {
     let buffer = byte_array(value.get("buffer")?)?;
-    let buffer_usage = u64_member(value, "buffer_usage")? as usize;
+    let buffer_usage = usize_member(value, "buffer_usage")?;
     let core = core_of_value(value.get("core")?)?;
     let seed = u32_member(value, "seed")?;
     let total_len = u64_member(value, "total_len")?;

@@ -2,7 +2,7 @@
 
 ghost use Rattle.std.specs.Prelude.{◌≡◌, ℕ, ◌+◌, ◌-◌, ◌^◌, ◌<◌, ◌≤◌, List, ◌++◌, drop, length, min};
 ghost use Rattle.twox_plain.specs.Xxh32.{xxh32};
-ghost use Rattle.twox_plain.specs.StateInMemory32.{AfterPiece, record_of, usage_of, total_of, after_rest};
+ghost use Rattle.twox_plain.specs.StateInMemory32.{AfterPiece, AfterRest, record_of, usage_of, total_of};
 
 use super::rounds::{BYTES_IN_BLOCK, BYTES_IN_STRIPE, finish_with};
 use super::{Core, MARK, SavedState, StateInMemory};
@@ -129,19 +129,36 @@ impl StateInMemory {
         self.take_piece::<true>(input);
     }
 
-    // A piece that only is kept comes first, with one test.
+    // Adds a piece. With `BLOCKS` a long one is taken by blocks.
     #[inline(always)]
     pub(super) fn take_piece<const BLOCKS: bool>(&mut self, input: &[u8])
         requires { usage_of self.old < 16 }
         ensures { AfterPiece self.old input.now self.new }
     {
         let used = self.usage();
-        if input.len() < BYTES_IN_STRIPE - used {
-            self.count(input.len());
-            self.set_usage(used + input.len());
-            copy_short(&mut self.buffer[used..used + input.len()], input);
-            return;
+        self.count(input.len());
+        let mut rest = input;
+        if used > 0 {
+            if used + input.len() < BYTES_IN_STRIPE {
+                self.set_usage(used + input.len());
+                copy_short(&mut self.buffer[used..used + input.len()], input);
+                return;
+            }
+            let (head, after) = input.split_at(BYTES_IN_STRIPE - used);
+            copy_short(&mut self.buffer[used..], head);
+            let mut core = self.core();
+            core.write(&self.buffer);
+            self.set_core(core);
+            rest = after;
         }
+        self.add_rest::<BLOCKS>(rest);
+    }
+
+    // Adds bytes that are counted already, where none wait.
+    #[inline(always)]
+    fn add_rest<const BLOCKS: bool>(&mut self, input: &[u8])
+        ensures { AfterRest self.old input.now self.new }
+    {
         if BLOCKS && input.len() >= BYTES_IN_BLOCK {
             self.add_blocks(input);
         } else {
@@ -149,71 +166,42 @@ impl StateInMemory {
         }
     }
 
-    // Adds a piece that fills a stripe.
+    // Takes the whole stripes, and keeps the bytes after them.
     #[inline(always)]
     #[tactic(auto, unfolding(crate::specs::StateInMemory32::after_rest))]
     fn add_stripes(&mut self, input: &[u8])
-        requires less { usage_of self.old < 16 }
-        requires fills { 16 ≤ usage_of self.old + length input.now }
-        ensures { AfterPiece self.old input.now self.new }
+        ensures { AfterRest self.old input.now self.new }
     {
-        let rest = self.fill_buffer(input);
-        let mut core = self.core();
-        let kept = core.write_many::<false>(rest);
-        self.keep(core, kept);
+        let mut rest = input;
+        if input.len() >= BYTES_IN_STRIPE {
+            let mut core = self.core();
+            rest = core.write_many::<false>(input);
+            self.set_core(core);
+        }
+        self.keep(rest);
     }
 
-    // Takes a piece that may hold blocks, out of line, so that shorter pieces keep no registers for its calls.
+    // The same with blocks, out of line, so that shorter pieces keep no registers for its calls.
     #[inline(never)]
     #[tactic(auto, unfolding(crate::specs::StateInMemory32::after_rest))]
     fn add_blocks(&mut self, input: &[u8])
-        requires less { usage_of self.old < 16 }
-        requires fills { 16 ≤ usage_of self.old + length input.now }
-        ensures { AfterPiece self.old input.now self.new }
+        ensures { AfterRest self.old input.now self.new }
     {
-        let rest = self.fill_buffer(input);
         let mut core = self.core();
-        let kept = core.write_many::<true>(rest);
-        self.keep(core, kept);
+        let rest = core.write_many::<true>(input);
+        self.set_core(core);
+        self.keep(rest);
     }
 
-    // Counts a piece that fills a stripe, takes that stripe if its first bytes wait in the buffer, and gives the rest.
+    // Keeps the bytes that fill no stripe.
     #[inline(always)]
-    fn fill_buffer<'d>(&mut self, input: &'d [u8]) -> &'d [u8]
-        requires less { usage_of self.old < 16 }
-        requires fills { 16 ≤ usage_of self.old + length input.now }
-        ensures piece { after_rest (record_of self.new) result.now
-            ≡ after_write (record_of self.old) input.now }
-        ensures seed { self.new.seed ≡ self.old.seed }
-    {
-        self.count(input.len());
-        let before = self.usage();
-        let mut taken = 0;
-        if before > 0 {
-            let room = BYTES_IN_STRIPE - before;
-            copy_short(&mut self.buffer[before..], &input[..room]);
-            let mut core = self.core();
-            core.write(&self.buffer);
-            self.set_core(core);
-            taken = room;
-        }
-        &input[taken..]
-    }
-
-    // Puts the accumulators back, and keeps the bytes that fill no stripe.
-    #[inline(always)]
-    fn keep(&mut self, core: Core, rest: &[u8])
+    fn keep(&mut self, rest: &[u8])
         requires { length rest.now ≤ 16 }
         ensures { self.new ≡ record self.old {
-          v1 = core.v1;
-          v2 = core.v2;
-          v3 = core.v3;
-          v4 = core.v4;
           buffer = rest.now ++ drop (length rest.now) self.old.buffer;
           marked_usage = MARK + length rest.now;
         } }
     {
-        self.set_core(core);
         copy_front(&mut self.buffer, rest);
         self.set_usage(rest.len());
     }

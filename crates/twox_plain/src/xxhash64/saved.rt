@@ -4,7 +4,9 @@ ghost use Rattle.std.specs.Prelude.{◌≡◌, ◌^◌, Some, None, IfOk, IsErrO
 ghost use Rattle.serde_json.specs.View.{view};
 ghost use Rattle.twox_plain.specs.Saved64.{core_of_data, record_of_data, record_of_text, saved_text};
 
-use crate::saved_text::{byte_array, byte_array_value, core_value, record_value, u64_member};
+use crate::saved_text::{
+    byte_array, byte_array_value, core_value, record_value, u64_member, usize_member,
+};
 use crate::xxhash64::{Core, SavedState};
 use serde_json::Value;
 use std::alloc::{AllocError, Global};
@@ -50,7 +52,7 @@ fn record_of_value(value: &Value) -> Option<SavedState>
     ensures { result ≡ record_of_data (view value.now) }
 {
     let buffer = byte_array(value.get("buffer")?)?;
-    let buffer_usage = u64_member(value, "buffer_usage")? as usize;
+    let buffer_usage = usize_member(value, "buffer_usage")?;
     let core = core_of_value(value.get("core")?)?;
     let seed = u64_member(value, "seed")?;
     let total_len = u64_member(value, "total_len")?;

@@ -2,7 +2,7 @@
 
 ghost use Rattle.std.specs.Prelude.{◌≡◌, ℕ, ◌+◌, ◌<◌, ◌≤◌, List, ◌++◌, drop, length};
 ghost use Rattle.twox_plain.specs.Xxh64.{xxh64};
-ghost use Rattle.twox_plain.specs.StateInMemory64.{record_of, usage_of};
+ghost use Rattle.twox_plain.specs.StateInMemory64.{AfterRest, record_of, usage_of};
 
 use super::rounds::{BYTES_IN_STRIPE, finish_with};
 use super::{Core, MARK, SavedState, StateInMemory};
@@ -103,42 +103,37 @@ impl StateInMemory {
         ensures seed { self.new.seed ≡ self.old.seed }
         ensures in_range { usage_of self.new < 32 }
     {
-        // A piece that only is kept comes first, with one test.
         let used = self.usage();
-        if used + input.len() < BYTES_IN_STRIPE {
-            self.total_len = self.total_len.saturating_add(input.len().into_u64());
-            self.set_usage(used + input.len());
-            copy_short(&mut self.buffer[used..used + input.len()], input);
-            return;
-        }
-        self.add_stripes(input);
-    }
-
-    // Adds a piece that fills a stripe.
-    #[inline(always)]
-    fn add_stripes(&mut self, input: &[u8])
-        requires less { usage_of self.old < 32 }
-        requires fills { 32 ≤ usage_of self.old + length input.now }
-        ensures exact { record_of self.new ≡ after_write (record_of self.old) input.now }
-        ensures message { (m : List ℕ)
-            → StandsFor (record_of self.old) m → StandsFor (record_of self.new) (m ++ input.now) }
-        ensures seed { self.new.seed ≡ self.old.seed }
-        ensures in_range { usage_of self.new < 32 }
-    {
         self.total_len = self.total_len.saturating_add(input.len().into_u64());
-        let before = self.usage();
-        let mut taken = 0;
-        if before > 0 {
-            let room = BYTES_IN_STRIPE - before;
-            copy_short(&mut self.buffer[before..], &input[..room]);
+        let mut rest = input;
+        if used > 0 {
+            if used + input.len() < BYTES_IN_STRIPE {
+                self.set_usage(used + input.len());
+                copy_short(&mut self.buffer[used..used + input.len()], input);
+                return;
+            }
+            let (head, after) = input.split_at(BYTES_IN_STRIPE - used);
+            copy_short(&mut self.buffer[used..], head);
             let mut core = self.core();
             core.write(&self.buffer);
             self.set_core(core);
-            taken = room;
+            rest = after;
         }
-        let mut core = self.core();
-        let rest = core.write_many(&input[taken..]);
-        self.set_core(core);
+        self.add_stripes(rest);
+    }
+
+    // Adds bytes that are counted already, where none wait: takes the whole stripes, and keeps the bytes after them.
+    #[inline(always)]
+    #[tactic(auto, unfolding(crate::specs::StateInMemory64::after_rest))]
+    fn add_stripes(&mut self, input: &[u8])
+        ensures { AfterRest self.old input.now self.new }
+    {
+        let mut rest = input;
+        if input.len() >= BYTES_IN_STRIPE {
+            let mut core = self.core();
+            rest = core.write_many(input);
+            self.set_core(core);
+        }
         copy_front(&mut self.buffer, rest);
         self.set_usage(rest.len());
     }

@@ -14,10 +14,31 @@ use std::hint::black_box;
 use std::time::{Duration, Instant};
 
 const SEED: u64 = 0x1234_5678_9abc_def0;
-const LENGTHS: [usize; 9] = [4, 16, 32, 64, 128, 240, 1024, 16 << 10, 1 << 20];
-const PIECES: [usize; 4] = [8, 40, 64, 1024];
+const LENGTHS: [usize; 17] = [
+    0,
+    1,
+    4,
+    8,
+    16,
+    17,
+    32,
+    64,
+    128,
+    129,
+    240,
+    241,
+    512,
+    1 << 10,
+    16 << 10,
+    64 << 10,
+    1 << 20,
+];
+const PIECES: [usize; 13] = [1, 4, 8, 16, 24, 32, 40, 64, 128, 240, 256, 1000, 4096];
 // A turn takes some 20 microseconds, so that a turn that nothing interrupts is among a few hundred.
 const TURN: Duration = Duration::from_micros(20);
+
+/// A map's key that is a string, and the bytes that the other keys are made of.
+const TEXT: &str = "a key of 20 bytes...";
 
 /// A call on bytes, of which a row has one a peer.
 type Call<'a> = Box<dyn Fn(&[u8]) -> u64 + 'a>;
@@ -117,6 +138,18 @@ fn key<S: BuildHasher>(state: &S, input: &[u8]) -> u64 {
     state.hash_one(u64::from_ne_bytes([input[0]; 8]))
 }
 
+fn pair<S: BuildHasher>(state: &S, input: &[u8]) -> u64 {
+    state.hash_one((u32::from(input[0]), u64::from(input[1])))
+}
+
+fn string<S: BuildHasher>(state: &S, input: &[u8]) -> u64 {
+    state.hash_one(std::str::from_utf8(&input[..TEXT.len()]).unwrap_or(""))
+}
+
+fn keyed<'a, S: BuildHasher + 'a>(state: S, hash: impl Fn(&S, &[u8]) -> u64 + 'a) -> Call<'a> {
+    Box::new(move |input| hash(&state, input))
+}
+
 /// The calls of a crate with the names of `twox-hash`, in the order of [`names`].
 macro_rules! calls_of {
     ($module:ident, $of:ident) => {
@@ -153,11 +186,15 @@ macro_rules! calls_of {
             }
 
             pub fn others<'a>() -> Vec<Call<'a>> {
-                let of_xxh64 = xxhash64::State::with_seed(7);
-                let of_xxh3 = BuildHasherDefault::<XxHash3_64>::default();
+                let of_xxh64 = || xxhash64::State::with_seed(7);
+                let of_xxh3 = BuildHasherDefault::<XxHash3_64>::default;
                 vec![
-                    Box::new(move |input| key(&of_xxh64, input)),
-                    Box::new(move |input| key(&of_xxh3, input)),
+                    keyed(of_xxh64(), key),
+                    keyed(of_xxh3(), key),
+                    keyed(of_xxh64(), pair),
+                    keyed(of_xxh3(), pair),
+                    keyed(of_xxh64(), string),
+                    keyed(of_xxh3(), string),
                     Box::new(|input| {
                         streamed(XxHash3_64::with_seed(input[0].into()), &input[..8], 8)
                     }),
@@ -203,11 +240,15 @@ mod peer {
     }
 
     pub fn others<'a>() -> Vec<Call<'a>> {
-        let of_xxh64 = xxh64::Xxh64Builder::new(7);
-        let of_xxh3 = xxh3::Xxh3Builder::new();
+        let of_xxh64 = || xxh64::Xxh64Builder::new(7);
+        let of_xxh3 = xxh3::Xxh3Builder::new;
         vec![
-            Box::new(move |input| key(&of_xxh64, input)),
-            Box::new(move |input| key(&of_xxh3, input)),
+            keyed(of_xxh64(), key),
+            keyed(of_xxh3(), key),
+            keyed(of_xxh64(), pair),
+            keyed(of_xxh3(), pair),
+            keyed(of_xxh64(), string),
+            keyed(of_xxh3(), string),
             Box::new(|input| streamed(Xxh3::with_seed(input[0].into()), &input[..8], 8)),
         ]
     }
@@ -235,10 +276,6 @@ fn peers<'a>(
 #[cfg(not(feature = "original"))]
 use peer as theirs;
 
-extern "C" {
-    fn twox_rust_4_interface() -> u32;
-}
-
 // Turns, or a count of calls.
 fn asked() -> Option<Measure> {
     let words: Vec<String> = std::env::args().skip(1).collect();
@@ -257,15 +294,12 @@ fn main() {
     let bytes: Vec<u8> = (0..1 << 20)
         .map(|i: u32| (i.wrapping_mul(0x9e37_79b1) >> 24) as u8)
         .collect();
-    // SAFETY: it takes nothing, and answers a number.
-    let empty: Call<'_> = Box::new(|_| unsafe { twox_rust_4_interface() }.into());
-    row("an empty call\t", measure, &bytes, vec![empty]);
     if let Measure::Calls(_) = measure {
         row("no call\t", measure, &bytes, vec![Box::new(|_| 0)]);
     }
     oneshots(measure, &bytes);
     streams(measure, &bytes[..8192]);
-    others(measure, &bytes[..8]);
+    others(measure, TEXT.as_bytes());
 }
 
 fn oneshots(measure: Measure, bytes: &[u8]) {
@@ -306,8 +340,12 @@ fn streams(measure: Measure, bytes: &[u8]) {
 
 fn others(measure: Measure, key: &[u8]) {
     let names = [
-        "a map's key by XXH64",
-        "a map's key by XXH3",
+        "a map's u64 by XXH64",
+        "a map's u64 by XXH3",
+        "a map's tuple by XXH64",
+        "a map's tuple by XXH3",
+        "a map's string by XXH64",
+        "a map's string by XXH3",
         "XXH3 64 with_seed, 8 bytes, finish",
     ];
     let peers = peers(ours::others(), peer::others(), || theirs::others());

@@ -1,0 +1,117 @@
+"""The object that rustc makes of the erased source, and what of it the reader of the assembly source refuses:
+
+- a call by the global offset table leads where its relocation says;
+- a function of `core` that panics, and a `ud2`, end a run with a refusal, so what comes to an end reaches none;
+- a section that only panics read, of strings and of addresses, is left out: a read of it is refused;
+- a constant of a mergeable section is named by the section and a distance, which is the constant's first byte and a place
+  in it."""
+import os
+import shutil
+import struct
+import subprocess
+import tempfile
+
+from terms.llvm_text import Unsupported
+from terms.sides import TOP
+
+from .. import lanes, scalar
+from ..cargo import ForCargo
+from ..objects import (CODE, CONSTANTS, FRAMES, FUNCTION, LOADED, MERGEABLE, NOTE, PC32, PLT32, RELA, Instruction, Program,
+                       is_global, split)
+from ..instructions import known
+from ..processor import Processor
+
+TABLES = lanes, scalar            # they fill the table of instructions
+SOURCE = os.path.join(TOP, "rust", "src")
+EXPORTS = os.path.join(os.path.dirname(os.path.abspath(__file__)), "exports.rs.in")
+FLAGS = ("--edition", "2021", "--crate-type", "lib", "--emit", "obj", "-C", "opt-level=3", "-C", "panic=abort", "-C",
+         "codegen-units=1", "-C", "force-unwind-tables=no", "--cap-lints", "allow", "--crate-name", "erased_source")
+BY_TABLE = 9, 41, 42              # relocations by the global offset table
+STRINGS = 0x20                    # a section's flag
+NOWHERE = "nowhere", 0
+
+
+def program(set_name, source=SOURCE):
+    """The object for a set of instructions."""
+    with tempfile.TemporaryDirectory(prefix="rust-object-") as room:
+        folder, made = os.path.join(room, "src"), os.path.join(room, "made.o")
+        shutil.copytree(source, folder)
+        root = shutil.copy(EXPORTS, os.path.join(folder, "exports.rs"))
+        subprocess.run(["rustc", *FLAGS, "-C", f"target-cpu={set_name}", root, "-o", made], check=True)
+        return RustProgram(set_name, made)
+
+
+class RustProgram(Program):
+    def __init__(self, name, path):
+        self.name = name
+        super().__init__(path)
+
+    def loaded_sections(self):
+        found = {}
+        for head in self.object.heads:
+            if not head.flags & LOADED or not head.size or head.kind == NOTE or head.name == FRAMES:
+                continue
+            if head.flags in (CODE, CONSTANTS) or head.flags == MERGEABLE and head.entry and not head.flags & STRINGS:
+                if head.name in found:
+                    raise Unsupported(f"two sections are named {head.name}")
+                found[head.name] = head
+        return found
+
+    def names(self):
+        functions, exports = {}, {}
+        for symbol in self.object.symbols:
+            if symbol.section and symbol.section < len(self.object.heads) and symbol.info & 15 == FUNCTION:
+                functions[symbol.name] = self.place_of(symbol)
+                if is_global(symbol):
+                    exports[symbol.name] = functions[symbol.name]
+        return functions, exports
+
+    def relocations_of(self, section):
+        found = {}
+        for head in self.object.heads:
+            if head.kind != RELA or self.object.heads[head.info] is not section or section.flags != CODE:
+                continue
+            for place, info, addend in struct.iter_unpack("<QQq", self.object.body(head)):
+                if info & 0xFFFFFFFF not in (PC32, PLT32, *BY_TABLE) or place in found:
+                    raise Unsupported(f"a relocation at {place:#x} of {section.name}")
+                found[place] = self.object.symbols[info >> 32], addend
+        return found
+
+    def target_of(self, symbol, addend):
+        if not symbol.section:
+            return symbol.name, 0
+        name, value = self.place_of(symbol)
+        if name not in self.heads:
+            return name, value + addend
+        if self.heads[name].flags != MERGEABLE:
+            return name, value + addend
+        entry = self.heads[name].entry
+        at = (value + addend) // entry * entry
+        return f"{name}+{at}", value + addend - at
+
+    def instruction(self, section, at, end, text, places):
+        mnemonic, rest = split(text)
+        if mnemonic in ("call", "jmp") and rest.startswith("*0x0(%rip)") and places == [end - 4]:
+            symbol, addend = self.relocations[section][places[0]]
+            return Instruction(section, at, end, mnemonic, (), self.target_of(symbol, addend + end - places[0]))
+        if mnemonic == "ud2" or mnemonic in ("call", "jmp") and rest.startswith("*"):
+            return Instruction(section, at, end, "jmp", (), NOWHERE)
+        return super().instruction(section, at, end, text, places)
+
+
+def known_where_reached(instruction, name):
+    """The function of an instruction. One that the table lacks is refused where a run comes to it: rustc's object has
+    functions that no call reaches."""
+    try:
+        return known(instruction, name)
+    except Unsupported as refusal:
+        def refuse(*_, why=str(refusal)):
+            raise Unsupported(why)
+        return refuse
+
+
+class RustProcessor(Processor):
+    library, known = ForCargo, staticmethod(known_where_reached)
+
+    def __init__(self, found):
+        super().__init__(found, found.name)

@@ -1,0 +1,198 @@
+"""A second reader of the erased source, which shares no code with rust/erase.
+
+It reads a crate's file and the erased one as rows of tokens, and walks both. Where they differ, only the removal of a contract
+or a replacement of the list below may explain it. It is right if every erased file is its source less contracts, plus these
+replacements; what it can't explain it names."""
+import os
+import re
+
+CRATES = ('twox_words', 'twox_plain', 'twox_core', 'twox_hash')
+BRACKETS = {'(': ')', '[': ']', '{': '}'}
+LITERAL = re.compile(r"""[bc]?r(?P<fence>\#*)".*?"(?P=fence) | [bc]?"(?:[^"\\]|\\.)*" | b?'(?:[^'\\\n]|\\x..|\\u\{\w+\}|\\.)'
+                         | '?\w+""", re.S | re.X)
+BLOCK_COMMENT = re.compile(r'/\*|\*/')
+
+
+def rows_of(text):
+    """The tokens of a text without white space and comments. In a contract's braces `--` begins a comment too."""
+    found, at, braces, in_contract = [], 0, 0, False
+    while at < len(text):
+        if text[at].isspace():
+            at += 1
+        elif text.startswith('//', at) or in_contract and braces and text.startswith('--', at):
+            at = (text + '\n').index('\n', at)
+        elif text.startswith('/*', at):
+            at = behind_comment(text, at)
+        else:
+            match = None if in_contract and braces and text[at] in '\'"' else LITERAL.match(text, at)
+            word = match[0] if match else text[at]
+            at += len(word)
+            found.append(word)
+            if in_contract:
+                braces += {'{': 1, '}': -1}.get(word, 0)
+                in_contract = not (word == '}' and braces == 0 or word == ';' and braces == 0)
+            elif word in ('requires', 'ensures', 'ghost'):
+                in_contract, braces = True, 0
+    return found
+
+
+def behind_comment(text, at):
+    depth = 0
+    for mark in BLOCK_COMMENT.finditer(text, at):
+        depth += 1 if mark[0] == '/*' else -1
+        if not depth:
+            return mark.end()
+    raise ValueError('a comment without an end')
+
+
+def behind(words, at):
+    """The place behind the bracket that closes the one at `at`."""
+    open_ones = []
+    for place in range(at, len(words)):
+        if words[place] in BRACKETS:
+            open_ones.append(BRACKETS[words[place]])
+        elif open_ones and words[place] == open_ones[-1]:
+            open_ones.pop()
+            if not open_ones:
+                return place + 1
+    raise ValueError('a bracket without an end')
+
+
+def contract_at(words, at):
+    """How many tokens a contract at this place has, or 0. None of them may stay."""
+    word, before = words[at], words[at - 1] if at else ''
+    if word == 'ghost' and words[at + 1] == 'use':
+        return words.index(';', at) + 1 - at
+    first = at + (word == 'pub')
+    if words[first] == 'ghost' and words[first + 2] in (':', '=') and words[first + 3] == '{':
+        return behind(words, first + 3) + 1 - at
+    if word in ('requires', 'ensures') and before not in ('.', ':'):
+        place = at + 1 + (words[at + 1] == '*')
+        place += words[place] != '{'
+        return behind(words, place) - at if words[place] == '{' else 0
+    if word == '#' and words[at + 1 + (words[at + 1] == '!'):][:2] == ['[', 'tactic']:
+        return behind(words, at + 1 + (words[at + 1] == '!')) - at
+    if words[at:at + 7] == ['#', '[', 'derive', '(', 'Drop', ')', ']']:
+        return 7
+    if word == 'impl':
+        place = at + 1
+        while words[place] not in ('Model', '{', ';', 'for'):
+            place += 1
+        if words[place] == 'Model':
+            return behind(words, words.index('{', place)) - at
+    return 0
+
+
+def drop_at(words, at):
+    """How many tokens of `Drop` there are at this place, in a derive or as a bound, or 0. None may stay."""
+    if words[at:at + 2] in ([',', 'Drop'], ['+', 'Drop']) and words[at + 2] in (')', '>', ',', '+', '{'):
+        return 2
+    return 2 if words[at:at + 2] == [':', 'Drop'] and words[at + 2] in ('>', ',') else 0
+
+
+KERNELS = '''#[cfg(all(not(miri), target_arch = "x86_64"))] pub type Kernel = lanes4::Impl;
+#[cfg(all(not(miri), target_arch = "aarch64", target_endian = "little", target_feature = "neon"))] pub type Kernel = halves4::Impl;
+#[cfg(not(any(all(not(miri), target_arch = "x86_64"),
+    all(not(miri), target_arch = "aarch64", target_endian = "little", target_feature = "neon"))))] pub type Kernel = scalar::Impl;'''
+KERNEL_32 = '''if input.len() >= crate::kernels::STRIPES_32 {
+    let (stripes, rest) = input.split_at(input.len() / BYTES_IN_BLOCK * BYTES_IN_BLOCK);
+    *self = crate::kernels::stripes_32(*self, stripes); return rest; } let mut rest = input; 'each_block'''
+STREAM = '''while let Some((stripe, after)) = rest.split_first_chunk::<BYTES_IN_STRIPE>() { core.write(stripe);
+core.v1 = crate::rattle::opaque_WORD(core.v1); core.v2 = crate::rattle::opaque_WORD(core.v2);
+core.v3 = crate::rattle::opaque_WORD(core.v3); core.v4 = crate::rattle::opaque_WORD(core.v4); rest = after; }'''
+WORD = 'bytes[i], bytes[i + 1], bytes[i + 2], bytes[i + 3]'
+# What a file has, what the erased one has in its place, and the files in which that may be.
+REPLACEMENTS = [(rows_of(old), rows_of(new), files) for old, new, files in (
+    (f'u32::from_le_bytes([{WORD}])', 'u32::from_le_bytes(*crate::rattle::array_at(bytes, i))', 'twox_words/words'),
+    (f'u64::from_le_bytes([{WORD}, bytes[i + 4], bytes[i + 5], bytes[i + 6], bytes[i + 7],])',
+     'u64::from_le_bytes(*crate::rattle::array_at(bytes, i))', 'twox_words/words'),
+    ('items.as_chunks()', 'crate::rattle::as_chunks(items)', 'twox_words/words/chunks'),
+    ('bytes.as_chunks::<8>()', 'crate::rattle::as_chunks::<_, 8>(bytes)', 'twox_core/xxhash3/large/word'),
+    ('use std::simd::u64x4;', 'use crate::rattle::simd::{self, u64x4};', 'twox_core/xxhash3/large'),
+    ('std::simd', 'super::simd', 'twox_core/xxhash3/large/*'), ('std::simd', 'crate::rattle::simd', 'twox_core/xxhash3/derivation'),
+    ('mod parts;', 'pub(crate) mod parts;', 'twox_core/xxhash3'),
+    ('pub type Kernel = lanes4::Impl;', KERNELS, 'twox_core/xxhash3/large'),
+    ("let mut rest = input; 'each_block", KERNEL_32, 'twox_plain/xxhash32/rounds'),
+    ('rest = core.write_many::<false>(input);', STREAM.replace('WORD', 'u32'), 'twox_plain/xxhash32/state'),
+    ('rest = core.write_many(input);', STREAM.replace('WORD', 'u64'), 'twox_plain/xxhash64/state'),
+    ('let last = from.len() - N;', 'let last = crate::rattle::opaque_usize(from.len() - N);', 'twox_words/copies'),
+    ('#[inline]', '#[inline(always)]', 'twox_core/xxhash3/large/four'), ('#[inline]', '#[inline(always)]', 'twox_core/xxhash3/large/lanes4'),
+    ('#[inline(never)] fn impl_long', '#[inline(always)] fn impl_long', 'twox_plain/xxhash64/rounds'),
+    ('input.len() >= BYTES_IN_BLOCK', 'input.len() >= crate::kernels::STRIPES_32', 'twox_plain/xxhash32/state'),
+    ('input.len() < BYTES_IN_BLOCK', 'input.len() < crate::kernels::STRIPES_32', 'twox_plain/xxhash32/rounds'),
+    ('std::boxed::BoxedSlice', 'crate::rattle::BoxedSlice', '*'),
+    ('use std::marker::Model;', '', '*'), ('marker::{Model, PhantomData}', 'marker::PhantomData', '*'),
+    ('fn fmt<W: fmt::Write>(&self, f: &mut fmt::Formatter<W>)', "fn fmt(&self, f: &mut fmt::Formatter<'_>)", '*'),
+    ('Clone for', 'TryClone for', '*'), ('fn clone(&self) -> Result', 'fn try_clone(&self) -> Result', '*'),
+    ('.clone()?', '.try_clone()?', '*'), ('+ Clone', '+ TryClone', '*'),
+    ('const _: () = prove!(size_of', '#[cfg(target_pointer_width = "64")] const _: () = assert!(size_of', '*'),
+    ('const _: () = prove!(BUFFERED_BYTES', 'const _: () = assert!(BUFFERED_BYTES', 'twox_core/xxhash3/streaming/core_state'),
+    ('pub mod by_stripes; mod saved_text;', '', 'twox_plain'), ('mod build_hashers;', '', '*'), ('mod saved;', '', '*'),
+    ('pub use build_hashers::{RandomState, State};', '', '*'), ('pub use saved::FormError;', '', '*'),
+    *((f'#[inline(never)] {head}', f'#[inline(always)] {head}', 'twox_core/xxhash3/*') for head in (
+        'fn take_stripes<V', 'fn take_many_stripes<V', 'pub(super) fn take_many_blocks<V', 'fn write_through<V')),
+)]
+# What may not stay in an erased file, beside contracts.
+GONE = {'prove', 'requires', 'ensures', 'ghost', 'tactic', 'Model', 'Drop', 'by_stripes', 'saved_text', 'build_hashers', 'saved'}
+
+
+def replacements_at(words, at, crate, file):
+    """(how many tokens, what stands for them) of each replacement that a place allows."""
+    for old, new, files in REPLACEMENTS:
+        if words[at:at + len(old)] == old and re.fullmatch(files.replace('*', '.*'), file):
+            yield len(old), new
+    before = words[at - 1] if at else ''
+    if before != ':' and words[at + 1:at + 3] == [':', ':']:
+        if words[at] in ('crate', *CRATES):
+            yield 1, ['crate', ':', ':', 'erased', ':', ':', crate if words[at] == 'crate' else words[at]]
+        if words[at:at + 4] == ['std', ':', ':', 'alloc']:
+            end = behind(words, at + 6) if words[at + 6] == '{' else at + 7
+            names = [word for word in words[at + 6:end] if word not in '{},']
+            yield end - at, rows_of(f'crate::rattle::{{{", ".join([*names, "TryClone"])}}}')
+
+
+def unexplained(source, erased, crate, file):
+    """The furthest place that nothing explains, as the tokens of both from there on; or None."""
+    words, wanted = [*rows_of(source), *[''] * 8], rows_of(erased)
+    end, waiting, seen, furthest = len(words) - 8, [(0, 0)], set(), (0, 0)
+    while waiting:
+        at, place = waiting.pop()
+        if (at, place) in seen:
+            continue
+        seen.add((at, place))
+        furthest = max(furthest, (place, at))
+        if at == end:
+            if place == len(wanted):
+                return None
+            continue
+        gone = contract_at(words, at) or drop_at(words, at)
+        if gone:
+            waiting.append((at + gone, place))
+            continue
+        if wanted[place:place + 1] == [words[at]] and words[at] not in GONE:
+            waiting.append((at + 1, place + 1))
+        for count, new in replacements_at(words, at, crate, file):
+            if wanted[place:place + len(new)] == new:
+                waiting.append((at + count, place + len(new)))
+    return ' '.join(words[furthest[1]:furthest[1] + 12]), ' '.join(wanted[furthest[0]:furthest[0] + 12])
+
+
+def faults(crates, tree):
+    """How many files were read, and what can't be explained of them."""
+    count, found = 0, []
+    for crate in CRATES:
+        for folder, _, names in os.walk(os.path.join(crates, crate, 'src')):
+            for name in sorted(names):
+                inside = os.path.relpath(os.path.join(folder, name), os.path.join(crates, crate, 'src')).removesuffix('.rt')
+                file = crate if inside == 'lib' else f'{crate}/{inside}'
+                path = os.path.join(tree, f'{file}.rs')
+                if not os.path.exists(path):
+                    if os.path.basename(inside) not in GONE:
+                        found.append(f'{file} is missing')
+                    continue
+                with open(os.path.join(folder, name), encoding='utf-8') as source, open(path, encoding='utf-8') as erased:
+                    fault = unexplained(source.read(), erased.read(), crate, file)
+                count += 1
+                if fault:
+                    found.append(f'{file}: the source has `{fault[0]}`, the erased file `{fault[1]}`')
+    return count, found

@@ -1,0 +1,73 @@
+"""One sum of hashes, by programs for targets of each width and byte order, under qemu and in Node. The crate is compiled over
+Rust's core library, which is built of Debian's sources, and linked with a line of C. The sum that is wanted is that of the
+same calls by the reference's header."""
+import os
+import subprocess
+
+from report import tail, want
+from room import SOURCE_PACKAGES, SourceRoom, errors_of, install_packages, must
+
+SUMS = os.path.join(os.path.dirname(os.path.abspath(__file__)), 'sums')
+# Target -> the name of Debian's compiler and of its C library for that processor, and the emulator. Node runs wasm32.
+TARGETS = {
+    'x86_64-unknown-linux-gnu': ('', '', ''),
+    'aarch64-unknown-linux-gnu': ('aarch64-linux-gnu', 'arm64', 'qemu-aarch64'),
+    'i686-unknown-linux-gnu': ('i686-linux-gnu', 'i386', 'qemu-i386'),
+    'armv7-unknown-linux-gnueabihf': ('arm-linux-gnueabihf', 'armhf', 'qemu-arm'),
+    'powerpc-unknown-linux-gnu': ('powerpc-linux-gnu', 'powerpc', 'qemu-ppc'),
+    's390x-unknown-linux-gnu': ('s390x-linux-gnu', 's390x', 'qemu-s390x'),
+    'riscv64gc-unknown-linux-gnu': ('riscv64-linux-gnu', 'riscv64', 'qemu-riscv64'),
+    'wasm32-unknown-unknown': None,
+}
+
+
+def packages():
+    found = {**SOURCE_PACKAGES, 'gcc': 'gcc', 'node': 'nodejs', 'wasm-ld': 'lld', 'qemu-arm': 'qemu-user'}
+    for name, library, _ in filter(None, TARGETS.values()):
+        if name:
+            found.update({f'{name}-gcc': f'gcc-{name}', f'/usr/{name}/include/stdio.h': f'libc6-dev-{library}-cross'})
+    return found
+
+
+def sum_of(room, target, flags=''):
+    """What the program for a target prints."""
+    flags += '' if TARGETS[target] else ' -C linker=wasm-ld'
+    environment = {**room.environment(), 'RUSTFLAGS': flags, 'RUSTC_BOOTSTRAP': '1', 'RUSTC': '/usr/bin/rustc'}
+    folder = os.path.join(room.rust, 'checks', 'sums')
+    kind = 'staticlib' if TARGETS[target] else 'cdylib'
+    words = [room.cargo_program, 'rustc', '--release', '-Z', 'build-std=core', '--target', target, '--crate-type', kind]
+    done = subprocess.run(words, cwd=folder, env=environment, stdout=subprocess.PIPE, stderr=subprocess.STDOUT, text=True)
+    want(done.returncode == 0, tail(errors_of(done.stdout)))
+    made = os.path.join(room.path, 'target', target, 'release')
+    if not TARGETS[target]:
+        return must(['node', os.path.join(SUMS, 'main.mjs'), os.path.join(made, 'sums.wasm')]).strip()
+    (name, _, emulator), program = TARGETS[target], os.path.join(made, 'sum')
+    must([f'{name}-gcc' if name else 'gcc', '-O1', '-static', os.path.join(SUMS, 'main.c'), os.path.join(made, 'libsums.a'), '-o', program])
+    return must([*([emulator] if emulator else []), program]).strip()
+
+
+def is_the_sum(room, target, wanted, flags=''):
+    found = sum_of(room, target, flags)
+    want(found == wanted, f'{found}, not {wanted}')
+    return found
+
+
+def check_sums_of_targets(report, path):
+    install_packages(packages())
+    must(['gcc', '-O2', os.path.join(SUMS, 'reference.c'), '-o', os.path.join(path, 'reference')])
+    wanted, room = must([os.path.join(path, 'reference')]).strip(), SourceRoom(path, 'sums')
+    for target in TARGETS:
+        report.attempt(f'18,802 hashes for {target}', is_the_sum, room, target, wanted)
+    for target in ('x86_64-unknown-linux-gnu', 'aarch64-unknown-linux-gnu'):
+        report.attempt('.. by the erased source', is_the_sum, room, target, wanted, '--cfg twox_hash_no_assembly')
+    report.attempt('another sum is noticed', notices_another, room, wanted)
+
+
+def notices_another(room, wanted):
+    """The crate with one rotation other than it should be."""
+    file = os.path.join(room.rust, 'src', 'erased', 'twox_plain', 'xxhash32', 'rounds.rs')
+    with open(file) as text:
+        right = text.read()
+    with open(file, 'w') as text:
+        text.write(right.replace('rotate_left(13)', 'rotate_left(14)'))
+    want(sum_of(room, 's390x-unknown-linux-gnu') != wanted, 'it was not noticed')

@@ -1,0 +1,192 @@
+"""Takes contracts out of a file: clauses, ghost items, tactics, models, and what `Drop` says of a type."""
+from tokens import Refused, Token, closing, following, preceding
+
+KEPT_ATTRIBUTES = {'inline', 'repr', 'must_use', 'cold', 'derive'}
+# `Hash`, `PartialOrd` and `Ord` aren't here: nothing says that Rattle's derives do what Rust's do.
+KEPT_DERIVES = {'Clone', 'Copy', 'Debug', 'PartialEq', 'Eq'}
+
+
+def refuse(token, why):
+    raise Refused(f'line {token.line}: {why}')
+
+
+def drop(tokens, first, last):
+    for i in range(first, last + 1):
+        tokens[i] = Token('gone', '', tokens[i].line)
+
+
+def first_with_comments(tokens, i):
+    """The first token of the comments that stand on the lines right above token `i`, and of attributes."""
+    while True:
+        before = i - 1
+        if before < 0 or tokens[before].kind != 'space' or tokens[before].text.count('\n') != 1:
+            return i
+        comment = tokens[before - 1]
+        begins_line = before < 2 or tokens[before - 2].kind == 'space' and '\n' in tokens[before - 2].text
+        if comment.kind != 'comment' or comment.text.startswith('//!') or not begins_line:
+            return i
+        i = before - 1
+
+
+def drop_clauses(tokens):
+    """Drops the clauses of each function's head. A clause anywhere else is refused."""
+    i = 0
+    while i < len(tokens):
+        if tokens[i].kind == 'clause':
+            refuse(tokens[i], 'a clause outside of the head of a function')
+        after = following(tokens, i)
+        if tokens[i].kind == 'word' and tokens[i].text == 'fn' and after < len(tokens) and tokens[after].kind == 'word':
+            i = drop_clauses_of_head(tokens, after)
+        i += 1
+
+
+def drop_clauses_of_head(tokens, i):
+    parameters, dropped = False, False
+    while tokens[i].text not in ('{', ';') or tokens[i].kind != 'mark':
+        if tokens[i].kind == 'clause':
+            if not parameters:
+                refuse(tokens[i], 'a clause before the parameters')
+            drop(tokens, i, i)
+            dropped = True
+        elif tokens[i].kind in ('item', 'field', 'use'):
+            refuse(tokens[i], 'a `ghost` in the head of a function')
+        elif tokens[i].kind == 'mark' and tokens[i].text in ('(', '['):
+            parameters = parameters or tokens[i].text == '('
+            i = closing(tokens, i)
+        i += 1
+    if dropped:
+        before = preceding(tokens, i)
+        if any(token.kind == 'comment' for token in tokens[before:i]):
+            refuse(tokens[i], 'a comment between clauses')
+        drop(tokens, before + 1, i - 1)
+        if tokens[i].text == '{':
+            tokens[i - 1] = Token('space', ' ', tokens[i].line)
+    return i - 1
+
+
+def drop_ghosts(tokens):
+    for i, token in enumerate(tokens):
+        if token.kind == 'use':
+            drop(tokens, i, i)
+        elif token.kind == 'item':
+            drop(tokens, first_with_comments(tokens, i), i)
+        elif token.kind == 'field':
+            first, before = i, preceding(tokens, i)
+            if tokens[before].text == 'pub':
+                first = before
+            elif tokens[before].text == ')':
+                refuse(token, 'a ghost field that is seen in a part of the crate')
+            drop(tokens, first_with_comments(tokens, first), i)
+
+
+def drop_models(tokens):
+    """Drops each `impl Model for .. { .. }`, whose body then has nothing left."""
+    for i, token in enumerate(tokens):
+        if token.kind != 'word' or token.text != 'Model' or tokens[following(tokens, i)].text != 'for':
+            continue
+        first = preceding(tokens, i)
+        if tokens[first].text == '>':
+            while tokens[first].text != '<':
+                first -= 1
+            first = preceding(tokens, first)
+        if tokens[first].text != 'impl':
+            refuse(token, 'a `Model` of an unknown form')
+        begin = following(tokens, i)
+        while tokens[begin].text != '{':
+            begin = following(tokens, begin)
+        end = closing(tokens, begin)
+        if following(tokens, begin) != end:
+            refuse(token, 'an `impl Model` with more than ghost items')
+        drop(tokens, first_with_comments(tokens, first), end)
+
+
+def drop_attributes(tokens):
+    i = 0
+    while i < len(tokens):
+        if tokens[i].kind == 'mark' and tokens[i].text == '#':
+            begin = following(tokens, i)
+            if tokens[begin].text == '!':
+                begin = following(tokens, begin)
+            if tokens[begin].text != '[':
+                refuse(tokens[i], 'a `#` that begins no attribute')
+            name, end = tokens[following(tokens, begin)].text, closing(tokens, begin)
+            if name == 'tactic':
+                drop(tokens, i, end)
+            elif name not in KEPT_ATTRIBUTES:
+                refuse(tokens[i], f'the attribute `{name}`')
+            elif name == 'derive':
+                drop_derive(tokens, i, begin, end)
+            i = end
+        i += 1
+
+
+def drop_derive(tokens, first, begin, last):
+    places = [i for i in range(begin + 1, last) if tokens[i].kind == 'word' and tokens[i].text != 'derive']
+    names = {tokens[i].text for i in places}
+    if names - KEPT_DERIVES - {'Drop'}:
+        refuse(tokens[first], f'derives of {", ".join(sorted(names - KEPT_DERIVES))}')
+    if names == {'Drop'}:
+        drop(tokens, first, last)
+    elif 'Drop' in names:
+        place, = (i for i in places if tokens[i].text == 'Drop')
+        before = preceding(tokens, place)
+        if tokens[before].text != ',':
+            refuse(tokens[first], 'a derive that begins with `Drop`')
+        drop(tokens, before, place)
+
+
+def drop_bounds(tokens):
+    """Drops `+ Drop`, and `: Drop` of a type parameter. Every type of Rust may be let go."""
+    for i, token in enumerate(tokens):
+        if token.kind != 'word' or token.text != 'Drop':
+            continue
+        before, after = preceding(tokens, i), following(tokens, i)
+        if tokens[before].text not in ('+', ':') or tokens[after].text not in ('>', ',', '+', '{'):
+            refuse(token, '`Drop` of an unknown form')
+        if tokens[before].text == ':' and tokens[after].text not in ('>', ','):
+            refuse(token, '`Drop` as a bound of an unknown form')
+        drop(tokens, before, i)
+
+
+def without_contracts(tokens):
+    """The tokens without contracts, with `gone` tokens in their places."""
+    drop_clauses(tokens)
+    drop_ghosts(tokens)
+    drop_models(tokens)
+    drop_attributes(tokens)
+    drop_bounds(tokens)
+    return tokens
+
+
+def merged(before, after):
+    """The space in place of what is gone between two spaces."""
+    if '\n' not in after:
+        return before or after
+    if '\n' not in before and before:
+        return after
+    lines = min(2, max(before.count('\n'), after.count('\n')))
+    return '\n' * lines + after.rsplit('\n', 1)[1]
+
+
+def tidied(tokens):
+    """The text, without the lines and spaces that what is gone has left behind."""
+    kept = []
+    for token in tokens:
+        if token.kind == 'gone':
+            if not kept or kept[-1].kind != 'gone':
+                kept.append(token)
+        elif token.kind == 'space' and len(kept) > 1 and kept[-1].kind == 'gone' and kept[-2].kind == 'space':
+            space = Token('space', merged(kept[-2].text, token.text), token.line)
+            kept[-2:] = [space]
+        elif token.kind == 'space' and kept and kept[-1].kind == 'gone' and len(kept) == 1:
+            kept[-1:] = []
+        else:
+            kept.append(token)
+    kept = [token for token in kept if token.kind != 'gone']
+    for i, token in enumerate(kept):
+        begins_block, ends_block = kept[i - 1].text == '{', i + 1 < len(kept) and kept[i + 1].text == '}'
+        if token.kind == 'space' and i and begins_block and ends_block:
+            token.text = ''
+        elif token.kind == 'space' and token.text.count('\n') > 1 and i and (begins_block or ends_block):
+            token.text = '\n' + token.text.rsplit('\n', 1)[1]
+    return ''.join(token.text for token in kept)

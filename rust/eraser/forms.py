@@ -1,0 +1,144 @@
+"""The forms that the eraser knows. Whatever else stands in a source is refused, with its line."""
+from tokens import Refused, closing
+
+# Words of Rust with a meaning of their own that no rule here was made for.
+REFUSED_WORDS = {
+    'async', 'await', 'dyn', 'extern', 'macro_rules', 'static', 'stringify', 'union', 'transmute', 'size_of_val', 'align_of',
+    'type_name', 'offset_of', 'try', 'yield', 'become', 'loop',
+}
+MACROS = {'prove'}
+STD = {'alloc', 'boxed', 'error', 'fmt', 'hash', 'marker', 'simd', 'slice'}
+# Calls of the standard library whose contract in Rattle is what Rust's documentation says.
+CALLS = {
+    'add', 'as_array', 'as_chunks', 'as_mut_ptr', 'as_mut_slice', 'as_slice', 'cast', 'clone', 'copy_from_slice', 'copy_to_slice',
+    'first_chunk', 'first_chunk_mut', 'into', 'is_empty', 'last_chunk', 'last_chunk_mut', 'len', 'rotate_left', 'saturating_add',
+    'saturating_sub', 'shuffle', 'split_at', 'split_at_mut', 'split_first_chunk', 'swap_bytes', 'swizzle', 'to_array',
+    'to_le_bytes', 'unwrap', 'wrapping_add', 'wrapping_mul', 'wrapping_neg', 'wrapping_sub', 'write_str', 'is_some', 'is_none',
+    'is_err', 'is_ok', 'as_ref', 'as_mut',
+}
+# Methods that a trait adds to a type of the standard library. None may be a method that the type has, now or later.
+ADDED_METHODS = {
+    'first_u32', 'last_u32', 'first_u64', 'last_u64', 'upper_half', 'lower_half', 'into_u32', 'into_u64', 'into_u128',
+    'as_ref', 'as_mut',
+}
+# Casts to a type whose width is the machine's, or from one: where they are, and why no value is lost on 32 bits.
+CASTS = {
+    ('twox_words/src/words/widening.rt', 'self as u64'): 'a usize has at most 64 bits',
+    ('twox_words/src/words/halves.rt', ') as u64'): 'the halves of a u128',
+    ('twox_plain/src/xxhash32/state.rt', ') as usize'): 'less than 2^32, from a u32',
+    ('twox_plain/src/xxhash64/state.rt', ') as usize'): 'less than 2^32, from a u32',
+    ('twox_core/src/xxhash3/streaming/core_state.rt', 'total_bytes as usize'): 'at most 240, as was tested',
+}
+UNSAFE = {'twox_words/src/words/chunks.rt': 1}
+
+
+def refuse(token, why):
+    raise Refused(f'line {token.line}: {why}')
+
+
+def check_forms(tokens, file):
+    """Refuses what no rule was made for, in a file without contracts."""
+    code = [token for token in tokens if not token.is_blank()]
+    for i, token in enumerate(code):
+        before = code[i - 1].text if i else ''
+        after = code[i + 1].text if i + 1 < len(code) else ''
+        if token.kind == 'word':
+            check_word(token, before, after, code, i, file)
+        elif token.kind == 'mark' and token.text == '.' and after == '.' and before != '.':
+            check_range(code, i)
+    wanted = UNSAFE.get(file, 0)
+    found = sum(token.text == 'unsafe' for token in code)
+    if found != wanted:
+        raise Refused(f'{found} times `unsafe`, not {wanted}')
+
+
+def check_word(token, before, after, code, i, file):
+    word = token.text
+    if word in REFUSED_WORDS:
+        refuse(token, f'`{word}`')
+    if after == '!' and code[i + 2].text in '([{' and word not in MACROS:
+        refuse(token, f'the macro `{word}!`')
+    if word == 'prove' and [one.text for one in code[i - 6:i]] != ['const', '_', ':', '(', ')', '=']:
+        refuse(token, 'a `prove!` that is no constant')
+    if word == 'std' and (before == ':' or code[i + 1].text + code[i + 2].text != '::'):
+        refuse(token, '`std` that begins no path')
+    if word == 'std':
+        check_std(code, i)
+    begins_path = after == ':' and code[i + 2].text == ':' and before != ':'
+    if word in ('core', 'alloc', 'erased', 'rattle') and (before in ('mod', 'as') or begins_path):
+        refuse(token, f'`{word}` as the name of a module')
+    if before == '.' and after in ('(', ':') and word not in CALLS | DEFINED:
+        refuse(token, f'the call `{word}`')
+    if before == '.' and word == 'clone' and [one.text for one in code[i + 1:i + 4]] != ['(', ')', '?']:
+        refuse(token, 'a `clone` whose answer is not tested for memory at once')
+    if word == 'as' and after in ('usize', 'u64', 'isize', 'i64'):
+        text = f'{before} as {after}'
+        if (file, text) not in CASTS:
+            refuse(token, f'the cast `{text}`')
+    if word == 'Drop' and after == 'for':
+        refuse(token, 'an `impl Drop`: when it runs can differ')
+    if word == 'size_of':
+        check_size(token, code, i)
+
+
+def check_std(code, i):
+    names, at = [], i + 3
+    if code[at].text == '{':
+        while code[at].text != '}':
+            at += 1
+            if code[at].kind == 'word':
+                names.append(code[at])
+    else:
+        names = [code[at]]
+    for name in names:
+        if name.text not in STD:
+            refuse(name, f'`std::{name.text}`')
+
+
+def check_range(code, i):
+    """Refuses a range without an end, but in an index and as the rest of a pattern."""
+    end = i + 2 + (code[i + 2].text == '=')
+    if code[end].text in (')', '{') and code[i - 1].text not in (',', '('):
+        refuse(code[i], 'a range without an end')
+
+
+def check_size(token, code, i):
+    name = code[i + 4].text
+    if [one.text for one in code[i + 1:i + 4]] != [':', ':', '<'] or name not in FIXED_LAYOUT:
+        refuse(token, f'`size_of` of `{name}`, which has no `repr(C)`')
+
+
+# The functions and the `repr(C)` types of all sources, which `learn` collects.
+DEFINED, FIXED_LAYOUT = set(), set()
+
+
+def learn(tokens):
+    """Collects the names that a file defines, and refuses a method that a type of the standard library may have."""
+    code = [token for token in tokens if not token.is_blank()]
+    for i, token in enumerate(code):
+        if token.kind != 'word':
+            continue
+        if token.text == 'fn' and code[i + 1].kind == 'word':
+            DEFINED.add(code[i + 1].text)
+        if token.text == 'repr' and [one.text for one in code[i + 1:i + 4]] == ['(', 'C', ')']:
+            FIXED_LAYOUT.add(next(one.text for one, before in zip(code[i:], code[i - 1:]) if before.text == 'struct'))
+        if token.text == 'for' and code[i - 1].kind in ('word', 'mark') and is_foreign(code, i + 1):
+            check_added_methods(code, i)
+
+
+PRIMITIVES = {'u8', 'u16', 'u32', 'u64', 'u128', 'usize', 'i8', 'i16', 'i32', 'i64', 'i128', 'isize', 'bool', 'char', 'str'}
+
+
+def is_foreign(code, i):
+    """True if the type of an `impl` begins as one of the standard library: a primitive, a reference, an array."""
+    return code[i].text in PRIMITIVES or code[i].text in ('&', '[', '(')
+
+
+def check_added_methods(code, i):
+    while i < len(code) and code[i].text not in ('{', ';', 'in'):
+        i += 1
+    if i == len(code) or code[i].text != '{':
+        return
+    for at in range(i, closing(code, i)):
+        if code[at].text == 'fn' and code[at + 1].text not in ADDED_METHODS:
+            refuse(code[at], f'the method `{code[at + 1].text}` of a type of the standard library')

@@ -1,0 +1,43 @@
+// SPDX-License-Identifier: MIT
+// crates/twox_core/src/xxhash3.rt without its contracts, written by rust/erase: change that file.
+
+//! XXH3: what both widths share. The modules stand on one another in this order: the constants (`primes`), the
+//! steps (`mixing`), parts of an input (`parts`), secrets (`secret`, `derivation`), what a kernel is
+//! (`vector`), the accumulators and their place in the secret (`stripes`), long inputs and the kernels
+//! (`large`), and streams (`streaming`).
+
+mod derivation;
+pub mod large;
+mod mixing;
+pub(crate) mod parts;
+pub mod primes;
+pub mod secret;
+pub mod streaming;
+mod stripes;
+mod vector;
+
+pub use derivation::{
+    DEFAULT_SECRET_LENGTH, DEFAULT_SECRET_RAW, DefaultSecret, default_secret, derive_secret,
+    derived_secret,
+};
+pub use large::{Algorithm, Finalize, Kernel};
+pub(crate) use large::{AnyLength, DefaultLength, Derived, is_widened, oneshot_widened};
+pub use mixing::{
+    avalanche, avalanche_xxh64, fold, full_product, impl_1_to_3_bytes_combined, mix_step,
+    mix_words, to_u64s,
+};
+pub use parts::{chunks_17_to_128, pairs_of_u64_bytes, stripes_with_tail};
+pub use secret::{OneshotWithSecretError, SECRET_MINIMUM_LENGTH, Secret};
+pub use streaming::{
+    AllocRawHasher, BUFFERED_BYTES, ClonedBuffer, CoreState, FixedBuffer, FixedMutBuffer,
+    RawHasherCore, SecretBuffer, SecretTooShortError, SecretWithSeedError, TakenStripes,
+};
+pub(crate) use stripes::MANY_BYTES;
+pub use stripes::StripeAccumulator;
+pub use vector::{INITIAL_ACCUMULATORS, Vector};
+
+/// The greatest length that is hashed with the default secret and no stripes.
+pub const CUTOFF: usize = 240;
+
+/// The seed of a call that takes none.
+pub const DEFAULT_SEED: u64 = 0;

@@ -1,0 +1,252 @@
+// SPDX-License-Identifier: MIT
+// crates/twox_core/src/xxhash3/large.rt without its contracts, written by rust/erase: change that file.
+
+//! XXH3 above 240 bytes, over any kernel: the xxHash specification, "XXH3 algorithm description (for large
+//! inputs)".
+
+mod four;
+pub mod halves4;
+pub mod lanes2;
+pub mod lanes4;
+pub mod lanes8;
+pub mod scalar;
+pub mod split2;
+mod word;
+
+use self::word::words;
+use super::parts::array_at;
+use super::primes::{PRIME64_1, PRIME64_2};
+use super::stripes::{
+    BYTES_IN_BLOCK, MANY_BYTES, STRIPES_IN_BLOCK, StripeAccumulator, accumulate_within,
+    start_widened,
+};
+use super::{Secret, Vector, avalanche, fold};
+use crate::rattle::simd::{self, u64x4};
+use crate::erased::twox_words::words::{IntoU64, IntoU128};
+
+/// The kernel of every call that names none.
+#[cfg(all(not(miri), target_arch = "x86_64"))]
+pub type Kernel = lanes4::Impl;
+
+/// The kernel of every call that names none.
+#[cfg(all(not(miri), target_arch = "aarch64", target_endian = "little", target_feature = "neon"))]
+pub type Kernel = halves4::Impl;
+
+/// The kernel of every call that names none.
+#[cfg(not(any(all(not(miri), target_arch = "x86_64"), all(not(miri), target_arch = "aarch64", target_endian = "little", target_feature = "neon"))))]
+pub type Kernel = scalar::Impl;
+
+/// What a hash makes of an input: one value for short ones and one for long ones.
+///
+/// Each call has one meaning, a function of its arguments without the kernel.
+pub trait Finalize {
+    /// The value.
+    type Output;
+
+    /// The value of an input, which the caller shows to have at most 240 bytes.
+    fn small(&self, secret: Secret<'_>, seed: u64, input: &[u8]) -> Self::Output;
+
+    /// The value of an input of `len` bytes that ends with the last block, from the accumulators before that block,
+    /// and the input's last 64 bytes.
+    ///
+    /// The caller shows that the block isn't empty and that the secret has places for its stripes.
+    fn large(
+        &self,
+        v: impl Vector,
+        acc: [u64; 8],
+        last_block: &[u8],
+        last_stripe: &[u8; 64],
+        secret: Secret<'_>,
+        len: u64,
+    ) -> Self::Output;
+}
+
+// Whether eight lanes take a whole one-shot, with a secret that is as long as the default one. No value depends on it.
+#[inline(always)]
+pub(crate) fn is_widened(input: &[u8]) -> bool {
+    (Kernel {}).is_widened() && input.len() >= BYTES_IN_BLOCK
+}
+
+// `Algorithm::oneshot` by eight lanes, but for the last 64 bytes and the merge, which four lanes do as well: so the value of
+// either width is made of what one function leaves, and no block is left to take.
+#[inline(always)]
+pub(crate) fn oneshot_widened<F: Finalize >(
+    secret: Secret<'_>,
+    input: &[u8],
+    finalize: F,
+) -> F::Output {
+    let stripes = &input[..64 * ((input.len() - 1) / 64)];
+    let taken = start_widened(stripes, secret.of_default_length());
+    let last_stripe = array_at(input, input.len() - 64);
+    finalize.large(
+        Kernel {},
+        taken.accumulators(),
+        last_stripe,
+        last_stripe,
+        secret,
+        input.len().into_u64(),
+    )
+}
+
+// A caller of `Algorithm::oneshot_of` with a secret of any length.
+pub(crate) struct AnyLength;
+
+// One with a secret that is as long as the default one.
+pub(crate) struct DefaultLength;
+
+// One with a secret that it derived from a seed itself.
+pub(crate) struct Derived;
+
+/// The hash of long inputs over a kernel.
+#[derive(Clone, Copy)]
+pub struct Algorithm<V>(pub V);
+
+impl<V: Vector> Algorithm<V> {
+    /// What `finalize` makes of an input, which the caller shows to have at least 241 bytes.
+    ///
+    /// The accumulators handed to it are those after all whole blocks but the last, which has the rest of the input;
+    /// a block has as many stripes as the secret has places.
+    #[inline(always)]
+    pub fn oneshot<F: Finalize >(
+        &self,
+        secret: Secret<'_>,
+        input: &[u8],
+        finalize: F,
+    ) -> F::Output {
+        if input.len() < MANY_BYTES {
+            self.oneshot_of::<F, AnyLength, false>(secret, input, finalize)
+        } else {
+            self.oneshot_of::<F, AnyLength, true>(secret, input, finalize)
+        }
+    }
+
+    // `oneshot`, where the caller says whether the bytes are many: those that are few then keep no register for a call.
+    // Each `Caller` has code of its own, in which its secret's length may be known. The value depends on neither.
+    #[inline(always)]
+    pub(crate) fn oneshot_of<F: Finalize , Caller, const MANY: bool>(
+        &self,
+        secret: Secret<'_>,
+        input: &[u8],
+        finalize: F,
+    ) -> F::Output {
+        let count = stripes_before_last_block(input.len(), secret.n_stripes());
+        let (blocks, last_block) = input.split_at(64 * count);
+        let mut stripes = StripeAccumulator::new();
+        stripes.process_oneshot::<V, MANY>(self.0, blocks, secret);
+        finalize.large(
+            self.0,
+            stripes.accumulators(),
+            last_block,
+            array_at(input, input.len() - 64),
+            secret,
+            input.len().into_u64(),
+        )
+    }
+
+    /// The value of 64 bits of an input of `len` bytes: the last block's stripes but its last are accumulated
+    /// from the secret's start on, then the last 64 bytes, and the accumulators are merged.
+    ///
+    /// The caller shows that the block isn't empty and that the secret has places for its stripes.
+    #[inline(always)]
+    pub fn finalize_64(
+        &self,
+        acc: [u64; 8],
+        last_block: &[u8],
+        last_stripe: &[u8; 64],
+        secret: Secret<'_>,
+        len: u64,
+    ) -> u64 {
+        let acc = self.last_round(acc, last_block, last_stripe, secret);
+        let init = len.wrapping_mul(PRIME64_1);
+        final_merge(acc, init, secret.final_secret(), secret)
+    }
+
+    /// The value of 128 bits, likewise: its low half is the value of 64 bits, and the high half merges the
+    /// same accumulators under other bytes of the secret.
+    #[inline(always)]
+    pub fn finalize_128(
+        &self,
+        acc: [u64; 8],
+        last_block: &[u8],
+        last_stripe: &[u8; 64],
+        secret: Secret<'_>,
+        len: u64,
+    ) -> u128 {
+        let acc = self.last_round(acc, last_block, last_stripe, secret);
+        let low = len.wrapping_mul(PRIME64_1);
+        let low = final_merge(acc, low, secret.final_secret(), secret);
+        let high = !len.wrapping_mul(PRIME64_2);
+        let high = final_merge(acc, high, secret.for_128().final_secret(), secret);
+        from_halves(high, low)
+    }
+
+    // The accumulators with the last block's stripes but its last, and then the last 64 bytes.
+    #[inline(always)]
+    fn last_round(
+        &self,
+        acc: [u64; 8],
+        last_block: &[u8],
+        last_stripe: &[u8; 64],
+        secret: Secret<'_>,
+    ) -> [u64; 8] {
+        let count = (last_block.len() - 1) / 64;
+        let mut acc = accumulate_within(acc, self.0, last_block, count, 0, secret);
+        self.0.accumulate(
+            &mut acc,
+            last_stripe,
+            secret.last_stripe_secret_better_name(),
+        );
+        acc
+    }
+}
+
+// How many stripes come before the last block, in whole blocks of `n_stripes` stripes. The last block has at
+// least a byte, and may be whole.
+#[inline(always)]
+fn stripes_before_last_block(len: usize, n_stripes: usize) -> usize {
+    let count = (len - 1) / 64;
+    if count < n_stripes {
+        // One block takes no division.
+        return 0;
+    }
+    if n_stripes == STRIPES_IN_BLOCK {
+        // Nor does the length of most blocks, which is a power of two.
+        return count / STRIPES_IN_BLOCK * STRIPES_IN_BLOCK;
+    }
+    n_stripes * (count / n_stripes)
+}
+
+// The accumulators merged under 64 bytes of the secret: the sum of the folds of neighbours, mixed. They stay in
+// registers, four at a time. Every secret passes the test between the halves: without it, LLVM adds the four folds as
+// a vector, which costs more than it saves.
+#[inline(always)]
+fn final_merge(acc: [u64; 8], init: u64, key: &[u8; 64], secret: Secret<'_>) -> u64 {
+    let [a, b, c, d, e, f, g, h] = acc;
+    let front = add_folds(init, keyed_four([a, b, c, d], words(key, 0)));
+    if !secret.is_valid() {
+        return front;
+    }
+    avalanche(add_folds(front, keyed_four([e, f, g, h], words(key, 4))))
+}
+
+// Four accumulators under their keys.
+#[inline(always)]
+fn keyed_four(acc: [u64; 4], keys: [u64; 4]) -> [u64; 4] {
+    let [a0, a1, a2, a3] = acc;
+    let [k0, k1, k2, k3] = keys;
+    let keys = u64x4::from_array([k0, k1, k2, k3]);
+    (u64x4::from_array([a0, a1, a2, a3]) ^ keys).to_array()
+}
+
+// The sum with the folds of two pairs of neighbours.
+#[inline(always)]
+fn add_folds(sum: u64, keyed: [u64; 4]) -> u64 {
+    let [a, b, c, d] = keyed;
+    sum.wrapping_add(fold(a, b)).wrapping_add(fold(c, d))
+}
+
+// A value of 128 bits from its halves.
+#[inline(always)]
+fn from_halves(high: u64, low: u64) -> u128 {
+    (high.into_u128() << 64) + low.into_u128()
+}

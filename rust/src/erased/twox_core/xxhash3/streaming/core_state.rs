@@ -1,0 +1,236 @@
+// SPDX-License-Identifier: MIT
+// crates/twox_core/src/xxhash3/streaming/core_state.rt without its contracts, written by rust/erase: change that file.
+
+//! What a stream holds beside its secret and its seed: the stripes taken, and the bytes after them.
+
+use super::taken_stripes::TakenStripes;
+use crate::erased::twox_core::xxhash3::parts::array_at;
+use crate::erased::twox_core::xxhash3::{CUTOFF, DEFAULT_SEED, Finalize, Secret, Vector, default_secret};
+use crate::erased::twox_words::copies::{copy_short, copy_up_to_128};
+use crate::erased::twox_words::words::IntoU64;
+
+/// How many bytes a stream keeps for later: whole stripes, and more than the greatest length that is hashed
+/// with no stripes.
+pub const BUFFERED_BYTES: usize = 512;
+
+/// Pieces of up to so many bytes are kept with no call.
+const FEW_BYTES: usize = 32;
+
+/// Stripes of pieces of so many bytes or more are taken out of line, in the way that is fastest for their number.
+const LONG_PIECE_BYTES: usize = 2_048;
+
+const _: () = assert!(BUFFERED_BYTES > CUTOFF);
+
+const _: () = assert!(BUFFERED_BYTES % 64 == 0);
+
+#[cfg(target_pointer_width = "64")]
+const _: () = assert!(size_of::<CoreState>() == 672);
+
+/// What a stream holds beside its secret and its seed. [`RawHasherCore`](super::RawHasherCore) keeps all three and
+/// is what to use; this is for a stream that lies in memory of another layout, such as one that C holds.
+///
+/// The calls have the secret handed in, and it has to be the same at each. They ask for three things, which hold
+/// of a new state and after each call: the accumulators' place lies in the secret, at most `BUFFERED_BYTES` bytes
+/// wait, and if any bytes were taken, one at least waits. No call reads a byte of the buffer that is not in use.
+#[repr(C)]
+#[derive(Clone, Copy)]
+pub struct CoreState {
+    /// The stripes taken.
+    pub taken: TakenStripes,
+    /// Begins with the bytes that wait.
+    pub buffer: [u8; BUFFERED_BYTES],
+    /// How many bytes wait.
+    pub buffer_usage: usize,
+    /// The number of bytes taken so far; from 2^64 - 1 on it stays there.
+    pub total_bytes: u64,
+}
+
+impl CoreState {
+    /// The state of no bytes yet.
+    #[inline(always)]
+    pub fn new() -> CoreState {
+        CoreState {
+            taken: TakenStripes::new(),
+            buffer: [0; BUFFERED_BYTES],
+            buffer_usage: 0,
+            total_bytes: 0,
+        }
+    }
+
+    /// Forgets all bytes taken: the state is one of no bytes yet, but for bytes of the buffer, which stay as they
+    /// are.
+    #[inline(always)]
+    pub fn clear(&mut self) {
+        self.taken = TakenStripes::new();
+        self.buffer_usage = 0;
+        self.total_bytes = 0;
+    }
+
+    /// Whether the calls go on from the state over that secret: a state from elsewhere is tested by it.
+    #[inline(always)]
+    pub fn is_in_range(&self, secret: Secret<'_>) -> bool {
+        let room = self.buffer[..].len();
+        self.taken.stripes.current_stripe() < secret.n_stripes()
+            && self.buffer_usage <= room
+            && (0 < self.buffer_usage || self.total_bytes == 0)
+    }
+
+    /// Takes the bytes of `input` after those taken before.
+    #[inline(always)]
+    pub fn write<V: Vector>(&mut self, v: V, input: &[u8], secret: Secret<'_>) {
+        // A piece that the buffer has room for is kept, even if it fills the buffer, since the last stripe of a stream
+        // is taken by `finish` alone.
+        self.total_bytes = self.total_bytes.saturating_add(input.len().into_u64());
+        if input.len() <= BUFFERED_BYTES - self.buffer_usage {
+            self.keep(input);
+        } else if input.len() < LONG_PIECE_BYTES {
+            self.write_through::<V, false>(v, input, secret);
+        } else {
+            self.write_through::<V, true>(v, input, secret);
+        }
+    }
+
+    // Takes a piece of a few bytes that the buffer has room for, with no call, over whatever secret.
+    #[inline(always)]
+    pub(crate) fn keep_few(&mut self, input: &[u8]) {
+        let len = input.len().into_u64();
+        self.total_bytes = self.total_bytes.saturating_add(len);
+        self.add_few(input);
+    }
+
+    // Fills the buffered bytes up to whole stripes, takes these, and goes on with the rest where it lies. A call
+    // of its own, so that small pieces pay no frame, and one for many bytes, so that others keep no register for
+    // the call that takes their stripes.
+    #[inline(always)] fn write_through<V: Vector, const MANY: bool>(&mut self, v: V, input: &[u8], secret: Secret<'_>) {
+        let (head, rest) = input.split_at((64 - self.buffer_usage % 64) % 64);
+        self.fill_stripe(head);
+        self.empty(v, secret);
+        self.restart::<V, MANY>(v, rest, secret);
+    }
+
+    // Puts `head`, which may be empty, after the buffered bytes.
+    #[inline(always)]
+    fn fill_stripe(&mut self, head: &[u8]) {
+        // Of a piece of whole stripes there are none.
+        if !head.is_empty() {
+            self.add_few(head);
+        }
+    }
+
+    // Puts a few bytes after the buffered ones.
+    #[inline(always)]
+    fn add_few(&mut self, input: &[u8]) {
+        let used = self.buffer_usage;
+        let end = used + input.len();
+        copy_up_to_128(&mut self.buffer[used..end], input);
+        self.buffer_usage = end;
+    }
+
+    // Puts a piece after the buffered bytes. Their number is stored first: a call that moves bytes is the last step then,
+    // and `write` keeps no register for what comes after it.
+    #[inline(always)]
+    fn keep(&mut self, input: &[u8]) {
+        let used = self.buffer_usage;
+        self.buffer_usage = used + input.len();
+        let place = &mut self.buffer[used..used + input.len()];
+        if input.len() > FEW_BYTES {
+            place.copy_from_slice(input);
+        } else {
+            copy_short(place, input);
+        }
+    }
+
+    // Takes the buffered stripes.
+    #[inline(always)]
+    fn empty<V: Vector>(&mut self, v: V, secret: Secret<'_>) {
+        self.taken
+            .process::<V, false>(v, &self.buffer[..self.buffer_usage], secret);
+        self.buffer_usage = 0;
+    }
+
+    // Takes whole stripes of `rest` where they lie, and buffers what is left: of 64 bytes or more, at least 64.
+    #[inline(always)]
+    fn restart<V: Vector, const MANY: bool>(&mut self, v: V, rest: &[u8], secret: Secret<'_>) {
+        let count = rest.len().saturating_sub(64) / 64;
+        let (whole, last) = rest.split_at(64 * count);
+        self.taken.process::<V, MANY>(v, whole, secret);
+        self.begin_with(last);
+    }
+
+    // Begins the buffer with `last`.
+    #[inline(always)]
+    fn begin_with(&mut self, last: &[u8]) {
+        copy_up_to_128(&mut self.buffer[..last.len()], last);
+        self.buffer_usage = last.len();
+    }
+
+    /// What `finalize` makes of the bytes taken, which stay. Up to 240 bytes that is with the default secret and
+    /// the seed or, where there is none, with the secret and the seed 0; above with the secret.
+    #[inline(always)]
+    pub fn finish<V: Vector, F: Finalize>(
+        &self,
+        v: V,
+        finalize: &F,
+        seed: Option<u64>,
+        secret: Secret<'_>,
+    ) -> F::Output {
+        if self.total_bytes <= CUTOFF.into_u64() {
+            return self.finish_short(finalize, seed, secret);
+        }
+        let last_stripe = self.last_stripe();
+        let count = (self.buffer_usage - 1) / 64;
+        let (whole, last_block) = self.buffer[..self.buffer_usage].split_at(64 * count);
+        let mut stripes = self.taken.stripes;
+        stripes.process_stripes(v, whole, secret);
+        finalize.large(
+            v,
+            stripes.accumulators(),
+            last_block,
+            &last_stripe,
+            secret,
+            self.total_bytes,
+        )
+    }
+
+    // The value of up to 240 bytes: with the default secret and the seed or, where there is none, with the secret.
+    #[inline(always)]
+    fn finish_short<F: Finalize>(
+        &self,
+        finalize: &F,
+        seed: Option<u64>,
+        secret: Secret<'_>,
+    ) -> F::Output {
+        let input = &self.buffer[..self.total_bytes as usize];
+        match seed {
+            Some(seed) => finalize.small(default_secret(), seed, input),
+            None => finish_keyed(finalize, secret, input),
+        }
+    }
+
+    // The last 64 bytes of the stream: of the buffered ones, or the end of the last stripe taken and these.
+    #[inline(always)]
+    fn last_stripe(&self) -> [u8; 64] {
+        let used = self.buffer_usage;
+        if used < 64 {
+            stripe_of_parts(&self.taken.last[used..], &self.buffer[..used])
+        } else {
+            *array_at(&self.buffer, used - 64)
+        }
+    }
+}
+
+// A call of its own, so that the default secret's words are constants of the other code.
+#[inline(never)]
+fn finish_keyed<F: Finalize>(finalize: &F, secret: Secret<'_>, input: &[u8]) -> F::Output {
+    finalize.small(secret, DEFAULT_SEED, input)
+}
+
+// A stripe of two parts.
+#[inline(always)]
+fn stripe_of_parts(front: &[u8], back: &[u8]) -> [u8; 64] {
+    let mut stripe = [0; 64];
+    let (head, tail) = stripe.split_at_mut(front.len());
+    head.copy_from_slice(front);
+    tail.copy_from_slice(back);
+    stripe
+}

@@ -1,0 +1,214 @@
+// SPDX-License-Identifier: MIT
+// crates/twox_core/src/xxhash3/streaming/secret_buffer.rt without its contracts, written by rust/erase: change that file.
+
+//! A secret that is held, with its seed, and what is answered where it hasn't the right length.
+
+use super::{ClonedBuffer, FixedBuffer, FixedMutBuffer};
+use crate::erased::twox_core::xxhash3::{
+    DEFAULT_SECRET_LENGTH, DEFAULT_SECRET_RAW, DEFAULT_SEED, DefaultSecret, SECRET_MINIMUM_LENGTH,
+    Secret, derived_secret,
+};
+use crate::rattle::{AllocError, Allocator, TryClone};
+use crate::rattle::BoxedSlice;
+use std::error::Error;
+use std::fmt;
+
+/// A secret of at least 136 bytes, and the seed that goes with it, if it was made with one.
+///
+/// A stream over a buffer that was made with a seed hashes up to 240 bytes with the default secret and the seed,
+/// and more with the secret. One over a buffer that was made with the secret alone uses that at every length.
+pub struct SecretBuffer<S: FixedBuffer> {
+    seed: Option<u64>,
+    secret: S,
+}
+
+impl<S: FixedBuffer> SecretBuffer<S> {
+    /// Holds the seed and the secret as they are.
+    ///
+    /// # Errors
+    ///
+    /// The secret has fewer than 136 bytes; it is handed back.
+    pub fn new(seed: u64, secret: S) -> Result<SecretBuffer<S>, SecretTooShortError<S>> {
+        SecretBuffer::checked(Some(seed), secret)
+    }
+
+    /// Holds the secret alone: it is used at every length, with the seed 0.
+    ///
+    /// # Errors
+    ///
+    /// The secret has fewer than 136 bytes; it is handed back.
+    pub fn with_secret(secret: S) -> Result<SecretBuffer<S>, SecretTooShortError<S>> {
+        SecretBuffer::checked(None, secret)
+    }
+
+    // Holds both, if the secret has its minimum length.
+    fn checked(seed: Option<u64>, secret: S) -> Result<SecretBuffer<S>, SecretTooShortError<S>> {
+        if secret.as_ref().len() >= SECRET_MINIMUM_LENGTH {
+            Ok(SecretBuffer { seed, secret })
+        } else {
+            Err(SecretTooShortError { secret })
+        }
+    }
+
+    /// The secret, as it is held.
+    pub fn into_secret(self) -> S {
+        let SecretBuffer { seed: _, secret } = self;
+        secret
+    }
+
+    // The seed, if the buffer was made with one.
+    #[inline(always)]
+    pub(super) fn seed(&self) -> Option<u64> {
+        self.seed
+    }
+
+    // The secret, lent.
+    #[inline(always)]
+    pub(super) fn secret(&self) -> Secret<'_> {
+        Secret::new(self.secret.as_ref()).unwrap()
+    }
+}
+
+impl<S: FixedMutBuffer> SecretBuffer<S> {
+    /// Overwrites the buffer with the secret that the seed derives, and holds it.
+    ///
+    /// # Errors
+    ///
+    /// The buffer hasn't exactly 192 bytes; it is handed back as it was.
+    pub fn with_seed(seed: u64, mut secret: S) -> Result<SecretBuffer<S>, SecretWithSeedError<S>> {
+        if secret.as_ref().len() != DEFAULT_SECRET_LENGTH {
+            return Err(SecretWithSeedError { secret });
+        }
+        secret.as_mut().copy_from_slice(&derived_secret(seed));
+        Ok(SecretBuffer {
+            seed: Some(seed),
+            secret,
+        })
+    }
+}
+
+impl SecretBuffer<DefaultSecret> {
+    /// The seed 0 and the default secret.
+    pub fn default() -> SecretBuffer<DefaultSecret> {
+        SecretBuffer {
+            seed: Some(DEFAULT_SEED),
+            secret: DEFAULT_SECRET_RAW,
+        }
+    }
+}
+
+impl<A: Allocator> SecretBuffer<BoxedSlice<u8, A>> {
+    /// The seed 0 and the default secret, in memory of its own.
+    ///
+    /// # Errors
+    ///
+    /// There is no memory for the secret.
+    pub fn allocate_default(alloc: A) -> Result<SecretBuffer<BoxedSlice<u8, A>>, AllocError> {
+        Ok(SecretBuffer {
+            seed: Some(DEFAULT_SEED),
+            secret: BoxedSlice::from_slice(alloc, &DEFAULT_SECRET_RAW)?,
+        })
+    }
+
+    /// The seed and the secret that it derives, in memory of its own.
+    ///
+    /// # Errors
+    ///
+    /// There is no memory for the secret.
+    pub fn allocate_with_seed(
+        alloc: A,
+        seed: u64,
+    ) -> Result<SecretBuffer<BoxedSlice<u8, A>>, AllocError> {
+        Ok(SecretBuffer {
+            seed: Some(seed),
+            secret: BoxedSlice::from_slice(alloc, &derived_secret(seed))?,
+        })
+    }
+
+    /// Holds the seed and the secret as they are, and takes no memory.
+    ///
+    /// # Errors
+    ///
+    /// The secret has fewer than 136 bytes; it is handed back.
+    pub fn allocate_with_seed_and_secret(
+        seed: u64,
+        secret: BoxedSlice<u8, A>,
+    ) -> Result<SecretBuffer<BoxedSlice<u8, A>>, SecretTooShortError<BoxedSlice<u8, A>>> {
+        SecretBuffer::new(seed, secret)
+    }
+
+    /// Holds the secret alone, and takes no memory: it is used at every length, with the seed 0.
+    ///
+    /// # Errors
+    ///
+    /// The secret has fewer than 136 bytes; it is handed back.
+    pub fn allocate_with_secret(
+        secret: BoxedSlice<u8, A>,
+    ) -> Result<SecretBuffer<BoxedSlice<u8, A>>, SecretTooShortError<BoxedSlice<u8, A>>> {
+        SecretBuffer::with_secret(secret)
+    }
+}
+
+impl<S: ClonedBuffer> TryClone for SecretBuffer<S> {
+    fn try_clone(&self) -> Result<SecretBuffer<S>, AllocError> {
+        let secret = self.secret.try_clone()?;
+        Ok(SecretBuffer {
+            seed: self.seed,
+            secret,
+        })
+    }
+}
+
+/// The secret has fewer than 136 bytes.
+pub struct SecretTooShortError<S> {
+    secret: S,
+}
+
+impl<S> SecretTooShortError<S> {
+    /// The secret, as it was handed in.
+    pub fn into_secret(self) -> S {
+        let SecretTooShortError { secret } = self;
+        secret
+    }
+}
+
+impl<S> fmt::Debug for SecretTooShortError<S> {
+    fn fmt(&self, f: &mut fmt::Formatter<'_>) -> fmt::Result {
+        f.write_str("SecretTooShortError")
+    }
+}
+
+impl<S> fmt::Display for SecretTooShortError<S> {
+    fn fmt(&self, f: &mut fmt::Formatter<'_>) -> fmt::Result {
+        f.write_str("The secret must have at least 136 bytes")
+    }
+}
+
+impl<S> Error for SecretTooShortError<S> {}
+
+/// The buffer for a derived secret hasn't exactly 192 bytes.
+pub struct SecretWithSeedError<S> {
+    secret: S,
+}
+
+impl<S> SecretWithSeedError<S> {
+    /// The buffer, as it was handed in.
+    pub fn into_secret(self) -> S {
+        let SecretWithSeedError { secret } = self;
+        secret
+    }
+}
+
+impl<S> fmt::Debug for SecretWithSeedError<S> {
+    fn fmt(&self, f: &mut fmt::Formatter<'_>) -> fmt::Result {
+        f.write_str("SecretWithSeedError")
+    }
+}
+
+impl<S> fmt::Display for SecretWithSeedError<S> {
+    fn fmt(&self, f: &mut fmt::Formatter<'_>) -> fmt::Result {
+        f.write_str("The secret must be exactly 192 bytes")
+    }
+}
+
+impl<S> Error for SecretWithSeedError<S> {}

@@ -1,0 +1,55 @@
+// SPDX-License-Identifier: MIT
+// crates/twox_core/src/xxhash3/stripes/within.rt without its contracts, written by rust/erase: change that file.
+
+//! Stripes of one block: a scramble comes after the block's last alone, so that the loop has no test for one, and its
+//! accumulators stay in registers.
+
+use super::{STRIPES_IN_BLOCK, StripeAccumulator};
+use crate::erased::twox_core::xxhash3::{Secret, Vector};
+use crate::erased::twox_words::words::bp_as_chunks;
+
+/// The accumulators after the first `count` stripes of `bytes`, from a place in the secret on and with no scramble.
+#[inline(always)]
+pub(in crate::erased::twox_core::xxhash3) fn accumulate_within<V: Vector>(
+    acc: [u64; 8],
+    v: V,
+    bytes: &[u8],
+    count: usize,
+    place: usize,
+    secret: Secret<'_>,
+) -> [u64; 8] {
+    let (stripes, _) = bp_as_chunks(bytes);
+    let mut taken = acc;
+    'stripes: for i in 0..count {
+        v.accumulate(&mut taken, &stripes[i], secret.stripe(place + i));
+    }
+    taken
+}
+
+// The accumulators with all stripes of `bytes`, of which the last alone may end the block, under a secret of 192 bytes.
+#[inline(always)]
+pub(super) fn process_within<V: Vector>(
+    from: StripeAccumulator,
+    v: V,
+    bytes: &[u8],
+    secret: Secret<'_>,
+) -> StripeAccumulator {
+    let count = bytes.len() / 64;
+    let place = from.current_stripe + count;
+    let mut taken = accumulate_within(
+        from.accumulator,
+        v,
+        bytes,
+        count,
+        from.current_stripe,
+        secret,
+    );
+    if place < STRIPES_IN_BLOCK {
+        return StripeAccumulator {
+            accumulator: taken,
+            current_stripe: place,
+        };
+    }
+    v.round_scramble(&mut taken, secret.last_stripe());
+    StripeAccumulator::starting_with(taken)
+}

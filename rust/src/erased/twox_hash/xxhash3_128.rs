@@ -1,0 +1,105 @@
+// SPDX-License-Identifier: MIT
+// crates/twox_hash/src/xxhash3_128.rt without its contracts, written by rust/erase: change that file.
+
+//! XXH3 of 128 bits.
+
+use crate::erased::twox_hash::streams::{BoxedStream, RawStream};
+use crate::rattle::{Allocator, Global, TryClone};
+use crate::erased::twox_core::width_128;
+pub use crate::erased::twox_core::width_128::Finalize128;
+pub use crate::erased::twox_core::xxhash3::{
+    ClonedBuffer, DEFAULT_SECRET_LENGTH, FixedBuffer, FixedMutBuffer, OneshotWithSecretError,
+    SECRET_MINIMUM_LENGTH, SecretBuffer, SecretTooShortError, SecretWithSeedError,
+};
+use crate::erased::twox_core::xxhash3::{CUTOFF, Secret, default_secret};
+use crate::erased::twox_words::words::IntoU128;
+
+/// Calculates the 128-bit hash: of all bytes at once, or of bytes that come in pieces. The secret of a stream
+/// is in memory of its own.
+///
+/// ```text
+/// let mut hasher = Hasher::with_seed(alloc, 7)?;
+/// hasher.write(b"some ");
+/// hasher.write(b"bytes");
+/// assert_eq!(hasher.finish_128(), Hasher::oneshot_with_seed(7, b"some bytes"));
+/// ```
+pub type Hasher<A = Global> = BoxedStream<Finalize128, A>;
+
+/// A stream over a secret of the caller's, which takes no memory.
+///
+/// ```text
+/// let secret = SecretBuffer::with_seed(7, [0; DEFAULT_SECRET_LENGTH])?;
+/// let mut hasher = RawHasher::new(secret);
+/// hasher.write(b"some bytes");
+/// assert_eq!(hasher.finish_128(), Hasher::oneshot_with_seed(7, b"some bytes"));
+/// ```
+pub type RawHasher<S> = RawStream<Finalize128, S>;
+
+impl Hasher<Global> {
+    /// The hash of all bytes at once, with the default secret and the seed 0.
+    ///
+    /// Other bytes are noticed: no two different inputs of one length up to 16 bytes have the same hash. So is
+    /// another seed, up to 16 bytes. Of 1 to 3 bytes and above 240 the low half is the hash of 64 bits. All that
+    /// holds of the other one-shots too, under their secrets.
+    #[inline]
+    pub fn oneshot(input: &[u8]) -> u128 {
+        width_128::oneshot(input).into_u128()
+    }
+
+    /// The hash of all bytes at once, with a seed: up to 240 bytes with the default secret, above with the
+    /// secret that the seed derives.
+    #[inline]
+    pub fn oneshot_with_seed(seed: u64, input: &[u8]) -> u128 {
+        width_128::oneshot_with_seed(seed, input).into_u128()
+    }
+
+    /// The hash of all bytes at once, with a secret and the seed 0, at every length.
+    ///
+    /// # Errors
+    ///
+    /// The secret has fewer than 136 bytes.
+    #[inline]
+    pub fn oneshot_with_secret(secret: &[u8], input: &[u8]) -> Result<u128, OneshotWithSecretError> {
+        let secret = Secret::new(secret)?;
+        Ok(width_128::oneshot_with_secret(secret, input).into_u128())
+    }
+
+    /// The hash of all bytes at once, with a seed and a secret. Only one of the two has an effect: up to 240
+    /// bytes the seed, with the default secret, whatever secret is handed in; above, the secret.
+    ///
+    /// # Errors
+    ///
+    /// The input has more than 240 bytes and the secret fewer than 136.
+    #[inline]
+    pub fn oneshot_with_seed_and_secret(
+        seed: u64,
+        secret: &[u8],
+        input: &[u8],
+    ) -> Result<u128, OneshotWithSecretError> {
+        if input.len() <= CUTOFF {
+            return Ok(width_128::oneshot_short(default_secret(), seed, input).into_u128());
+        }
+        let own = Secret::new(secret)?;
+        Ok(width_128::oneshot_long(own, input).into_u128())
+    }
+}
+
+impl<A: Allocator> Hasher<A> {
+    /// The hash of the bytes taken so far, which stay: up to 240 bytes with the default secret and the seed or, in
+    /// a stream that was made with its secret alone, with that secret and the seed 0; above with the stream's
+    /// secret, where no seed enters.
+    #[inline]
+    pub fn finish_128(&self) -> u128 {
+        self.inner().finish(Finalize128)
+    }
+}
+
+impl<S: FixedBuffer> RawHasher<S> {
+    /// The hash of the bytes taken so far, which stay: up to 240 bytes with the default secret and the seed or, in
+    /// a stream that was made with its secret alone, with that secret and the seed 0; above with the stream's
+    /// secret, where no seed enters.
+    #[inline]
+    pub fn finish_128(&self) -> u128 {
+        self.core().finish(Finalize128)
+    }
+}

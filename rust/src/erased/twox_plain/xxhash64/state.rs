@@ -1,0 +1,131 @@
+// SPDX-License-Identifier: MIT
+// crates/twox_plain/src/xxhash64/state.rt without its contracts, written by rust/erase: change that file.
+
+//! A stream of XXH64: its accumulators, the bytes that wait for a stripe, and the length.
+
+use super::rounds::{BYTES_IN_STRIPE, finish_with};
+use super::{Core, MARK, SavedState, StateInMemory};
+use crate::erased::twox_plain::words::IntoU64;
+use crate::erased::twox_words::copies::{copy_front, copy_short};
+
+impl StateInMemory {
+    /// The record's fields in their places.
+    ///
+    /// The caller shows that less than a stripe waits.
+    #[inline(always)]
+    pub fn of_record(state: SavedState) -> StateInMemory {
+        let buffer = state.buffer;
+        StateInMemory {
+            v1: state.core.v1,
+            seed: state.seed,
+            v2: state.core.v2,
+            total_len: state.total_len,
+            v3: state.core.v3,
+            marked_usage: MARK + state.buffer_usage as u32,
+            v4: state.core.v4,
+            buffer,
+        }
+    }
+
+    /// The record that lies here.
+    #[inline(always)]
+    pub fn record(&self) -> SavedState {
+        let buffer = self.buffer;
+        SavedState {
+            total_len: self.total_len,
+            seed: self.seed,
+            core: self.core(),
+            buffer,
+            buffer_usage: self.usage(),
+        }
+    }
+
+    /// How many bytes of the buffer wait. Memory without the mark seems to have a stripe or more.
+    #[inline(always)]
+    pub fn usage(&self) -> usize {
+        self.marked_usage.wrapping_sub(MARK) as usize
+    }
+
+    // Sets how many bytes of the buffer wait, and with it the mark.
+    #[inline(always)]
+    fn set_usage(&mut self, usage: usize) {
+        self.marked_usage = MARK + usage as u32;
+    }
+
+    // The accumulators.
+    #[inline(always)]
+    pub(super) fn core(&self) -> Core {
+        Core {
+            v1: self.v1,
+            v2: self.v2,
+            v3: self.v3,
+            v4: self.v4,
+        }
+    }
+
+    // Puts the accumulators back.
+    #[inline(always)]
+    fn set_core(&mut self, core: Core) {
+        self.v1 = core.v1;
+        self.v2 = core.v2;
+        self.v3 = core.v3;
+        self.v4 = core.v4;
+    }
+
+    /// Adds a piece to the bytes that are hashed.
+    ///
+    /// The caller shows that less than a stripe waits.
+    #[inline(always)]
+    pub fn add_piece(&mut self, input: &[u8]) {
+        let used = self.usage();
+        self.total_len = self.total_len.saturating_add(input.len().into_u64());
+        let mut rest = input;
+        if used > 0 {
+            if used + input.len() < BYTES_IN_STRIPE {
+                self.set_usage(used + input.len());
+                copy_short(&mut self.buffer[used..used + input.len()], input);
+                return;
+            }
+            let (head, after) = input.split_at(BYTES_IN_STRIPE - used);
+            copy_short(&mut self.buffer[used..], head);
+            let mut core = self.core();
+            core.write(&self.buffer);
+            self.set_core(core);
+            rest = after;
+        }
+        self.add_stripes(rest);
+    }
+
+    // Adds bytes that are counted already, where none wait: takes the whole stripes, and keeps the bytes after them.
+    #[inline(always)]
+    fn add_stripes(&mut self, input: &[u8]) {
+        let mut rest = input;
+        if input.len() >= BYTES_IN_STRIPE {
+            let mut core = self.core();
+            while let Some((stripe, after)) = rest.split_first_chunk::<BYTES_IN_STRIPE>() {
+                core.write(stripe);
+                core.v1 = crate::rattle::opaque_u64(core.v1);
+                core.v2 = crate::rattle::opaque_u64(core.v2);
+                core.v3 = crate::rattle::opaque_u64(core.v3);
+                core.v4 = crate::rattle::opaque_u64(core.v4);
+                rest = after;
+            }
+            self.set_core(core);
+        }
+        copy_front(&mut self.buffer, rest);
+        self.set_usage(rest.len());
+    }
+
+    /// The hash of the bytes so far.
+    ///
+    /// The caller shows that less than a stripe waits.
+    #[inline(always)]
+    pub fn finish(&self) -> u64 {
+        finish_with(
+            self.seed,
+            self.total_len,
+            &self.core(),
+            &self.buffer[..self.usage()],
+        )
+    }
+}

@@ -1,0 +1,60 @@
+// SPDX-License-Identifier: MIT
+// crates/twox_words/src/copies.rt without its contracts, written by rust/erase: change that file.
+
+//! Copies of short slices of bytes.
+
+/// Copies a slice of at most 32 bytes over another of its length.
+///
+/// It does what `copy_from_slice` does, which makes a call: that takes longer than the few moves here.
+#[inline(always)]
+pub fn copy_short(to: &mut [u8], from: &[u8]) {
+    let n = from.len();
+    if n > 16 {
+        copy_ends::<16>(to, from);
+    } else if n >= 8 {
+        copy_ends::<8>(to, from);
+    } else if n >= 4 {
+        copy_ends::<4>(to, from);
+    } else if n >= 2 {
+        copy_ends::<2>(to, from);
+    } else if n == 1 {
+        to[0] = from[0];
+    }
+}
+
+/// Copies a slice of at most 128 bytes over another of its length, with no call either.
+#[inline(always)]
+pub fn copy_up_to_128(to: &mut [u8], from: &[u8]) {
+    let n = from.len();
+    if n > 64 {
+        copy_ends::<64>(to, from);
+    } else if n > 32 {
+        copy_ends::<32>(to, from);
+    } else {
+        copy_short(to, from);
+    }
+}
+
+/// Lays a slice of at most 32 bytes over the front of another, with one test where it is empty.
+#[inline(always)]
+pub fn copy_front(to: &mut [u8], from: &[u8]) {
+    if !from.is_empty() {
+        copy_short(&mut to[..from.len()], from);
+    }
+}
+
+// Copies a slice of `N` to `2 * N` bytes over another of its length: the first `N` bytes, then the last `N`, which may
+// overlap them. Where the last begins is a value of its own, so that the address of each copy is seen to lie within its
+// slice.
+#[inline(always)]
+fn copy_ends<const N: usize>(to: &mut [u8], from: &[u8]) {
+    let last = crate::rattle::opaque_usize(from.len() - N);
+    copy_chunk::<N>(to, from);
+    copy_chunk::<N>(&mut to[last..], &from[last..]);
+}
+
+// Copies the first `N` bytes.
+#[inline(always)]
+fn copy_chunk<const N: usize>(to: &mut [u8], from: &[u8]) {
+    *to.first_chunk_mut::<N>().unwrap() = *from.first_chunk().unwrap();
+}
