@@ -6,7 +6,7 @@
 It proves and builds both, or the one that is named; with --of-ci over the libraries that `rt ci` left in this tree. Of
 each text it wants that
 
-- text and sums made anew of the object that was proved are those that are committed;
+- assembly source and sums generated from the proved object equal the committed ones;
 - each assembler on the machine (GNU as, clang, rustc) makes that object of the text, as same_bytes.py compares two;
 - the prefetches of its module are those of prefetch.py, and a module that lacks one of their places is refused;
 - a module that is another in one number or one line beside what is added is not compiled (tried with two of them);

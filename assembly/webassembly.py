@@ -79,7 +79,7 @@ def text_of(path):
 
 
 def words_of(folder):
-    """The words by which clang compiled the module, but for those of its own target."""
+    """clang's options for the module, except those for its target."""
     words = re.sub(r'^(-mllvm|-Xclang|-x|-o)\n', r'\1 ', text_of(os.path.join(folder, 'words')), flags=re.M).splitlines()
     kept = [word for word in words if not word.startswith(OWN) and not word.endswith(('.bc', '.ll'))]
     return [part for word in kept for part in word.split(' ')]

@@ -15,7 +15,7 @@ also in later runs with --since. With --anew every file is read, whatever OLDER.
 
 With --indexes FOLDER each file of at least --large bytes also gets a file FOLDER/NAME.blocks, with the lines of
 `xxh blocks SIZE`, and FOLDER/NAME.state beside it, which says of what: SIZE, and the file's length, time of change and
-inode. An index of another state, of blocks of another size or of another number of lines is made anew.
+inode. An index of another state, of blocks of another size or of another number of lines is rebuilt.
 
 A file that can't be hashed has no line; standard error names it and says why, and so of an index that can't be written.
 The status is 0 where each file has its line and its index, 1 where one has none, or where there is no manifest, and 2 where

@@ -49,7 +49,7 @@ def proved_clone(room):
 
 
 def texts_are_made_anew(room):
-    """Every text, made anew of what is proved, for the targets too that the gate has no time for."""
+    """Regenerates the assembly source of every target from the proved code, including the targets that CI skips."""
     clone = proved_clone(room)
     for build, targets in TEXTS.items():
         for target in targets:

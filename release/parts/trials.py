@@ -168,7 +168,7 @@ def static_page(root):
 
 def made_without_rt(root):
     """release/make --without-rt with the packages of the page, by a user who may install nothing, where the only cargo is Debian's:
-    all that it makes is as in the whole release, but for PROVENANCE."""
+    everything it writes equals the full release, except PROVENANCE."""
     packages, = re.findall(r'These packages of Debian 12 are needed: `(.*)`', printed.text_of(printed.RELEASES))
     root.install(*packages.split(), 'cargo-web')
     must(['git', 'clone', '-q', TOP, root.at('/srv/clone')])

@@ -137,7 +137,7 @@ GONE = {'prove', 'requires', 'ensures', 'ghost', 'tactic', 'Model', 'Drop', 'by_
 
 
 def replacements_at(words, at, crate, file):
-    """(how many tokens, what stands for them) of each replacement that a place allows."""
+    """(number of tokens, their replacement) for each replacement allowed at a place."""
     for old, new, files in REPLACEMENTS:
         if words[at:at + len(old)] == old and re.fullmatch(files.replace('*', '.*'), file):
             yield len(old), new

@@ -153,7 +153,7 @@ def is_noticed_by_rustc(room, number, file, old, new):
 def check(report, room, is_all):
     if is_all:
         install_packages()
-        report.attempt("cargo's tests over the tree made anew", tests_pass, os.path.join(room, 'crate'))
+        report.attempt("cargo's tests over a regenerated tree", tests_pass, os.path.join(room, 'crate'))
     for number, (name, *change) in enumerate(WRONG):
         if name not in BY_RUSTC:
             report.attempt(f'a wrong eraser: {name}', is_noticed, room, number, *change)

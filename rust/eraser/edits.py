@@ -1,6 +1,6 @@
 """What is written in another way once the contracts are gone: one table, each row with its reason and its count.
 
-A pattern is a row of tokens, `$name` stands for one word, and white space doesn't count. A row that applies more or fewer
+A pattern is a row of tokens, `$name` matches one word, and white space is ignored. A row that applies more or fewer
 times than it says fails, and so does one whose match holds a comment."""
 import functools
 import re
@@ -130,7 +130,7 @@ def significant(text):
 
 
 def matched(tokens, places, at, pattern):
-    """What the placeholders of a pattern stand for where it matches from `places[at]` on, or None."""
+    """The words that a pattern's placeholders match from `places[at]` on, or None."""
     if at + len(pattern) > len(places):
         return None
     found = {}

@@ -1,4 +1,4 @@
-"""The forms that the eraser knows. Whatever else stands in a source is refused, with its line."""
+"""The forms that the eraser knows. Any other form in a source is refused, with its line."""
 from tokens import Refused, closing
 
 # Words of Rust with a meaning of their own that no rule here was made for.

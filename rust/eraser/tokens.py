@@ -1,4 +1,4 @@
-"""Rattle's tokens. A contract, with all that stands in its braces, is one token, so nothing later looks into it."""
+"""Rattle's tokens. A contract is one token including its braces, so later passes don't look inside."""
 import re
 from dataclasses import dataclass
 
@@ -22,7 +22,7 @@ GHOST_ITEM = re.compile(r'ghost\s+\w+\s*([:=])\s*(?=\{)')
 
 
 class Refused(Exception):
-    """The eraser has no rule for what stands at a line of a file."""
+    """The eraser has no rule for a form in a file."""
 
 
 @dataclass

@@ -1,5 +1,5 @@
 // SPDX-License-Identifier: MIT
-//! Stands in for the parts of Rattle's standard library that the erased source uses and Rust's has not.
+//! Replaces the parts of Rattle's standard library that the erased source uses and Rust's library lacks.
 //!
 //! Nothing here is proved. The proofs of the source rest on the contracts of Rattle's library, which each item quotes.
 #![allow(

@@ -145,7 +145,7 @@ def copy_of_clone(folder):
 
 
 def files_of(web):
-    """The names in a copy of this folder but for what is built, with the text of package.json."""
+    """The file names in a copy of this folder without build output, and the text of package.json."""
     return {name: name == "package.json" and text_of(web, name) for name in os.listdir(web) if name != "out"}
 
 

@@ -37,7 +37,7 @@ core::arch::global_asm!(
 core::arch::global_asm!(include_str!("../../asm/aarch64.s"), options(raw));
 
 /// Declares each export, in a module of its name with a function for each set of instructions. A slice crosses as its
-/// address and its length. No export keeps an address, or reads or writes what it isn't handed.
+/// address and its length. No export keeps an address or accesses memory outside its arguments.
 macro_rules! exports {
     ($(fn $name:ident($($kind:ty),*) $(-> $answer:ty)?;)*) => {
         $(mod $name {
