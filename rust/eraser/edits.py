@@ -8,8 +8,6 @@ from dataclasses import dataclass
 
 from tokens import Refused, Token, closing, lex
 
-TREE = 'crate::erased'
-CRATES = ('twox_words', 'twox_plain', 'twox_core', 'twox_hash')
 
 
 @dataclass(frozen=True)
@@ -118,13 +116,6 @@ EDITS = (
     Edit('inlined', '#[inline(never)] fn write_through<V', '#[inline(always)] fn write_through<V', 1, ALWAYS),
 )
 
-# Files of which nothing is written.
-NOT_WRITTEN = {
-    'twox_plain/src/by_stripes.rt', 'twox_plain/src/saved_text.rt',
-    *(f'twox_plain/src/xxhash{bits}/{name}.rt' for bits in (32, 64) for name in ('saved', 'build_hashers')),
-}
-
-
 def significant(text):
     return [token.text for token in lex(text) if not token.is_blank()]
 
@@ -189,18 +180,18 @@ def apply(edit, tokens):
     return count
 
 
-def rename_paths(tokens, crate):
-    """Paths from a crate's root begin at its module. Returns how many there were."""
+def rename_paths(tokens, tree, crate, crates):
+    """Paths from a crate's root begin at its module below `tree`. Returns how many there were."""
     places, count = [i for i, token in enumerate(tokens) if not token.is_blank()], 0
     for at, place in enumerate(places):
         token, before = tokens[place], tokens[places[at - 1]].text if at else ''
         follows = ''.join(tokens[i].text for i in places[at + 1:at + 3])
-        if token.kind != 'word' or token.text not in ('crate', *CRATES):
+        if token.kind != 'word' or token.text not in ('crate', *crates):
             continue
         if token.text == 'crate' and follows.startswith(')') and before == '(':
             continue
         if follows != '::' or before in (':', '.', '$'):
             raise Refused(f'line {token.line}: `{token.text}` that begins no path')
-        tokens[place] = Token('edited', f'{TREE}::{crate if token.text == "crate" else token.text}', token.line)
+        tokens[place] = Token('edited', f'{tree}::{crate if token.text == "crate" else token.text}', token.line)
         count += 1
     return count

@@ -1,0 +1,38 @@
+// SPDX-License-Identifier: MIT
+// crates/xxhsum/src/main.rt without its contracts, written by rust/erase --programs: change that file.
+
+//! `xxhsum` prints and checks digests of files. The page docs/XXHSUM.md says what is proved of it.
+
+use crate::rattle::prelude::HostRuntime;
+use crate::rattle::io::IsTerminal;
+use crate::rattle::process::ExitCode;
+use crate::programs::xxh_io::from_read::FromRead;
+use crate::programs::xxh_io::from_write::FromWrite;
+use crate::programs::xxhsum_files::system::SystemFiles;
+use crate::programs::xxhsum_output::whole_lines::WholeLines;
+use crate::programs::xxhsum_program::arguments::ProcessArguments;
+use crate::programs::xxhsum_program::process::{Console, Terminals};
+use crate::programs::xxhsum_program::screen::Screen;
+use crate::programs::xxhsum_tree::run::run;
+
+// Passes the process's arguments, files and streams to the program.
+pub fn main(rt: HostRuntime) -> ExitCode {
+    let console = Console {
+        input: FromRead::new(rt.stdin()),
+        terminals: Terminals {
+            input: rt.stdin().is_terminal(),
+            errors: rt.stderr().is_terminal(),
+        },
+        screen: Screen::new(rt.stderr(), &rt),
+    };
+    // On a terminal each line is written at once.
+    let gathers = !rt.stdout().is_terminal();
+    ExitCode::from(run(
+        rt.alloc(),
+        &ProcessArguments::new(&rt),
+        &SystemFiles::new(&rt),
+        console,
+        &mut WholeLines::new(FromWrite::new(rt.stdout()), gathers),
+        &mut FromWrite::new(rt.stderr()),
+    ))
+}
