@@ -172,11 +172,14 @@ class Tree:
     crates: tuple
     replacements: list
     gone: set
+    # Paths that may not stay: Rust has others of that name, or none.
+    never: list
     roots: dict
 
 
-LIBRARY = Tree('erased', CRATES, REPLACEMENTS, GONE | NOT_OF_LIBRARY, {'mod': ' '.join(f'pub mod {crate};' for crate in CRATES)})
-PROGRAMS = Tree('programs', (*CRATES, *OF_PROGRAMS), IN_PROGRAMS, GONE, ROOTS)
+LIBRARY = Tree('erased', CRATES, REPLACEMENTS, GONE | NOT_OF_LIBRARY, [rows_of(f'std::{name}') for name in ('alloc', 'boxed', 'simd')],
+               {'mod': ' '.join(f'pub mod {crate};' for crate in CRATES)})
+PROGRAMS = Tree('programs', (*CRATES, *OF_PROGRAMS), IN_PROGRAMS, GONE, [rows_of(name) for name in (*OF_RATTLE, '= str::from_utf8')], ROOTS)
 
 
 def replacements_at(words, at, crate, file, tree):
@@ -223,7 +226,8 @@ def unexplained(source, erased, crate, file, tree):
         if gone:
             waiting.append((at + gone, place))
             continue
-        if wanted[place:place + 1] == [words[at]] and words[at] not in tree.gone:
+        stays = words[at] not in tree.gone and not any(words[at:at + len(path)] == path for path in tree.never)
+        if stays and wanted[place:place + 1] == [words[at]]:
             waiting.append((at + 1, place + 1))
         for count, new in replacements_at(words, at, crate, file, tree):
             if wanted[place:place + len(new)] == new:

@@ -44,14 +44,21 @@ pub fn symlink_metadata<P: Files>(process: &P, path: &str) -> Result<Metadata> {
 /// there is none. So the same memory is asked for here first, and an error if it is refused.
 pub fn with_memory_for<'a, T>(path: &'a str, call: impl FnOnce(&'a str) -> Result<T>) -> Result<T> {
     let mut probe = std::vec::Vec::<u8>::new();
-    probe.try_reserve_exact(path.len().saturating_add(1)).map_err(|_| ErrorKind::OutOfMemory)?;
+    probe
+        .try_reserve_exact(path.len().saturating_add(1))
+        .map_err(|_| ErrorKind::OutOfMemory)?;
     drop(probe);
     call(path)
 }
 
 #[cfg(all(
     target_os = "linux",
-    any(target_arch = "x86_64", target_arch = "aarch64", target_arch = "x86", target_arch = "arm")
+    any(
+        target_arch = "x86_64",
+        target_arch = "aarch64",
+        target_arch = "x86",
+        target_arch = "arm"
+    )
 ))]
 mod dir {
     //! Folders by the system's own call, which needs no memory.
@@ -91,7 +98,10 @@ mod dir {
     impl Dir {
         /// Opens a folder.
         pub fn open(path: &str) -> Result<Dir> {
-            let folder = OpenOptions::new().read(true).custom_flags(GETDENTS64.1).open(path)?;
+            let folder = OpenOptions::new()
+                .read(true)
+                .custom_flags(GETDENTS64.1)
+                .open(path)?;
             Ok(Dir(folder))
         }
     }
@@ -102,7 +112,14 @@ mod dir {
             // The names have fewer bytes than their records, so they have room in the buffer.
             let room = buf.len().min(records.0.len());
             // SAFETY: the call writes at most `room` bytes there.
-            let count = unsafe { syscall(GETDENTS64.0, self.0.as_raw_fd(), records.0.as_mut_ptr(), room) };
+            let count = unsafe {
+                syscall(
+                    GETDENTS64.0,
+                    self.0.as_raw_fd(),
+                    records.0.as_mut_ptr(),
+                    room,
+                )
+            };
             let count = usize::try_from(count).map_err(|_| Error::last_os_error())?;
             let mut rest = records.0.get(..count).unwrap_or(&[]);
             let mut len = 0;
@@ -126,7 +143,12 @@ mod dir {
 
 #[cfg(not(all(
     target_os = "linux",
-    any(target_arch = "x86_64", target_arch = "aarch64", target_arch = "x86", target_arch = "arm")
+    any(
+        target_arch = "x86_64",
+        target_arch = "aarch64",
+        target_arch = "x86",
+        target_arch = "arm"
+    )
 )))]
 mod dir {
     //! Folders by Rust's library.
@@ -145,7 +167,10 @@ mod dir {
     impl Dir {
         /// Opens a folder.
         pub fn open(path: &str) -> Result<Dir> {
-            Ok(Dir { entries: std::fs::read_dir(path)?, waiting: std::vec::Vec::new() })
+            Ok(Dir {
+                entries: std::fs::read_dir(path)?,
+                waiting: std::vec::Vec::new(),
+            })
         }
     }
 
@@ -154,7 +179,11 @@ mod dir {
             let mut len = 0;
             loop {
                 let Some(room) = buf[len..].get_mut(..self.waiting.len()) else {
-                    return if len > 0 { Ok(len) } else { Err(ErrorKind::InvalidInput.into()) };
+                    return if len > 0 {
+                        Ok(len)
+                    } else {
+                        Err(ErrorKind::InvalidInput.into())
+                    };
                 };
                 room.copy_from_slice(&self.waiting);
                 len += self.waiting.len();
@@ -162,7 +191,8 @@ mod dir {
                 let Some(entry) = self.entries.next() else {
                     return Ok(len);
                 };
-                self.waiting.extend_from_slice(entry?.file_name().as_encoded_bytes());
+                self.waiting
+                    .extend_from_slice(entry?.file_name().as_encoded_bytes());
                 self.waiting.push(0);
             }
         }

@@ -137,7 +137,9 @@ impl<'a> Reader<'a> {
         }
         let number = &rest[..rest.len() - self.rest().len()];
         match number.parse::<f64>() {
-            Ok(value) if value.is_finite() => Ok(number.parse().map_or(Value::Other, Value::Number)),
+            Ok(value) if value.is_finite() => {
+                Ok(number.parse().map_or(Value::Other, Value::Number))
+            }
             _ => Err(Error::Text),
         }
     }

@@ -6,8 +6,15 @@ const AT_ONCE: usize = 32;
 
 /// "The first place of the byte."
 pub fn memchr(byte: u8, text: &[u8]) -> Option<usize> {
-    let among = |part: &[u8]| part.iter().fold(false, |found, other| found | (*other == byte));
-    let skipped = AT_ONCE * text.chunks_exact(AT_ONCE).take_while(|part| !among(part)).count();
+    let among = |part: &[u8]| {
+        part.iter()
+            .fold(false, |found, other| found | (*other == byte))
+    };
+    let skipped = AT_ONCE
+        * text
+            .chunks_exact(AT_ONCE)
+            .take_while(|part| !among(part))
+            .count();
     let place = text[skipped..].iter().position(|other| *other == byte)?;
     Some(skipped + place)
 }

@@ -64,7 +64,9 @@ impl Arguments {
 
     /// The argument of this index.
     pub fn get(&self, index: usize) -> Option<&[u8]> {
-        self.0.get(index).map(|argument| argument.as_encoded_bytes())
+        self.0
+            .get(index)
+            .map(|argument| argument.as_encoded_bytes())
     }
 }
 

@@ -47,7 +47,10 @@ impl Value {
     }
 
     /// An object of these members.
-    pub fn object<const N: usize>(alloc: Global, members: [(&str, Value); N]) -> Result<Value, AllocError> {
+    pub fn object<const N: usize>(
+        alloc: Global,
+        members: [(&str, Value); N],
+    ) -> Result<Value, AllocError> {
         let mut owned = Vec::new(alloc);
         for (name, value) in members {
             owned.push((String::from_str(alloc, name)?, value))?;
@@ -60,7 +63,11 @@ impl Value {
         let Value::Object(members) = self else {
             return None;
         };
-        members.iter().rev().find(|member| member.0.as_str() == name).map(|member| &member.1)
+        members
+            .iter()
+            .rev()
+            .find(|member| member.0.as_str() == name)
+            .map(|member| &member.1)
     }
 
     /// "The number, if it is a whole one below 2^64."
