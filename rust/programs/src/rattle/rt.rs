@@ -80,7 +80,7 @@ impl Files for HostRuntime {
     type Dir = Dir;
 
     fn open_file(&self, path: &str) -> io::Result<File> {
-        fs::with_memory_for(path, |path| File::open(path))
+        fs::with_memory_for(path, File::open)
     }
 
     fn open_dir(&self, path: &str) -> io::Result<Dir> {
@@ -88,10 +88,10 @@ impl Files for HostRuntime {
     }
 
     fn metadata(&self, path: &str) -> io::Result<Metadata> {
-        fs::with_memory_for(path, |path| std::fs::metadata(path))
+        fs::with_memory_for(path, std::fs::metadata)
     }
 
     fn symlink_metadata(&self, path: &str) -> io::Result<Metadata> {
-        fs::with_memory_for(path, |path| std::fs::symlink_metadata(path))
+        fs::with_memory_for(path, std::fs::symlink_metadata)
     }
 }
