@@ -144,6 +144,7 @@ IN_PROGRAMS = [(rows_of(old), rows_of(new), files) for old, new, files in (
     *((old, new, '*') for old, new in OF_RATTLE.items()),
     *((f'{name}::', f'crate::rattle::{name}::', '*') for name in PORTS),
     ('use std::{fmt, io};', 'use crate::rattle::io; use std::fmt;', 'xxhsum_files/words'),
+    ('write!(words, "{error}")', 'write!(words, "{}", io::Shown(&error))', 'xxhsum_files/words'),
     ('vec![in alloc; 0u8; room]', 'Vec::filled(alloc, 0u8, room)', 'xxhsum_program/arguments'),
     ('fn fmt<W: fmt::Write>(&self, f: &mut fmt::Formatter<W>)', "fn fmt(&self, f: &mut fmt::Formatter<'_>)", '*'),
     ('= str::from_utf8', '= std::str::from_utf8', 'xxhsum_files/system'),

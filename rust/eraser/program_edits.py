@@ -20,6 +20,8 @@ PROGRAM_EDITS = (
     Edit('formatter', 'fn fmt<W: fmt::Write>(&self, f: &mut fmt::Formatter<W>)',
          "fn fmt(&self, f: &mut fmt::Formatter<'_>)", 3, FORMATTER),
     Edit('texts', '= str::from_utf8', '= std::str::from_utf8', 5, STD),
+    Edit('texts of errors', 'write!(words, "{error}")', 'write!(words, "{}", io::Shown(&error))', 1,
+         "the text of an error of Rust's library takes memory, and stops the process if there is none", files='xxhsum_files/src/words.rt'),
     Edit('main', 'fn main(rt: HostRuntime)', 'pub fn main(rt: HostRuntime)', 2, MAIN),
 )
 # The names of Rattle's prelude that Rust's lacks, or has for something else.

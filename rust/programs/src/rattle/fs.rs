@@ -40,14 +40,18 @@ pub fn symlink_metadata<P: Files>(process: &P, path: &str) -> Result<Metadata> {
     process.symlink_metadata(path)
 }
 
+/// Rust's library copies paths below this length to the stack.
+const ON_STACK: usize = 384;
+
 /// Calls a function of Rust's library with a path. It copies a long path into memory of its own, and stops the process if
-/// there is none. So the same memory is asked for here first, and an error if it is refused.
+/// there is none. So the same memory is asked for here first, and an error if it is refused: a process of one thread gets
+/// again what it has just let go.
 pub fn with_memory_for<'a, T>(path: &'a str, call: impl FnOnce(&'a str) -> Result<T>) -> Result<T> {
-    let mut probe = std::vec::Vec::<u8>::new();
-    probe
-        .try_reserve_exact(path.len().saturating_add(1))
-        .map_err(|_| ErrorKind::OutOfMemory)?;
-    drop(probe);
+    if path.len() >= ON_STACK {
+        let mut probe = std::vec::Vec::<u8>::new();
+        let asked = probe.try_reserve_exact(path.len() + 1);
+        asked.map_err(|_| ErrorKind::OutOfMemory)?;
+    }
     call(path)
 }
 
@@ -200,3 +204,54 @@ mod dir {
 }
 
 pub use dir::Dir;
+
+#[cfg(test)]
+mod tests {
+    use super::*;
+
+    /// The names in a folder, read with a buffer of this size.
+    fn names_in(path: &str, size: usize) -> std::vec::Vec<std::vec::Vec<u8>> {
+        let (mut folder, mut buf, mut names) = (Dir::open(path).unwrap(), vec![0; size], vec![]);
+        loop {
+            match folder.read(&mut buf).unwrap() {
+                0 => break,
+                count => {
+                    assert_eq!(buf[count - 1], 0, "a read ends within a name");
+                    names.extend(
+                        buf[..count - 1]
+                            .split(|byte| *byte == 0)
+                            .map(<[u8]>::to_vec),
+                    );
+                }
+            }
+        }
+        names.retain(|name| name != b"." && name != b"..");
+        names.sort();
+        names
+    }
+
+    #[test]
+    fn a_folder_has_the_names_of_its_files() {
+        let path = std::env::temp_dir().join(format!("twox-programs-{}", std::process::id()));
+        std::fs::create_dir(&path).unwrap();
+        let mut wanted: std::vec::Vec<_> = (0..3000)
+            .map(|number| format!("{number}-{}", "n".repeat(number % 200)))
+            .collect();
+        for name in &wanted {
+            std::fs::write(path.join(name), "").unwrap();
+        }
+        wanted.sort();
+        for size in [320, 4096, 32768, 100_000] {
+            let found = names_in(path.to_str().unwrap(), size);
+            assert!(
+                found
+                    .iter()
+                    .map(|name| name.as_slice())
+                    .eq(wanted.iter().map(|name| name.as_bytes())),
+                "{size}"
+            );
+        }
+        assert!(Dir::open(path.join(&wanted[0]).to_str().unwrap()).is_err());
+        std::fs::remove_dir_all(&path).unwrap();
+    }
+}

@@ -4,7 +4,46 @@
 //! On a Unix each call reads or writes the descriptor itself. Those of Rust's library have buffers, and treat a closed
 //! stream as one that takes everything.
 
+use std::fmt;
 pub use std::io::{Error, ErrorKind, Read, Result, Write};
+
+/// The text of an error: "the system's message, and ` (os error N)`". That of Rust's library is the same, but it takes memory,
+/// and stops the process if there is none.
+pub struct Shown<'a>(pub &'a Error);
+
+impl fmt::Display for Shown<'_> {
+    #[cfg(unix)]
+    fn fmt(&self, f: &mut fmt::Formatter<'_>) -> fmt::Result {
+        let Some(code) = self.0.raw_os_error() else {
+            return self.0.fmt(f);
+        };
+        let mut room = [0; 256];
+        write!(f, "{} (os error {code})", message_of(code, &mut room))
+    }
+
+    #[cfg(not(unix))]
+    fn fmt(&self, f: &mut fmt::Formatter<'_>) -> fmt::Result {
+        self.0.fmt(f)
+    }
+}
+
+/// The system's message for an error of this number.
+#[cfg(unix)]
+fn message_of(code: i32, room: &mut [u8; 256]) -> &str {
+    use core::ffi::{c_char, c_int, CStr};
+    extern "C" {
+        // The function of POSIX. glibc has another one under its name.
+        #[cfg_attr(
+            all(target_os = "linux", target_env = "gnu"),
+            link_name = "__xpg_strerror_r"
+        )]
+        fn strerror_r(number: c_int, text: *mut c_char, size: usize) -> c_int;
+    }
+    // SAFETY: it writes at most `room.len()` bytes there.
+    unsafe { strerror_r(code, room.as_mut_ptr().cast(), room.len()) };
+    let text = CStr::from_bytes_until_nul(room).unwrap_or_default();
+    text.to_str().unwrap_or("unknown error")
+}
 
 /// What may be a terminal.
 pub trait IsTerminal {
@@ -120,3 +159,18 @@ macro_rules! is_terminal {
 }
 
 is_terminal!(Stdin, Stdout, Stderr);
+
+#[cfg(test)]
+mod tests {
+    use super::*;
+
+    #[test]
+    fn errors_have_the_text_of_the_library() {
+        for code in 0..200 {
+            let error = Error::from_raw_os_error(code);
+            assert_eq!(Shown(&error).to_string(), error.to_string());
+        }
+        let error = Error::from(ErrorKind::OutOfMemory);
+        assert_eq!(Shown(&error).to_string(), "out of memory");
+    }
+}

@@ -41,3 +41,19 @@ impl Buffer {
         std::str::from_utf8(&self.0[start..]).unwrap_or("")
     }
 }
+
+#[cfg(test)]
+mod tests {
+    use super::*;
+
+    #[test]
+    fn digits_are_those_of_display() {
+        let powers = (0..20).map(|power| 10u64.pow(power));
+        for number in powers
+            .flat_map(|power| [power - 1, power, power + 1])
+            .chain([u64::MAX])
+        {
+            assert_eq!(Buffer::new().format(number), number.to_string());
+        }
+    }
+}

@@ -202,3 +202,94 @@ impl<'a> Reader<'a> {
         u16::from_str_radix(digits, 16).map_err(|_| Error::Text)
     }
 }
+
+#[cfg(test)]
+mod tests {
+    use super::*;
+
+    fn read(text: &str) -> Result<Value, Error> {
+        Value::from_str(Global, text)
+    }
+
+    #[test]
+    fn values_are_read() {
+        let value = read(
+            " {\"a\" : [1, 18446744073709551615 ,-0, 1.5e3, true, \"\\u00e9\\n\"] , \"b\":{}}\n",
+        )
+        .unwrap();
+        let items = value.get("a").unwrap().as_array().unwrap();
+        let numbers: std::vec::Vec<_> = items.iter().map(Value::as_u64).collect();
+        assert_eq!(numbers, [Some(1), Some(u64::MAX), None, None, None, None]);
+        assert!(value.get("c").is_none() && value.as_u64().is_none());
+    }
+
+    #[test]
+    fn the_last_member_of_a_name_counts() {
+        let value = read("{\"a\":1,\"\\u0061\":2}").unwrap();
+        assert_eq!(value.get("a").unwrap().as_u64(), Some(2));
+    }
+
+    #[test]
+    fn what_is_not_json_is_refused() {
+        let wrong = [
+            "",
+            " ",
+            "01",
+            "1.",
+            ".5",
+            "+1",
+            "1e",
+            "1e999",
+            "-",
+            "nul",
+            "nulll",
+            "[1,]",
+            "[1 2]",
+            "[",
+            "{\"a\"}",
+            "{\"a\":1,}",
+            "{a:1}",
+            "\"\n\"",
+            "\"\\x\"",
+            "\"\\u12\"",
+            "\"\\ud800\"",
+            "\"\\ud800\\u0041\"",
+            "\"\\udc00\"",
+            "1 1",
+            "\u{a0}1",
+        ];
+        for text in wrong {
+            assert_eq!(read(text).unwrap_err(), Error::Text, "{text}");
+        }
+    }
+
+    #[test]
+    fn lists_nest_127_deep() {
+        let nested = |deep| format!("{}{}", "[".repeat(deep), "]".repeat(deep));
+        assert!(read(&nested(127)).is_ok());
+        assert_eq!(read(&nested(128)).unwrap_err(), Error::Text);
+    }
+
+    #[test]
+    fn what_is_written_is_read() {
+        let numbers = [0, 9, 10, u64::MAX].map(Value::from);
+        let mut items = Vec::new(Global);
+        for number in numbers {
+            items.push(number).unwrap();
+        }
+        let value = Value::object(
+            Global,
+            [("a", Value::Array(items)), ("b", Value::from(7u8))],
+        )
+        .unwrap();
+        let text = value.to_string(Global).unwrap();
+        assert_eq!(
+            text.as_str(),
+            "{\"a\":[0,9,10,18446744073709551615],\"b\":7}"
+        );
+        assert_eq!(
+            read(text.as_str()).unwrap().to_string(Global).unwrap(),
+            text
+        );
+    }
+}

@@ -31,3 +31,39 @@ pub mod memmem {
         (0..text.len()).find(|place| text[*place..].starts_with(part))
     }
 }
+
+#[cfg(test)]
+mod tests {
+    use super::*;
+
+    #[test]
+    fn places_are_found() {
+        for length in 0..100 {
+            let mut text = vec![b'a'; length];
+            assert_eq!((memchr(b'x', &text), memrchr(b'x', &text)), (None, None));
+            for place in 0..length {
+                text[place] = b'x';
+                assert_eq!(
+                    (memchr(b'x', &text), memrchr(b'x', &text)),
+                    (Some(place), Some(place))
+                );
+                text[0] = b'x';
+                assert_eq!(
+                    (memchr(b'x', &text), memrchr(b'x', &text)),
+                    (Some(0), Some(place))
+                );
+                text[..=place].fill(b'a');
+            }
+        }
+    }
+
+    #[test]
+    fn parts_are_found() {
+        assert_eq!(
+            memmem::find(b"a missing file (os error 2)", b" (os error "),
+            Some(14)
+        );
+        assert_eq!(memmem::find(b" (os erro", b" (os error "), None);
+        assert_eq!(memmem::find(b"", b"a"), None);
+    }
+}

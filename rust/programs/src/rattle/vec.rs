@@ -88,7 +88,7 @@ impl<'a, T> IntoIterator for &'a Vec<T> {
 }
 
 /// A text.
-#[derive(Debug)]
+#[derive(Debug, PartialEq, Eq)]
 pub struct String(std::string::String);
 
 impl String {

@@ -37,7 +37,7 @@ pub(crate) fn words_of(error: io::Error) -> Refusal {
         text: [0; ROOM],
         len: 0,
     };
-    let _ = write!(words, "{error}");
+    let _ = write!(words, "{}", io::Shown(&error));
     let text = &words.text[..words.len];
     match crate::rattle::memchr::memmem::find(text, SUFFIX) {
         Some(len) => Refusal::new(code, &text[..len]),
