@@ -3,6 +3,8 @@ from edits import FORMATTER, SHIM, Edit
 
 STD = 'rustc 1.81 has the function at this path only'
 MAIN = 'the package calls it from a `main` of its own'
+RELEASE, ORIGINALS = ' 0.1.0 of twox_hash', 'the messages of xxhsum 0.8.1 and the options and lines of 0.8.3'
+MADE_BY = 'compiled by rustc from proved source'
 
 PROGRAM_EDITS = (
     Edit('allocators', 'std::alloc', 'crate::rattle', 35, SHIM),
@@ -22,6 +24,8 @@ PROGRAM_EDITS = (
     Edit('texts', '= str::from_utf8', '= std::str::from_utf8', 5, STD),
     Edit('texts of errors', 'write!(words, "{error}")', 'write!(words, "{}", io::Shown(&error))', 1,
          "the text of an error of Rust's library takes memory, and stops the process if there is none", files='xxhsum_files/src/words.rt'),
+    Edit('the line of --version', f'b"{RELEASE}, with {ORIGINALS}"', f'b"{RELEASE}, {MADE_BY}, with {ORIGINALS}"', 1,
+         'it says who made the program', files='xxhsum_program/src/usage.rt'),
     Edit('main', 'fn main(rt: HostRuntime)', 'pub fn main(rt: HostRuntime)', 2, MAIN),
 )
 # The names of Rattle's prelude that Rust's lacks, or has for something else.

@@ -6,6 +6,8 @@ import subprocess
 from report import want
 
 SECONDS = 30
+# What only the version of these programs has, in a line that the help has too.
+MADE_BY = b' compiled by rustc from proved source,'
 SHOWN = 300
 STATES = {
     '32': b'{"buffer":[72,101,108,108,111,44,32,119,111,114,108,100,33,0,0,0],"buffer_usage":14,'
@@ -97,7 +99,7 @@ def drawn_xxhsum(draw, lists, room):
 def did(program, name, words, given, room):
     done = subprocess.run([name, *words], executable=program, input=given, capture_output=True, cwd=room, timeout=SECONDS)
     want(b'panicked' not in done.stderr and done.returncode >= 0, f'{words}: {done.returncode}, {done.stderr[:SHOWN]}')
-    return done.stdout, done.stderr, done.returncode
+    return done.stdout, done.stderr.replace(MADE_BY, b''), done.returncode
 
 
 def compare(ours, proved, draw, name, words, given, room):

@@ -9,7 +9,7 @@ use crate::programs::xxhsum_words::table::{Does, NO_LETTER, ROWS};
 
 // The first line of both, after the program's name.
 pub(crate) const TITLE: &[u8] =
-    b" 0.1.0 of twox_hash, with the messages of xxhsum 0.8.1 and the options and lines of 0.8.3";
+    b" 0.1.0 of twox_hash, compiled by rustc from proved source, with the messages of xxhsum 0.8.1 and the options and lines of 0.8.3";
 
 pub(crate) const ABOUT: &[u8] =
     b"Prints or checks the digests of files by xxHash: XXH32, XXH64, XXH3.\n\n";
