@@ -3,7 +3,7 @@
 
 use std::fs::Metadata;
 
-use super::io::{ErrorKind, Read, Result};
+use super::io::{Error, ErrorKind, Read, Result};
 
 /// What has files.
 pub trait Files {
@@ -52,7 +52,16 @@ pub fn with_memory_for<'a, T>(path: &'a str, call: impl FnOnce(&'a str) -> Resul
         let asked = probe.try_reserve_exact(path.len() + 1);
         asked.map_err(|_| ErrorKind::OutOfMemory)?;
     }
-    call(path)
+    call(path).map_err(as_of_posix)
+}
+
+/// Windows has another number if a folder of the path is missing than if the file is. The programs know `ENOENT`.
+fn as_of_posix(error: Error) -> Error {
+    const ENOENT: i32 = 2;
+    if cfg!(windows) && error.kind() == ErrorKind::NotFound {
+        return Error::from_raw_os_error(ENOENT);
+    }
+    error
 }
 
 #[cfg(all(

@@ -21,9 +21,14 @@ impl fmt::Display for Shown<'_> {
         write!(f, "{} (os error {code})", message_of(code, &mut room))
     }
 
+    // Windows has its messages in the language of the user. These are POSIX's, and else Rust's.
     #[cfg(not(unix))]
     fn fmt(&self, f: &mut fmt::Formatter<'_>) -> fmt::Result {
-        self.0.fmt(f)
+        match self.0.kind() {
+            ErrorKind::NotFound => f.write_str("No such file or directory"),
+            ErrorKind::PermissionDenied => f.write_str("Permission denied"),
+            kind => kind.fmt(f),
+        }
     }
 }
 
@@ -150,9 +155,10 @@ macro_rules! is_terminal {
                 std::io::IsTerminal::is_terminal(&*self.inner())
             }
 
+            // Progress is written with escapes, which a console of Windows may show as they are.
             #[cfg(not(unix))]
             fn is_terminal(&self) -> bool {
-                std::io::IsTerminal::is_terminal(&self.inner())
+                cfg!(not(windows)) && std::io::IsTerminal::is_terminal(&self.inner())
             }
         }
     )*};

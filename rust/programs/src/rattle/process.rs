@@ -4,6 +4,7 @@
 #[cfg(unix)]
 use core::ffi::{c_char, CStr};
 
+#[cfg(unix)]
 use super::rt::HostRuntime;
 
 /// An exit status.
@@ -57,9 +58,15 @@ pub struct Arguments(&'static [std::ffi::OsString]);
 
 #[cfg(not(unix))]
 impl Arguments {
-    /// Those of this process.
+    /// Those of this process. The first is a path with `/`, and on Windows without `.exe`: the name at its end decides what
+    /// the program does.
     pub fn of_process() -> Self {
-        Arguments(std::env::args_os().collect::<std::vec::Vec<_>>().leak())
+        let mut arguments: std::vec::Vec<_> = std::env::args_os().collect();
+        if let Some(first) = arguments.first_mut().filter(|_| cfg!(windows)) {
+            let path = first.to_string_lossy().replace('\\', "/");
+            *first = path.strip_suffix(".exe").unwrap_or(&path).into();
+        }
+        Arguments(arguments.leak())
     }
 
     /// The argument of this index.
