@@ -92,7 +92,8 @@ def drawn_xxhsum(draw, lists, room):
     words = draw.sample(OPTIONS, draw.choice((0, 1, 1, 2, 3)))
     if draw.random() < .5:
         words.insert(0, draw.choice((b'-c', b'--audit', b'--check', b'--files-from', b'--files0-from', b'--filelist', b'-r')))
-    words += [draw.choice((b'list', b'names', b'nowhere'))] * draw.randrange(2)
+    # Each read of a folder fails, so it is a list that can be opened and not read.
+    words += [draw.choice((b'list', b'list', b'names', b'nowhere', b'd'))] * draw.randrange(2)
     return words + draw.sample(NAMES, draw.choice((0, 0, 1, 3, 6))), listed if draw.random() < .5 else b''
 
 
