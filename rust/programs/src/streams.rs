@@ -25,9 +25,13 @@ pub struct SecretBuffer<S> {
 impl SecretBuffer<DefaultSecret> {
     /// The seed and the secret that it derives, which is written to `secret`. "The buffer hasn't exactly 192 bytes" is the
     /// one error, which an array of that length can't have.
-    pub fn with_seed(seed: u64, mut secret: DefaultSecret) -> Result<Self, Infallible> {
+    pub fn with_seed(seed: u64, secret: DefaultSecret) -> Result<Self, Infallible> {
+        Ok(SecretBuffer::derived(seed, secret))
+    }
+
+    fn derived(seed: u64, mut secret: DefaultSecret) -> Self {
         overwrite_with_secret(&mut secret, seed);
-        Ok(SecretBuffer { seed, secret })
+        SecretBuffer { seed, secret }
     }
 
     /// "The seed 0 and the default secret", which the seed 0 derives.
@@ -36,8 +40,7 @@ impl SecretBuffer<DefaultSecret> {
         reason = "the source calls it by this name"
     )]
     pub fn default() -> Self {
-        let Ok(buffer) = SecretBuffer::with_seed(0, [0; DEFAULT_SECRET_LENGTH]);
-        buffer
+        SecretBuffer::derived(0, [0; DEFAULT_SECRET_LENGTH])
     }
 }
 
