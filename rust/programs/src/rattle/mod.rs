@@ -6,6 +6,7 @@
 //!
 //! No function here panics, and none stops the process if memory runs out: each asks for its memory by `try_reserve`.
 
+pub mod clock;
 pub mod env;
 pub mod fs;
 pub mod io;

@@ -2,8 +2,10 @@
 //! The process, as Rattle passes it to `main`.
 
 use std::fs::{File, Metadata};
-use std::time::{Duration, Instant};
+use std::time::Duration;
 
+use super::clock::monotonic;
+pub use super::clock::Clock;
 pub use super::env::Env;
 use super::fs::{self, Dir, Files};
 use super::io::{self, Stderr, Stdin, Stdout};
@@ -14,7 +16,6 @@ use super::Global;
 #[derive(Clone, Copy)]
 pub struct HostRuntime {
     arguments: Arguments,
-    started: Instant,
 }
 
 /// What has the global allocator.
@@ -27,25 +28,16 @@ pub trait AllocGlobal {
 
 impl AllocGlobal for HostRuntime {}
 
-/// A clock.
-pub trait Clock {
-    /// "The time since some start, which never goes back."
-    fn monotonic(&self) -> io::Result<Duration>;
-}
-
 impl Clock for HostRuntime {
     fn monotonic(&self) -> io::Result<Duration> {
-        Ok(self.started.elapsed())
+        monotonic()
     }
 }
 
 impl HostRuntime {
     /// The process with these arguments.
     pub fn new(arguments: Arguments) -> Self {
-        HostRuntime {
-            arguments,
-            started: Instant::now(),
-        }
+        HostRuntime { arguments }
     }
 
     /// [`AllocGlobal::alloc`], which Rattle's prelude has for each file.
