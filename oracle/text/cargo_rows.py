@@ -1,8 +1,6 @@
 """The rows of oracle/machine-text on the texts below the cargo crate, rust/asm, for x86-64. Some functions of the text
 for x86-64-v3 are c/asm's, byte for byte, and have the rows that show these too."""
 import functools
-import subprocess
-import tempfile
 
 from terms import comparison
 from terms.sides import Request
@@ -12,6 +10,7 @@ from .cargo import FOLDER, WAYS, CargoProgram, export_name
 from .cargo_exports import BEGIN, exports_left_out, shared
 from .instructions import V1, V3, V4
 from .questions import Beside
+from .sources import assembled
 
 NAMES, LIKE = (V1, V3, V4), (V3, V4)      # the sets, and those that c/asm has too
 LEAST_SHARED = 15                 # functions of one of these that are c/asm's
@@ -28,14 +27,7 @@ SECRETS, STREAM_SECRETS = (136,), (136, 193, 256)
 
 
 def programs():
-    """The texts as gcc assembles them."""
-    with tempfile.TemporaryDirectory(prefix="machine-text-") as room:
-        return {f"cargo's {name}": assembled(name, room) for name in NAMES}
-
-
-def assembled(name, room):
-    subprocess.run(["gcc", "-c", f"{FOLDER}/{name}.s", "-o", f"{room}/{name}.o"], check=True)
-    return CargoProgram(name, f"{room}/{name}.o")
+    return {f"cargo's {name}": assembled(f"{FOLDER}/{name}.s", V1, functools.partial(CargoProgram, name)) for name in NAMES}
 
 
 # ---- the rows

@@ -2,7 +2,6 @@
 import functools
 import itertools
 import os
-import subprocess
 import tempfile
 
 from terms import comparison, nodes
@@ -13,11 +12,12 @@ from terms.processes import Row
 from terms.sides import TOP, Request
 
 from . import (any_secret, any_updates, calls, changes, covered, every_length, exports, lanes, long_seeds, on_processor,
-               one_shots, planted, scalar, streams, xxh3_updates)
+               one_shots, planted, planted_lines, scalar, streams, xxh3_updates)
 from .cargo import CargoProcessor, CargoProgram
-from .instructions import SETS, TABLE, V2, V3, V4
+from .instructions import SETS, TABLE, V1, V2, V3, V4
 from .objects import Program
 from .processor import Processor
+from .sources import assembled
 
 NAMES = V2, V3, V4
 FOLDER = os.path.join(TOP, "c", "asm")
@@ -41,14 +41,7 @@ assert scalar and lanes                             # which fill the table
 
 
 def programs():
-    """The texts as gcc assembles them, which is how users do it."""
-    with tempfile.TemporaryDirectory(prefix="machine-text-") as room:
-        return {name: assembled(f"{FOLDER}/{name}.s", f"{room}/{name}.o") for name in NAMES}
-
-
-def assembled(source, to):
-    subprocess.run(["gcc", "-c", source, "-o", to], check=True)
-    return Program(to)
+    return {name: assembled(f"{FOLDER}/{name}.s", V1, Program) for name in NAMES}
 
 
 def makers(texts):
@@ -352,6 +345,7 @@ def machine_rows(texts, others, is_all):
     without = "" if on_processor.is_v4() else ", without what it lacks of x86-64-v4"
     return [counted(f"the table of instructions beside the processor{without}", forms - 40,
                     functools.partial(beside_processor, [*texts.values(), *others.values()], is_all)),
+            counted("wrong lines are refused", len(planted_lines.WRONG), functools.partial(planted_lines.refused, planted_lines.WRONG)),
             counted("wrong texts of each kind are refused", len(planted.WRONG), planted.refused),
             *change_rows(texts, is_all)]
 

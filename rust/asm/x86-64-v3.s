@@ -2657,7 +2657,8 @@ twox_exports.stream_3.finish_far.i4_v3:
 	not %rdx
 	add %rdx,%r15
 	shr $0x6,%r15
-	.byte 15,132; .long .L13_349.i4_v3-.-4
+	.byte 15,132
+	.long .L13_349.i4_v3-.-4
 	vinserti128 $0x1,%xmm5,%ymm3,%ymm3
 	vinserti128 $0x1,%xmm4,%ymm2,%ymm2
 	shl $0x3,%r15
@@ -4875,7 +4876,8 @@ twox_exports.stream_3.finish_far.2.i4_v3:
 	not %rdx
 	add %rdx,%r15
 	shr $0x6,%r15
-	.byte 15,132; .long .L21_2e9.i4_v3-.-4
+	.byte 15,132
+	.long .L21_2e9.i4_v3-.-4
 	vinserti128 $0x1,%xmm5,%ymm3,%ymm3
 	vinserti128 $0x1,%xmm4,%ymm2,%ymm2
 	shl $0x3,%r15
@@ -7125,7 +7127,8 @@ twox_rust_4_xxh32_v3:
 	lea 0x24234428(%rdx),%r9d
 	lea -0x10(%rax),%r11
 	test $0x10,%r11b
-	.byte 15,133; .long .L31_178.i4_v3-.-4
+	.byte 15,133
+	.long .L31_178.i4_v3-.-4
 	lea 0x10(%rsi),%rcx
 	imul $0x85ebca77,(%rsi),%r10d
 	add %r9d,%r10d
@@ -11506,7 +11509,8 @@ twox_rust_4_xxh64_write_v3:
 	mov %r10,0x30(%rdi)
 .L56_386.i4_v3:
 	test %rdx,%rdx
-	.byte 15,132; .long .L56_409.i4_v3-.-4
+	.byte 15,132
+	.long .L56_409.i4_v3-.-4
 	lea 0x38(%rdi),%rax
 	cmp $0x11,%rdx
 	jb .L56_3bf.i4_v3

@@ -3265,7 +3265,8 @@ twox_exports.stream_3.finish_far.i4_v4:
 	not %rdx
 	add %rdx,%r15
 	shr $0x6,%r15
-	.byte 15,132; .long .L16_349.i4_v4-.-4
+	.byte 15,132
+	.long .L16_349.i4_v4-.-4
 	vinserti128 $0x1,%xmm5,%ymm3,%ymm3
 	vinserti128 $0x1,%xmm4,%ymm2,%ymm2
 	shl $0x3,%r15
@@ -5597,7 +5598,8 @@ twox_exports.stream_3.finish_far.2.i4_v4:
 	not %rdx
 	add %rdx,%r15
 	shr $0x6,%r15
-	.byte 15,132; .long .L26_2e9.i4_v4-.-4
+	.byte 15,132
+	.long .L26_2e9.i4_v4-.-4
 	vinserti128 $0x1,%xmm5,%ymm3,%ymm3
 	vinserti128 $0x1,%xmm4,%ymm2,%ymm2
 	shl $0x3,%r15
@@ -7948,7 +7950,8 @@ twox_rust_4_xxh32_v4:
 	lea 0x24234428(%rdx),%r9d
 	lea -0x10(%rax),%r11
 	test $0x10,%r11b
-	.byte 15,133; .long .L37_178.i4_v4-.-4
+	.byte 15,133
+	.long .L37_178.i4_v4-.-4
 	lea 0x10(%rsi),%rcx
 	imul $0x85ebca77,(%rsi),%r10d
 	add %r9d,%r10d
@@ -11202,7 +11205,8 @@ twox_rust_4_xxh3_64_with_seed_v4:
 	movabs $0x165667b19e3779f9,%rdx
 	.byte 15,31,68,0,0
 	test %rcx,%rcx
-	.byte 15,132; .long .L52_365.i4_v4-.-4
+	.byte 15,132
+	.long .L52_365.i4_v4-.-4
 	mov $0x87275a9b,%edi
 	add %rdi,%rax
 	movzbl -0x1(%r9,%rcx,1),%edi
@@ -12331,7 +12335,8 @@ twox_rust_4_xxh64_write_v4:
 	mov %r10,0x30(%rdi)
 .L62_386.i4_v4:
 	test %rdx,%rdx
-	.byte 15,132; .long .L62_409.i4_v4-.-4
+	.byte 15,132
+	.long .L62_409.i4_v4-.-4
 	lea 0x38(%rdi),%rax
 	cmp $0x11,%rdx
 	jb .L62_3bf.i4_v4

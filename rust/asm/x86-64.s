@@ -9669,7 +9669,8 @@ twox_rust_4_xxh32_write:
 	jmp .L36_296.i4
 .L36_1b4.i4:
 	cmp $0x10,%rdx
-	.byte 15,130; .long .L36_23a.i4-.-4
+	.byte 15,130
+	.long .L36_23a.i4-.-4
 	mov (%rdi),%r9d
 	mov 0x8(%rdi),%r8d
 	mov 0x10(%rdi),%eax
@@ -13568,7 +13569,8 @@ twox_rust_4_xxh64_write:
 	mov %r8,0x20(%rdi)
 	mov %r10,0x30(%rdi)
 	cmp $0x20,%rdx
-	.byte 15,130; .long .L56_29b.i4-.-4
+	.byte 15,130
+	.long .L56_29b.i4-.-4
 	.byte 15,31,0
 .L56_220.i4:
 	prefetcht0 0x400(%rsi)

@@ -1,32 +1,26 @@
 """The text below the cargo crate for 64-bit ARM."""
 import os
-import subprocess
-import tempfile
 
 from terms.llvm_text import Unsupported
 
 from ..cargo import FOLDER, HIDDEN, WEAK, ForCargo, plain
+from ..sources import assembled
 from . import objects
 from .table import Processor
 
 NAME = "aarch64"
-ASSEMBLER = "clang", "--target=aarch64-linux-gnu", "-x", "assembler", "-c", "-o"
 
 
 def program():
     """The text as an object."""
-    with tempfile.TemporaryDirectory(prefix="arm-text-") as room:
-        return CargoProgram(NAME, room)
+    return assembled(os.path.join(FOLDER, f"{NAME}.s"), NAME, CargoProgram)
 
 
 class CargoProgram(objects.Program):
     """A text, whose names have the number of the interface in them: here they are without."""
 
-    def __init__(self, name, room):
-        path = os.path.join(room, f"{name}.o")
-        subprocess.run([*ASSEMBLER, path, os.path.join(FOLDER, f"{name}.s")], check=True)
+    def __init__(self, path):
         super().__init__(path)
-        self.name = name
         for symbol in self.object.symbols:
             if symbol.section and objects.is_global(symbol) and (symbol.info >> 4, symbol.other & 3) != (WEAK, HIDDEN):
                 raise Unsupported(f"{symbol.name}, which others see")

@@ -1,17 +1,16 @@
 """The rows of oracle/arm-text: what is asked of the text for C for 64-bit ARM, and of the one below the cargo crate."""
 import functools
 import os
-import subprocess
-import tempfile
 
 from terms import comparison
 from terms.processes import Row
 from terms.rows import title_of
 from terms.sides import TOP
 
-from .. import calls, cargo_whole, every_length, one_shots, streams
+from .. import calls, cargo_whole, every_length, one_shots, planted_lines, streams
 from .. import rows as shared
 from ..questions import FOR_C
+from ..sources import assembled
 from . import cargo, changes, on_qemu
 from .objects import Program
 from .table import Processor
@@ -22,10 +21,7 @@ STREAMED = (5, 33, 70, 257, 300, 513, 700)
 
 
 def program():
-    """The text, as GNU as assembles it."""
-    with tempfile.TemporaryDirectory(prefix="arm-text-") as room:
-        subprocess.run(["aarch64-linux-gnu-as", "-o", f"{room}/text.o", TEXT], check=True)
-        return Program(f"{room}/text.o")
+    return assembled(TEXT, cargo.NAME, Program)
 
 
 def choose(given, found):
@@ -46,6 +42,8 @@ def choose(given, found):
     out += every_length_rows(made, given.all)
     out.append(Row("the table of instructions beside qemu", on_qemu.tell))
     out += shared.parts_of_changes("changes of one bit", changes, found, given.all)
+    out.append(shared.counted("wrong lines are refused", len(planted_lines.WRONG_ARM),
+                              functools.partial(planted_lines.refused, planted_lines.WRONG_ARM)))
     out += cargo_text_rows(given.all)
     return [row for row in out if given.only in row.title]
 
