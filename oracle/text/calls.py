@@ -276,3 +276,18 @@ def made_secrets(cpu, asked):
     return len(asked)
 
 
+def some_secrets(cpu):
+    return made_secrets(cpu, [(SHORTEST - 1, 3), (SHORTEST, 0), (143, 3), (200, 17), (256, 241)])
+
+
+# A row's title, the least number of its cases, and what is asked: of calls that take no message, and of those that take one.
+WITHOUT_MESSAGE = [("canonical forms and back", 6, canonical_forms), ("equal hashes", 4, is_equal),
+                   ("the order of hashes", 9, compare), ("the version", 1, version), ("copies of states", 3, copies),
+                   ("freed states are refused", 4, forgotten), ("the derived secret", 2, derived_secret)]
+OF_MESSAGES = [("streams: memory without the mark of a reset", 8, without_mark),
+               ("streams: states of XXH3 that no call leaves", 10, out_of_range),
+               ("streams: counters that stay at 2^64 - 1", 20, counters_stay),
+               ("streams: secrets that a state doesn't keep", 80, refused_resets),
+               ("streams: null pieces of no bytes", 20, updates_of_nothing),
+               ("null inputs and secrets of no bytes", 14, null_pointers)]
+OTHERS = [*WITHOUT_MESSAGE, *OF_MESSAGES, ("made secrets", 5, some_secrets)]

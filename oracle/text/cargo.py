@@ -12,6 +12,7 @@ from terms.loops import NotShown
 from terms.nodes import is_same
 from terms.sides import TOP
 
+from .listed import HIDDEN, WEAK
 from .memory import Words
 from .objects import TEXT, Program
 from .one_shots import is_plain
@@ -20,7 +21,6 @@ from .values import address, joined, low
 
 FOLDER = os.path.join(TOP, "rust", "asm")
 NAMED = re.compile(r"twox_rust_\d+_(\w+?)(?:_v[34])?|(.+)\.i\d+(?:_v[34])?|twox_rust_(interface)(?:_v[34])?")
-WEAK, HIDDEN = 2, 2               # a symbol's binding, and its visibility
 DONE, TOO_SHORT, NO_STREAM = 0, 1, 2                  # codes
 WAYS = {"default": "", "seed": "_with_seed", "secret": "_with_secret", "both": "_with_seed_and_secret"}
 SHORTEST, DERIVED = 136, 192      # bytes of a secret, and of one that a seed derives
@@ -30,7 +30,7 @@ LONGEST_WITHOUT = 240             # bytes of a message that needs none where the
 class CargoProgram(Program):
     """The text of a set, which was made of a file of that name."""
 
-    BINDING = WEAK                # versions of the crate that have one interface share the code of one of them
+    EXPORT = WEAK, HIDDEN         # versions of the crate that have one interface share the code of one of them
 
     def __init__(self, name, path):
         self.name = name
@@ -41,9 +41,6 @@ class CargoProgram(Program):
         return {symbol.name for symbol in self.object.symbols}
 
     def names(self):
-        for symbol in self.object.symbols:
-            if symbol.info >> 4 == WEAK and symbol.other & 3 != HIDDEN:
-                raise Unsupported(f"{symbol.name} isn't hidden")
         functions, exports = super().names()
         return self.named(functions), {plain(name): place for name, place in exports.items()}
 

@@ -12,7 +12,7 @@ from .cargo import FOLDER, CargoProcessor, CargoProgram
 from .cargo_exports import exports_left_out, shared, shown_by
 from .cargo_streams import CargoUpdates
 from .instructions import V1
-from .planted import Wrong, begun, ended, is_refused, of_every_length, request
+from .planted import Wrong, begun, ended, function, is_refused, of_every_length, request
 
 SOURCE = os.path.join(FOLDER, f"{V1}.s")
 TAKER, LEADS = "twox_core.xxhash3.stripes.take_stripes", "twox_core.width_64.oneshot_long_of_any_length"
@@ -85,9 +85,9 @@ WRONG = [
     Wrong("a loop that takes another number of stripes",
           local("twox_plain.xxhash64.rounds.impl_long", "and $-0x21,%rsi"), of_every_length("64"), "."),
     Wrong("an instruction of x86-64-v2", export("xxh32", "pmulld %xmm0,%xmm0"), calls.null_pointers, "hasn't here"),
-    Wrong("a name that isn't hidden", not_hidden, exported, "isn't hidden"),
-    Wrong("an export that no row shows", ended(*(f"{word} twox_rust_4_more" for word in (".weak", ".hidden")),
-                                               "twox_rust_4_more: ret"), exported, "more"),
+    Wrong("a name that isn't hidden", not_hidden, exported, "visibility 0"),
+    Wrong("an export that no row shows", ended(*function("twox_rust_4_more", *(
+        f"{word} twox_rust_4_more" for word in (".weak", ".hidden")))), exported, "more"),
     Wrong("a function that isn't the other text's", local(TAKER, "nop"), same_code, f"other code: {LEADS}, {TAKER}"),
 ]
 

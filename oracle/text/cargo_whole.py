@@ -12,7 +12,7 @@ from .cargo_streams import CargoUpdates
 def choose(name, make, is_all, updates=CargoUpdates):
     """The rows on a text of a name: `make` makes a processor of it, and `updates` shows its streams of XXH3."""
     out = [*compared_rows(name, make, is_all), *every_length_rows({name: make}, is_all),
-           *stream_rows(name, make, is_all, updates), *call_rows(make)]
+           *stream_rows(name, make, is_all, updates), *call_rows(make), rows.frames_row({name: make().program})]
     program, titles = make().program, [cargo_rows.BEGIN + row.title for row in out]
     return [rows.counted("each export has its row", cargo_rows.EXPORTS,
                          lambda: exports_left_out({name: program}, titles)), *out]

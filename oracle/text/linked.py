@@ -9,8 +9,8 @@ from terms.llvm_text import Unsupported
 from terms.nodes import Undecided, symbol
 from terms.polynomials import is_same
 
+from .listed import OUTER
 from .memory import ENTRY, Constants, Stack, Words, copy, fill
-from .objects import OUTER
 from .values import WORD, Address, address, joined, low, place_of
 
 MOST_STEPS = 1 << 24

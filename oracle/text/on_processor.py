@@ -147,6 +147,13 @@ def moves(operands, first):
         yield f"{word} " + operands.format(place=f"{first + WHOLE * k}(%rdi)", vector=f"%{letter}mm{k}")
 
 
+class Snippets(Program):
+    """A program of functions that no library has."""
+
+    def expect_listed(self):
+        pass
+
+
 def assembled(snippets, room):
     """The functions as a library that runs, and as a program that is read."""
     with open(f"{room}/snippets.s", "w", encoding="utf-8") as file:
@@ -155,7 +162,7 @@ def assembled(snippets, room):
             print(*function(number, lines), sep="\n", file=file)
     for words in (["-c", "-o", f"{room}/snippets.o"], ["-shared", "-o", f"{room}/snippets.so"]):
         subprocess.run(["gcc", *words, f"{room}/snippets.s"], check=True)
-    return ctypes.CDLL(f"{room}/snippets.so"), Program(f"{room}/snippets.o")
+    return ctypes.CDLL(f"{room}/snippets.so"), Snippets(f"{room}/snippets.o")
 
 
 # ---- both sides

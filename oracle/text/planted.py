@@ -15,9 +15,10 @@ from terms.sides import TOP, Request
 
 from . import (any_updates, calls, covered, every_length, exports, on_processor, one_shots, streams, values,
                xxh3_updates)
-from .instructions import TABLE, V2
+from .instructions import TABLE, V1, V2
 from .objects import Program
 from .processor import Processor
+from .sources import GNU
 
 SOURCE = os.path.join(TOP, "c", "asm", f"{V2}.s")
 # A wrong text: what it is, how it is made of the text, what is asked, and words of the refusal.
@@ -68,6 +69,12 @@ def ended(*lines):
     return lambda text: text + "".join(f"\t{line}\n" for line in lines)
 
 
+def function(name, *more):
+    """The lines of a function that returns, with further ones before its name."""
+    return (f'.section .text.{name},"ax",@progbits', *more, f".type {name},@function", f"{name}:", "ret",
+            f".size {name},.-{name}")
+
+
 # ---- what is asked
 
 def request(*words, **more):
@@ -112,6 +119,8 @@ def adds_to(place):
 
 SEED_0 = begun("XXH3_64bits_withSeed", "test %rdx,%rdx", "jne 1f", "xor %eax,%eax", "ret", "1:")
 VERSION = "XXH_versionNumber"
+FUNCTION = '.section .text.elsewhere,"ax",@progbits', ".type elsewhere,@function", "elsewhere:"
+END = ".size elsewhere,.-elsewhere",
 SAVED = "mov %rdi,-0x40(%rsp)", "mov %rsi,-0x48(%rsp)"
 TAKEN = "mov -0x40(%rsp),%rdi", "mov -0x48(%rsp),%rsi"
 
@@ -138,15 +147,15 @@ TEXTS = [
     Wrong("a jump into an instruction", begun(VERSION, "jmp 1f+1", "1: mov $0x1234,%eax"), calls.version,
           "no instruction at"),
     Wrong("a jump to an address in memory", begun(VERSION, "jmp *1f(%rip)", "1:"), calls.version, "no one place"),
-    Wrong("a function that goes on behind its end", begun(VERSION, "jmp 1f", '.section .text.elsewhere,"ax"', "1: nop",
+    Wrong("a function that goes on behind its end", begun(VERSION, "jmp 1f", *FUNCTION, "1: nop", *END,
                                                           ".section .text.XXH_versionNumber"), calls.version,
           "no instruction at"),
     Wrong("another place of a mergeable constant", other_constant, calls.version, "a linker may move"),
     Wrong("two sections of one name", ended('.section .text.XXH32,"ax",@progbits,unique,7', "ret"), calls.version,
           "two sections"),
     Wrong("an address in the constants", ended('.section .rodata.more,"a",@progbits', ".quad XXH32"), calls.version,
-          "a relocation at"),
-    Wrong("a section that is written to", ended(".data", ".quad 1"), calls.version, "isn't only read or run"),
+          "the section .rela.rodata.more"),
+    Wrong("a section that is written to", ended(".data", ".quad 1"), calls.version, "the section .data"),
     Wrong("a call that another library may answer", begun("XXH128", "jmp XXH3_128bits_withSeed@PLT"),
           calls.version, "another library"),
     Wrong("what the caller left in a register", hidden_register, request("64", "seed", 5, cuts=[2]), "another value"),
@@ -172,17 +181,17 @@ TEXTS = [
     Wrong("a branch on a byte of the message", begun("XXH32", "cmpq $0x0,(%rdi)", "jne 1f", "1:"),
           request("32", "seed", 40), "== 0"),
     Wrong("a read behind the message", begun("XXH32", "mov 0x1(%rdi),%rax"), request("32", "seed", 8), "which has 8"),
-    Wrong("an export that no row shows", ended(".globl XXH_more", "XXH_more: ret"), exported, "no row shows it"),
+    Wrong("an export that no row shows", ended(*function("XXH_more", ".globl XXH_more")), exported, "no row shows it"),
 ]
 
 
-def is_refused(wrong, room, source=SOURCE, read=lambda path: Processor(Program(path), V2)):
-    """None, or what there is to say of a wrong text, which is made of another one."""
+def is_refused(wrong, room, source=SOURCE, read=lambda path: Processor(Program(path), V2), kind=V1):
+    """None, or what there is to say of a wrong text, which is made of another one, and isn't asked for its grammar."""
     with open(source, encoding="utf-8") as file:
         text = wrong.change(file.read())
     with open(f"{room}/wrong.s", "w", encoding="utf-8") as file:
         file.write(text)
-    subprocess.run(["gcc", "-c", f"{room}/wrong.s", "-o", f"{room}/wrong.o"], check=True)
+    subprocess.run([GNU[kind], "--no-warn", f"{room}/wrong.s", "-o", f"{room}/wrong.o"], check=True)
     try:
         wrong.ask(read(f"{room}/wrong.o"))
     except REFUSALS as error:

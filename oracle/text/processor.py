@@ -15,8 +15,9 @@ from terms.rules import ones
 from . import flags
 from .instructions import PARTS, VECTORS, WIDE, known
 from .library import ForC
+from .listed import OUTER
 from .memory import ENTRY, RED, Constants, ReturnTo, Stack, Words, copy, fill
-from .objects import OUTER, Immediate, Register
+from .objects import Immediate, Register
 from .values import WORD, Address, address, arithmetic, bits, joined, low, place_of
 
 KEPT = "rbx", "rbp", "r12", "r13", "r14", "r15"          # of the caller, which gets them back

@@ -215,16 +215,9 @@ def reaching(cpu, asked):
     return {place: bits for place, bits in found.items() if place[0] in cpu.program.sections}
 
 
-def some_secrets(cpu):
-    return calls.made_secrets(cpu, [(135, 3), (136, 0), (143, 3), (200, 17), (256, 241)])
-
-
 # What a library's texts are asked beside one-shots and cut streams: other calls, and what shows any updates of XXH3.
 Beside = collections.namedtuple("Beside", "calls updates")
-FOR_C = Beside([calls.canonical_forms, calls.is_equal, calls.compare, calls.version, calls.copies, calls.forgotten,
-                calls.without_mark, calls.out_of_range, calls.counters_stay, calls.refused_resets,
-                calls.updates_of_nothing, calls.null_pointers, calls.derived_secret, some_secrets],
-               xxh3_updates.Xxh3Updates)
+FOR_C = Beside([call for _, _, call in calls.OTHERS], xxh3_updates.Xxh3Updates)
 
 
 # ---- by induction

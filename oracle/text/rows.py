@@ -12,12 +12,13 @@ from terms.processes import Row
 from terms.sides import TOP, Request
 
 from . import (any_secret, any_updates, calls, changes, covered, every_length, exports, lanes, long_seeds, on_processor,
-               one_shots, planted, planted_lines, scalar, streams, xxh3_updates)
+               one_shots, planted, planted_lines, planted_objects, scalar, streams, xxh3_updates)
 from .cargo import CargoProcessor, CargoProgram
 from .instructions import SETS, TABLE, V1, V2, V3, V4
 from .objects import Program
 from .processor import Processor
 from .sources import assembled
+from .unwinding import expect_frames
 
 NAMES = V2, V3, V4
 FOLDER = os.path.join(TOP, "c", "asm")
@@ -36,6 +37,7 @@ ANY_SECRET = [f"{name}:{way}" for name in ("3-64", "3-128") for way in ("secret"
 MOST_NODES = 400_000                                # of the cases of a proof
 SOME_LENGTHS = 5                                   # each so many of the cases of a secret of any length, without --all
 OF_LONG_SEEDS = 137,                                # bytes of secrets that are made of 2^32 bytes and more
+FEWEST_FRAMED = 9000                                # instructions of a text
 SMALL = [0, 1, 3, 4, 8, 9, 16, 17, 128, 129, 240, 241, 1000]
 assert scalar and lanes                             # which fill the table
 
@@ -316,22 +318,24 @@ def call_rows(texts, is_all):
     seeds = [0, 1, 17, 136, 241, 300] if is_all else [0, 3, 241]
     made = [(size, length) for size in sizes for length in seeds]
     of = functools.partial(of_each, before_v4(texts))
-    of_streams = functools.partial(of_each, texts)
-    return [of("canonical forms and back", 6, calls.canonical_forms), of("equal hashes", 4, calls.is_equal),
-            of("the order of hashes", 9, calls.compare), of("the version", 1, calls.version),
-            of("copies of states", 3, calls.copies), of("freed states are refused", 4, calls.forgotten),
-            of_streams("streams: memory without the mark of a reset", 8, calls.without_mark),
-            of_streams("streams: states of XXH3 that no call leaves", 10, calls.out_of_range),
-            of_streams("streams: counters that stay at 2^64 - 1", 20, calls.counters_stay),
-            of_streams("streams: secrets that a state doesn't keep", 80, calls.refused_resets),
-            of_streams("streams: null pieces of no bytes", 20, calls.updates_of_nothing),
-            of_streams("null inputs and secrets of no bytes", 14, calls.null_pointers),
-            of("the derived secret", 2, calls.derived_secret),
+    return [*(of(*call) for call in calls.WITHOUT_MESSAGE), *(of_each(texts, *call) for call in calls.OF_MESSAGES),
             of("made secrets", len(made) + len(OF_LONG_SEEDS), functools.partial(made_secrets, asked=made)),
             counted(f"exports of {V4} that have the code of {V3}", 24,
                     lambda: (exports.expect_code_of_v3(texts[V4], texts[V3]), [])),
-            counted("names of another's code", 9 * len(texts),
-                    lambda: (sum(exports.expect_twins(program) for program in texts.values()), []))]
+            twin_row(texts), frames_row(texts)]
+
+
+def twin_row(texts):
+    return counted("names of another's code", 9 * len(texts),
+                   lambda: (sum(exports.expect_twins(program) for program in texts.values()), []))
+
+
+def frames_row(texts):
+    """The unwinding tables."""
+    def ask():
+        found = [(name, *expect_frames(program)) for name, program in texts.items()]
+        return sum(count for _, count, _ in found), [f"{name}: {line}" for name, _, bad in found for line in bad]
+    return counted("the frame at each instruction", FEWEST_FRAMED * len(texts), ask)
 
 
 def made_secrets(cpu, asked):
@@ -346,6 +350,7 @@ def machine_rows(texts, others, is_all):
     return [counted(f"the table of instructions beside the processor{without}", forms - 40,
                     functools.partial(beside_processor, [*texts.values(), *others.values()], is_all)),
             counted("wrong lines are refused", len(planted_lines.WRONG), functools.partial(planted_lines.refused, planted_lines.WRONG)),
+            counted("wrong objects are refused", len(planted_objects.TEXTS), planted_objects.x86),
             counted("wrong texts of each kind are refused", len(planted.WRONG), planted.refused),
             *change_rows(texts, is_all)]
 

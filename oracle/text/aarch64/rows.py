@@ -7,9 +7,8 @@ from terms.processes import Row
 from terms.rows import title_of
 from terms.sides import TOP
 
-from .. import calls, cargo_whole, every_length, one_shots, planted_lines, streams
+from .. import calls, cargo_whole, every_length, one_shots, planted_lines, planted_objects, streams
 from .. import rows as shared
-from ..questions import FOR_C
 from ..sources import assembled
 from . import cargo, changes, on_qemu
 from .objects import Program
@@ -37,13 +36,16 @@ def choose(given, found):
             out.append(compared(f"{title_of(*kind)}, streams of 5 to 700 bytes", found, kind, asked, True))
     for name in ("3-64", "3-128"):
         out.append(Row(f"XXH{name}, secrets of 0 to 135 bytes", functools.partial(short_secrets, found, name)))
-    out += [Row(f"the other calls: {ask.__name__.replace('_', ' ')}", functools.partial(other, found, ask)) for ask in FOR_C.calls]
-    made = {"aarch64": functools.partial(Processor, found)}
+    made = {cargo.NAME: functools.partial(Processor, found)}
+    out += [shared.counted(title, least, functools.partial(other, found, ask)) for title, least, ask in calls.OTHERS]
+    out += [shared.twin_row({cargo.NAME: found}), shared.frames_row({cargo.NAME: found})]
     out += every_length_rows(made, given.all)
     out.append(Row("the table of instructions beside qemu", on_qemu.tell))
     out += shared.parts_of_changes("changes of one bit", changes, found, given.all)
     out.append(shared.counted("wrong lines are refused", len(planted_lines.WRONG_ARM),
                               functools.partial(planted_lines.refused, planted_lines.WRONG_ARM)))
+    out.append(shared.counted("wrong objects are refused", len(planted_objects.ARM_TEXTS), planted_objects.arm))
+    out.insert(0, shared.export_row({cargo.NAME: found}, [row.title for row in out]))
     out += cargo_text_rows(given.all)
     return [row for row in out if given.only in row.title]
 
@@ -76,4 +78,4 @@ def short_secrets(found, name):
 
 
 def other(found, ask):
-    return f"{ask(Processor(found))} cases", []
+    return ask(Processor(found)), []

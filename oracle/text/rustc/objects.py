@@ -16,9 +16,9 @@ from terms.sides import TOP
 
 from .. import lanes, scalar
 from ..cargo import ForCargo
-from ..objects import (CODE, CONSTANTS, FRAMES, FUNCTION, LOADED, MERGEABLE, NOTE, PC32, PLT32, RELA, Instruction, Program,
-                       is_global, split)
 from ..instructions import known
+from ..listed import CODE, CONSTANTS, FRAMES, FUNCTION, LOADED, MERGEABLE, NOTE, RELA, is_global
+from ..objects import PC32, PLT32, Instruction, Program, split
 from ..processor import Processor
 
 TABLES = lanes, scalar            # they fill the table of instructions
@@ -45,6 +45,9 @@ class RustProgram(Program):
     def __init__(self, name, path):
         self.name = name
         super().__init__(path)
+
+    def expect_listed(self):
+        pass
 
     def loaded_sections(self):
         found = {}
