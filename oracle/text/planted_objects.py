@@ -106,6 +106,9 @@ OF_ARM = [
     ("another place of a mergeable constant", with_frame(
         r"(?s)(adrp (x\d+), \.L\d+_)10\n(.*?:lo12:\.L\d+_)10\]", r"\g<1>0+16\n\g<3>0+16]"), "a linker may move"),
 ]
+OF_ARM.append(("a constant at no multiple of its size", lambda text: with_frame(
+    r"(?s)(adrp (x\d+), )(\.L\d+_0)\n(.*?:lo12:)\3\]", r"\1.L999_3\n\4.L999_3]")(in_section(
+        '.rodata.more,"a",@progbits', ".p2align 4", ".byte 1,2,3", ".L999_3: .quad 1,2")(text)), "may be no multiple of 16"))
 SHARED = [
     *((what, change, of_object, words) for what, change, words in LISTED),
     ("an export that is missing", local("XXH64_update"), of_exports, "XXH64_update isn't exported"),

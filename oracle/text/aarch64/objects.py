@@ -18,6 +18,7 @@ Place = collections.namedtuple("Place", "base index offset mode")      # mode: o
 
 PAGE, LOW_ADD, JUMP, CALL, LOW_64, LOW_128 = 275, 277, 282, 283, 286, 299      # relocations
 OF_RELOCATION = {PAGE: "adrp", LOW_ADD: "add", JUMP: "b", CALL: "bl", LOW_64: "ldr", LOW_128: "ldr"}
+MULTIPLES = {LOW_64: 8, LOW_128: 16}          # of which the rest of an address has to be one
 SIZE = 4
 LINE = re.compile(r" *([0-9a-f]+):\t([0-9a-f]{8}) +\t(.*)")
 CONDITIONS = "eq", "ne", "cs", "cc", "hi", "ls"
@@ -76,12 +77,19 @@ class Program(Loaded):
                 raise Unsupported(f"{section} {at:#x}: {text} with a relocation of kind {kind}")
             if kind not in (PAGE, JUMP, CALL):
                 found = without_offset(found)
+                self.expect_multiple(target, MULTIPLES.get(kind, 1))
         elif is_jump:
             target = section, to
         elif mnemonic == "adrp":
             raise Unsupported(f"{section} {at:#x}: {text} without a relocation")
         form = " ".join(map(word_of, found))
         return Instruction(section, at, at + SIZE, mnemonic, form, tuple(found), target)
+
+    def expect_multiple(self, target, size):
+        """A load has the rest of an address without the bits that a multiple lacks."""
+        _, alignment = self.constants.get(target[0], (b"", 1))
+        if target[0] not in self.constants or alignment % size or target[1] % size:
+            raise Unsupported(f"{target[1]:#x} of {target[0]}, which may be no multiple of {size}")
 
 
 def without_offset(found):
