@@ -11,6 +11,7 @@ import subprocess
 
 from terms.llvm_text import Unsupported
 
+from .decoded import expect_bytes
 from .listed import CODE, RELA, Loaded
 
 # An instruction: `end` is the address of the next one; `target` is (section or outer name, offset), where it names one.
@@ -38,8 +39,12 @@ class Program(Loaded):
         self.sections = {name: self.read(name, lines) for name, lines in self.listing.items()}
         if set(self.sections) != {name for name, head in self.heads.items() if head.flags == CODE}:
             raise Unsupported("a section that objdump doesn't list")
+        self.expect_decoded()
         self.labels = {symbol.name: self.place_of(symbol) for symbol in self.object.symbols
                        if symbol.section and symbol.section < len(self.object.heads)}
+
+    def expect_decoded(self):
+        expect_bytes(self)
 
     @staticmethod
     def title_of(section):
@@ -47,6 +52,9 @@ class Program(Loaded):
         return section
 
     # ---- relocations
+
+    def is_relocated(self, section, first, end):
+        return any(first <= place < end for place in self.relocations[section])
 
     def relocations_of(self, section):
         """Place -> (symbol, addend)."""

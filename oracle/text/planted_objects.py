@@ -10,14 +10,14 @@ from terms.sides import TOP
 
 from . import calls, exports
 from .aarch64 import objects, table
-from .instructions import V1, V2
+from .instructions import V1, V3
 from .objects import Program
-from .planted import SOURCE, VERSION, Wrong, begun, ended, function, is_refused
+from .planted import VERSION, Wrong, begun, ended, function, is_refused
 from .processor import Processor
 from .unwinding import expect_frames
 
 ARM = "aarch64"
-ARM_SOURCE = os.path.join(TOP, "c", "asm", f"{ARM}.s")
+X86_SOURCE, ARM_SOURCE = (os.path.join(TOP, "c", "asm", f"{name}.s") for name in (V3, ARM))
 PROPERTY = "\t.long 4,16,5\n", "\t.long 0xc0000002,4,2,0\n"
 
 
@@ -109,6 +109,13 @@ OF_ARM = [
 OF_ARM.append(("a constant at no multiple of its size", lambda text: with_frame(
     r"(?s)(adrp (x\d+), )(\.L\d+_0)\n(.*?:lo12:)\3\]", r"\1.L999_3\n\4.L999_3]")(in_section(
         '.rodata.more,"a",@progbits', ".p2align 4", ".byte 1,2,3", ".L999_3: .quad 1,2")(text)), "may be no multiple of 16"))
+WITH_BYTES = [
+    ("vzeroupper in bytes that a processor refuses", begun(VERSION, ".byte 0xc5,0xfa,0x77"), "c5fa77, which aren't its own"),
+    ("vzeroupper in other such bytes", begun(VERSION, ".byte 0xc5,0xf9,0x77"), "c5f977, which aren't its own"),
+    ("a move in the bytes of another assembler", begun(VERSION, ".byte 0x48,0x8b,0xc7"), "488bc7, which aren't its own"),
+    ("nothing to do in bytes that are kept for other uses", begun(VERSION, ".byte 0x0f,0x19,0xc0"), "which aren't its own"),
+]
+ARM_BYTES = [("a product whose fixed bits are others", begun(VERSION, ".inst 0x9bc10009"), "which aren't its own")]
 SHARED = [
     *((what, change, of_object, words) for what, change, words in LISTED),
     ("an export that is missing", local("XXH64_update"), of_exports, "XXH64_update isn't exported"),
@@ -122,10 +129,10 @@ SHARED = [
     ("who is called where a stack is unwound", with_frame(r"(?<=^\t\.cfi_startproc\n)", "\t.cfi_personality 0x1b,memcpy\n"),
      of_frames, "the table of frames"),
 ]
-TEXTS = [*SHARED, *((what, change, of_object, words) for what, change, words in OF_X86),
+TEXTS = [*SHARED, *((what, change, of_object, words) for what, change, words in [*OF_X86, *WITH_BYTES]),
          ("another value under a second name", begun("XXH128", "xor %eax,%eax", "xor %edx,%edx", "ret"), of_twins,
           "XXH128 has other code")]
-ARM_TEXTS = [*SHARED, *((what, change, of_object, words) for what, change, words in OF_ARM),
+ARM_TEXTS = [*SHARED, *((what, change, of_object, words) for what, change, words in [*OF_ARM, *ARM_BYTES]),
              ("another value under a second name", begun("XXH128", "mov x0, #0", "mov x1, #0", "ret"), of_twins,
               "XXH128 has other code")]
 
@@ -137,5 +144,5 @@ def refused(texts, source, read, kind):
     return len(texts) - len(bad), bad
 
 
-x86 = functools.partial(refused, TEXTS, SOURCE, lambda path: Processor(Program(path), V2), V1)
+x86 = functools.partial(refused, TEXTS, X86_SOURCE, lambda path: Processor(Program(path), V3), V1)
 arm = functools.partial(refused, ARM_TEXTS, ARM_SOURCE, lambda path: table.Processor(objects.Program(path)), ARM)

@@ -386,4 +386,4 @@ def parts_of_changes(title, asked, program, is_all):
 def beside_processor(programs, is_all):
     on_processor.expect_processor()
     with tempfile.TemporaryDirectory(prefix="machine-text-") as room:
-        return on_processor.compare(on_processor.asked(programs, is_all), room)
+        return on_processor.compare(on_processor.asked(programs, is_all), room, on_processor.own_bytes(programs))

@@ -6,6 +6,7 @@ import subprocess
 
 from terms.llvm_text import Unsupported
 
+from ..decoded import expect_bytes
 from ..listed import AARCH64, CODE, RELA, Loaded
 
 # An instruction: `form` has a word for each operand; `target` is (section or constant, offset), where it names one
@@ -32,12 +33,16 @@ class Program(Loaded):
 
     def __init__(self, path, objdump="aarch64-linux-gnu-objdump"):
         super().__init__(path)
-        self.listing = listing(path, objdump)
+        self.listing, self.relocated = listing(path, objdump), {}
         self.sections = {name: dict(self.read(name, lines)) for name, lines in self.listing.items()}
         if set(self.sections) != {name for name, head in self.heads.items() if head.flags == CODE}:
             raise Unsupported("a section that objdump doesn't list")
+        expect_bytes(self)
 
     # ---- relocations
+
+    def is_relocated(self, section, first, end):
+        return any(first <= place < end for place in self.relocated[section])
 
     def relocations_of(self, section):
         """Place -> (kind, target)."""
@@ -57,6 +62,7 @@ class Program(Loaded):
         """The instructions of a section, which have all of its bytes and of its relocations."""
         head, at = self.heads[section], 0
         body, relocations = self.object.body(head), self.relocations_of(head)
+        self.relocated[section] = set(relocations)
         for address, raw, text in lines:
             if address != at or body[at:at + SIZE] != raw:
                 raise Unsupported(f"{section} {address:#x}: objdump leaves bytes out")

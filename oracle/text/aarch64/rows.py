@@ -12,7 +12,7 @@ from .. import rows as shared
 from ..sources import assembled
 from . import cargo, changes, on_qemu
 from .objects import Program
-from .table import Processor
+from .table import TABLE, Processor
 
 TEXT = os.path.join(TOP, "c", "asm", "aarch64.s")
 SECRETS = 136, 192
@@ -41,6 +41,7 @@ def choose(given, found):
     out += [shared.twin_row({cargo.NAME: found}), shared.frames_row({cargo.NAME: found})]
     out += every_length_rows(made, given.all)
     out.append(Row("the table of instructions beside qemu", on_qemu.tell))
+    out.append(shared.counted("each instruction is of the table", 20_000, functools.partial(in_table, [found, cargo.program()])))
     out += shared.parts_of_changes("changes of one bit", changes, found, given.all)
     out.append(shared.counted("wrong lines are refused", len(planted_lines.WRONG_ARM),
                               functools.partial(planted_lines.refused, planted_lines.WRONG_ARM)))
@@ -71,6 +72,13 @@ def compared(title, found, kind, lengths, is_stream=False):
         equal, bad = comparison.compare({"the text": lambda request: answer(cpu, request)}, asked)
         return f"{equal} requests, each one term", bad
     return Row(title, ask)
+
+
+def in_table(programs):
+    """(instructions that the table has, those that it lacks)."""
+    code = [x for program in programs for section in program.sections.values() for x in section.values()]
+    bad = [f"{x.section} {x.at:#x}: {x.mnemonic} {x.form}" for x in code if (x.mnemonic, x.form) not in TABLE]
+    return len(code) - len(bad), bad[:5]
 
 
 def short_secrets(found, name):
