@@ -11,7 +11,8 @@ from terms.sides import TOP
 sys.path.append(os.path.join(TOP, "assembly"))
 import frames
 from eh_frame import Table
-from same_bytes import FRAMES, LOADED, NONE, NOTE, RELA, STRTAB, SYMTAB, USED, Object, is_global, notes_of, properties_of
+from same_bytes import (FRAMES, LOADED, NONE, NOTE, RELA, STRTAB, SYMTAB, USED, Object, difference, differences, is_global,
+                        notes_of, properties_of)
 
 PROGBITS, NOBITS, UNWIND = 1, 8, 0x70000001           # kinds of sections
 CODE, CONSTANTS, MERGEABLE, WRITTEN, INFO = LOADED | 4, LOADED, LOADED | 0x10, LOADED | 1, 0x40      # their flags
@@ -19,7 +20,7 @@ LABEL, FUNCTION, SECTION = 0, 2, 3                    # kinds of symbols
 GLOBAL, WEAK = 1, 2                                   # bindings
 DEFAULT, HIDDEN = 0, 2                                # visibilities
 OUTER = "memcpy", "memmove", "memset"                 # what the text calls and another library has
-ELSEWHERE = frames, Table                              # of the same folder, for unwinding.py
+ELSEWHERE = frames, Table, difference, differences     # of the same folder, for unwinding.py and sources.py
 HEAD = (1, 0, 0)                                      # version, system and its version
 X86_64, AARCH64 = 62, 183
 PROPERTIES = 5, b"GNU\0"

@@ -8,7 +8,7 @@ from terms.llvm_text import Unsupported
 from terms.sides import TOP
 
 from .grammar import expect_grammar
-from .sources import GNU
+from .sources import GNU, alike
 
 C, CARGO, ARM = (os.path.join(TOP, *path) for path in (("c", "asm", "x86-64-v2.s"), ("rust", "asm", "x86-64.s"),
                                                          ("c", "asm", "aarch64.s")))
@@ -83,10 +83,14 @@ IN_ARM = [
 ]
 WRONG = [*((C, "x86-64", *wrong) for wrong in IN_X86), *((CARGO, "x86-64", *wrong) for wrong in IN_CARGO)]
 WRONG_ARM = [(ARM, "aarch64", *wrong) for wrong in IN_ARM]
+# What GNU as makes other code of than clang and rustc, in an x86-64 text of the library for C, in cargo's, and in one for ARM.
+OTHERWISE = [(source, kind, what, change) for source, kind in ((C, "x86-64"), (CARGO, "x86-64"), (ARM, "aarch64"))
+             for what, change in (("code that GNU as leaves out", put(".ifndef .gasversion.", "nop", ".endif")),
+                                  ("code that GNU as alone has", put(".ifdef .gasversion.", "nop", ".endif")))]
 NOT_ASSEMBLED = {"an instruction behind a sign of another system", "a way by the table of the linker"}
 
 
-def refused(texts):
+def refused(texts, told_of=None):
     """(wrong texts that the grammar refuses, those that it doesn't)."""
     bad = []
     with tempfile.TemporaryDirectory(prefix="machine-text-") as room:
@@ -96,14 +100,18 @@ def refused(texts):
             path = os.path.join(room, "wrong.s")
             with open(path, "w", encoding="utf-8") as file:
                 file.write(change(text))
-            bad += [f"{what}: {told}" for told in what_of(path, kind, what, change(text) == text) if told]
+            bad += [f"{what}: it isn't another text"] if change(text) == text else []
+            bad += [f"{what}: {told}" for told in (told_of or of_grammar)(path, kind, what)]
     return len(texts) - len(bad), bad
 
 
-def what_of(path, kind, what, is_same):
-    """What there is to say of a wrong text."""
-    if is_same:
-        yield "it isn't another text"
+def of_alike(path, kind, _):
+    """What there is to say of a text that assemblers have to make different objects of."""
+    return [] if alike([(path, kind)])[1] else ["not refused"]
+
+
+def of_grammar(path, kind, what):
+    """What there is to say of a text that the grammar has to refuse."""
     done = subprocess.run([GNU[kind], path, "-o", os.devnull], capture_output=True, text=True)
     if done.returncode and what not in NOT_ASSEMBLED:
         yield f"GNU as refuses it: {done.stderr.splitlines()[1]}"

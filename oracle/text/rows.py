@@ -17,7 +17,7 @@ from .cargo import CargoProcessor, CargoProgram
 from .instructions import SETS, TABLE, V1, V2, V3, V4
 from .objects import Program
 from .processor import Processor
-from .sources import assembled
+from .sources import alike, assembled
 from .unwinding import expect_frames
 
 NAMES = V2, V3, V4
@@ -344,12 +344,22 @@ def made_secrets(cpu, asked):
 
 # ---- the machine, and what has to be noticed
 
+def assembler_rows(sources, count):
+    """Objects of each text by three assemblers."""
+    some = [wrong for wrong in planted_lines.OTHERWISE if wrong[1] == sources[0][1]]
+    return [counted("one object by GNU as, clang and rustc", count, functools.partial(alike, sources)),
+            counted("texts that these read otherwise are refused", len(some),
+                    functools.partial(planted_lines.refused, some, planted_lines.of_alike))]
+
+
 def machine_rows(texts, others, is_all):
     forms = sum(kind in SETS[on_processor.processor_here()] for kind, _ in TABLE.values())
     without = "" if on_processor.is_v4() else ", without what it lacks of x86-64-v4"
     return [counted(f"the table of instructions beside the processor{without}", forms - 40,
                     functools.partial(beside_processor, [*texts.values(), *others.values()], is_all)),
-            counted("wrong lines are refused", len(planted_lines.WRONG), functools.partial(planted_lines.refused, planted_lines.WRONG)),
+            counted("wrong lines are refused", len(planted_lines.WRONG),
+                    functools.partial(planted_lines.refused, planted_lines.WRONG)),
+            *assembler_rows([(f"{FOLDER}/{name}.s", V1) for name in texts], 6),
             counted("wrong objects are refused", len(planted_objects.TEXTS), planted_objects.x86),
             counted("wrong texts of each kind are refused", len(planted.WRONG), planted.refused),
             *change_rows(texts, is_all)]

@@ -8,11 +8,12 @@ from . import objects
 from .table import Processor
 
 NAME = "aarch64"
+SOURCE = os.path.join(FOLDER, f"{NAME}.s")
 
 
 def program():
     """The text as an object."""
-    return assembled(os.path.join(FOLDER, f"{NAME}.s"), NAME, CargoProgram)
+    return assembled(SOURCE, NAME, CargoProgram)
 
 
 class CargoProgram(objects.Program):

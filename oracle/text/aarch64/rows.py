@@ -45,6 +45,7 @@ def choose(given, found):
     out += shared.parts_of_changes("changes of one bit", changes, found, given.all)
     out.append(shared.counted("wrong lines are refused", len(planted_lines.WRONG_ARM),
                               functools.partial(planted_lines.refused, planted_lines.WRONG_ARM)))
+    out += shared.assembler_rows([(source, cargo.NAME) for source in (TEXT, cargo.SOURCE)], 4)
     out.append(shared.counted("wrong objects are refused", len(planted_objects.ARM_TEXTS), planted_objects.arm))
     out.insert(0, shared.export_row({cargo.NAME: found}, [row.title for row in out]))
     out += cargo_text_rows(given.all)
