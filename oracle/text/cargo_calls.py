@@ -10,7 +10,7 @@ from terms.polynomials import at_most, given, plus, variable
 from terms.sides import Request, seed_symbol
 
 from . import any_updates
-from .calls import BUFFERED, LIMITS, PLACE, TOTAL, WAITING, expect, null_pointers
+from .calls import BUFFERED, LIMITS, PLACE, TOTAL, WAITING, expect, in_one_place, null_pointers
 from .cargo import DONE, NO_STREAM, SHORTEST, TOO_SHORT, call_into, derived, expect_code, export_name
 from .cargo_streams import CargoUpdates
 from .one_shots import is_plain
@@ -192,4 +192,4 @@ def other_accumulators(cpu):
 
 
 ALL = [interface, words, derived_secret, without_mark, out_of_range, short_secrets, reachable, other_rests,
-       other_accumulators, null_pointers]
+       other_accumulators, null_pointers, in_one_place]

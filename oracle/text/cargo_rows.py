@@ -133,6 +133,7 @@ def call_rows(texts, like, is_all):
             of(f"{BEGIN}hashes of a word", 3, cargo_calls.words),
             of(f"{BEGIN}derived secrets", 2, cargo_calls.derived_secret),
             of(f"{BEGIN}null inputs and secrets of no bytes", 14, calls.null_pointers),
+            rows.of_each(texts, f"{BEGIN}a message and a secret in one place", 32, calls.in_one_place),
             of(f"{BEGIN}records of XXH32 and XXH64 without a mark", 6, cargo_calls.without_mark),
             of(f"{BEGIN}streams of XXH3 that no call leaves", 6, cargo_calls.out_of_range),
             of(f"{BEGIN}streams of XXH3: secrets that are too short", 2 * calls.SHORTEST, cargo_calls.short_secrets),

@@ -69,6 +69,7 @@ def call_rows(make):
             of("hashes of a word", 3, cargo_calls.words),
             of("derived secrets", 2, cargo_calls.derived_secret),
             of("null inputs and secrets of no bytes", 14, calls.null_pointers),
+            of("a message and a secret in one place", 32, calls.in_one_place),
             of("records of XXH32 and XXH64 without a mark", 8, cargo_calls.without_mark),
             of("streams of XXH3 that no call leaves", 6, cargo_calls.out_of_range),
             of("streams of XXH3: secrets that are too short", 2 * calls.SHORTEST, cargo_calls.short_secrets),

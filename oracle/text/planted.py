@@ -121,6 +121,7 @@ SEED_0 = begun("XXH3_64bits_withSeed", "test %rdx,%rdx", "jne 1f", "xor %eax,%ea
 VERSION = "XXH_versionNumber"
 FUNCTION = '.section .text.elsewhere,"ax",@progbits', ".type elsewhere,@function", "elsewhere:"
 END = ".size elsewhere,.-elsewhere",
+NEAR = "mov %rdi,%rax", "sub %rdx,%rax", "cmp $0x8,%rax", "jae 1f"      # whether an address lies just behind another
 SAVED = "mov %rdi,-0x40(%rsp)", "mov %rsi,-0x48(%rsp)"
 TAKEN = "mov -0x40(%rsp),%rdi", "mov -0x48(%rsp),%rsi"
 
@@ -181,6 +182,16 @@ TEXTS = [
     Wrong("a branch on a byte of the message", begun("XXH32", "cmpq $0x0,(%rdi)", "jne 1f", "1:"),
           request("32", "seed", 40), "== 0"),
     Wrong("a read behind the message", begun("XXH32", "mov 0x1(%rdi),%rax"), request("32", "seed", 8), "which has 8"),
+    Wrong("a value by where the secret lies beside the message", begun("XXH3_64bits_withSecret", *NEAR, "xor %eax,%eax", "ret", "1:"),
+          request("3-64", "secret", 40, 136), "< 8"),
+    Wrong("another value where the secret is the message", begun("XXH3_64bits_withSecret", "cmp %rdi,%rdx", "jne 1f", "xor %eax,%eax",
+                                                                 "ret", "1:"), calls.in_one_place, "from 0, secret of"),
+    Wrong("an order by where two hashes lie", begun("XXH128_cmp", "mov %rsi,%rdx", *NEAR, "mov $0x1,%eax", "ret", "1:"),
+          calls.compare, "< 8"),
+    Wrong("another order of two hashes in one place", begun("XXH128_cmp", "mov %rsi,%rdx", *NEAR, "mov $0x1,%eax", "ret", "1:"),
+          calls.compare_in_one_place, "in one place: another value"),
+    Wrong("a comparison that writes to what it compares", begun("XXH128_cmp", "mov (%rdi),%rax", "mov %rax,(%rdi)"),
+          calls.compare, "a store to first"),
     Wrong("an export that no row shows", ended(*function("XXH_more", ".globl XXH_more")), exported, "no row shows it"),
 ]
 

@@ -12,7 +12,7 @@ from . import calls, exports
 from .aarch64 import objects, table
 from .instructions import V1, V3
 from .objects import Program
-from .planted import VERSION, Wrong, begun, ended, function, is_refused
+from .planted import VERSION, Wrong, begun, ended, function, is_refused, request
 from .processor import Processor
 from .unwinding import expect_frames
 
@@ -132,7 +132,8 @@ SHARED = [
 TEXTS = [*SHARED, *((what, change, of_object, words) for what, change, words in [*OF_X86, *WITH_BYTES]),
          ("another value under a second name", begun("XXH128", "xor %eax,%eax", "xor %edx,%edx", "ret"), of_twins,
           "XXH128 has other code")]
-ARM_TEXTS = [*SHARED, *((what, change, of_object, words) for what, change, words in [*OF_ARM, *ARM_BYTES]),
+ARM_TEXTS = [*SHARED, ("a value by where the secret lies beside the message", begun(
+    "XXH3_64bits_withSecret", "sub x9, x0, x2", "cmp x9, #8", "b.cs 1f", "mov x0, #0", "ret", "1:"), request("3-64", "secret", 40, 136), "< 8"), *((what, change, of_object, words) for what, change, words in [*OF_ARM, *ARM_BYTES]),
              ("another value under a second name", begun("XXH128", "mov x0, #0", "mov x1, #0", "ret"), of_twins,
               "XXH128 has other code")]
 

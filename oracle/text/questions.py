@@ -10,12 +10,11 @@ import random
 
 from terms import nodes
 from terms.loops import REFUSALS, NotShown
-from terms.memory import Input, is_inside
 from terms.nodes import WrongRule, is_same
-from terms.llvm_text import Unsupported
 from terms.sides import Request
 
 from . import any_secret, any_updates, calls, every_length, long_seeds, one_shots, streams, xxh3_updates
+from .memory import Numbers
 
 CRASH, ANOTHER_VALUE, ANOTHER_TERM = "A CRASH", "another value", "another term"
 CASES = 8                         # cases of an induction that a change is asked
@@ -70,19 +69,6 @@ def long_requests():
 
 def with_twins(request):
     return [request, *request.with_seed_0()]
-
-
-class Numbers(Input):
-    """An input whose bytes are numbers."""
-
-    def __init__(self, name, data):
-        super().__init__(name, len(data))
-        self.data, self.whole = data, int.from_bytes(data, "little")
-
-    def window(self, at, n):
-        if not is_inside(at, n, self.length):
-            raise Unsupported(f"{n} bytes at {at} of {self.name}, which has {self.length}")
-        return self.whole, at
 
 
 def in_numbers(request, is_extreme):
