@@ -12,7 +12,7 @@ from .cargo import FOLDER, CargoProcessor, CargoProgram
 from .cargo_exports import exports_left_out, shared, shown_by
 from .cargo_streams import CargoUpdates
 from .instructions import V1
-from .planted import Wrong, begun, ended, function, is_refused, of_every_length, request
+from .planted import Asked, Wrong, begun, ended, function, of_every_length, request
 
 SOURCE = os.path.join(FOLDER, f"{V1}.s")
 TAKER, LEADS = "twox_core.xxhash3.stripes.take_stripes", "twox_core.width_64.oneshot_long_of_any_length"
@@ -92,9 +92,4 @@ WRONG = [
 ]
 
 
-def refused():
-    """(what was refused, what wasn't)."""
-    with tempfile.TemporaryDirectory(prefix="machine-text-") as room:
-        bad = [told for wrong in WRONG if (told := is_refused(
-            wrong, room, SOURCE, lambda path: CargoProcessor(CargoProgram(V1, path))))]
-    return len(WRONG) - len(bad), bad
+ASKED = [Asked(wrong, SOURCE, lambda path: CargoProcessor(CargoProgram(V1, path))) for wrong in WRONG]

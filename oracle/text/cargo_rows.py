@@ -140,8 +140,8 @@ def call_rows(texts, like, is_all):
             of(f"{BEGIN}records that bytes lead to", 300, cargo_calls.reachable),
             of(f"{BEGIN}records with another rest or no mark", 300, cargo_calls.other_rests),
             of(f"{BEGIN}records with other accumulators", 200, cargo_calls.other_accumulators),
-            *with_begin([rows.frames_row(texts), *rows.assembler_rows([(f"{FOLDER}/{name}.s", V1) for name in NAMES], 6)[:1]]),
-            rows.counted(f"{BEGIN}wrong texts are refused", len(cargo_planted.WRONG), cargo_planted.refused),
+            *with_begin([rows.frames_row(texts), rows.assembler_row([(f"{FOLDER}/{name}.s", V1) for name in NAMES])]),
+            rows.planted_row(f"{BEGIN}wrong texts are refused", cargo_planted.ASKED),
             *with_begin(change_rows(texts, is_all))]
 
 

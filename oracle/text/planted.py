@@ -18,7 +18,7 @@ from . import (any_updates, calls, covered, every_length, exports, on_processor,
 from .instructions import TABLE, V1, V2
 from .objects import Program
 from .processor import Processor
-from .sources import GNU
+from .sources import by_gnu
 
 SOURCE = os.path.join(TOP, "c", "asm", f"{V2}.s")
 # A wrong text: what it is, how it is made of the text, what is asked, and words of the refusal.
@@ -196,18 +196,37 @@ TEXTS = [
 ]
 
 
-def is_refused(wrong, room, source=SOURCE, read=lambda path: Processor(Program(path), V2), kind=V1):
-    """None, or what there is to say of a wrong text, which is made of another one, and isn't asked for its grammar."""
-    with open(source, encoding="utf-8") as file:
-        text = wrong.change(file.read())
-    with open(f"{room}/wrong.s", "w", encoding="utf-8") as file:
-        file.write(text)
-    subprocess.run([GNU[kind], "--no-warn", f"{room}/wrong.s", "-o", f"{room}/wrong.o"], check=True)
-    try:
-        wrong.ask(read(f"{room}/wrong.o"))
-    except REFUSALS as error:
-        return None if re.search(wrong.words, str(error)) else f"{wrong.what}: refused for another reason: {error}"
-    return f"{wrong.what}: not refused"
+class Asked:
+    """A wrong text that is made of another one, and isn't asked for its grammar; `read` makes a processor of an object."""
+
+    def __init__(self, wrong, source, read, kind=V1):
+        self.title, self.words, self.wrong, self.source, self.read, self.kind = wrong.what, wrong.words, wrong, source, read, kind
+
+    def ask(self):
+        """Raises what refuses it."""
+        with open(self.source, encoding="utf-8") as file:
+            text = self.wrong.change(file.read())
+        with tempfile.TemporaryDirectory(prefix="machine-text-") as room:
+            with open(f"{room}/wrong.s", "w", encoding="utf-8") as file:
+                file.write(text)
+            self.wrong.ask(self.read(by_gnu(f"{room}/wrong.s", self.kind, room)))
+
+
+def complaints(asked):
+    """What there is to say of wrong texts that aren't refused, or for other reasons than they should be."""
+    for one in asked:
+        try:
+            one.ask()
+            yield f"{one.title}: not refused"
+        except REFUSALS as error:
+            if not re.search(one.words, str(error)):
+                yield f"{one.title}: refused for another reason: {error}"
+
+
+def refused(asked):
+    """(how many were refused, what there is to say of the others)."""
+    bad = list(complaints(asked))
+    return len(asked) - len(bad), bad
 
 
 # ---- what of the check itself is wrong
@@ -262,12 +281,11 @@ def raises(kind, call):
 
 
 CHECKS = [lacks_a_case, has_a_wrong_sum, has_a_wrong_join, has_a_wrong_table]
-WRONG = [*TEXTS, *CHECKS]
+ASKED = [Asked(wrong, SOURCE, lambda path: Processor(Program(path), V2)) for wrong in TEXTS]
 
 
-def refused():
-    """(what was refused, what wasn't)."""
+def noticed():
+    """(faults of the check itself that are noticed, those that aren't)."""
     with tempfile.TemporaryDirectory(prefix="machine-text-") as room:
-        bad = [told for wrong in TEXTS if (told := is_refused(wrong, room))]
-        bad += [f"{check.__name__}: not noticed" for check in CHECKS if not check(room)]
-    return len(WRONG) - len(bad), bad
+        bad = [f"{check.__name__}: not noticed" for check in CHECKS if not check(room)]
+    return len(CHECKS) - len(bad), bad

@@ -1,14 +1,13 @@
 """Wrong texts that only their grammar refuses: each is a committed text with other lines, which GNU as assembles."""
 import os
 import re
-import subprocess
 import tempfile
 
-from terms.llvm_text import Unsupported
+from terms.loops import NotShown
 from terms.sides import TOP
 
 from .grammar import expect_grammar
-from .sources import GNU, alike
+from .sources import by_gnu, expect_alike
 
 C, CARGO, ARM = (os.path.join(TOP, *path) for path in (("c", "asm", "x86-64-v2.s"), ("rust", "asm", "x86-64.s"),
                                                          ("c", "asm", "aarch64.s")))
@@ -81,43 +80,38 @@ IN_ARM = [
     ("code that GNU as leaves out and others don't", put(".ifndef .gasversion.", "mov x2, #0", ".endif")),
     ("a comment behind an instruction", put("mov x2, #0 // nothing")),
 ]
-WRONG = [*((C, "x86-64", *wrong) for wrong in IN_X86), *((CARGO, "x86-64", *wrong) for wrong in IN_CARGO)]
-WRONG_ARM = [(ARM, "aarch64", *wrong) for wrong in IN_ARM]
-# What GNU as makes other code of than clang and rustc, in an x86-64 text of the library for C, in cargo's, and in one for ARM.
-OTHERWISE = [(source, kind, what, change) for source, kind in ((C, "x86-64"), (CARGO, "x86-64"), (ARM, "aarch64"))
-             for what, change in (("code that GNU as leaves out", put(".ifndef .gasversion.", "nop", ".endif")),
-                                  ("code that GNU as alone has", put(".ifdef .gasversion.", "nop", ".endif")))]
+# What GNU as makes other code of than clang and rustc.
+OTHERWISE = [("code that GNU as leaves out", put(".ifndef .gasversion.", "nop", ".endif")),
+             ("code that GNU as alone has", put(".ifdef .gasversion.", "nop", ".endif"))]
 NOT_ASSEMBLED = {"an instruction behind a sign of another system", "a way by the table of the linker"}
 
 
-def refused(texts, told_of=None):
-    """(wrong texts that the grammar refuses, those that it doesn't)."""
-    bad = []
-    with tempfile.TemporaryDirectory(prefix="machine-text-") as room:
-        for source, kind, what, change in texts:
-            with open(source, encoding="utf-8") as file:
-                text = file.read()
+class AskedLines:
+    """A wrong text that its grammar has to refuse, or by `is_alike` the comparison of objects."""
+
+    def __init__(self, source, kind, what, change, is_alike=False):
+        self.title, self.source, self.kind, self.change, self.is_alike = what, source, kind, change, is_alike
+        self.words = "by GNU as and by" if is_alike else r"^wrong\.s:\d+: not of the grammar"
+
+    def ask(self):
+        """Raises what refuses it, or what is wrong with it."""
+        with open(self.source, encoding="utf-8") as file:
+            text = file.read()
+        with tempfile.TemporaryDirectory(prefix="machine-text-") as room:
             path = os.path.join(room, "wrong.s")
             with open(path, "w", encoding="utf-8") as file:
-                file.write(change(text))
-            bad += [f"{what}: it isn't another text"] if change(text) == text else []
-            bad += [f"{what}: {told}" for told in (told_of or of_grammar)(path, kind, what)]
-    return len(texts) - len(bad), bad
+                file.write(self.change(text))
+            if self.change(text) == text:
+                raise NotShown("no other text")
+            if self.title not in NOT_ASSEMBLED:
+                by_gnu(path, self.kind, room)
+            if self.is_alike:
+                expect_alike([(path, self.kind)])
+            else:
+                expect_grammar(path, self.kind)
 
 
-def of_alike(path, kind, _):
-    """What there is to say of a text that assemblers have to make different objects of."""
-    return [] if alike([(path, kind)])[1] else ["not refused"]
-
-
-def of_grammar(path, kind, what):
-    """What there is to say of a text that the grammar has to refuse."""
-    done = subprocess.run([GNU[kind], path, "-o", os.devnull], capture_output=True, text=True)
-    if done.returncode and what not in NOT_ASSEMBLED:
-        yield f"GNU as refuses it: {done.stderr.splitlines()[1]}"
-    try:
-        expect_grammar(path, kind)
-        yield "not refused"
-    except Unsupported as error:
-        if not re.match(r"wrong\.s:\d+: not of the grammar", str(error)):
-            yield f"refused for another reason: {error}"
+X86_ASKED = [*(AskedLines(C, "x86-64", *wrong) for wrong in IN_X86), *(AskedLines(CARGO, "x86-64", *wrong) for wrong in IN_CARGO)]
+ARM_ASKED = [AskedLines(ARM, "aarch64", *wrong) for wrong in IN_ARM]
+X86_ALIKE, ARM_ALIKE = ([AskedLines(source, kind, *wrong, True) for source in sources for wrong in OTHERWISE]
+                        for kind, sources in (("x86-64", (C, CARGO)), ("aarch64", (ARM,))))

@@ -17,7 +17,7 @@ from .cargo import CargoProcessor, CargoProgram
 from .instructions import SETS, TABLE, V1, V2, V3, V4
 from .objects import Program
 from .processor import Processor
-from .sources import alike, assembled
+from .sources import assembled, expect_alike
 from .unwinding import expect_frames
 
 NAMES = V2, V3, V4
@@ -332,10 +332,8 @@ def twin_row(texts):
 
 def frames_row(texts):
     """The unwinding tables."""
-    def ask():
-        found = [(name, *expect_frames(program)) for name, program in texts.items()]
-        return sum(count for _, count, _ in found), [f"{name}: {line}" for name, _, bad in found for line in bad]
-    return counted("the frame at each instruction", FEWEST_FRAMED * len(texts), ask)
+    return counted("the frame at each instruction", FEWEST_FRAMED * len(texts),
+                   lambda: (sum(map(expect_frames, texts.values())), []))
 
 
 def made_secrets(cpu, asked):
@@ -344,12 +342,13 @@ def made_secrets(cpu, asked):
 
 # ---- the machine, and what has to be noticed
 
-def assembler_rows(sources, count):
+def assembler_row(sources):
     """Objects of each text by three assemblers."""
-    some = [wrong for wrong in planted_lines.OTHERWISE if wrong[1] == sources[0][1]]
-    return [counted("one object by GNU as, clang and rustc", count, functools.partial(alike, sources)),
-            counted("texts that these read otherwise are refused", len(some),
-                    functools.partial(planted_lines.refused, some, planted_lines.of_alike))]
+    return counted("one object by GNU as, clang and rustc", 2 * len(sources), lambda: (expect_alike(sources), []))
+
+
+def planted_row(title, asked):
+    return counted(title, len(asked), functools.partial(planted.refused, asked))
 
 
 def machine_rows(texts, others, is_all):
@@ -357,11 +356,12 @@ def machine_rows(texts, others, is_all):
     without = "" if on_processor.is_v4() else ", without what it lacks of x86-64-v4"
     return [counted(f"the table of instructions beside the processor{without}", forms - 40,
                     functools.partial(beside_processor, [*texts.values(), *others.values()], is_all)),
-            counted("wrong lines are refused", len(planted_lines.WRONG),
-                    functools.partial(planted_lines.refused, planted_lines.WRONG)),
-            *assembler_rows([(f"{FOLDER}/{name}.s", V1) for name in texts], 6),
-            counted("wrong objects are refused", len(planted_objects.TEXTS), planted_objects.x86),
-            counted("wrong texts of each kind are refused", len(planted.WRONG), planted.refused),
+            assembler_row([(f"{FOLDER}/{name}.s", V1) for name in texts]),
+            planted_row("wrong lines are refused", planted_lines.X86_ASKED),
+            planted_row("texts that assemblers read otherwise are refused", planted_lines.X86_ALIKE),
+            planted_row("wrong objects are refused", planted_objects.X86_ASKED),
+            planted_row("wrong texts of each kind are refused", planted.ASKED),
+            counted("faults of the check itself are noticed", len(planted.CHECKS), planted.noticed),
             *change_rows(texts, is_all)]
 
 

@@ -1,12 +1,12 @@
 """The assembly texts as objects. A text is of the grammar; GNU as, which gcc calls, clang and rustc make one object of it, as
 users do, and GNU as' is the one that is read."""
-import itertools
 import os
 import struct
 import subprocess
 import tempfile
 
 from terms.llvm_text import Unsupported
+from terms.loops import NotShown
 
 from .grammar import expect_grammar
 from .listed import Object, difference, differences
@@ -61,18 +61,17 @@ def run(words, **more):
         raise Unsupported(f"{words[0]} refuses the text: {done.stderr.strip()[:300]}")
 
 
-def alike(sources):
-    """(objects that are alike, what differs): of each text, (path, kind), those of the three assemblers. Bytes, relocations,
-    names, notes and frames are compared."""
-    count, bad = 0, []
+def expect_alike(sources):
+    """How many objects are alike: of each text, (path, kind), those of the three assemblers. Bytes, relocations, names, notes
+    and frames are compared."""
     for source, kind in sources:
         with tempfile.TemporaryDirectory(prefix="machine-text-") as room:
             first, *others = [parts_of(by(source, kind, room)) for by in (by_gnu, by_clang, by_rustc)]
         for name, other in zip(ASSEMBLERS[1:], others):
-            found = list(itertools.islice(differences(first, other, difference), 3))
-            bad += [f"{os.path.basename(source)} by GNU as and by {name}: {line}" for line in found]
-            count += not found
-    return count, bad
+            found = next(differences(first, other, difference), None)
+            if found:
+                raise NotShown(f"{os.path.basename(source)} by GNU as and by {name}: {found}")
+    return 2 * len(sources)
 
 
 def parts_of(path):

@@ -11,22 +11,23 @@ REMARK = re.compile(r"\s*(#(?!\w|-)|//).*")
 
 
 def expect_frames(program):
-    """How many instructions there are of which the table says the right frame: (count, what is wrong)."""
-    processor, count, bad = frames.BY_MACHINE[program.object.machine], 0, []
+    """The number of instructions, of each of which the table says the right frame, if it is reached."""
+    processor, count = frames.BY_MACHINE[program.object.machine], 0
     code = {name for name, head in program.heads.items() if head.flags == CODE}
     try:
         table = Table(program.object)
         if code ^ {*table.functions}:
-            return 0, [f"frames of no function, or none of {name}" for name in sorted(code ^ {*table.functions})]
+            raise NotShown(f"frames of no function, or none of {min(code ^ {*table.functions})}")
         for section, rows in program.listing.items():
             found = frames.frames(processor, list(steps(program, processor, section, rows)))
-            told = {rows[number][0]: frame for number, frame in found.items()}
-            bad += [f"{section} {at:#x}: another frame than {frame}" for at, frame in told.items()
-                    if table.at(section, at) != wanted(program, frame)]
-            count += len(told)
+            for number, frame in found.items():
+                at = rows[number][0]
+                if table.at(section, at) != wanted(program, frame):
+                    raise NotShown(f"{section} {at:#x}: another frame than {frame}")
+            count += len(found)
     except (ValueError, LookupError, struct.error) as fault:
         raise NotShown(f"the table of frames: {fault}") from None
-    return count, bad[:5]
+    return count
 
 
 def wanted(program, frame):

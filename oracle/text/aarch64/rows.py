@@ -43,10 +43,10 @@ def choose(given, found):
     out.append(Row("the table of instructions beside qemu", on_qemu.tell))
     out.append(shared.counted("each instruction is of the table", 20_000, functools.partial(in_table, [found, cargo.program()])))
     out += shared.parts_of_changes("changes of one bit", changes, found, given.all)
-    out.append(shared.counted("wrong lines are refused", len(planted_lines.WRONG_ARM),
-                              functools.partial(planted_lines.refused, planted_lines.WRONG_ARM)))
-    out += shared.assembler_rows([(source, cargo.NAME) for source in (TEXT, cargo.SOURCE)], 4)
-    out.append(shared.counted("wrong objects are refused", len(planted_objects.ARM_TEXTS), planted_objects.arm))
+    out += [shared.assembler_row([(source, cargo.NAME) for source in (TEXT, cargo.SOURCE)]),
+            shared.planted_row("wrong lines are refused", planted_lines.ARM_ASKED),
+            shared.planted_row("texts that assemblers read otherwise are refused", planted_lines.ARM_ALIKE)]
+    out.append(shared.planted_row("wrong objects are refused", planted_objects.ARM_ASKED))
     out.insert(0, shared.export_row({cargo.NAME: found}, [row.title for row in out]))
     out += cargo_text_rows(given.all)
     return [row for row in out if given.only in row.title]
