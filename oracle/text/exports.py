@@ -94,9 +94,7 @@ def led(program, section):
 
 def code_of(program, name):
     """The instructions of a function's section, by their distance from its beginning."""
-    section, first = program.exports[name]
-    if first:
-        raise NotShown(f"{name} begins inside of its section")
+    section, _ = program.exports[name]
     code = program.sections[section]
     return [(at, x.end, x.mnemonic, x.operands, ("here", x.target[1]) if x.target and x.target[0] == section
              else x.target) for at, x in sorted(code.items())]

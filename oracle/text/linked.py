@@ -98,7 +98,7 @@ class Processor:
             self.registers[register] = value if width == WORD else self.widened(register, value)
         kept = {name: self.registers[name] for name in [*self.KEPT, self.LINK]}
         lanes = {k: self.vectors[k][0] for k in self.KEPT_LANES}
-        place, self.steps = self.program.functions[name], 0
+        place, self.steps = self.program.function(name), 0
         while place is not None:
             if self.loops:
                 place = self.loops.pass_by(self, place)

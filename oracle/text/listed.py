@@ -137,8 +137,12 @@ class Loaded:
         return ({symbol.name: self.place_of(symbol) for symbol in functions if is_global(symbol) or not of_exports}
                 for of_exports in (False, True))
 
+    def function(self, name):
+        """Where a function begins."""
+        want(name in self.functions, f"the text has no {name}")
+        return self.functions[name]
+
     def place_of(self, symbol):
-        want(symbol.section < len(self.object.heads), f"{symbol.name} has a place in no section")
         return self.object.heads[symbol.section].name, symbol.value
 
     def target_of(self, symbol, addend):

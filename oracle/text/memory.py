@@ -98,13 +98,15 @@ def lie_apart(first, second):
 
 
 class Stack(Words):
-    """Below the caller's frame."""
+    """Below the caller's frame. `lowest` is the lowest byte that was stored."""
 
     def __init__(self):
         super().__init__("stack", STACK, alignment=16)
+        self.lowest = ENTRY
 
     def allow(self, at, n):
         super().allow(at, n)
+        self.lowest = min(self.lowest, at)
         if at + n > ENTRY:
             raise Unsupported(f"a store to the caller's frame, at {at}")
 

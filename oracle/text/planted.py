@@ -87,6 +87,12 @@ def request(*words, **more):
     return ask
 
 
+def raising_limit(cpu):
+    """The version, in fewer instructions than a call may have otherwise."""
+    cpu.limit = 1000
+    calls.version(cpu)
+
+
 def of_every_length(kind, seed=None):
     return lambda cpu: every_length.EveryLength(cpu, kind).show(every_length.cases(kind)[0], seed)
 

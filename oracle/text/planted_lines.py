@@ -61,6 +61,16 @@ IN_X86 = [
     ("a text without a comment", put(place=r"\A/\*.*\n")),
     ("a section that is begun twice", lambda text: text.replace(
         "\t.section .note.GNU", '\t.section .text.XXH32,"ax",@progbits\n\t.p2align 0\n\t.section .note.GNU')),
+    ("a function that isn't aligned", put(place=r"\t\.p2align \d\n(?=\t\.globl)")),
+    ("code behind the end", lambda text: text + "\tnop\n"),
+    ("an instruction behind a name", lambda text: text.replace("\nXXH32:\n", "\nXXH32: nop\n")),
+    ("a function without frames", lambda text: re.sub(
+        r"(\nXXH_versionNumber:\n)\t\.cfi_startproc\n((?:\t[^.].*\n)*)\t\.cfi_endproc\n", r"\1\2", text)),
+    ("a byte of more bits", put(".byte 300")),
+    ("a byte of more bits among constants", put(".byte 300", place=r"(?<=\.L90_0:\n)")),
+    ("constants that aren't there", lambda text: text.replace(
+        "\t.section .note.GNU", '\t.section .rodata.more,"a",@progbits\n\t.p2align 4\n\t.section .note.GNU')),
+    ("a function of another size", lambda text: text.replace(".size XXH32,.-XXH32", ".size XXH32,1")),
     ("a function under another section's name", put('.section .text.elsewhere,"ax",@progbits',
                                                     place=r"\t\.section \.text\.XXH_versionNumber.*\n")),
 ]
@@ -81,7 +91,8 @@ IN_ARM = [
     ("a comment behind an instruction", put("mov x2, #0 // nothing")),
 ]
 # What GNU as makes other code of than clang and rustc.
-OTHERWISE = [("code that GNU as leaves out", put(".ifndef .gasversion.", "nop", ".endif")),
+OTHERWISE = [("what other assemblers refuse", put(".nolist", ".list")),
+             ("code that GNU as leaves out", put(".ifndef .gasversion.", "nop", ".endif")),
              ("code that GNU as alone has", put(".ifdef .gasversion.", "nop", ".endif"))]
 NOT_ASSEMBLED = {"an instruction behind a sign of another system", "a way by the table of the linker"}
 
@@ -91,7 +102,7 @@ class AskedLines:
 
     def __init__(self, source, kind, what, change, is_alike=False):
         self.title, self.source, self.kind, self.change, self.is_alike = what, source, kind, change, is_alike
-        self.words = "by GNU as and by" if is_alike else r"^wrong\.s:\d+: not of the grammar"
+        self.words = "by GNU as and by|refuses the text" if is_alike else r"^wrong\.s:\d+: not of the grammar"
 
     def ask(self):
         """Raises what refuses it, or what is wrong with it."""

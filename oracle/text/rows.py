@@ -12,7 +12,8 @@ from terms.processes import Row
 from terms.sides import TOP, Request
 
 from . import (any_secret, any_updates, calls, changes, covered, every_length, exports, lanes, long_seeds, on_processor,
-               one_shots, planted, planted_lines, planted_objects, scalar, streams, xxh3_updates)
+               one_shots, planted, planted_checks, planted_lines, planted_objects, scalar, streams, switched_off,
+               xxh3_updates)
 from .cargo import CargoProcessor, CargoProgram
 from .instructions import SETS, TABLE, V1, V2, V3, V4
 from .objects import Program
@@ -37,6 +38,7 @@ ANY_SECRET = [f"{name}:{way}" for name in ("3-64", "3-128") for way in ("secret"
 MOST_NODES = 400_000                                # of the cases of a proof
 SOME_LENGTHS = 5                                   # each so many of the cases of a secret of any length, without --all
 OF_LONG_SEEDS = 137,                                # bytes of secrets that are made of 2^32 bytes and more
+SOME_CHECKS, SWITCHED_OFF = 9, (6, 100)             # wrong texts that are asked without --all, and checks that are switched off
 FEWEST_FRAMED = 9000                                # instructions of a text
 SMALL = [0, 1, 3, 4, 8, 9, 16, 17, 128, 129, 240, 241, 1000]
 assert scalar and lanes                             # which fill the table
@@ -361,6 +363,8 @@ def machine_rows(texts, others, is_all):
             planted_row("texts that assemblers read otherwise are refused", planted_lines.X86_ALIKE),
             planted_row("wrong objects are refused", planted_objects.X86_ASKED),
             planted_row("wrong texts of each kind are refused", planted.ASKED),
+            planted_row("wrong texts, one for each check, are refused", planted_checks.X86_ASKED[::1 if is_all else SOME_CHECKS]),
+            counted("checks that are switched off are noticed", SWITCHED_OFF[is_all], functools.partial(switched_off.tell, is_all)),
             counted("faults of the check itself are noticed", len(planted.CHECKS), planted.noticed),
             *change_rows(texts, is_all)]
 

@@ -439,7 +439,7 @@ class Xxh3Updates:
 
     def expect_stack(self, summary):
         """That a function has used no more of the stack than its summary says."""
-        if min(self.cpu.stack.cells, default=ENTRY) < ENTRY - DEEP:
+        if self.cpu.stack.lowest < ENTRY - DEEP:
             raise NotShown(f"{summary.name}: more than {DEEP} bytes of stack")
 
     def all_taken(self):

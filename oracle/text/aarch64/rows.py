@@ -7,7 +7,7 @@ from terms.processes import Row
 from terms.rows import title_of
 from terms.sides import TOP
 
-from .. import calls, cargo_whole, every_length, one_shots, planted_lines, planted_objects, streams
+from .. import calls, cargo_whole, every_length, one_shots, planted_checks, planted_lines, planted_objects, streams
 from .. import rows as shared
 from ..sources import assembled
 from . import cargo, changes, on_qemu
@@ -46,7 +46,8 @@ def choose(given, found):
     out += [shared.assembler_row([(source, cargo.NAME) for source in (TEXT, cargo.SOURCE)]),
             shared.planted_row("wrong lines are refused", planted_lines.ARM_ASKED),
             shared.planted_row("texts that assemblers read otherwise are refused", planted_lines.ARM_ALIKE)]
-    out.append(shared.planted_row("wrong objects are refused", planted_objects.ARM_ASKED))
+    out += [shared.planted_row("wrong objects are refused", planted_objects.ARM_ASKED),
+            shared.planted_row("wrong texts, one for each check, are refused", planted_checks.ARM_ASKED)]
     out.insert(0, shared.export_row({cargo.NAME: found}, [row.title for row in out]))
     out += cargo_text_rows(given.all)
     return [row for row in out if given.only in row.title]
