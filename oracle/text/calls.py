@@ -5,11 +5,11 @@ import random
 
 from terms import definition, nodes
 from terms.definition import Bytes
-from terms.loops import NotShown
+from terms.refusals import NotShown
+from terms.requests import Request
 from terms.memory import Input
 from terms.nodes import is_same, symbol
 from terms.polynomials import at_most, given, plus, times, variable
-from terms.sides import Request
 
 from . import one_shots, streams
 from .memory import Numbers, OnlyRead, Words

@@ -3,17 +3,15 @@ names of a text have the number of the interface and the set of instructions in 
 
 A stream of XXH3 is given its secret by each call: the default one, one of 192 bytes that a seed derived, or its own.
 It begins with the seed, and all else is what a state of the library for C begins with."""
-import collections
 import os
 import re
 
-from terms.llvm_text import Unsupported
-from terms.loops import NotShown
+from terms.refusals import NotShown, Unsupported
+from terms.requests import TOP
 from terms.nodes import is_same
-from terms.sides import TOP
 
 from .listed import HIDDEN, WEAK
-from .memory import Words
+from .memory import OnlyRead, Words
 from .objects import TEXT, Program
 from .one_shots import is_plain
 from .processor import Processor
@@ -59,13 +57,6 @@ def plain(name):
     if not found:
         raise Unsupported(f"the name {name}")
     return found[1] or found[2] or found[3]
-
-
-def without_numbers(names):
-    """Name without the number of the interface, and without that of its kind where there is one kind -> the name."""
-    short = {name: re.sub(r"\.\d+$", "", plain(name)) for name in names}
-    alike = collections.Counter(short.values())
-    return {short[name] if alike[short[name]] == 1 else plain(name): name for name in names}
 
 
 def export_name(hash_name):
@@ -165,10 +156,10 @@ class ForCargo:
 
 
 def derived(cpu, seed):
-    """The secret that a seed derives, as a call writes it."""
+    """The secret that a seed derives, as a call writes it. Other calls only read it."""
     secret = Words("secret", DERIVED, [(k, 8, cpu.fresh("a word")) for k in range(0, DERIVED, 8)], alignment=1)
     cpu.call("derive_secret", address(secret), seed)
-    return secret
+    return OnlyRead("secret", DERIVED, [(at, n, x) for at, (n, x) in secret.cells.items()], alignment=1)
 
 
 CargoProcessor.library = ForCargo

@@ -7,7 +7,7 @@ from terms import definition
 from terms.memory import Input
 from terms.nodes import symbol
 from terms.polynomials import at_most, given, plus, variable
-from terms.sides import Request, seed_symbol
+from terms.requests import Request, seed_symbol
 
 from . import any_updates
 from .calls import BUFFERED, LIMITS, PLACE, TOTAL, WAITING, expect, in_one_place, null_pointers

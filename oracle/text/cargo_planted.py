@@ -5,7 +5,7 @@ import re
 import subprocess
 import tempfile
 
-from terms.loops import NotShown
+from terms.refusals import NotShown
 
 from . import calls, cargo_calls
 from .cargo import FOLDER, CargoProcessor, CargoProgram
@@ -75,6 +75,8 @@ WRONG = [
     Wrong("a refused write that changes the stream", export("xxh64_write", "movq $0x1,(%rdi)"),
           cargo_calls.without_mark, "changes the state"),
     Wrong("a write that changes the seed", export("xxh3_write", "movq $0x1,(%rdi)"), any_update, "the state at 0 is"),
+    Wrong("a write that changes the secret", export("xxh3_write_192", "mov (%rsi),%rax", "mov %rax,(%rsi)"),
+          request("3-64", "seed", 300, cuts=[100]), "a store to secret"),
     Wrong("a write of another number of bytes", export("xxh3_write_192", "cmp $0x200,%rcx", "jbe 1f", "dec %rcx", "1:"),
           of_192, "in two ways"),
     Wrong("a record that no bytes lead to", export("xxh64_test", "xor %eax,%eax", "ret"),

@@ -3,13 +3,12 @@ for x86-64-v3 are c/asm's, byte for byte, and have the rows that show these too.
 import functools
 
 from terms import comparison
-from terms.sides import Request
+from terms.requests import Request
 
-from . import calls, cargo_calls, cargo_planted, cargo_streams, every_length, rows, streams, xxh3_updates
+from . import calls, cargo_calls, cargo_streams, every_length, rows, streams, xxh3_updates
 from .cargo import FOLDER, WAYS, CargoProgram, export_name
 from .cargo_exports import BEGIN, exports_left_out, shared
 from .instructions import V1, V3, V4
-from .questions import Beside
 from .sources import assembled
 
 NAMES, LIKE = (V1, V3, V4), (V3, V4)      # the sets, and those that c/asm has too
@@ -141,12 +140,4 @@ def call_rows(texts, like, is_all):
             of(f"{BEGIN}records with another rest or no mark", 300, cargo_calls.other_rests),
             of(f"{BEGIN}records with other accumulators", 200, cargo_calls.other_accumulators),
             *with_begin([rows.frames_row(texts), rows.assembler_row([(f"{FOLDER}/{name}.s", V1) for name in NAMES])]),
-            rows.planted_row(f"{BEGIN}wrong texts are refused", cargo_planted.ASKED),
-            *with_begin(change_rows(texts, is_all))]
-
-
-def change_rows(texts, is_all):
-    """Changes of one instruction of the text that has no function of c/asm's."""
-    make = rows.makers(texts)[f"cargo's {V1}"]
-    yield rows.change_row(f"cargo's {V1}", (30, 30), is_all, f"cargo-{V1}", make,
-                          beside=Beside(cargo_calls.ALL, cargo_streams.CargoUpdates))
+]

@@ -1,7 +1,7 @@
 """The streams of XXH3 of a text below the cargo crate, by induction over the updates, as xxh3_updates.py has them for
 the library for C. A stream has no mark and no secret: each call is given that. It always has a seed, which may be 0."""
-from terms.every_length import LONGEST, LONGEST_SECRET
-from terms.loops import NotShown
+from terms.refusals import NotShown
+from terms.requests import LONGEST, LONGEST_SECRET
 from terms.memory import Piece
 from terms.nodes import symbol
 from terms.polynomials import at_most, given, is_natural, minus, plus, times, variable

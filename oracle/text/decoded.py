@@ -7,7 +7,7 @@ import struct
 import subprocess
 import tempfile
 
-from terms.llvm_text import Unsupported
+from terms.refusals import Unsupported
 
 from .listed import X86_64, Object
 from .sources import GNU

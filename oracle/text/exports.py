@@ -1,6 +1,6 @@
 """The exports of the texts for C, each with what shows it: a beginning of a row's title. A text that has another name,
 or lacks one, fails."""
-from terms.loops import NotShown
+from terms.refusals import NotShown
 
 from .one_shots import NAMES, WAYS, is_plain
 

@@ -8,9 +8,9 @@ import collections
 import operator
 
 from terms import operations
-from terms.llvm_text import Unsupported
-from terms.machine import TESTS
-from terms.nodes import OPAQUE, Node, Undecided
+from terms.refusals import Undecided, Unsupported
+from terms.words import TESTS
+from terms.nodes import OPAQUE, Node
 from terms.polynomials import is_natural, is_number, is_same, lifted, minus, plus
 
 from .memory import ENTRY, lie_apart

@@ -6,7 +6,7 @@ A text is a comment, the guard if it has one, functions and constants, the guard
 is one section: its name, then instructions, labels and frames without a break."""
 import re
 
-from terms.llvm_text import Unsupported
+from terms.refusals import Unsupported
 
 NAME = r"[A-Za-z_][A-Za-z0-9_]*(?:\.[A-Za-z0-9_]+)*"
 LABEL = r"\.L[0-9]+_[0-9a-f]+(?:\.[A-Za-z0-9_]+)?"

@@ -5,8 +5,8 @@ As processor.py does it for x86-64: branches, addresses and lengths are numbers,
 known at the beginning is a symbol of its own for each call. A place in memory outside of the objects that were handed
 over, a byte that was never stored, a store to what is read only, a branch on a symbol and an instruction that the table
 lacks are errors."""
-from terms.llvm_text import Unsupported
-from terms.nodes import Undecided, symbol
+from terms.refusals import Undecided, Unsupported
+from terms.nodes import symbol
 from terms.polynomials import is_same
 
 from .listed import OUTER

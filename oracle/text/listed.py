@@ -5,8 +5,8 @@ import re
 import struct
 import sys
 
-from terms.llvm_text import Unsupported
-from terms.sides import TOP
+from terms.refusals import Unsupported
+from terms.requests import TOP
 
 sys.path.append(os.path.join(TOP, "assembly"))
 import frames

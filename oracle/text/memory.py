@@ -5,9 +5,9 @@ outside, as memcpy, may use all that lies below the stack pointer: there is no r
 import collections
 import contextlib
 
-from terms.llvm_text import Unsupported
+from terms.refusals import Undecided, Unsupported
 from terms.memory import Input, Memory, Unset, is_inside
-from terms.nodes import Node, Undecided, memo
+from terms.nodes import Node, memo
 from terms.operations import bits
 from terms.polynomials import WORD, Poly, divided, is_natural, is_same, lifted, minus, plus
 from terms.rules import ones

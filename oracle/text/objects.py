@@ -9,7 +9,7 @@ import re
 import struct
 import subprocess
 
-from terms.llvm_text import Unsupported
+from terms.refusals import Unsupported
 
 from .decoded import expect_bytes
 from .listed import CODE, RELA, Loaded

@@ -10,7 +10,7 @@ import os
 import random
 import subprocess
 
-from terms.loops import NotShown
+from terms.refusals import NotShown
 from terms.rules import ones
 
 from .decoded import NOPS

@@ -8,10 +8,10 @@ import tempfile
 import unittest.mock
 
 from terms import definition, nodes, operations
-from terms.loops import REFUSALS, NotShown
+from terms.refusals import REFUSALS, NotShown
+from terms.requests import TOP, Request
 from terms.nodes import WrongRule
 from terms.polynomials import variable
-from terms.sides import TOP, Request
 
 from . import (any_updates, calls, covered, every_length, exports, on_processor, one_shots, streams, values,
                xxh3_updates)

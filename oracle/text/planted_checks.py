@@ -2,7 +2,7 @@
 import os
 
 from terms.polynomials import variable
-from terms.sides import TOP
+from terms.requests import TOP
 
 from . import any_updates, calls, cargo_calls, cargo_planted, every_length, exports, xxh3_updates
 from .aarch64 import objects, table

@@ -3,8 +3,8 @@ import os
 import re
 import tempfile
 
-from terms.loops import NotShown
-from terms.sides import TOP
+from terms.refusals import NotShown
+from terms.requests import TOP
 
 from .grammar import expect_grammar
 from .sources import by_gnu, expect_alike

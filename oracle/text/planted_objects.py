@@ -3,8 +3,8 @@ each is a committed text with other lines, of which the instructions that are as
 import os
 import re
 
-from terms.loops import NotShown
-from terms.sides import TOP
+from terms.refusals import NotShown
+from terms.requests import TOP
 
 from . import calls, exports
 from .aarch64 import objects, table

@@ -7,7 +7,7 @@ byte that was never stored, a store to what is read only, a branch on a symbol a
 in the table are errors."""
 import functools
 
-from terms.llvm_text import Unsupported
+from terms.refusals import Unsupported
 from terms.nodes import symbol
 from terms.polynomials import is_natural, is_number, is_same, minus
 from terms.rules import ones

@@ -9,9 +9,9 @@ import functools
 import random
 
 from terms import nodes
-from terms.loops import REFUSALS, NotShown
+from terms.refusals import REFUSALS, NotShown
+from terms.requests import Request
 from terms.nodes import WrongRule, is_same
-from terms.sides import Request
 
 from . import any_secret, any_updates, calls, every_length, long_seeds, one_shots, streams, xxh3_updates
 from .memory import Numbers

@@ -2,20 +2,18 @@
 import functools
 import itertools
 import os
-import tempfile
 
 from terms import comparison, nodes
-from terms.loops import REFUSALS
+from terms.refusals import REFUSALS
+from terms.requests import TOP, Request
 from terms.nodes import WrongRule
 from terms.polynomials import variable
 from terms.processes import Row
-from terms.sides import TOP, Request
 
-from . import (any_secret, any_updates, calls, changes, covered, every_length, exports, lanes, long_seeds, on_processor,
-               one_shots, planted, planted_checks, planted_lines, planted_objects, scalar, streams, switched_off,
+from . import (any_secret, any_updates, calls, covered, every_length, exports, lanes, long_seeds, one_shots, scalar, streams,
                xxh3_updates)
 from .cargo import CargoProcessor, CargoProgram
-from .instructions import SETS, TABLE, V1, V2, V3, V4
+from .instructions import V1, V2, V3, V4
 from .objects import Program
 from .processor import Processor
 from .sources import assembled, expect_alike
@@ -38,7 +36,6 @@ ANY_SECRET = [f"{name}:{way}" for name in ("3-64", "3-128") for way in ("secret"
 MOST_NODES = 400_000                                # of the cases of a proof
 SOME_LENGTHS = 5                                   # each so many of the cases of a secret of any length, without --all
 OF_LONG_SEEDS = 137,                                # bytes of secrets that are made of 2^32 bytes and more
-SOME_CHECKS, SWITCHED_OFF = 9, (6, 100)             # wrong texts that are asked without --all, and checks that are switched off
 FEWEST_FRAMED = 9000                                # instructions of a text
 SMALL = [0, 1, 3, 4, 8, 9, 16, 17, 128, 129, 240, 241, 1000]
 assert scalar and lanes                             # which fill the table
@@ -67,10 +64,11 @@ def counted(title, least, ask):
     return Row(title, outcome)
 
 
-def choose(options, texts, others):
-    """The rows on c/asm; other texts have their own, but their instructions are compared here."""
+def choose(options, texts):
+    """The rows on c/asm."""
     rows = one_shot_rows(texts, options.all) + secret_rows(texts, options.all) + every_length_rows(texts, options.all)
-    rows += stream_rows(texts, options.all) + call_rows(texts, options.all) + machine_rows(texts, others, options.all)
+    rows += stream_rows(texts, options.all) + call_rows(texts, options.all)
+    rows += [assembler_row([(f"{FOLDER}/{name}.s", V1) for name in texts])]
     rows.insert(0, export_row(texts, [row.title for row in rows]))
     return rows
 
@@ -342,62 +340,6 @@ def made_secrets(cpu, asked):
     return calls.made_secrets(cpu, asked) + long_seeds.made_secrets(cpu, OF_LONG_SEEDS)
 
 
-# ---- the machine, and what has to be noticed
-
 def assembler_row(sources):
     """Objects of each text by three assemblers."""
     return counted("one object by GNU as, clang and rustc", 2 * len(sources), lambda: (expect_alike(sources), []))
-
-
-def planted_row(title, asked):
-    return counted(title, len(asked), functools.partial(planted.refused, asked))
-
-
-def machine_rows(texts, others, is_all):
-    forms = sum(kind in SETS[on_processor.processor_here()] for kind, _ in TABLE.values())
-    without = "" if on_processor.is_v4() else ", without what it lacks of x86-64-v4"
-    return [counted(f"the table of instructions beside the processor{without}", forms - 40,
-                    functools.partial(beside_processor, [*texts.values(), *others.values()], is_all)),
-            assembler_row([(f"{FOLDER}/{name}.s", V1) for name in texts]),
-            planted_row("wrong lines are refused", planted_lines.X86_ASKED),
-            planted_row("texts that assemblers read otherwise are refused", planted_lines.X86_ALIKE),
-            planted_row("wrong objects are refused", planted_objects.X86_ASKED),
-            planted_row("wrong texts of each kind are refused", planted.ASKED),
-            planted_row("wrong texts, one for each check, are refused", planted_checks.X86_ASKED[::1 if is_all else SOME_CHECKS]),
-            counted("checks that are switched off are noticed", SWITCHED_OFF[is_all], functools.partial(switched_off.tell, is_all)),
-            counted("faults of the check itself are noticed", len(planted.CHECKS), planted.noticed),
-            *change_rows(texts, is_all)]
-
-
-def change_rows(texts, is_all):
-    """Changes of one instruction; of x86-64-v4 in the functions that it has by itself."""
-    for name, make in makers(texts).items():
-        if name == V4:
-            yield change_row(f"in the widened functions of {name}", (20, 100), is_all, name, make, is_drawn=is_widened)
-        else:
-            yield change_row(name, (40, 100), is_all, name, make)
-
-
-def is_widened(section):
-    return "widened" in section
-
-
-def change_row(where, counts, is_all, *asked, **more):
-    """So many changes of one draw, or with --all of each draw."""
-    count, draws = counts[is_all], changes.DRAWS if is_all else 1
-    return counted(f"changes of one instruction, {where}", count * draws,
-                   functools.partial(changes.noticed, *asked, count, is_all, **more))
-
-
-def parts_of_changes(title, asked, program, is_all):
-    """Few of the changes that a module asks, or with --all a row of each part of them."""
-    for part in range(changes.ROWS) if is_all else [None]:
-        words = f", part {part + 1} of {changes.ROWS}" if is_all else ""
-        yield counted(title + words, asked.MANY // changes.ROWS if is_all else asked.FEW,
-                      functools.partial(asked.noticed, program, part))
-
-
-def beside_processor(programs, is_all):
-    on_processor.expect_processor()
-    with tempfile.TemporaryDirectory(prefix="machine-text-") as room:
-        return on_processor.compare(on_processor.asked(programs, is_all), room, on_processor.own_bytes(programs))

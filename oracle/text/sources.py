@@ -5,8 +5,7 @@ import struct
 import subprocess
 import tempfile
 
-from terms.llvm_text import Unsupported
-from terms.loops import NotShown
+from terms.refusals import NotShown, Unsupported
 
 from .grammar import expect_grammar
 from .listed import Object, difference, differences

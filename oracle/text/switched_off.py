@@ -2,8 +2,8 @@
 refuses is refused no longer, or for another reason.
 
 A check is a statement that only raises under an `if`, a `want`, or a line that the grammar takes. Which check refuses a wrong
-text is seen when it does. A check that refuses none has to stand in unplanted.txt, with the reason why none is there; one that
-stands there and refuses one fails as well. What a check would be without it is asked in a process of its own, where the
+text is seen when it does. A check that no wrong text notices has to stand in unplanted.txt, with the reason; one that stands
+there and is noticed fails as well. What a check would be without it is asked in a process of its own, where the
 module is compiled without that statement."""
 import ast
 import concurrent.futures
@@ -175,11 +175,12 @@ def tell(is_all, jobs=1):
     if is_all:
         bad += [f"no wrong text is refused by {key}" for key in known if key not in refused and key not in listed]
         bad += [f"{key} has a reason, and isn't there" for key in listed if key not in known]
-    bad += [f"{key} has a reason, and refuses a wrong text" for key in listed if key in refused]
-    asked = [(module, found[key][0], *refused[key]) for module, found in where.items() for key in found if key in refused]
+    asked = [(module, found[key][0], *refused[key], key) for module, found in where.items() for key in found if key in refused]
     with concurrent.futures.ThreadPoolExecutor(jobs) as pool:
-        for (module, line, _, before), told in zip(asked, pool.map(lambda one: told_without(*one[:3]), asked)):
-            bad += [f"{path_of(module)}:{line}: switched off, and not noticed"] if plain(told) == plain(before) else []
+        for (*_, before, key), told in zip(asked, pool.map(lambda one: told_without(*one[:3]), asked)):
+            is_noticed = plain(told) != plain(before)
+            bad += [f"{key}: switched off, and not noticed"] if not is_noticed and key not in listed else []
+            bad += [f"{key}: it is noticed, and has a reason"] if is_noticed and key in listed else []
     return len(asked), bad
 
 

@@ -2,7 +2,7 @@
 import re
 import struct
 
-from terms.loops import NotShown
+from terms.refusals import NotShown
 
 from .listed import CODE, X86_64, Table, frames
 

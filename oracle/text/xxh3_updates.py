@@ -15,8 +15,8 @@ import itertools
 
 from terms import definition, nodes
 from terms.definition import Bytes, suppositions
-from terms.every_length import LONGEST, LONGEST_SECRET
-from terms.loops import REFUSALS, NotShown
+from terms.refusals import REFUSALS, NotShown
+from terms.requests import LONGEST, LONGEST_SECRET
 from terms.memory import RUNS, Piece
 from terms.nodes import is_same
 from terms.polynomials import at_most, given, is_natural, minus, plus, times, variable

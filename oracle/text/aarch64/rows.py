@@ -5,9 +5,9 @@ import os
 from terms import comparison
 from terms.processes import Row
 from terms.rows import title_of
-from terms.sides import TOP
+from terms.requests import TOP
 
-from .. import calls, cargo_whole, every_length, one_shots, planted_checks, planted_lines, planted_objects, streams
+from .. import calls, cargo_whole, every_length, one_shots, planted_checks, planted_lines, planted_objects, self_tests, streams
 from .. import rows as shared
 from ..sources import assembled
 from . import cargo, changes, on_qemu
@@ -42,12 +42,12 @@ def choose(given, found):
     out += every_length_rows(made, given.all)
     out.append(Row("the table of instructions beside qemu", on_qemu.tell))
     out.append(shared.counted("each instruction is of the table", 20_000, functools.partial(in_table, [found, cargo.program()])))
-    out += shared.parts_of_changes("changes of one bit", changes, found, given.all)
+    out += self_tests.parts_of_changes("changes of one bit", changes, found, given.all)
     out += [shared.assembler_row([(source, cargo.NAME) for source in (TEXT, cargo.SOURCE)]),
-            shared.planted_row("wrong lines are refused", planted_lines.ARM_ASKED),
-            shared.planted_row("texts that assemblers read otherwise are refused", planted_lines.ARM_ALIKE)]
-    out += [shared.planted_row("wrong objects are refused", planted_objects.ARM_ASKED),
-            shared.planted_row("wrong texts, one for each check, are refused", planted_checks.ARM_ASKED)]
+            self_tests.planted_row("wrong lines are refused", planted_lines.ARM_ASKED),
+            self_tests.planted_row("texts that assemblers read otherwise are refused", planted_lines.ARM_ALIKE)]
+    out += [self_tests.planted_row("wrong objects are refused", planted_objects.ARM_ASKED),
+            self_tests.planted_row("wrong texts, one for each check, are refused", planted_checks.ARM_ASKED)]
     out.insert(0, shared.export_row({cargo.NAME: found}, [row.title for row in out]))
     out += cargo_text_rows(given.all)
     return [row for row in out if given.only in row.title]

@@ -11,8 +11,8 @@ import struct
 import subprocess
 import tempfile
 
-from terms.llvm_text import Unsupported
-from terms.sides import TOP
+from terms.refusals import Unsupported
+from terms.requests import TOP
 
 from .. import lanes, scalar
 from ..cargo import ForCargo

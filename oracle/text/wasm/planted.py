@@ -1,11 +1,11 @@
 """Wrong modules that are planted: instructions at the begin of an export, each of which has to be refused."""
 import functools
 
-from terms.loops import REFUSALS
+from terms.refusals import REFUSALS
+from terms.requests import Request
 from terms.nodes import is_same
 from terms.polynomials import Poly
 from terms.polynomials import is_same as is_same_number
-from terms.sides import Request
 
 from .. import covered
 from ..xxh3_updates import TAKE, TAKE_MANY

@@ -3,10 +3,10 @@
 import contextlib
 
 from terms import halves, operations
-from terms.llvm_text import Unsupported
-from terms.machine import BINARY, compare_numbers, rotated
+from terms.refusals import Undecided, Unsupported
+from terms.words import BINARY, compare_numbers, rotated
 from terms.memory import Memory
-from terms.nodes import Node, Undecided
+from terms.nodes import Node
 from terms.polynomials import (Poly, at_most, divided, is_natural, is_number, is_same, made, minus, plus, remainder,
                                times, wrapped)
 from terms.rules import ones, zeros_below
