@@ -1,17 +1,18 @@
 """Wrong texts for checks that no other wrong text comes to: one for each, of x86-64 and of 64-bit ARM."""
 import os
+import re
 
 from terms.polynomials import variable
 from terms.requests import TOP
 
-from . import any_updates, calls, cargo_calls, cargo_planted, every_length, exports, xxh3_updates
+from . import any_updates, calls, cargo_planted, every_length, exports, xxh3_updates
 from .aarch64 import objects, table
 from .aarch64.cargo import NAME as ARM
 from .cargo import CargoProcessor, CargoProgram
 from .instructions import V1, V2, V3, V4
 from .objects import Program
 from .planted import (END, FUNCTION, SOURCE, VERSION, Asked, Wrong, begun, ended, of_every_length, raising_limit, request)
-from .planted_objects import ARM_SOURCE, exchanged, in_section, of_object
+from .planted_objects import ARM_SOURCE, in_section, of_object
 from .processor import Processor
 from .sources import assembled
 
@@ -30,6 +31,10 @@ def in_function(name, old, new):
         at = text.rindex(old, first, end)
         return text[:at] + new + text[at + len(old):]
     return change
+
+
+def with_names(pattern, new):
+    return lambda text: re.sub(pattern, new, text)
 
 
 # ---- what is asked
@@ -154,11 +159,9 @@ X86 = [
                                      "add $0x3000,%rsp"), many_stripes, "bytes of stack"),
 ]
 OF_V4 = [Wrong("an export that isn't x86-64-v3's", begun("XXH32_digest", "nop"), code_of_v3, "XXH32_digest: .* has other code")]
-OF_CARGO = [Wrong("a name without the interface's number", exchanged("twox_plain.xxhash64.rounds.impl_long.i4",
-                                                                     "twox_plain.xxhash64.rounds.impl_long"),
-                  calls.null_pointers, "the name twox_plain"),
-            Wrong("an export that isn't there", exchanged("twox_rust_4_interface", "twox_rust_4_more"), cargo_calls.interface,
-                  "the text has no interface")]
+OF_CARGO = [Wrong("names without the interface's number", with_names(r"\.i\d+\b", ""), request("3-64", "default", 5), "the name twox_"),
+            Wrong("an export that isn't there", with_names(r"(twox_rust_\d+)_xxh3_64\b", r"\1_more"), request("3-64", "default", 5),
+                  "the text has no xxh3_64")]
 OF_ARM = [
     Wrong("a register that the caller wants back", begun(VERSION, "mov x19, #0"), of_object, "x19 isn't"),
     Wrong("a vector that the caller wants back", begun(VERSION, "movi v8.2d, #0x0"), of_object, "a vector isn't"),

@@ -78,7 +78,7 @@ IN_CARGO = [
     ("a guard that GNU as alone knows", put(".ifndef .gasversion.", place=GUARD)),
     ("a guard by a name that the text hasn't", put(".ifndef memcpy", place=GUARD)),
     ("a guard by a function that isn't weak", put(".ifndef twox_plain.xxhash64.rounds.impl_long.i4", place=GUARD)),
-    ("a second guard", put(".ifndef twox_rust_4_more", ".endif", place=r"(?<=_start\n)")),
+    ("a second guard", put(".ifndef twox_rust_4_more", ".endif", place=r"(?<=\n)(?=\t\.section)")),
     ("a weak name that isn't hidden", put(place=r"\t\.hidden .*\n")),
 ]
 IN_ARM = [
