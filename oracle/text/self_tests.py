@@ -10,7 +10,7 @@ from .instructions import SETS, TABLE, V1, V4
 from .questions import Beside
 from .rows import counted, makers
 
-SOME_CHECKS, SWITCHED_OFF = 9, (6, 100)      # each so manieth wrong text without --all, and checks that are switched off
+SOME_CHECKS, SWITCHED_OFF = 9, (4, 100)      # each so manieth wrong text without --all, and checks that are switched off
 
 
 def planted_row(title, asked):

@@ -22,7 +22,7 @@ MODULES = ("grammar", "listed", "objects", "decoded", "sources", "unwinding", "p
            "aarch64.processor", "../terms/memory")
 TAKING = {"take": "lines.number += 1", "take_exactly": "lines.number += {count}", "refuse": "pass", "want": "pass"}
 THEMSELVES = "want", "refuse", "take", "take_exactly", "has"
-FEW = 16                          # each so manieth text, without --all
+FEW = 24                          # each so manieth text, without --all
 LONGEST = 60                      # seconds of a process; a check without which a text has no end takes them all
 
 
@@ -117,7 +117,7 @@ def every_text():
 
 def refusal(one):
     """What refuses a wrong text, or None."""
-    from terms.loops import REFUSALS
+    from terms.refusals import REFUSALS
     try:
         one.ask()
     except REFUSALS as error:
