@@ -94,6 +94,8 @@ def led(program, section):
 
 def code_of(program, name):
     """The instructions of a function's section, by their distance from its beginning."""
+    if name not in program.exports:
+        raise NotShown(f"{name} isn't exported")
     section, _ = program.exports[name]
     code = program.sections[section]
     return [(at, x.end, x.mnemonic, x.operands, ("here", x.target[1]) if x.target and x.target[0] == section

@@ -12,7 +12,7 @@ from .cargo import CargoProcessor, CargoProgram
 from .instructions import V1, V2, V3, V4
 from .objects import Program
 from .planted import (END, FUNCTION, SOURCE, VERSION, Asked, Wrong, begun, ended, of_every_length, raising_limit, request)
-from .planted_objects import ARM_SOURCE, in_section, of_object
+from .planted_objects import ARM_SOURCE, in_section, local, of_object, of_twins
 from .processor import Processor
 from .sources import assembled
 
@@ -152,6 +152,7 @@ X86 = [
     Wrong("a reset that keeps another part of a secret", begun("proved_XXH3_64bits_reset_withSecret", "inc %rsi"), xxh3_reset, "."),
     Wrong("a record of stripes that is changed behind it", begun(xxh3_updates.TAKE_MANY.name, *BEHIND, "movq $0x7,(%rdx)", "ret",
                                                                 "1:"), many_stripes, "."),
+    Wrong("a second name that is missing", local("XXH128"), of_twins, "XXH128 isn't exported"),
     Wrong("updates of two kinds", begun("XXH3_128bits_update", "nop"), two_widths, "two updates"),
     Wrong("another accumulator of many stripes", begun(xxh3_updates.TAKE_MANY.name, "movq $0x0,(%rdi)", "movq $0x0,(%rsi)"),
           many_stripes, "."),
