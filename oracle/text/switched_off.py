@@ -11,6 +11,8 @@ import importlib.abc
 import importlib.util
 import os
 import re
+import resource
+import signal
 import subprocess
 import sys
 import traceback
@@ -23,7 +25,7 @@ MODULES = ("grammar", "listed", "objects", "decoded", "sources", "unwinding", "p
 TAKING = {"take": "lines.number += 1", "take_exactly": "lines.number += {count}", "refuse": "pass", "want": "pass"}
 THEMSELVES = "want", "refuse", "take", "take_exactly", "has"
 FEW = 24                          # each so manieth text, without --all
-LONGEST = 60                      # seconds of a process; a check without which a text has no end takes them all
+LONGEST = 60                      # seconds of a processor; a check without which a text has no end takes them all
 
 
 def path_of(module):
@@ -135,15 +137,14 @@ def place_of(error, known):
 
 
 def told_without(module, line, number):
-    """What a process of its own says of a wrong text, where a check is switched off."""
+    """What a process of its own says of a wrong text, where the check at a line is switched off, if there is one."""
     words = [sys.executable, "-B", os.path.abspath(__file__), module, str(line), str(number)]
-    try:
-        return subprocess.run(words, capture_output=True, text=True, timeout=LONGEST).stdout
-    except subprocess.TimeoutExpired:
-        return "no end"
+    done = subprocess.run(words, capture_output=True, text=True)
+    return "no end" if done.returncode == -signal.SIGXCPU else done.stdout
 
 
 def of_process(module, line, number):
+    resource.setrlimit(resource.RLIMIT_CPU, (LONGEST, LONGEST + 1))
     sys.meta_path.insert(0, Loader(module, int(line)))
     sys.path.insert(0, os.path.dirname(HERE))
     print(refusal(every_text()[int(number)]), end="")
@@ -176,6 +177,9 @@ def tell(is_all, jobs=1):
         bad += [f"no wrong text is refused by {key}" for key in known if key not in refused and key not in listed]
         bad += [f"{key} has a reason, and isn't there" for key in listed if key not in known]
     asked = [(module, found[key][0], *refused[key], key) for module, found in where.items() for key in found if key in refused]
+    module, _, number, before, _ = asked[0]
+    if plain(told_without(module, 0, number)) != plain(before):
+        bad.append("with no check switched off another refusal is told")
     with concurrent.futures.ThreadPoolExecutor(jobs) as pool:
         for (*_, before, key), told in zip(asked, pool.map(lambda one: told_without(*one[:3]), asked)):
             is_noticed = plain(told) != plain(before)
