@@ -25,7 +25,7 @@ MODULES = ("grammar", "listed", "objects", "decoded", "sources", "unwinding", "p
 TAKING = {"take": "lines.number += 1", "take_exactly": "lines.number += {count}", "refuse": "pass", "want": "pass"}
 THEMSELVES = "want", "refuse", "take", "take_exactly", "has"
 FEW = 24                          # each so manieth text, without --all
-LONGEST = 60                      # seconds of a processor; a check without which a text has no end takes them all
+LONGEST = 20                      # seconds of a processor; a check without which a text has no end takes them all
 
 
 def path_of(module):
