@@ -6,6 +6,7 @@ use std::process::ExitCode;
 use xxh_io::from_read::FromRead;
 use xxh_io::from_write::FromWrite;
 use xxhsum_files::system::SystemFiles;
+use xxhsum_files::uninterrupted::Uninterrupted;
 use xxhsum_output::whole_lines::WholeLines;
 use xxhsum_program::arguments::ProcessArguments;
 use xxhsum_program::process::{Console, Terminals};
@@ -15,7 +16,7 @@ use xxhsum_tree::run::run;
 // Passes the process's arguments, files and streams to the program.
 fn main(rt: HostRuntime) -> ExitCode {
     let console = Console {
-        input: FromRead::new(rt.stdin()),
+        input: FromRead::new(Uninterrupted::new(rt.stdin())),
         terminals: Terminals {
             input: rt.stdin().is_terminal(),
             errors: rt.stderr().is_terminal(),
