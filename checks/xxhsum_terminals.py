@@ -216,9 +216,46 @@ def does(program, words, terminals, given, wanted, settings=SETTINGS):
     tell how the program is used the first line is compared."""
     out, err, status = run(program, words, terminals, given, settings)
     if err.startswith(b'Wrong parameters'):
-        err = err.split(b'\n')[0].rstrip(b'\r') + b'\n'
-    had = (out.replace(b'\r\n', b'\n'), err, status)
+        err = err.split(b'\n')[0] + b'\n'
+    had = (out.replace(b'\r\n', b'\n'), err.replace(b'\r\n', b'\n'), status)
     return '' if had == wanted else f'wanted {wanted!r}, found {had!r}'
+
+
+# ---- control characters
+
+# Names that paint on a terminal: by an escape sequence, a control character of two bytes, and DEL; and one that does not.
+PAINTING = (b'esc\x1b[2K\x07', b'\xc3\xa9\x1b[1A', b'c1\xc2\x9b2K', b'del\x7f', b'plain \xc3\x80')
+
+
+def visible(name):
+    """A name as a terminal is sent it."""
+    if not re.search(rb'[\x00-\x1f\x7f]|\xc2[\x80-\x9f]', name):
+        return name
+    return re.sub(rb'[^\x20-\x7e]', lambda byte: b'\\x%02x' % byte[0][0], name)
+
+
+def painting_rows(program, room):
+    """Messages on errors, checks and audits on the output, with names that paint: shown on a terminal, and as they are
+    elsewhere."""
+    names = [os.fsencode(room) + b'/' + name for name in PAINTING]
+    gone = [name + b'-gone' for name in names]
+    for name in names:
+        with open(name, 'wb') as file:
+            file.write(b'hello')
+    lines = os.path.join(room, 'painting')
+    with open(lines, 'wb') as file:
+        file.writelines(b'26c7827d889f6da3  %s\n' % name for name in names)
+    counts = b'%d same, 0 changed, 0 moved, 0 copied, 0 new, 0 missing\n' % len(names)
+    for terminals in ((), ('out',), ('err',), ('out', 'err')):
+        on_out, on_err = (visible if stream in terminals else bytes for stream in ('out', 'err'))
+        where = ', '.join(terminals) or 'none'
+        messages = b''.join(b"Error: Could not open '%s': No such file or directory. \n" % on_err(name) for name in gone)
+        checked = b''.join(on_out(name) + b': OK\n' for name in names)
+        audited = b''.join(on_out(name) + b': same\n' for name in sorted(names))
+        for title, words, wanted in (('messages', gone, (b'', messages, 1)), ('a check', ['-c', lines], (checked, b'', 0)),
+                                     ('an audit', ['--audit', lines, *names], (audited + counts, b'', 0))):
+            yield f'control characters in {title}, terminals: {where}', (
+                does, program, words, terminals, os.devnull, wanted)
 
 
 def combinations_over(program, long, settings):
@@ -266,6 +303,7 @@ def rows_over(program, short, long, lists, settings):
         'a file as input, and the output is a terminal': (does, program, [], ('out',), short, of_short),
         'a file as input, and both are terminals': (does, program, [], ('out', 'err'), short, of_short),
         **dict(combinations_over(program, long, settings)),
+        **dict(painting_rows(program, os.path.dirname(short))),
     }
 
 
@@ -300,6 +338,7 @@ PLANTED_ON_TERMINALS = {
     'a rate that no machine has': ('printf "2048 MiB, 4000000000 MiB/s, 0 s left" >&2', {'the rate and the time left'}),
     'a clock that is not asked': ('unset LD_PRELOAD; exec "$REAL" "$@"', {
         'progress of a file', 'progress of input', 'the rate and the time left of more than a tebibyte'}),
+    'names that paint': ('exec 3>&1; "$REAL" "$@" 2>&1 >&3 | cat >&2', {'control characters in messages, terminals: err'}),
     'no progress where the output is a terminal': ('[ -t 1 ] && exec 2>/dev/null; exec "$REAL" "$@"', {
         'progress of a file, terminals: out, err', 'progress of a file, terminals: in, out, err'}),
 }

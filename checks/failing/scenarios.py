@@ -4,7 +4,7 @@ import subprocess
 from typing import Callable, NamedTuple
 
 from . import worlds
-from .worlds import JUNK, Outcome, good, wrong
+from .worlds import COMMENT, JUNK, Outcome, good, wrong
 
 INPUT = 'standard input'
 GREETING = b'Hello, world!\0'
@@ -83,8 +83,7 @@ def of_checks(world):
         'good': [good(world, 'a'), good(world, 'long'), good(world, 'e')],
         'mixed': [JUNK, good(world, 'same'), wrong('d/other'), wrong('gone'), good(world, 'd/inner')],
         'junk': [JUNK, JUNK],
-        # More than the buffer that lists are read into.
-        'large': [good(world, name) for name in worlds.SMALL],
+        'large': [COMMENT, good(world, 'a'), COMMENT, COMMENT, good(world, 'b c'), COMMENT, COMMENT, wrong('e')],
     }
     for name, lines in lists.items():
         world.write(name, ''.join(line.text for line in lines).encode())

@@ -11,8 +11,6 @@ HELLO = b'hello'
 LONG = bytes(at * 7 % 251 for at in range(400_001))
 FILES = {'a': HELLO, 'e': b'', 'b c': b'world', 'long': LONG, 'same': HELLO, 'd/inner': HELLO, 'd/other': b'world',
          'd/sub/deep': b'deep', 'd/sub/last': b'', 'one/only': b'only'}
-# Files of one text, for a list that is longer than the buffer that lists are read into.
-SMALL = [f'many/{number:04}' for number in range(2400)]
 FLAGS = {'32': '-H0', '64': '-H1', '128': '-H2', '3': '-H3'}
 MISSING = 'No such file or directory'
 UNREAD = 'a failure occurred reading the input file'
@@ -40,9 +38,8 @@ class World:
 
     def __init__(self, folder):
         self.folder, self.known = folder, {}
-        for name, text in {**FILES, **dict.fromkeys(SMALL, HELLO)}.items():
+        for name, text in FILES.items():
             self.write(name, text)
-        self.known = {(name, '64'): self.digest('a') for name in SMALL}
         os.symlink('../a', self.path('d/link'))
         os.mkfifo(self.path('d/pipe'))
 
@@ -140,6 +137,8 @@ def wrong(name):
 
 
 JUNK = Line('junk\n')
+# Some of them are more than the buffer that lists are read into.
+COMMENT = Line('#' + 'x' * 20_000 + '\n')
 
 
 def verdict(world, listed, number, line, fault):
@@ -168,9 +167,9 @@ def checked(world, listed, lines, fault=None, warns=False):
     for number, line in enumerate(given, 1):
         if line.name:
             said.append(verdict(world, listed, number, line, fault))
-        elif warns:
+        elif warns and line != COMMENT:
             err += f'{listed}:{number}: Error: Improperly formatted checksum line.\n'
-    malformed = sum(not line.name for line in given)
+    malformed = sum(not line.name and line != COMMENT for line in given)
     if not said:
         return Outcome('', err + f'{listed}: no properly formatted xxHash checksum lines found\n', 1)
     if is_cut:
