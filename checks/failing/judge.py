@@ -64,6 +64,13 @@ def faults_of(calls, at, error):
     return [None]
 
 
+def is_tried(scenario, calls, at):
+    """Whether this call is made to fail: of runs into one pipe those for memory, and the reads of the lists."""
+    if scenario.out != 'merged' or calls[at].name in FOR_MEMORY:
+        return True
+    return calls[at].name in READS and name_of(calls, at) in scenario.words
+
+
 # ---- whether a run is as it has to be
 
 def text(outcome):
@@ -94,6 +101,9 @@ def after_no_memory(scenario, right, done):
     if (done.out, done.err, done.status) == text(right):
         return ''
     told, status = (NO_MEMORY.encode(), 1) if scenario.program == 'xxhsum' else (b'xxh: out of memory\n', 3)
+    if scenario.out == 'merged':
+        is_well = done.status == status and done.out.endswith(told) and right.out.encode().startswith(done.out[:-len(told)])
+        return '' if is_well else 'neither the right output nor a beginning of it and then a message on memory'
     if done.status != status or not done.err.endswith(told):
         return 'neither the right output nor a message on memory'
     begins = right.out.encode().startswith(done.out) and right.err.encode().startswith(done.err[:-len(told)])
@@ -114,7 +124,7 @@ def fault_in(scenario, right, planned, at, error, done):
     call = planned[at]
     if call.name in FOR_MEMORY:
         return after_no_memory(scenario, right, done)
-    if scenario.out != 'pipe':
+    if scenario.out not in ('pipe', 'merged'):
         return '' if done.status and not done.out else 'lost output, and the status is 0'
     if call.name in WRITES:
         return after_failed_write(scenario, right, planned, at, done)
@@ -125,6 +135,6 @@ def fault_in(scenario, right, planned, at, error, done):
 
 def right_of(scenario, done):
     """What is right where nothing fails. Help and version are compared elsewhere."""
-    if scenario.outcome is None or scenario.out != 'pipe':
+    if scenario.outcome is None or scenario.out not in ('pipe', 'merged'):
         return Outcome(done.out.decode(), done.err.decode(), done.status)
     return scenario.outcome(None)

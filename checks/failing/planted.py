@@ -34,6 +34,12 @@ def failed(done):
     return done._replace(status=1, err=done.err + b"Error: Could not open 'a': Input/output error. \n")
 
 
+def message_first(done):
+    """The message on memory before the last line that waited."""
+    *lines, last, empty, told = done.out.splitlines(keepends=True)
+    return done._replace(out=b''.join([*lines, empty, told, last]))
+
+
 def hanging(done):
     return done._replace(status='not ended')
 
@@ -58,11 +64,15 @@ PLANTED = {
     'a line of a list that is lost': ('a good list', 'close', 'EIO', without_last_line),
     'a list that breaks off, with the status 0': ('a good list', 'read', 'EIO', well),
     'an audit that calls a file missing that was not read': ('an audit', 'read', 'EIO', with_line(b'a: missing\n')),
+    'a message on memory before the output that waits': ('a list, both streams one pipe', 'brk', 'ENOMEM', message_first),
     'a failed read of `xxh` with the status 0': ('xxh hash 64, of a', 'read', 'EINTR', well),
 }
 
 
 def failing_call(calls, name, error, errors_of):
-    """The index of the first call of this name; of look-ups that below a folder, which nothing makes good."""
+    """The index of the first call of this name; of look-ups that below a folder, which nothing makes good; of those for
+    memory the last, so that some output waits."""
     at = [it for it, call in enumerate(calls) if call.name == name and error in errors_of(call)]
+    if name == 'brk':
+        return at[-1]
     return next((it for it in at if '/' in calls[it].target), at[0]) if name == 'statx' else at[0]

@@ -18,7 +18,8 @@ MANY = ['d/' + './' * count + 'inner' for count in range(120)]
 
 
 class Scenario(NamedTuple):
-    """A run, and its outcome, given what failed. `given` is the file that is its input, or `pipe`, `closed` or nothing."""
+    """A run, and its outcome, given what failed. `given` is the file that is its input, or `pipe`, `closed` or nothing. `out` is
+    what its output is: a pipe of its own, one for both streams, or one that can't be written."""
     name: str
     words: tuple
     outcome: Callable
@@ -118,6 +119,31 @@ def of_checks(world):
     ]
 
 
+def of_one_pipe(world):
+    """Both streams are one pipe: output that waits comes out before any message, also where a list breaks off or memory runs
+    out. The options take most of the memory that a program begins with, and the long name more than is left."""
+    words = ('-w',) * 250 + ('-c',)
+    lists = {
+        'deep': [good(world, 'a'), good(world, 'e'), JUNK, good(world, 'b c'), wrong('x' * 30_000), good(world, 'same'),
+                 *[good(world, 'd/inner')] * 1600, wrong('e')],
+        'junk only': [JUNK, JUNK],
+    }
+    for name, lines in lists.items():
+        world.write(name, ''.join(line.text for line in lines).encode())
+
+    def row(name, listed):
+        return Scenario(name, (*words, listed), lambda fault: worlds.merged_check(world, listed, lists[listed], fault),
+                        out='merged')
+
+    def both(fault):
+        first = worlds.merged_check(world, 'deep', lists['deep'], fault and fault.name == 'deep' and fault or None)
+        second = worlds.merged_check(world, 'junk only', lists['junk only'], fault and fault.name != 'deep' and fault or None)
+        return Outcome(first.out + second.out, '', 1)
+
+    return [row('a list, both streams one pipe', 'deep'),
+            Scenario('two lists, both streams one pipe', (*words, 'deep', 'junk only'), both, out='merged')]
+
+
 def of_trees(world):
     """Folders, lists of names and audits."""
     listed = {'listed': ['a', 'long', 'gone'], 'more': ['e', 'd/inner']}
@@ -207,7 +233,7 @@ def of_xxh(world):
 
 
 def all_scenarios(world):
-    return [*of_names(world), *of_input(world), *of_checks(world), *of_trees(world), *of_streams(world), *of_xxh(world)]
+    return [*of_names(world), *of_input(world), *of_checks(world), *of_one_pipe(world), *of_trees(world), *of_streams(world), *of_xxh(world)]
 
 
 def input_of(scenario, world):

@@ -12,7 +12,7 @@ LONG = bytes(at * 7 % 251 for at in range(400_001))
 FILES = {'a': HELLO, 'e': b'', 'b c': b'world', 'long': LONG, 'same': HELLO, 'd/inner': HELLO, 'd/other': b'world',
          'd/sub/deep': b'deep', 'd/sub/last': b'', 'one/only': b'only'}
 FLAGS = {'32': '-H0', '64': '-H1', '128': '-H2', '3': '-H3'}
-MISSING = 'No such file or directory'
+MISSING, TOO_LONG = 'No such file or directory', 'File name too long'
 UNREAD = 'a failure occurred reading the input file'
 WRITE_FAILED = 'Error: a failure occurred writing the output.\n'
 NO_MEMORY = '\nError: Out of memory.\n'
@@ -147,7 +147,7 @@ def verdict(world, listed, number, line, fault):
     if fault and fault.name == line.name:
         why = UNREAD if fault.step == 'read' else fault.why
     elif not os.path.exists(world.path(line.name)):
-        why = MISSING
+        why = TOO_LONG if len(line.name) > 4095 else MISSING
     if why:
         return f"{listed}:{number}: Could not open or read '{line.name}': {why}.\n"
     return f'{line.name}: {"OK" if line.is_good else "FAILED"}\n'
@@ -180,6 +180,20 @@ def checked(world, listed, lines, fault=None, warns=False):
     out += counted(unread, 'listed file could not be read', 'listed files could not be read')
     out += counted(failed, 'computed checksum did NOT match', 'computed checksums did NOT match')
     return Outcome(out, err, 1 if unread or failed or is_cut else 0)
+
+
+def merged_check(world, listed, lines, fault=None):
+    """What one pipe gets of both streams, where every malformed line is reported: each message where it belongs, and the counts
+    behind the last line."""
+    given = lines[:''.join(line.text for line in lines)[:fault.given].count('\n')] if fault else lines
+    both = [verdict(world, listed, number, line, None) if line.name else
+            f'{listed}:{number}: Error: Improperly formatted checksum line.\n' for number, line in enumerate(given, 1)]
+    found = checked(world, listed, lines, fault, warns=True)
+    if not any(line.name for line in given):
+        return Outcome(''.join(both) + found.err.splitlines(keepends=True)[-1], '', found.status)
+    break_of = found.err.splitlines(keepends=True)[-1:] if fault else []
+    counts = found.out.splitlines(keepends=True)[sum(bool(line.name) for line in given):]
+    return Outcome(''.join([*both, *break_of, *counts]), '', found.status)
 
 
 def all_checked(world, lists, fault=None, warns=False):
