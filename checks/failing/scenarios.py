@@ -1,6 +1,5 @@
 """The scenarios of checks/failing_calls: the words of a run, its streams, and what has to come of it where one step fails."""
 import os
-import subprocess
 from typing import Callable, NamedTuple
 
 from . import worlds
@@ -71,7 +70,7 @@ def of_names(world):
 
 def of_input(world):
     def row(name, words, given, algorithm='64'):
-        file = given if given != 'pipe' else 'long'
+        file = given if given != 'pipe' else 'piped'
         return Scenario(name, words, lambda fault: worlds.of_input(world, file, fault, algorithm), given)
 
     return [row('input', (), 'a'), row('a long input', ('-H3',), 'long', '3'), row('input by -', ('-H2', '-'), 'long', '128'),
@@ -207,7 +206,7 @@ def of_xxh(world):
         return Outcome(before, 'xxh: read failed\n', 1) if fault else Outcome(out, '', 0)
 
     def hashed(algorithm, name, given):
-        line = world.digest('long' if given == 'pipe' else given, name) + '\n'
+        line = world.digest('piped' if given == 'pipe' else given, name) + '\n'
         return Scenario(f'xxh hash {algorithm}, of {given}', ('hash', algorithm), lambda fault: failing(line, fault), given, 'xxh')
 
     def blocks(fault):
@@ -237,9 +236,11 @@ def all_scenarios(world):
 
 
 def input_of(scenario, world):
-    """What the run gets as standard input: for `subprocess`, and the bytes for a pipe."""
-    if scenario.given == 'pipe':
-        return subprocess.PIPE, worlds.LONG
-    if scenario.given in ('', 'closed'):
-        return subprocess.DEVNULL, None
-    return open(os.path.join(world.folder, scenario.given), 'rb'), None
+    """What the run gets as standard input: a file, or a pipe that has its bytes before the run begins, so that each run has the
+    same reads."""
+    if scenario.given != 'pipe':
+        return open(world.path(scenario.given) if scenario.given not in ('', 'closed') else os.devnull, 'rb')
+    reads, writes = os.pipe()
+    os.write(writes, worlds.FILES['piped'])
+    os.close(writes)
+    return os.fdopen(reads, 'rb')

@@ -57,10 +57,10 @@ def calls_of(path):
     return calls[:begins + 1], calls[begins + 1:]
 
 
-def ended(process, given):
+def ended(process):
     """What the process wrote, and its status. One that does not end is killed, with all that it started."""
     try:
-        out, err = process.communicate(given, SECONDS)
+        out, err = process.communicate(timeout=SECONDS)
         return out or b'', err or b'', process.returncode
     except subprocess.TimeoutExpired:
         os.killpg(process.pid, signal.SIGKILL)
@@ -68,13 +68,13 @@ def ended(process, given):
         return out or b'', err or b'', f'not ended after {SECONDS} s'
 
 
-def traced(words, injections, streams, folder, trace, given=None):
+def traced(words, injections, streams, folder, trace):
     """Runs these words with these faults, and over these streams."""
     names = ','.join(f'?{name}' for name in (*BY_NAME, *BY_DESCRIPTOR, *FOR_MEMORY, MAIN[0]))
     strace = ['strace', '-qq', '-s', '0', '-o', trace, '-e', f'trace={names}', '-e', 'signal=none']
     faults = [word for fault in injections for word in ('-e', f'inject={fault}')]
     process = subprocess.Popen([*strace, *faults, *words], cwd=folder, env=SETTINGS, start_new_session=True, **streams)
-    out, err, status = ended(process, given)
+    out, err, status = ended(process)
     return Done(out, err, status, *calls_of(trace))
 
 

@@ -9,7 +9,7 @@ from typing import NamedTuple
 HELLO = b'hello'
 # Three full reads of a file, and a part of one.
 LONG = bytes(at * 7 % 251 for at in range(400_001))
-FILES = {'a': HELLO, 'e': b'', 'b c': b'world', 'long': LONG, 'same': HELLO, 'd/inner': HELLO, 'd/other': b'world',
+FILES = {'a': HELLO, 'e': b'', 'b c': b'world', 'long': LONG, 'piped': LONG[:40_000], 'same': HELLO, 'd/inner': HELLO, 'd/other': b'world',
          'd/sub/deep': b'deep', 'd/sub/last': b'', 'one/only': b'only'}
 FLAGS = {'32': '-H0', '64': '-H1', '128': '-H2', '3': '-H3'}
 MISSING, TOO_LONG = 'No such file or directory', 'File name too long'
