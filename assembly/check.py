@@ -195,7 +195,8 @@ def module_of(library, name):
 def has_prefetches(library, name):
     module, annotated = module_of(library, name)
     want(module != annotated and prefetch.add(module) == annotated, 'its prefetches are others')
-    places = prefetch.PLACES[prefetch.Module(module).processor()]
+    found = prefetch.Module(module)
+    places = [place for place in prefetch.PLACES[found.processor()] if found.has_hash_of(place)]
     for place in places:
         try:
             prefetch.add(module.replace(place.function, place.function + '_of_another_name'))
@@ -296,7 +297,7 @@ def other_instructions_are_noticed(text, room):
         right = file.read()
     want(not faults_of(right, room), 'it has others')
     for name, line in (*((re.escape(wide.plain(name)) + r'(?:\.i\w+)?', 'vpcmpeqb %zmm0,%zmm1,%k1') for name in wide.WIDE),
-                       (r'(?:XXH64|twox_rust_\d+_xxh64_v4)', 'vpaddq %zmm0,%zmm1,%zmm2')):
+                       (r'(?:XXH64|twox_rust_\d+_xxh32_write_v4)', 'vpaddq %zmm0,%zmm1,%zmm2')):
         wrong, count = re.subn(rf'^{name}:\n', rf'\g<0>\t{line}\n', right, flags=re.M)
         want(count == 1 and faults_of(wrong, room), f'{name}: it was not noticed')
     return f'{len(wide.WIDE)} functions, {len(wide.mnemonics())} mnemonics'

@@ -5,7 +5,7 @@
 
 A prefetch asks the processor to have a line of 64 bytes at hand soon. By LLVM's definition it does nothing else, also
 where its address leads to no memory. `add` writes them where the functions of PLACES call for the next bytes of an input,
-and refuses a module that lacks a place. `strip` takes off what `add` writes, and nothing else."""
+and refuses a module that lacks a place of a hash that it has. `strip` takes off what `add` writes, and nothing else."""
 import re
 import sys
 from collections import namedtuple
@@ -106,6 +106,10 @@ class Module:
         within = self.leads_to(place.within) if place.within else self.bodies
         return [name for name in self.bodies if name in within and plain(name).endswith(place.function)]
 
+    def has_hash_of(self, place):
+        """True if the module has functions of the hash that a place belongs to."""
+        return any(f'::{place.function.split("::")[0]}::' in f'::{name}' for name in self.bodies)
+
     def written(self, place, argument):
         for line in range(place.lines):
             form = (ADDRESS_APART if place.apart else ADDRESS) + PREFETCH
@@ -130,7 +134,7 @@ def add(text, places=None):
     bodies = {}
     for place in places:
         names = module.functions(place)
-        if not names:
+        if not names and module.has_hash_of(place):
             refuse(f'the module has no {place.function}')
         for name in names:
             bodies[module.bodies[name].span(3)] = module.annotated(name, place)

@@ -57,7 +57,7 @@ class X86:
         the jump."""
         name = row.text.split()[0]
         if len(row.raw) > 2 and name != 'call' and -126 <= end - row.at <= 127 + len(row.raw):
-            return f'{self.bytes(row.raw[:-4])}; .long {label}-.-4'
+            return f'{self.bytes(row.raw[:-4])}\n\t.long {label}-.-4'
         return f'{name} {label}'
 
 

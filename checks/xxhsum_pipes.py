@@ -105,6 +105,20 @@ def before_messages_of_lists(program, folder):
     return None if said == [*one_list, 'message', *one_list] else f'{said}'
 
 
+def before_messages_of_empty_lists(program, folder):
+    """The same of the message that a list has no well-formed line."""
+    name, = names_in(folder, 1)
+    line = subprocess.run([program, name], capture_output=True, cwd=folder, env=SETTINGS, check=True).stdout
+    for listed, text in (('list', line), ('none', b'junk\n')):
+        with open(os.path.join(folder, listed), 'wb') as file:
+            file.write(text)
+    parts, _status = writes_of([[program, '-c', 'list', 'none', 'list']], folder)
+    ok = name.encode() + b': OK'
+    wanted = [ok, b'none: no properly formatted xxHash checksum lines found', ok]
+    found = b''.join(parts).splitlines()
+    return None if found == wanted else f'{found}'
+
+
 def runs_into_one_pipe(program, folder):
     """Lines of several runs into one pipe stay whole, whatever the runs' order."""
     names = names_in(folder, FILES)
@@ -131,6 +145,7 @@ ROWS = {
     'whole lines of a check': checked_lines,
     'output before messages': before_messages,
     'output before messages about lists': before_messages_of_lists,
+    'output before messages about lists with no line': before_messages_of_empty_lists,
     'several runs into one pipe': runs_into_one_pipe,
     'a long line': long_line,
 }
@@ -153,5 +168,5 @@ PLANTED_ON_PIPES = {
     'lines that are cut anywhere': ('"$REAL" "$@" | dd bs=1000 2>/dev/null', ('whole lines', 'several runs into one pipe')),
     'a write for each line': ('"$REAL" "$@" | while IFS= read -r line; do printf "%s\\n" "$line"; done', ('whole lines',)),
     'messages first': ('"$REAL" "$@" >"$0.out"; status=$?; cat "$0.out"; exit $status',
-                       ('output before messages', 'output before messages about lists')),
+                       ('output before messages', 'output before messages about lists', 'output before messages about lists with no line')),
 }

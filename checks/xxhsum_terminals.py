@@ -1,9 +1,11 @@
 """What `xxhsum` does where its streams are terminals: rows of checks/xxhsum.
 
 Each row runs the program with some of its streams on pseudo-terminals, which are read to their end, after the program is
-gone. A row is its name, and what is wrong, or nothing."""
+gone. Its clock is that of checks/known_clock.c, so progress is compared byte by byte. A row is its name, and what is wrong,
+or nothing."""
 import concurrent.futures
 import contextlib
+import itertools
 import os
 import pty
 import re
@@ -12,12 +14,19 @@ import tempfile
 import threading
 import time
 
+from tools import must
+
 # What ends a program that hangs. Beside much other work a long file takes a minute.
 SECONDS = 300
-MIB = 1 << 20
+KIB, MIB = 1 << 10, 1 << 20
+STEP = 64 * MIB
 LONG = 130 * MIB
-# A file with no bytes on the disk, so long that the rest lasts for many seconds.
+# Files with no bytes on the disk: one so long that the rest lasts for many seconds, and one of more than a tebibyte.
 VAST = 1 << 38
+TEBIBYTE_AND_MORE = (1 << 40) + (1 << 36)
+# The rate of the known clock in KiB a second, and that of one that fails, which counts as a millisecond.
+RATE, RATE_OF_NO_TIME = 128000, STEP // KIB * 1000
+HERE = os.path.dirname(os.path.abspath(__file__))
 # The line of progress from which on the time that the program takes to start is little beside it.
 SETTLED = 2048
 WIDTHS = (80, 40, 20, 10)
@@ -26,14 +35,26 @@ EMPTY_ROW, ONE_ROW, ROW_END = b'\r\x1b[K', b'\x1b[?7l', b'\x1b[?7h\r'
 SETTINGS = {**os.environ, 'LC_ALL': 'C', 'TERM': 'xterm'}
 
 
-def progress_of(behind):
-    """What a terminal is sent of LONG bytes, as a pattern, since how fast they are read differs."""
-    lines = (re.escape(EMPTY_ROW + ONE_ROW) + number + rb' MiB, [1-9][0-9]* MiB/s' + behind + re.escape(ROW_END)
-             for number in (b'64', b'128'))
-    return b''.join(lines) + re.escape(EMPTY_ROW)
+def line_of_progress(count, size, rate=RATE):
+    """What a terminal is sent after so many bytes: of a file of this size, or of one whose size is not known."""
+    left = b', %d s left' % ((size - count) // KIB // rate) if size else b''
+    return EMPTY_ROW + ONE_ROW + b'%d MiB, %d MiB/s' % (count // MIB, rate // KIB) + left + ROW_END
 
 
-OF_INPUT, OF_FILE, NOTHING = progress_of(b''), progress_of(rb', [0-9]+ s left'), b''
+def progress_of(length, is_known):
+    """What a terminal is sent of a file of this length, or of an input."""
+    lines = [line_of_progress(count, length if is_known else 0) for count in range(STEP, length + 1, STEP)]
+    return b''.join([*lines, EMPTY_ROW]) if lines else b''
+
+
+OF_INPUT, OF_FILE, NOTHING = progress_of(LONG, False), progress_of(LONG, True), b''
+
+
+def known_clock(folder):
+    """The clock, compiled, as what is to be loaded before a program."""
+    library = os.path.join(folder, 'clock.so')
+    must(['gcc', '-O1', '-shared', '-fPIC', '-o', library, os.path.join(HERE, 'known_clock.c'), '-ldl'])
+    return {**SETTINGS, 'LD_PRELOAD': library}
 
 
 def read_to_end(stream):
@@ -62,14 +83,14 @@ class Ends:
         return text
 
 
-def run(program, words, terminals=('err',), given=os.devnull):
+def run(program, words, terminals=('err',), given=os.devnull, settings=SETTINGS):
     """What the program writes to its output and its errors, and its status, with these streams on terminals. Its input is
     this file, or a terminal at which nobody types."""
     ends = {name: Ends(name in terminals) for name in ('out', 'err')}
     keyboard = pty.openpty() if 'in' in terminals else (os.open(given, os.O_RDONLY),)
     try:
         status = subprocess.run([program, *words], stdin=keyboard[-1], stdout=ends['out'].theirs,
-                                stderr=ends['err'].theirs, env=SETTINGS, timeout=SECONDS, check=False).returncode
+                                stderr=ends['err'].theirs, env=settings, timeout=SECONDS, check=False).returncode
     except subprocess.TimeoutExpired:
         status = f'not ended after {SECONDS} s'
     finally:
@@ -116,50 +137,70 @@ def rows_left(sent, columns):
     return '' if rows == [''] and terminal.wraps else f'at {columns} columns {rows!r} is left'
 
 
-def shows(program, words, wanted, given):
+def shows(program, words, wanted, given, settings):
     """What is wrong with the progress of a run whose errors are a terminal: with what is sent, with what is left on a
     terminal of any width, or with the output and the status beside those of a run without."""
-    out, sent, status = run(program, words, given=given)
+    out, sent, status = run(program, words, given=given, settings=settings)
     silent = run(program, words, terminals=(), given=given)
-    if not re.fullmatch(wanted, sent):
+    if sent != wanted:
         return f'wanted {wanted!r}, found {sent!r}'
     if (out, b'', status) != silent:
         return f'found {(out, status)!r}, and with no terminal {silent!r}'
     return ''.join(rows_left(sent, columns) for columns in WIDTHS)
 
 
-def settled_lines(program, words):
-    """The numbers of the settled lines of progress of a run, which is ended at the first, and its seconds by our clock."""
+def shown_until(program, words, is_enough, settings):
+    """What a terminal is sent by a run, which is ended as soon as that is enough."""
     ours, theirs = pty.openpty()
-    began, sent, found = time.monotonic(), b'', []
+    sent = b''
     process = subprocess.Popen([program, *words], stdin=subprocess.DEVNULL, stdout=subprocess.DEVNULL, stderr=theirs,
-                               env=SETTINGS)
+                               env=settings)
     os.close(theirs)
     limit = threading.Timer(SECONDS, process.kill)
     limit.start()
     with contextlib.suppress(OSError):
-        while part := os.read(ours, 65536):
+        while not is_enough(sent) and (part := os.read(ours, 65536)):
             sent += part
-            for count, rate, left in re.findall(rb'([0-9]+) MiB, ([0-9]+) MiB/s, ([0-9]+) s left', sent):
-                if int(count) >= SETTLED:
-                    process.kill()
-                    found.append((int(count), int(rate), int(left), time.monotonic() - began))
-            sent = sent[sent.rfind(b'\r') + 1:]
     limit.cancel()
     process.kill()
     process.wait()
     os.close(ours)
-    return found
+    return sent
+
+
+def settled_line(sent):
+    """The numbers of the first settled line of progress, or None."""
+    lines = re.findall(rb'([0-9]+) MiB, ([0-9]+) MiB/s, ([0-9]+) s left', sent)
+    return next((tuple(map(int, line)) for line in lines if int(line[0]) >= SETTLED), None)
+
+
+def begins_with(program, size, lines, settings):
+    """What is wrong with the first lines of progress of a file of this size."""
+    wanted = b''.join(lines)
+    with tempfile.NamedTemporaryFile() as file:
+        file.truncate(size)
+        sent = shown_until(program, ['-H3', file.name], lambda sent: len(sent) >= len(wanted), settings)
+    return '' if sent.startswith(wanted) else f'wanted {wanted!r}, found {sent!r}'
+
+
+def shows_of(program, size, wanted, settings):
+    """What is wrong with the progress of a file of this size, which is read to its end."""
+    with tempfile.NamedTemporaryFile() as file:
+        file.truncate(size)
+        _, sent, _ = run(program, ['-H3', file.name], settings=settings)
+    return '' if sent == wanted else f'wanted {wanted!r}, found {sent!r}'
 
 
 def keeps_time(program):
     """What is wrong with the rate of a long file and with the time left: beside our clock, and beside its size."""
+    began = time.monotonic()
     with tempfile.NamedTemporaryFile() as file:
         file.truncate(VAST)
-        found = settled_lines(program, ['-H3', file.name])
+        found = settled_line(shown_until(program, ['-H3', file.name], settled_line, SETTINGS))
     if not found:
         return 'no line of progress'
-    count, rate, left, seconds = found[0]
+    count, rate, left = found
+    seconds = time.monotonic() - began
     by_clock, rest = count / seconds, (VAST // MIB - count) / max(rate, 1)
     if not by_clock / 4 < rate < by_clock * 4:
         return f'{rate} MiB/s are told, and by the clock it is {by_clock:.0f}'
@@ -170,20 +211,69 @@ def keeps_time(program):
 
 # ---- which of the streams are terminals
 
-def does(program, words, terminals, given, wanted):
+def does(program, words, terminals, given, wanted, settings=SETTINGS):
     """What is wrong with the output, the errors and the status of a run with these streams on terminals. Of errors that
     tell how the program is used the first line is compared."""
-    out, err, status = run(program, words, terminals, given)
+    out, err, status = run(program, words, terminals, given, settings)
     if err.startswith(b'Wrong parameters'):
-        err = err.split(b'\n')[0].rstrip(b'\r') + b'\n'
-    had = (out.replace(b'\r\n', b'\n'), err, status)
+        err = err.split(b'\n')[0] + b'\n'
+    had = (out.replace(b'\r\n', b'\n'), err.replace(b'\r\n', b'\n'), status)
     return '' if had == wanted else f'wanted {wanted!r}, found {had!r}'
 
 
-def rows_over(program, short, long, lists):
+# ---- control characters
+
+# Names that paint on a terminal: by an escape sequence, a control character of two bytes, and DEL; and one that does not.
+PAINTING = (b'esc\x1b[2K\x07', b'\xc3\xa9\x1b[1A', b'c1\xc2\x9b2K', b'del\x7f', b'plain \xc3\x80')
+
+
+def visible(name):
+    """A name as a terminal is sent it."""
+    if not re.search(rb'[\x00-\x1f\x7f]|\xc2[\x80-\x9f]', name):
+        return name
+    return re.sub(rb'[^\x20-\x7e]', lambda byte: b'\\x%02x' % byte[0][0], name)
+
+
+def painting_rows(program, room):
+    """Messages on errors, checks and audits on the output, with names that paint: shown on a terminal, and as they are
+    elsewhere."""
+    names = [os.fsencode(room) + b'/' + name for name in PAINTING]
+    gone = [name + b'-gone' for name in names]
+    for name in names:
+        with open(name, 'wb') as file:
+            file.write(b'hello')
+    lines = os.path.join(room, 'painting')
+    with open(lines, 'wb') as file:
+        file.writelines(b'26c7827d889f6da3  %s\n' % name for name in names)
+    counts = b'%d same, 0 changed, 0 moved, 0 copied, 0 new, 0 missing\n' % len(names)
+    for terminals in ((), ('out',), ('err',), ('out', 'err')):
+        on_out, on_err = (visible if stream in terminals else bytes for stream in ('out', 'err'))
+        where = ', '.join(terminals) or 'none'
+        messages = b''.join(b"Error: Could not open '%s': No such file or directory. \n" % on_err(name) for name in gone)
+        checked = b''.join(on_out(name) + b': OK\n' for name in names)
+        audited = b''.join(on_out(name) + b': same\n' for name in sorted(names))
+        for title, words, wanted in (('messages', gone, (b'', messages, 1)), ('a check', ['-c', lines], (checked, b'', 0)),
+                                     ('an audit', ['--audit', lines, *names], (audited + counts, b'', 0))):
+            yield f'control characters in {title}, terminals: {where}', (
+                does, program, words, terminals, os.devnull, wanted)
+
+
+def combinations_over(program, long, settings):
+    """Progress on each combination of terminals: on errors alone, and with the same output as without any."""
+    out, _, status = run(program, ['-H3', long], ())
+    for chosen in itertools.product((False, True), repeat=3):
+        terminals = tuple(itertools.compress(('in', 'out', 'err'), chosen))
+        wanted = (out, OF_FILE if 'err' in terminals else NOTHING, status)
+        yield f'progress of a file, terminals: {", ".join(terminals) or "none"}', (
+            does, program, ['-H3', long], terminals, os.devnull, wanted, settings)
+
+
+def rows_over(program, short, long, lists, settings):
     """Each row by its name: what to do, and with what. The files have `hello`, and LONG bytes; of the lists one names the
     long file, and one says a digest of it that is not its own."""
     (names, digests), folder = lists, os.path.dirname(long)
+    failing, tebibyte = {**settings, 'CLOCK_FAILS': '1'}, TEBIBYTE_AND_MORE
+    first = [line_of_progress(count, tebibyte) for count in (STEP, 2 * STEP, 3 * STEP)]
     of_short, refused = (b'26c7827d889f6da3  stdin\n', b'', 0), (b'', b'Wrong parameters\n', 1)
     return {
         'progress of input': (shows, program, ['-'], OF_INPUT, long),
@@ -203,13 +293,17 @@ def rows_over(program, short, long, lists):
         'no progress under --status': (shows, program, ['--status', '-'], NOTHING, long),
         'no progress of a short file': (shows, program, [short], NOTHING, short),
         'the rate and the time left': (keeps_time, program),
+        'the rate and the time left of more than a tebibyte': (begins_with, program, tebibyte, first, settings),
+        'the rate by a clock that fails': (begins_with, program, LONG, [line_of_progress(STEP, LONG, RATE_OF_NO_TIME)], failing),
+        'no progress below 64 MiB': (shows_of, program, STEP - 1, NOTHING, settings),
+        'progress from 64 MiB on': (shows_of, program, STEP, progress_of(STEP, True), settings),
         'nobody types': (does, program, [], ('in',), short, refused),
         'nobody types, and all are terminals': (does, program, [], ('in', 'out', 'err'), short, refused),
         'a file as input, and errors are a terminal': (does, program, [], ('err',), short, of_short),
         'a file as input, and the output is a terminal': (does, program, [], ('out',), short, of_short),
         'a file as input, and both are terminals': (does, program, [], ('out', 'err'), short, of_short),
-        'no progress into a file': (does, program, ['-H3', long], ('in', 'out'), short,
-                                    (run(program, ['-H3', long], ())[0], b'', 0)),
+        **dict(combinations_over(program, long, settings)),
+        **dict(painting_rows(program, os.path.dirname(short))),
     }
 
 
@@ -224,9 +318,10 @@ def rows_on_terminals(program, names=None):
         for path, text in ((short, 'hello'), (names_list, f'{long}\n'), (digests, f'XXH3 ({long}) = 0123456789abcdef\n')):
             with open(path, 'w', encoding='ascii') as file:
                 file.write(text)
-        for name, (check, *given) in rows_over(program, short, long, (names_list, digests)).items():
+        settings = known_clock(room)
+        for name, (check, *given) in rows_over(program, short, long, (names_list, digests), settings).items():
             if names is None or name in names:
-                yield name, check(*given)
+                yield name, check(*given, settings) if check is shows else check(*given)
 
 
 # Programs that do one thing wrong with the real one, and the rows that have to notice it.
@@ -234,11 +329,16 @@ PLANTED_ON_TERMINALS = {
     'a line that nobody wants': ('echo seen >&2; exec "$REAL" "$@"', {
         'no progress under -q', 'no progress of a file under -q', 'no progress under --status',
         'no progress of a short file', 'no progress below a folder under -q', 'no progress of an audit under -q',
-        'no progress of an audit under --status', 'no progress into a file'}),
+        'no progress of an audit under --status', 'progress of a file, terminals: in, out'}),
     'no line at all': ('exec "$REAL" "$@" 2>/dev/null', {
         'progress of input', 'progress of a file', 'progress below a folder', 'progress of the names in a list',
         'progress of an audit', 'progress of an audit below a folder', 'progress of an audit of the names in a list'}),
     'a line that comes late': ('"$REAL" "$@"; status=$?; sleep 0.3; echo late >&2; exit $status', {
         'no progress under -q', 'no progress of a file under -q', 'no progress under --status'}),
     'a rate that no machine has': ('printf "2048 MiB, 4000000000 MiB/s, 0 s left" >&2', {'the rate and the time left'}),
+    'a clock that is not asked': ('unset LD_PRELOAD; exec "$REAL" "$@"', {
+        'progress of a file', 'progress of input', 'the rate and the time left of more than a tebibyte'}),
+    'names that paint': ('exec 3>&1; "$REAL" "$@" 2>&1 >&3 | cat >&2', {'control characters in messages, terminals: err'}),
+    'no progress where the output is a terminal': ('[ -t 1 ] && exec 2>/dev/null; exec "$REAL" "$@"', {
+        'progress of a file, terminals: out, err', 'progress of a file, terminals: in, out, err'}),
 }

@@ -2823,7 +2823,8 @@ twox_c.xxh3_64.XXH3_64bits_withSecret:
 .L11_1f6:
 	.byte 102,46,15,31,132,0,0,0,0,0
 	cmp $0x4,%rsi
-	.byte 15,130; .long .L11_285-.-4
+	.byte 15,130
+	.long .L11_285-.-4
 	mov -0x4(%rdi,%rsi,1),%eax
 	mov 0x10(%rdx),%rcx
 	mov (%rdi),%edi
@@ -8371,7 +8372,8 @@ twox_c.xxh3_state.Xxh3State.update:
 	jmp .L31_27a
 .L31_1c8:
 	cmp $0x8,%rdx
-	.byte 15,130; .long .L31_250-.-4
+	.byte 15,130
+	.long .L31_250-.-4
 	mov (%rsi),%rax
 	mov %rax,(%rcx)
 	mov -0x8(%rsi,%rdx,1),%rax

@@ -8376,7 +8376,8 @@ XXH32:
 	lea 0x24234428(%rdx),%r9d
 	lea -0x10(%rax),%r11
 	test $0x10,%r11b
-	.byte 15,133; .long .L36_178-.-4
+	.byte 15,133
+	.long .L36_178-.-4
 	lea 0x10(%rsi),%rcx
 	imul $0x85ebca77,(%rsi),%r10d
 	add %r9d,%r10d
@@ -10150,7 +10151,8 @@ XXH3_128bits_digest:
 	not %rcx
 	add %rcx,%r14
 	shr $0x6,%r14
-	.byte 15,132; .long .L65_3f1-.-4
+	.byte 15,132
+	.long .L65_3f1-.-4
 	vinserti128 $0x1,%xmm5,%ymm3,%ymm3
 	vinserti128 $0x1,%xmm4,%ymm2,%ymm2
 	shl $0x3,%r14

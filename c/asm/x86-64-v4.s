@@ -2923,7 +2923,8 @@ twox_c.xxh3_64.XXH3_64bits_withSeed:
 	movabs $0x165667b19e3779f9,%rdx
 	.byte 15,31,64,0
 	test %rcx,%rcx
-	.byte 15,132; .long .L15_365-.-4
+	.byte 15,132
+	.long .L15_365-.-4
 	mov $0x87275a9b,%r8d
 	add %r8,%rax
 	movzbl -0x1(%rdi,%rcx,1),%r8d
@@ -9203,7 +9204,8 @@ XXH32:
 	lea 0x24234428(%rdx),%r9d
 	lea -0x10(%rax),%r11
 	test $0x10,%r11b
-	.byte 15,133; .long .L42_178-.-4
+	.byte 15,133
+	.long .L42_178-.-4
 	lea 0x10(%rsi),%rcx
 	imul $0x85ebca77,(%rsi),%r10d
 	add %r9d,%r10d
@@ -10977,7 +10979,8 @@ XXH3_128bits_digest:
 	not %rcx
 	add %rcx,%r14
 	shr $0x6,%r14
-	.byte 15,132; .long .L71_3f1-.-4
+	.byte 15,132
+	.long .L71_3f1-.-4
 	vinserti128 $0x1,%xmm5,%ymm3,%ymm3
 	vinserti128 $0x1,%xmm4,%ymm2,%ymm2
 	shl $0x3,%r14

@@ -8,7 +8,7 @@ import sys
 import tempfile
 import time
 
-from . import aims, edits, kit, memory, source
+from . import aims, edits, hard, kit, memory, source
 from .proofs import Built, Heard
 from .trial import BY_ANSWERS, BY_NAMES, Trial
 
@@ -22,6 +22,8 @@ def main(given):
         files = {it: found for it in chosen_crates(given) if (found := edits.files_of(it, room))}
         if given.unaimed:
             return aims.main(files)
+        if given.hard:
+            return hard.main(given, files)
         proofs = Heard(given.jobs) if given.beside_ci else Built(files, given.jobs)
         trials = try_all(files, proofs, given.jobs, lambda it: tell(it, given.v), memory.Memory(given.anew))
     if given.write:

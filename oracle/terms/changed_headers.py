@@ -4,7 +4,7 @@ import os
 import tempfile
 
 from . import every_length, plain_streams, xxh3_streams
-from .loops import REFUSALS
+from .refusals import REFUSALS
 from .sides import HEADERS, module
 
 LONG, ACCUMULATE = "XXH3_hashLong_internal_loop", "XXH3_accumulate("

@@ -19,11 +19,11 @@ import antt
 import mutants
 import proved_rows
 
-from . import definition, every_length, nodes
-from .loops import REFUSALS
+from . import definition, every_length, nodes, sides
+from .refusals import REFUSALS, Undecided
+from .requests import Request, differing_point, differing_point_of_numbers
 from .machine import Function
-from .nodes import Node, Undecided, WrongRule
-from .sides import Request, differing_point, differing_point_of_numbers
+from .nodes import Node, WrongRule
 
 SECONDS = 4              # a change that takes longer doesn't end, as far as is seen here
 EQUAL_LINES = os.path.join(os.path.dirname(os.path.abspath(__file__)), "equal_lines.txt")
@@ -85,7 +85,7 @@ class Asked:
 
     def __init__(self, request, module):
         self.request, self.length, self.outcome = request, request.length, None
-        self.answer = request.of_reference(module)
+        self.answer = sides.of_reference(request, module)
 
     def agrees(self, entries):
         """Whether another row has to be asked: False where the two differ at a point."""
@@ -205,7 +205,7 @@ def reaching(module, requests):
     try:
         for request in requests:
             seen.clear()
-            request.of_reference(module)
+            sides.of_reference(request, module)
             for name in seen:
                 out[name].append(request)
     finally:
@@ -242,7 +242,7 @@ def changed_outcome(module, change, requests, answers):
         module.functions[change[0]] = with_line(module, *change)
         for request in requests:
             with Limited():
-                value = request.of_reference(module)
+                value = sides.of_reference(request, module)
                 if not nodes.is_same(value, answers[id(request)]):
                     what = difference(request, value, answers[id(request)])
             if what == NOTICED:
@@ -346,7 +346,7 @@ def by_hand(module):
         for name in hashes:
             for n in HAND_LENGTHS[name]:
                 request = Request(name, "seed", n)
-                a, b = request.of_definition(entries), request.of_reference(module)
+                a, b = request.of_definition(entries), sides.of_reference(request, module)
                 asked_lengths += 1
                 if not nodes.is_same(a, b):
                     point = point or not others and differing_point(request, a, b)   # asked once

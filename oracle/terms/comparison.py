@@ -2,9 +2,9 @@
 import random
 
 from . import definition, nodes
-from .loops import REFUSALS
+from .refusals import REFUSALS
+from .requests import Request, differing_point
 from .nodes import WrongRule
-from .sides import Request, differing_point
 
 MOST_NODES = 1_500_000
 SECRETS = 136, 137, 143, 144, 192, 256

@@ -8,7 +8,8 @@ import antt
 import table
 
 from . import operations
-from .nodes import Undecided, WrongRule, is_same, memo
+from .nodes import WrongRule, is_same, memo
+from .refusals import Undecided
 from .polynomials import Poly, is_number, is_natural, minus, monus, plus, smaller
 
 ENTRIES = table.ENTRIES + ["word64", "Xxh32.accumulator", "Xxh64.accumulator", "Long.accumulator_after"]

@@ -5,15 +5,14 @@ A length is a polynomial: XXH32's and XXH64's n is stripe * a + r, with r a numb
 q is any number from 9 on and the secret has 64 + 8 q + u bytes, u < 8; else q is 16 and J a number."""
 from . import definition, nodes
 from .definition import Bytes, suppositions
-from .loops import Loop, Loops, NotShown, agree
+from .loops import Loop, Loops
+from .refusals import NotShown
+from .requests import LONGEST, LONGEST_SECRET, seed_symbol
 from .memory import Input, Memory
 from .nodes import Node, symbol
 from .operations import side_by_side
-from .polynomials import Poly, at_most, divided, given, is_same, minus, plus, times, variable
-from .sides import seed_symbol
+from .polynomials import agree, at_most, divided, given, is_same, minus, plus, Poly, times, variable
 
-LONGEST = (1 << 64) - 1
-LONGEST_SECRET = 1 << 60
 SHORTEST_SECRET_STRIPES = 9        # a secret has at least 136 bytes
 DEFAULT_SECRET, DEFAULT_STRIPES = 192, 16     # its bytes, and the stripes of a block under it
 WAYS = "default", "seed", "seed 0", "secret", "both"

@@ -4,16 +4,14 @@ What isn't read here is Unsupported: nothing is skipped in silence but attribute
 import re
 from dataclasses import dataclass
 
+from .refusals import Unsupported
+from .words import signed
+
 TOKEN = re.compile(r'c"[^"]*"|"[^"]*"|[%@][-\w.$]+|-?\d+|[\w.]+|\.\.\.|[][(){}<>,*=]|![\w.]*|#\d+')
 ATTRIBUTES = {"noundef", "noalias", "nocapture", "readonly", "writeonly", "immarg", "inbounds", "nuw", "nsw", "exact",
               "dso_local", "internal", "private", "unnamed_addr", "signext", "zeroext", "volatile", "tail",
               "local_unnamed_addr"}
 POINTER_BYTES = 8
-
-
-class Unsupported(Exception):
-    """Text or an operation that isn't known here, or one that a program mustn't do, as an access outside of an
-    object."""
 
 
 @dataclass(frozen=True)
@@ -265,11 +263,6 @@ class Reader:
                 self.take(",")
             return out
         return [(0, t.size(), self.operand(t).value)]
-
-
-def signed(n, width=64):
-    n %= 1 << width
-    return n - (1 << width) if n >> width - 1 else n
 
 
 def place_of(t, address, *steps):

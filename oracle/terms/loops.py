@@ -8,14 +8,10 @@ steps, and with nothing else changed that lives; and from k = last the loop is l
 Steps are guessed from a first turn and then shown. What a turn writes before it reads is unset at the head, so that a
 read of it is an error. Which cells the accumulators are is a guess too, by their names in the header: the first part
 fails where they are others. Heads aren't named: they are the blocks to which a function goes back."""
-from .llvm_text import Unsupported
-from .nodes import Undecided, is_same, symbol
-from .polynomials import given, is_number, is_natural, minus, plus, times, variable
+from .nodes import is_same, symbol
+from .polynomials import agree, given, is_number, is_natural, minus, plus, times, variable
 from .polynomials import is_same as is_same_number
-
-
-class NotShown(Exception):
-    """The two sides aren't shown to be the same."""
+from .refusals import NotShown
 
 
 class Loop:
@@ -101,12 +97,6 @@ class Loops:
 
 
 # ---- what changes
-
-def agree(a, b):
-    if isinstance(a, tuple) and isinstance(b, tuple):
-        return len(a) == len(b) and all(x is y or agree(x, y) for x, y in zip(a, b))
-    return is_same(a, b) or is_same_number(a, b) or isinstance(a, str) and a == b
-
 
 def step_between(old, now):
     """How far a number or an address has gone on, or None."""
@@ -210,5 +200,3 @@ class Proof:
 def shown(x):
     return f"{x[0].name} + {x[1]}" if isinstance(x, tuple) else str(x)
 
-
-REFUSALS = NotShown, Undecided, Unsupported

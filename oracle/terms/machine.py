@@ -1,79 +1,17 @@
 """Runs functions of LLVM's text over terms. Addresses, lengths and branches are numbers, or polynomials that the facts
 decide; what is loaded from an input is a term. A vector is one number, its first lane the lowest bits."""
-import contextlib
-
 from . import operations
-from .llvm_text import (NOTHING, FunctionName, Pointer, Reader, Register, Struct, Unsupported, alignment_said,
-                        instruction,
-                        place_of, signed)
+from .llvm_text import (NOTHING, FunctionName, Pointer, Reader, Register, Struct, alignment_said, instruction, place_of)
 from .memory import Input, Memory, Unset, is_address
-from .nodes import SUM, Node, Undecided, symbol
+from .nodes import Node, symbol
 from .operations import bits, side_by_side
-from .polynomials import (Poly, constant_of, divided, is_less, is_natural, is_number, lifted, minus, plus, times,
-                          wrapped)
-from .rules import ones
+from .polynomials import Poly, constant_of, is_natural, is_number, lifted, minus, plus
+from .refusals import Undecided, Unsupported
+from .words import BINARY, compare_numbers, rotated, signed
+
 
 WORD = 64
 HALF = 1 << WORD - 1
-
-
-# ---- operations on words
-
-def words(on_numbers, on_terms, on_polynomials=None):
-    """An operation of a width. Where a polynomial has no answer as one, it becomes a term."""
-    def operation(width, a, b):
-        if isinstance(a, int) and isinstance(b, int):
-            return on_numbers(width, a, b) % (1 << width)
-        if on_polynomials and is_number(a) and is_number(b):
-            with contextlib.suppress(Undecided):
-                return on_polynomials(width, a, b)
-        return on_terms(width, lifted(a), lifted(b))
-    return operation
-
-
-def amount(k):
-    if not isinstance(k, int):
-        raise Undecided("the amount of a shift")
-    return k
-
-
-def no_terms(width, a, b):
-    raise Undecided(f"a quotient or remainder of {a} and {b}")
-
-
-def xor(width, a, b):
-    for x, other in ((a, b), (b, a)):
-        if other.__class__ is int and other == ones(width) and isinstance(x, Node) and x.kind is SUM:
-            return operations.complement(width, x)
-    return operations.xor(a, b)
-
-
-def low_bits(width, a, b):
-    """a and b, where one is 2 ^ k - 1."""
-    if isinstance(a, int):
-        a, b = b, a
-    if not isinstance(b, int) or b & b + 1:
-        raise Undecided("a mask")
-    return divided(a, b + 1)[1]
-
-
-BINARY = {
-    "add": words(lambda w, a, b: a + b, lambda w, a, b: operations.add_at(w, (1, a), (1, b)),
-                 lambda w, a, b: wrapped(plus(a, b), w)),
-    "sub": words(lambda w, a, b: a - b, lambda w, a, b: operations.add_at(w, (1, a), (-1, b)),
-                 lambda w, a, b: wrapped(minus(a, b), w)),
-    "mul": words(lambda w, a, b: a * b, operations.multiply_at, lambda w, a, b: wrapped(times(a, b), w)),
-    "xor": words(lambda w, a, b: a ^ b, xor),
-    "or": words(lambda w, a, b: a | b, lambda w, a, b: operations.either(a, b)),
-    "and": words(lambda w, a, b: a & b, lambda w, a, b: operations.both(a, b), low_bits),
-    "shl": words(lambda w, a, b: a << b, lambda w, a, b: operations.multiply_at(w, a, 1 << amount(b)),
-                 lambda w, a, b: wrapped(times(a, 1 << amount(b)), w)),
-    "lshr": words(lambda w, a, b: a >> b, lambda w, a, b: operations.shift_right(a, amount(b)),
-                  lambda w, a, b: divided(a, 1 << amount(b))[0]),
-    "udiv": words(lambda w, a, b: a // b, no_terms, lambda w, a, b: divided(a, b)[0]),
-    "urem": words(lambda w, a, b: a % b, no_terms, lambda w, a, b: divided(a, b)[1]),
-    "sdiv": words(lambda w, a, b: int(signed(a, w) / signed(b, w)), no_terms),
-}
 
 
 def binary(module, parts, value, before):
@@ -123,10 +61,6 @@ def shuffle(module, parts, value, before):
 
 # ---- comparisons
 
-TESTS = {"eq": lambda a, b: a == b, "ne": lambda a, b: a != b, "lt": is_less, "gt": lambda a, b: is_less(b, a),
-         "le": lambda a, b: not is_less(b, a), "ge": lambda a, b: not is_less(a, b)}
-
-
 def compare(module, parts, value, before):
     test, t, a, b = parts
     a, b = value(a), value(b)
@@ -140,20 +74,6 @@ def compare(module, parts, value, before):
         if not module.allows_unknown_bits:
             raise
         return symbol(module.fresh("bit"), 1)
-
-
-def compare_numbers(test, width, a, b):
-    if test[0] == "s":
-        a, b = (with_sign(x, width) for x in (a, b))
-    return TESTS[test[-2:]](a, b)
-
-
-def with_sign(x, width):
-    if isinstance(x, int):
-        return signed(x, width)
-    if not is_natural(minus(ones(width - 1), x)):
-        raise Undecided(f"the sign of {x}")
-    return x
 
 
 def compare_addresses(module, test, a, b):
@@ -253,13 +173,6 @@ def intrinsic(name, arguments):
             raise Unsupported("an assumption that doesn't hold")
         return None
     raise Unsupported(name)
-
-
-def rotated(width, a, b, k):
-    if a is not b and a != b:
-        raise Unsupported("a shift of two words")
-    k = amount(k) % width
-    return operations.either(operations.multiply_at(width, a, 1 << k), bits(a, width - k, k)) if k else a
 
 
 def copy(to, source, n):

@@ -8,13 +8,14 @@ import sys
 
 import table
 
-from . import comparison, definition, halves, nodes, operations
-from .machine import BINARY
+from . import comparison, definition, halves, nodes, operations, sides
+from .requests import Request
+from .words import BINARY
 from .nodes import BITS, NODES, SUM, SYMBOL, Node, most_of, symbol, values_at
 from .operations import (add, add_at, bits, both, either, monus, multiply, multiply_at, quotient, remainder,
                          shift_right,
                          xor)
-from .sides import DEBIAN_PYTHON, Request
+from .sides import DEBIAN_PYTHON
 
 MANY_POINTS = 8
 PRIME = 0x9E3779B185EBCA87
@@ -144,7 +145,7 @@ def table_rows(module):
             terms.clear()
         request = asked_by(row)
         if repr(request) not in terms:
-            terms[repr(request)] = request.of_reference(module)
+            terms[repr(request)] = sides.of_reference(request, module)
         seed = row.seed or 0
         point = {"m": bytes(table.drawn(row.start, row.length)), "seed32": seed % 2 ** 32, "seed64": seed,
                  "s": bytes(table.drawn(row.secret[1], row.secret[0])) if row.secret else b""}
@@ -280,7 +281,7 @@ def by_solver(module):
     for name, kind, secret in comparison.kinds((136,)):
         for length in range(SOLVED + 1):
             request = Request(name, kind, length, secret)
-            request.of_definition(entries), request.of_reference(module)
+            request.of_definition(entries), sides.of_reference(request, module)
     operations.watching.clear()
     asked = list(solver.asked.values())[::EACH]
     found = [(solver.holds(*question), question) for question in asked]

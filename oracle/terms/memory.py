@@ -3,7 +3,7 @@
 An address is (object, offset). An offset and a length may be polynomials. Each access has to be shown to lie inside of
 its object, and a load of a byte that was never stored is an error."""
 from . import operations
-from .llvm_text import Unsupported
+from .refusals import Unsupported
 from .nodes import symbol
 from .polynomials import constant_of, is_natural, is_number, is_same, minus, plus
 from .rules import bits_of, from_segments

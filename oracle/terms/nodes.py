@@ -19,10 +19,6 @@ POINTS = 2
 WORD = 64   # a symbol above this width has its values as bytes
 
 
-class Undecided(Exception):
-    """A comparison, a branch or an address that depends on symbols."""
-
-
 class WrongRule(Exception):
     """A rule gave a term of another value: this program is wrong."""
 

@@ -6,7 +6,8 @@ numbers: CHECKED turns that off."""
 import functools
 
 from . import nodes, rules
-from .nodes import NATURALS, OPAQUE, Node, Undecided, WrongRule, memo, most_of, node, use, window
+from .nodes import NATURALS, OPAQUE, Node, WrongRule, memo, most_of, node, use, window
+from .refusals import Undecided
 from .polynomials import lifted
 from .rules import bits_of, from_segments, narrow, places, product_at, segments_of, sum_at, xor_segments, zeros_below
 

@@ -5,12 +5,13 @@ N / stripe stripes, its memsize is N % stripe, and its buffer begins with these 
 stands for no byte; each update leads from one that stands for N = stripe * a + r bytes to one for stripe * b + s; and
 a digest of one is the definition's value, and changes nothing."""
 from .definition import Bytes, suppositions
-from .every_length import LONGEST, Proof, plain_loop
-from .loops import NotShown, agree
+from .every_length import Proof, plain_loop
+from .refusals import NotShown
+from .requests import LONGEST, seed_symbol
 from .memory import Input, Memory, Piece
 from .nodes import symbol
-from .polynomials import as_word, at_most, given, is_natural, is_same, minus, plus, times, variable
-from .sides import BESIDE, seed_symbol
+from .polynomials import agree, as_word, at_most, given, is_natural, is_same, minus, plus, times, variable
+from .sides import BESIDE
 
 FIELDS = {64: ["total", "accumulators", "buffer", "memsize"],
           32: ["total", "large", "accumulators", "buffer", "memsize"]}

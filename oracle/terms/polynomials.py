@@ -6,8 +6,9 @@ at 0. Each "yes" is compared with the value at some points at which the facts ho
 import contextlib
 import random
 
-from . import rules
-from .nodes import Undecided, symbol
+from . import nodes, rules
+from .nodes import symbol
+from .refusals import Undecided
 
 WORD = 64
 DEPTH = 4                     # how often a fact may be taken away
@@ -387,3 +388,10 @@ def lifted(x):
     if not (is_natural(x) and is_natural(at_most(x, (1 << WORD) - 1))):
         raise Undecided(f"{x} as a word")
     return as_word(x, WORD)
+
+
+def agree(a, b):
+    """Whether two values, or tuples of some, are the same."""
+    if isinstance(a, tuple) and isinstance(b, tuple):
+        return len(a) == len(b) and all(x is y or agree(x, y) for x, y in zip(a, b))
+    return nodes.is_same(a, b) or is_same(a, b) or isinstance(a, str) and a == b

@@ -11,7 +11,7 @@ import traceback
 import antt
 
 from . import changes
-from .loops import REFUSALS
+from .refusals import REFUSALS
 from .nodes import WrongRule
 
 SHOWN = 30                   # complaints of a row

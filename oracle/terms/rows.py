@@ -10,7 +10,7 @@ import mutants
 from . import changed_headers, changes, comparison, every_length, machinery, plain_streams, processes, xxh3_streams
 from .comparison import SECRETS
 from .machine import Module
-from .sides import HEADERS, VECTORS, llvm_text
+from .sides import HEADERS, VECTORS, llvm_text, of_reference
 
 PARTS = 4                    # the changes are tried in so many rows
 SAMPLE = 32                  # in the gate, each so manieth change of the definition's text
@@ -62,7 +62,7 @@ def vector_lengths(vectors):
 
 def compared(title, kind, asked, vector, streams=False):
     def ask(module):
-        sides = {"the reference": lambda request: request.of_reference(module)}
+        sides = {"the reference": lambda request: of_reference(request, module)}
         equal, complaints = comparison.compare(sides, comparison.requests(*kind, asked, streams))
         return f"{equal} requests, each one term", complaints
     first, last = min(asked), max(asked)

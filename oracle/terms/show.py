@@ -1,7 +1,7 @@
 """Shows the term of a request, step by step, as each side comes to it."""
-from . import definition, nodes
+from . import definition, nodes, sides
 from .nodes import BITS, NODES, PRODUCT, SUM, SYMBOL, Node
-from .sides import Request
+from .requests import Request
 
 NAMES = {"m": "message", "s": "secret", "seed32": "seed", "seed64": "seed"}
 
@@ -74,7 +74,7 @@ def show(module, hash_name, length):
     out = []
     request = Request(hash_name, "seed", length)
     for side, ask in (("the definition", lambda: request.of_definition(definition.program().run())),
-                      ("the reference", lambda: request.of_reference(module))):
+                      ("the reference", lambda: sides.of_reference(request, module))):
         nodes.forget()
         out.append((f"{request}, by {side}", steps(ask())))
     return out

@@ -11,14 +11,15 @@ doesn't matter to an update or a digest, so they are symbols: a secret that a se
 cases of these."""
 from . import definition, nodes
 from .definition import Bytes
-from .every_length import (DEFAULT_STRIPES, LONGEST_SECRET, SHORTEST_SECRET_STRIPES, Proof, cells_at, suppositions,
-                           xxh3_loop)
-from .loops import NotShown, agree, loops_of
+from .every_length import DEFAULT_STRIPES, SHORTEST_SECRET_STRIPES, Proof, cells_at, suppositions, xxh3_loop
+from .refusals import NotShown
+from .requests import LONGEST_SECRET, seed_symbol
+from .loops import loops_of
 from .memory import Input, Memory, Piece
 from .nodes import symbol
 from .operations import side_by_side
-from .polynomials import Poly, at_most, divided, given, is_natural, is_same, minus, plus, times, variable
-from .sides import BESIDE, seed_symbol
+from .polynomials import agree, at_most, divided, given, is_natural, is_same, minus, plus, Poly, times, variable
+from .sides import BESIDE
 
 LONGEST = (1 << 63) - 1      # bytes together: the header takes differences of addresses as signed numbers
 FIELDS = ["accumulators", "inside", "buffer", "buffered", "uses_seed", "so_far", "total", "per_block", "limit", "seed",

@@ -5,8 +5,8 @@ have ways of their own for q = 16 (every_length.py has these), from 31,744 bytes
 import collections
 import functools
 
-from terms.every_length import LONGEST
-from terms.loops import NotShown
+from terms.refusals import NotShown
+from terms.requests import LONGEST
 from terms.nodes import is_same, symbol
 from terms.polynomials import at_most, given, minus, plus, times, variable
 

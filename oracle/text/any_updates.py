@@ -11,13 +11,12 @@ import collections
 
 from terms import definition, nodes
 from terms.definition import Bytes, suppositions
-from terms.every_length import LONGEST
-from terms.loops import REFUSALS, NotShown
+from terms.refusals import REFUSALS, NotShown
+from terms.requests import LONGEST, Request, seed_symbol
 from terms.memory import Input, Piece
 from terms.nodes import is_same
 from terms.polynomials import at_most, given, lifted, minus, plus, times, variable
 from terms.polynomials import is_same as is_same_number
-from terms.sides import Request, seed_symbol
 
 from . import streams
 from .every_length import LIMIT, UNROLLED

@@ -1,15 +1,18 @@
 """What of the exports is neither a one-shot nor a stream: canonical forms, comparisons, copies, made secrets, refusals.
 Each function asks a processor, gives how many cases it had, and raises where the text does anything else."""
+import itertools
+import random
+
 from terms import definition, nodes
 from terms.definition import Bytes
-from terms.loops import NotShown
+from terms.refusals import NotShown
+from terms.requests import Request
 from terms.memory import Input
 from terms.nodes import is_same, symbol
-from terms.polynomials import at_most, given, plus, variable
-from terms.sides import Request
+from terms.polynomials import at_most, given, plus, times, variable
 
 from . import one_shots, streams
-from .memory import Words
+from .memory import Numbers, OnlyRead, Words
 from .streams import ERROR, OK, contents, digest, expect_answer, expect_same, new_state, reset, update
 from .values import address, arithmetic, bits, low
 
@@ -17,6 +20,9 @@ WIDTHS = {"XXH32": 32, "XXH64": 64, "XXH128": 128}
 SHORTEST, LONGEST_KEPT = 136, 256       # bytes of a secret: that a call takes, that a state keeps
 # Of a state of XXH3: where parts of it lie, and the bytes of its buffer.
 PLACE, COUNTED, WAITING, TOTAL, SECRET_LENGTH, BUFFERED = 0x40, 0x88, 0x290, 0x298, 0x2b8, 512
+# A message and a secret in one place: where each begins, and its bytes.
+ONE_PLACE = [(0, 136, 0, 136), (0, 300, 0, 192), (64, 240, 0, 136), (0, 1100, 8, 200), (1, 17, 0, 136), (130, 16, 0, 136),
+             (100, 700, 36, 143), (0, 129, 128, 136)]
 MOST_NODES = 500_000                    # between two cases
 LIMITS = {32: (1 << 32) - 1, 64: (1 << 64) - 1}
 
@@ -72,11 +78,28 @@ def compare(cpu):
             with given(at_most(plus(a, more, 1), LIMITS[64]), at_most(plus(b, rest, 1), LIMITS[64])):
                 words = [(plus(x, d, 1) if side > 0 else x, plus(x, d, 1) if side < 0 else x)
                          for x, d, side in ((b, rest, under), (a, more, high))]
-                first, second = (Words(name, 16, [(8 * k, 8, words[k][j]) for k in (0, 1)], alignment=8)
+                first, second = (OnlyRead(name, 16, [(8 * k, 8, words[k][j]) for k in (0, 1)], alignment=8)
                                  for j, name in enumerate(("first", "second")))
                 rax, _ = cpu.call("XXH128_cmp", address(first), address(second))
             expect("XXH128_cmp", low(rax, 32), order[high or under])
     return len(order) ** 2
+
+
+def compare_in_one_place(cpu):
+    """Two hashes at one place, and two that have a word in common: the order of three words, by two steps."""
+    order, count = {1: 1, 0: 0, -1: LIMITS[32]}, 0
+    for above, below in itertools.product(order, order):
+        a, d, e = (variable(name) for name in ("a", "d", "e"))
+        first = plus(a, plus(e, 1) if below < 0 else 0, plus(d, 1) if above < 0 else 0)
+        second = plus(first, times(plus(e, 1), below))
+        third = plus(second, times(plus(d, 1), above))
+        with given(at_most(plus(a, d, e, 2), LIMITS[64])):
+            words = OnlyRead("hashes", 24, [(0, 8, first), (8, 8, second), (16, 8, third)], alignment=8)
+            for at, other, sign in ((8, 0, 1), (0, 8, -1), (0, 0, 0), (8, 8, 0)):
+                rax, _ = cpu.call("XXH128_cmp", address(words, at), address(words, other))
+                expect("XXH128_cmp of hashes in one place", low(rax, 32), order[sign * (above or below)])
+                count += 1
+    return count
 
 
 def version(cpu):
@@ -231,6 +254,25 @@ def null_pointers(cpu):
     return count
 
 
+def in_one_place(cpu):
+    """One-shots of a message and a secret that have bytes in common, or all, of numbers. That no branch depends on where they
+    lie the rows of symbols show."""
+    entries, count, draw = definition.program().run(), 0, random.Random(3)
+    cpu.not_zero = []
+    for hash_name, kind, (first, n, own, size) in itertools.product(("3-64", "3-128"), ("secret", "both"), ONE_PLACE):
+        if not cpu.library.has(Request(hash_name, kind, n, size)):
+            continue
+        data = draw.randbytes(max(first + n, own + size))
+        whole, seed = Numbers("m", data), draw.getrandbits(64) if kind == "both" else 0
+        ours = cpu.library.one_shot(cpu, hash_name, kind, address(whole, first), n, address(whole, own), size,
+                                    *([seed] if kind == "both" else []))
+        theirs = definition.value(entries, hash_name, kind, seed, memoryview(data)[own:own + size],
+                                  memoryview(data)[first:first + n])
+        expect(f"XXH{hash_name}, {kind}: {n} bytes from {first}, secret of {size} from {own}", ours, theirs)
+        count += 1
+    return count
+
+
 def updates_of_nothing(cpu):
     """A null piece of no bytes, before, between and after others, leaves what a state answers."""
     entries, count = definition.program().run(), 0
@@ -276,3 +318,20 @@ def made_secrets(cpu, asked):
     return len(asked)
 
 
+def some_secrets(cpu):
+    return made_secrets(cpu, [(SHORTEST - 1, 3), (SHORTEST, 0), (143, 3), (200, 17), (256, 241)])
+
+
+# A row's title, the least number of its cases, and what is asked: of calls that take no message, and of those that take one.
+WITHOUT_MESSAGE = [("canonical forms and back", 6, canonical_forms), ("equal hashes", 4, is_equal),
+                   ("the order of hashes", 9, compare), ("the order of hashes in one place", 36, compare_in_one_place),
+                   ("the version", 1, version), ("copies of states", 3, copies),
+                   ("freed states are refused", 4, forgotten), ("the derived secret", 2, derived_secret)]
+OF_MESSAGES = [("streams: memory without the mark of a reset", 8, without_mark),
+               ("streams: states of XXH3 that no call leaves", 10, out_of_range),
+               ("streams: counters that stay at 2^64 - 1", 20, counters_stay),
+               ("streams: secrets that a state doesn't keep", 80, refused_resets),
+               ("streams: null pieces of no bytes", 20, updates_of_nothing),
+               ("null inputs and secrets of no bytes", 14, null_pointers),
+               ("a message and a secret in one place", 32, in_one_place)]
+OTHERS = [*WITHOUT_MESSAGE, *OF_MESSAGES, ("made secrets", 5, some_secrets)]

@@ -1,17 +1,15 @@
-"""The texts below the cargo crate, rust/asm, and how their exports are called, as rust/src/library.rs does it. The
+"""The texts below the cargo crate, rust/asm, and how their exports are called, as rust/src/kernels/assembly.rs does it. The
 names of a text have the number of the interface and the set of instructions in them: here they are without.
 
-A stream of XXH3 is given its secret by each call: the default one, one of 192 bytes that a seed derived, or its own.
-It begins with the seed, and all else is what a state of the library for C begins with."""
-import collections
+A stream of XXH3 is given its secret by each call. It begins with the accumulators, as a state of the library for C does."""
 import os
 import re
 
-from terms.llvm_text import Unsupported
-from terms.loops import NotShown
 from terms.nodes import is_same
-from terms.sides import TOP
+from terms.refusals import NotShown, Unsupported
+from terms.requests import TOP
 
+from .listed import HIDDEN, WEAK
 from .memory import Words
 from .objects import TEXT, Program
 from .one_shots import is_plain
@@ -20,17 +18,15 @@ from .values import address, joined, low
 
 FOLDER = os.path.join(TOP, "rust", "asm")
 NAMED = re.compile(r"twox_rust_\d+_(\w+?)(?:_v[34])?|(.+)\.i\d+(?:_v[34])?|twox_rust_(interface)(?:_v[34])?")
-WEAK, HIDDEN = 2, 2               # a symbol's binding, and its visibility
-DONE, TOO_SHORT, NO_STREAM = 0, 1, 2                  # codes
-WAYS = {"default": "", "seed": "_with_seed", "secret": "_with_secret", "both": "_with_seed_and_secret"}
-SHORTEST, DERIVED = 136, 192      # bytes of a secret, and of one that a seed derives
-LONGEST_WITHOUT = 240             # bytes of a message that needs none where there is a seed
+DONE, TOO_SHORT, NO_STREAM, FEW = 0, 1, 2, 3            # codes
+SHORTEST = 136                    # bytes of a secret
+LONGEST_WITHOUT = 240             # bytes of a message that needs no secret where there is a seed
 
 
 class CargoProgram(Program):
     """The text of a set, which was made of a file of that name."""
 
-    BINDING = WEAK                # versions of the crate that have one interface share the code of one of them
+    EXPORT = WEAK, HIDDEN         # versions of the crate that have one interface share the code of one of them
 
     def __init__(self, name, path):
         self.name = name
@@ -41,9 +37,6 @@ class CargoProgram(Program):
         return {symbol.name for symbol in self.object.symbols}
 
     def names(self):
-        for symbol in self.object.symbols:
-            if symbol.info >> 4 == WEAK and symbol.other & 3 != HIDDEN:
-                raise Unsupported(f"{symbol.name} isn't hidden")
         functions, exports = super().names()
         return self.named(functions), {plain(name): place for name, place in exports.items()}
 
@@ -62,13 +55,6 @@ def plain(name):
     if not found:
         raise Unsupported(f"the name {name}")
     return found[1] or found[2] or found[3]
-
-
-def without_numbers(names):
-    """Name without the number of the interface, and without that of its kind where there is one kind -> the name."""
-    short = {name: re.sub(r"\.\d+$", "", plain(name)) for name in names}
-    alike = collections.Counter(short.values())
-    return {short[name] if alike[short[name]] == 1 else plain(name): name for name in names}
 
 
 def export_name(hash_name):
@@ -117,61 +103,34 @@ def expect_code(name, code, expected):
 
 
 class ForCargo:
-    SIZES, IS_SEEDED = {"32": 48, "64": 88, "3": 680}, True
+    SIZES = {"32": 48, "3": 672}  # of states, in bytes
+
+    @staticmethod
+    def has(request):
+        """True if the text has a call for a request: it hashes long inputs under a secret."""
+        return request.kind == "secret" and request.cuts is None and request.length > LONGEST_WITHOUT
 
     @staticmethod
     def one_shot(cpu, hash_name, kind, *arguments):
         """The hash; or 0, where a secret has to be refused, and is."""
-        name = export_name(hash_name) + ("" if is_plain(hash_name) else WAYS[kind])
-        if kind not in ("secret", "both"):
-            rax, rdx = cpu.call(name, *arguments)
-            if hash_name == "3-128":
-                return joined((rax, 64), (rdx, 64))
-            return low(rax, 32) if hash_name == "32" else rax
-        length, secret_length = arguments[1], arguments[3]
+        if kind != "secret":
+            raise Unsupported(f"no export hashes with {kind}")
+        secret_length = arguments[3]
         is_short = isinstance(secret_length, int) and secret_length < SHORTEST
-        is_refused = is_short and (kind == "secret" or length > LONGEST_WITHOUT)
-        code, value = call_into(cpu, hash_name, name, *arguments)
-        expect_code(name, code, TOO_SHORT if is_refused else DONE)
+        code, value = call_into(cpu, hash_name, f"{export_name(hash_name)}_long", *arguments)
+        expect_code(hash_name, code, TOO_SHORT if is_short else DONE)
         return value
-
-    @staticmethod
-    def reset(cpu, request, state):
-        """A stream of no bytes yet. `state.secret` has its secret, and `state.is_of_192` whether that is one of 192
-        bytes for which there is a call of its own."""
-        name, seed = export_name(request.hash_name), request.seed()
-        if is_plain(request.hash_name):
-            cpu.call(f"{name}_start", address(state), (seed, int(request.hash_name)))
-            return
-        cpu.call("xxh3_start", address(state), seed)
-        state.secret, state.is_of_192 = request.secret or derived(cpu, seed), not request.secret
 
     @staticmethod
     def update(cpu, hash_name, state, piece):
+        name = write_of(hash_name)
+        secret = () if is_plain(hash_name) else (address(state.secret), state.secret.length)
         piece = (address(piece), piece.length) if piece else (0, 0)
-        if is_plain(hash_name):
-            name, secret = f"{export_name(hash_name)}_write", ()
-        elif state.is_of_192:
-            name, secret = "xxh3_write_192", (address(state.secret),)
-        else:
-            name, secret = "xxh3_write", (address(state.secret), state.secret.length)
         expect_code(name, low(cpu.call(name, address(state), *secret, *piece)[0], 32), DONE)
 
-    @staticmethod
-    def digest(cpu, hash_name, state):
-        """The hash of what a stream was given."""
-        name = f"{export_name(hash_name)}_finish"
-        secret = () if is_plain(hash_name) else (address(state.secret), state.secret.length)
-        code, value = call_into(cpu, hash_name, name, address(state), *secret)
-        expect_code(name, code, DONE)
-        return value
 
-
-def derived(cpu, seed):
-    """The secret that a seed derives, as a call writes it."""
-    secret = Words("secret", DERIVED, [(k, 8, cpu.fresh("a word")) for k in range(0, DERIVED, 8)], alignment=1)
-    cpu.call("derive_secret", address(secret), seed)
-    return secret
+def write_of(hash_name):
+    return "xxh32_write" if is_plain(hash_name) else "xxh3_write"
 
 
 CargoProcessor.library = ForCargo

@@ -1,24 +1,16 @@
 """The exports of the texts below the cargo crate, each with what shows it; and functions that are another text's."""
 import re
 
-from .cargo import WAYS, export_name
+from .cargo import export_name
 
 BEGIN = "cargo: "                 # of each row's title
-WORDS = "xxh32_of_word", "xxh64_of_word", "xxh3_64_of_word"
 WIDEST = 64                       # how many bytes an instruction reads at most
 
 
 def shown_by():
     """Export -> the beginning of a row's title."""
-    out = {"interface": "the number of the interface", "derive_secret": "derived secrets",
-           **dict.fromkeys(("xxh3_start", "xxh3_write", "xxh3_write_192"), "streams of XXH3"),
-           **dict.fromkeys(WORDS, "hashes of a word")}
-    for name in ("32", "64"):
-        out.update({f"xxh{name}": f"XXH{name}, seed", f"xxh{name}_test": "records that bytes lead to"})
-        out.update({f"xxh{name}_{call}": f"streams of XXH{name}" for call in ("start", "write", "finish")})
-    for name in ("3-64", "3-128"):
-        out.update({export_name(name) + way: f"XXH{name}, {kind}" for kind, way in WAYS.items()})
-        out[f"{export_name(name)}_finish"] = "streams of XXH3"
+    out = {"interface": "the number of the interface", "xxh32_write": "pieces of XXH32", "xxh3_write": "pieces of XXH3",
+           **{f"{export_name(name)}_long": f"XXH{name}, secret" for name in ("3-64", "3-128")}}
     return {name: BEGIN + title for name, title in out.items()}
 
 

@@ -1,18 +1,17 @@
 """Wrong texts below the cargo crate that have to be refused, as planted.py has them for the library for C."""
-import functools
 import os
 import re
 import subprocess
 import tempfile
 
-from terms.loops import NotShown
+from terms.refusals import NotShown
 
-from . import calls, cargo_calls
+from . import any_updates, cargo_calls
 from .cargo import FOLDER, CargoProcessor, CargoProgram
 from .cargo_exports import exports_left_out, shared, shown_by
 from .cargo_streams import CargoUpdates
 from .instructions import V1
-from .planted import Wrong, begun, ended, is_refused, of_every_length, request
+from .planted import Asked, Wrong, begun, ended, function, request
 
 SOURCE = os.path.join(FOLDER, f"{V1}.s")
 TAKER, LEADS = "twox_core.xxhash3.stripes.take_stripes", "twox_core.width_64.oneshot_long_of_any_length"
@@ -42,9 +41,9 @@ def any_update(cpu):
     proof.update(*list(proof.small_pieces())[-1])
 
 
-def of_192(cpu):
-    """What a write under a secret of 192 bytes leads to."""
-    CargoUpdates(cpu).one_update()
+def piece_of_32(cpu):
+    """A piece that takes stripes."""
+    any_updates.AnyUpdates(cpu, "32").update(any_updates.Update(0, 3, False, 1, False))
 
 
 def exported(cpu):
@@ -63,38 +62,34 @@ def same_code(cpu):
         raise NotShown(f"other code: {', '.join(sorted(left))}")
 
 
-SEED_0 = "test %rdx,%rdx", "jne 1f", "xor %eax,%eax", "ret", "1:"
+LONG = request("3-64", "secret", 300, 136)
 SHORT_IS_DONE = "cmp $0x88,%rcx", "jae 1f", "xor %eax,%eax", "xor %edx,%edx", "ret", "1:"
+FEW_ARE_DONE = "cmp $0xf0,%rsi", "ja 1f", "xor %eax,%eax", "xor %edx,%edx", "ret", "1:"
 
 WRONG = [
-    Wrong("another value of the seed 0", export("xxh3_64_with_seed", *SEED_0), request("3-64", "seed", 17), "== 0"),
-    Wrong("a secret that is too short and isn't refused", export("xxh3_64_with_secret", *SHORT_IS_DONE),
-          functools.partial(calls.short_secrets, hash_name="3-64", lengths=[241]), "the code 0 and not 1"),
-    Wrong("a refusal that writes a value", export("xxh3_128_with_secret", "movq $0x1,(%r8)"),
-          functools.partial(calls.short_secrets, hash_name="3-128", lengths=[241]), "a refusal writes"),
-    Wrong("a refused write that changes the stream", export("xxh64_write", "movq $0x1,(%rdi)"),
+    Wrong("another value of a long input", export("xxh3_64_long", "inc %rdi"), LONG, "."),
+    Wrong("a secret that is too short and isn't refused", export("xxh3_64_long", *SHORT_IS_DONE),
+          cargo_calls.secrets_of_long_inputs, "the code 0 and not 1"),
+    Wrong("a short input that isn't refused", export("xxh3_64_long", *FEW_ARE_DONE), cargo_calls.few_bytes,
+          "the code 0 and not 3"),
+    Wrong("a refusal that writes a value", export("xxh3_128_long", "movq $0x1,(%r8)"),
+          cargo_calls.secrets_of_long_inputs, "a refusal writes"),
+    Wrong("a refused write that changes the stream", export("xxh32_write", "movq $0x1,(%rdi)"),
           cargo_calls.without_mark, "changes the state"),
-    Wrong("a write that changes the seed", export("xxh3_write", "movq $0x1,(%rdi)"), any_update, "the state at 0 is"),
-    Wrong("a write of another number of bytes", export("xxh3_write_192", "cmp $0x200,%rcx", "jbe 1f", "dec %rcx", "1:"),
-          of_192, "in two ways"),
-    Wrong("a record that no bytes lead to", export("xxh64_test", "xor %eax,%eax", "ret"),
-          cargo_calls.other_accumulators, "the code 0 and not 2"),
-    Wrong("another hash of a word", export("xxh32_of_word", "xor $0x1,%rdi"), cargo_calls.words, "another value"),
+    Wrong("a refused write that changes a stream of XXH3", export("xxh3_write", "movq $0x1,(%rdi)"),
+          cargo_calls.secrets_of_streams, "changes the state"),
+    Wrong("a write that changes an accumulator", export("xxh3_write", "movq $0x1,(%rdi)"), any_update, "the state at 0 is"),
+    Wrong("a write that changes the seed", export("xxh32_write", "movl $0x1,0x4(%rdi)"), piece_of_32, "the state at 4 is"),
+    Wrong("a write that changes the secret", export("xxh3_write", "mov (%rsi),%rax", "mov %rax,(%rsi)"), any_update,
+          "a store to s"),
     Wrong("the number of another interface", export("interface", "xor %eax,%eax", "ret"), cargo_calls.interface,
           "the code 0"),
-    Wrong("a loop that takes another number of stripes",
-          local("twox_plain.xxhash64.rounds.impl_long", "and $-0x21,%rsi"), of_every_length("64"), "."),
-    Wrong("an instruction of x86-64-v2", export("xxh32", "pmulld %xmm0,%xmm0"), calls.null_pointers, "hasn't here"),
-    Wrong("a name that isn't hidden", not_hidden, exported, "isn't hidden"),
-    Wrong("an export that no row shows", ended(*(f"{word} twox_rust_4_more" for word in (".weak", ".hidden")),
-                                               "twox_rust_4_more: ret"), exported, "more"),
+    Wrong("an instruction of x86-64-v2", export("xxh3_64_long", "pmulld %xmm0,%xmm0"), LONG, "hasn't here"),
+    Wrong("a name that isn't hidden", not_hidden, exported, "visibility 0"),
+    Wrong("an export that no row shows", ended(*function("twox_rust_5_more", *(
+        f"{word} twox_rust_5_more" for word in (".weak", ".hidden")))), exported, "more"),
     Wrong("a function that isn't the other text's", local(TAKER, "nop"), same_code, f"other code: {LEADS}, {TAKER}"),
 ]
 
 
-def refused():
-    """(what was refused, what wasn't)."""
-    with tempfile.TemporaryDirectory(prefix="machine-text-") as room:
-        bad = [told for wrong in WRONG if (told := is_refused(
-            wrong, room, SOURCE, lambda path: CargoProcessor(CargoProgram(V1, path))))]
-    return len(WRONG) - len(bad), bad
+ASKED = [Asked(wrong, SOURCE, lambda path: CargoProcessor(CargoProgram(V1, path))) for wrong in WRONG]

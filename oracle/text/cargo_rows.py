@@ -1,103 +1,43 @@
 """The rows of oracle/machine-text on the texts below the cargo crate, rust/asm, for x86-64. Some functions of the text
 for x86-64-v3 are c/asm's, byte for byte, and have the rows that show these too."""
 import functools
-import subprocess
-import tempfile
 
 from terms import comparison
-from terms.sides import Request
 
-from . import calls, cargo_calls, cargo_planted, cargo_streams, every_length, rows, streams, xxh3_updates
-from .cargo import FOLDER, WAYS, CargoProgram, export_name
+from . import any_updates, calls, cargo_calls, cargo_streams, every_length, rows, xxh3_updates
+from .cargo import FOLDER, CargoProgram, export_name
 from .cargo_exports import BEGIN, exports_left_out, shared
 from .instructions import V1, V3, V4
-from .questions import Beside
+from .sources import assembled
 
 NAMES, LIKE = (V1, V3, V4), (V3, V4)      # the sets, and those that c/asm has too
-LEAST_SHARED = 15                 # functions of one of these that are c/asm's
-EXPORTS = 28
+LEAST_SHARED = 8                  # functions of one of these that are c/asm's
+EXPORTS = 5
+FRAMED = 3000                     # instructions of a text, at least
 # Those that x86-64-v4 has other code for, or that lead to it.
-WIDENED = [*(export_name(name) + way for name in ("3-64", "3-128") for way in WAYS.values()), "xxh3_write", "xxh3_write_192"]
-LENGTHS = [*range(34), 40, 64, 65, 96, 97, 128, 129, 144, 145, 240, 241, 256, 257, 300]
-EDGES_OF_BLOCKS = [1024, 1025, 1089]
-SOME, SOME_UPDATES = 32, 389      # each so many of the cases of every length, and of updates, without --all
+WIDENED = [*(f"{export_name(name)}_long" for name in cargo_calls.HASHES), "xxh3_write"]
+LENGTHS = [241, 242, 255, 256, 257, 300, 1024]
+MORE_LENGTHS = [*range(241, rows.MORE.stop), every_length.PREFETCHED]
+SOME_UPDATES = 389                # each so many of the cases of updates, without --all
 TAKING = [summary.name for summary in (xxh3_updates.TAKE, xxh3_updates.TAKE_MANY, xxh3_updates.TAKE_BLOCKS,
                                        xxh3_updates.TAKE_WIDENED)]
-STREAMED = [("32", "seed"), ("64", "seed"), ("3-64", "both"), ("3-128", "seed")]      # without --all
-SECRETS, STREAM_SECRETS = (136,), (136, 193, 256)
+SECRETS = 136, 192
 
 
 def programs():
-    """The texts as gcc assembles them."""
-    with tempfile.TemporaryDirectory(prefix="machine-text-") as room:
-        return {f"cargo's {name}": assembled(name, room) for name in NAMES}
-
-
-def assembled(name, room):
-    subprocess.run(["gcc", "-c", f"{FOLDER}/{name}.s", "-o", f"{room}/{name}.o"], check=True)
-    return CargoProgram(name, f"{room}/{name}.o")
+    return {f"cargo's {name}": assembled(f"{FOLDER}/{name}.s", V1, functools.partial(CargoProgram, name)) for name in NAMES}
 
 
 # ---- the rows
 
 def choose(texts, like, is_all):
     """The rows; `like` has c/asm's texts."""
-    out = [*one_shot_rows(texts, is_all), *stream_rows(texts, is_all), *every_length_rows(texts, is_all),
-           *call_rows(texts, like, is_all)]
+    made = rows.makers(texts)
+    out = [*with_begin(long_input_rows(texts, is_all)), *with_begin(piece_rows(rows.before_v4(made), is_all, SOME_UPDATES)),
+           *with_begin(xxh3_rows(made, is_all)), *with_begin(every_length_rows(made, is_all)), *call_rows(texts, like, is_all)]
     out.insert(0, rows.counted(f"{BEGIN}each export has its row", EXPORTS * len(texts),
                                lambda: exports_left_out(texts, [row.title for row in out])))
     return out
-
-
-def one_shot_rows(texts, is_all):
-    """With a secret of 136 bytes x86-64-v4 runs what x86-64-v3 does."""
-    for kind in comparison.kinds(SECRETS):
-        title = BEGIN + rows.title_of(*kind)
-        lengths = [*rows.ONE_BY_ONE, *EDGES_OF_BLOCKS] if is_all else [*LENGTHS, *EDGES_OF_BLOCKS[:1]]
-        yield rows.compared(texts if is_all or kind[2] is None else rows.before_v4(texts), title,
-                            comparison.requests(*kind, lengths))
-        if is_all and kind[2] is None and kind[0].startswith("3-"):
-            yield rows.compared(texts, title, comparison.requests(*kind, [*rows.MORE, every_length.PREFETCHED]))
-    of_v4 = {name: program for name, program in texts.items() if name.endswith(V4)}
-    for kind in [("3-64", "both", 192), ("3-128", "secret", 192)]:
-        title = f"{BEGIN}{rows.title_of(*kind)}, at the edges of blocks"
-        yield rows.compared(of_v4, title, comparison.requests(*kind, rows.EDGES_OF_BLOCKS))
-    for hash_name in ("3-64", "3-128"):
-        lengths = [0, 17, 241] if is_all else [241]
-        title, least = f"{BEGIN}XXH{hash_name}, secrets that are too short", 2 * calls.SHORTEST * len(lengths)
-        yield rows.of_each(rows.before_v4(texts), title, least,
-                           functools.partial(calls.short_secrets, hash_name=hash_name, lengths=lengths))
-        if is_all:
-            requests = (Request(hash_name, kind, n, size) for size in rows.SOME_SECRETS for kind in ("secret", "both")
-                        for n in (240, 700))
-            yield rows.compared(texts, f"{BEGIN}XXH{hash_name}, secrets of 136 to 1000 bytes", requests)
-
-
-def stream_rows(texts, is_all):
-    """A stream of XXH3 has a seed, and a secret of its own or one that the seed derives: of 0 that is the default one."""
-    made = rows.makers(texts)
-    for kind in comparison.kinds(STREAM_SECRETS if is_all else SECRETS):
-        if kind[1] != "secret" and (is_all or kind[:2] in STREAMED):
-            yield rows.compared(texts, f"{BEGIN}streams of {rows.title_of(*kind)}", rows.few_streams(*kind), streams)
-    yield from with_begin(rows.plain_stream_rows(rows.before_v4(made), is_all, SOME_UPDATES)[1:])
-    yield from with_begin(xxh3_rows(made, is_all))
-
-
-def xxh3_rows(made, is_all):
-    """Functions that take stripes are c/asm's where that has the set, byte for byte, and have its rows with --all."""
-    found, kind = rows.xxh3_rows(made, is_all, cargo_streams.CargoUpdates), cargo_streams.CargoUpdates
-    like = [name for name in made if name.endswith(LIKE)] if is_all else []
-    for row in found:
-        if xxh3_updates.STRIPES not in row.title or not any(f", {name}," in row.title for name in like):
-            yield row
-    for name in like:
-        yield rows.counted(f"streams of XXH3: updates with a secret of 192 bytes, {name}", 1,
-                           functools.partial(one_update, made[name], kind))
-
-
-def one_update(make, kind):
-    proof = kind(make())
-    return rows.count_shown(proof, [proof.one_update])
 
 
 def with_begin(found):
@@ -106,16 +46,56 @@ def with_begin(found):
         yield row
 
 
-def every_length_rows(texts, is_all):
-    made = rows.makers(texts)
-    for kind in every_length.UNROLLED:
-        yield from with_begin(rows.of_every_length(rows.before_v4(made), kind, f"XXH{kind}: every length to 2^64 - 1",
-                                                   every_length.cases(kind)[::1 if is_all else SOME]))
-    if is_all:
-        yield from with_begin(rows.long_rows(made, is_all))
-    else:
-        yield from with_begin(rows.of_every_length(made, "3-64:seed", "XXH3-64, seed: one case of every length",
-                                                   every_length.cases("3-64:seed")[:1]))
+def long_input_rows(texts, is_all):
+    """Of one length after the other. With a secret of 136 bytes x86-64-v4 runs what x86-64-v3 does."""
+    for hash_name in cargo_calls.HASHES:
+        for size in SECRETS:
+            kind = hash_name, "secret", size
+            lengths = MORE_LENGTHS if is_all else [*LENGTHS, *(rows.EDGES_OF_BLOCKS if size == SECRETS[1] else ())]
+            asked = texts if is_all or size == SECRETS[1] else rows.before_v4(texts)
+            yield rows.compared(asked, rows.title_of(*kind), comparison.requests(*kind, lengths))
+
+
+def piece_rows(made, is_all, some=rows.SOME_UPDATES):
+    """Pieces of XXH32 of any lengths: all cases, in parts, or some."""
+    count = len(list(any_updates.updates("32")))
+    yield rows.counted("each update of XXH32 and XXH64 has its row", 2, rows.updates_left_out)
+    for name, make in made.items():
+        for part in range(rows.UPDATE_PARTS) if is_all else [None]:
+            words = f"part {part + 1} of {rows.UPDATE_PARTS}" if is_all else f"each {some}th case"
+            yield rows.counted(f"pieces of XXH32, to 2^64 - 1 bytes, {name}, {words}",
+                               count // (rows.UPDATE_PARTS if is_all else some), functools.partial(pieces, make, part, some))
+
+
+def pieces(make, part, some):
+    proof, cases = any_updates.AnyUpdates(make(), "32"), list(any_updates.updates("32"))
+    chosen = cases[::some] if part is None else cases[part::rows.UPDATE_PARTS]
+    return rows.count_shown(proof, [functools.partial(proof.update, one) for one in chosen])
+
+
+def xxh3_rows(made, is_all, kind=cargo_streams.CargoUpdates, like=LIKE):
+    """Functions that take stripes are c/asm's where that has the set, byte for byte, and have their rows with --all."""
+    left_out = [name for name in made if name.endswith(like)] if is_all else []
+    for row in rows.xxh3_rows(made, is_all, kind):
+        row.title = row.title.replace("streams of XXH3", "pieces of XXH3")
+        if xxh3_updates.STRIPES not in row.title or not any(f", {name}," in row.title for name in left_out):
+            yield row
+
+
+def every_length_rows(made, is_all):
+    """Long inputs of every length, with any secret: all cases, or some."""
+    yield rows.counted("every length with any secret has its row", rows.COVERED[is_all],
+                       functools.partial(rows.secrets_left_out, made, is_all))
+    for hash_name in cargo_calls.HASHES if is_all else cargo_calls.HASHES[:1]:
+        kind, title, words = f"{hash_name}:secret", f"XXH{hash_name}, secret of", "" if is_all else ", some cases"
+        for name, make in made.items():
+            yield rows.counted(f"{title} any other length: every length from 241 on, {name}{words}", 4,
+                               functools.partial(rows.any_secrets, make, kind, is_all))
+        if is_all:
+            title = f"{title} 192 to 199 bytes: every length from 241 on"
+            of_v4 = {name: make for name, make in made.items() if name.endswith(V4)}
+            yield from rows.of_every_length(rows.before_v4(made), kind, title, every_length.of_secret())
+            yield from rows.of_every_length(of_v4, kind, title, every_length.of_secret_by_turns())
 
 
 def expect_shared(program, other):
@@ -131,28 +111,21 @@ def expect_code_of_v3(program, other):
     return len(program.exports) - len(WIDENED) - len(left), sorted(left)
 
 
+def refusal_rows(of):
+    """What is refused: `of` makes a row of a title, a number of cases and what has them."""
+    yield of("the number of the interface", 1, cargo_calls.interface)
+    yield of("a message and a secret in one place", 6, calls.in_one_place)
+    yield of("inputs of up to 240 bytes", 900, cargo_calls.few_bytes)
+    yield of("long inputs: secrets that are too short", 2 * calls.SHORTEST, cargo_calls.secrets_of_long_inputs)
+    yield of("records of XXH32 without a mark", 3, cargo_calls.without_mark)
+    yield of("streams of XXH3 that no call leaves", 3, cargo_calls.out_of_range)
+    yield of("streams of XXH3: secrets that are too short", calls.SHORTEST, cargo_calls.secrets_of_streams)
+
+
 def call_rows(texts, like, is_all):
-    of = functools.partial(rows.of_each, rows.before_v4(texts))
     return [*(rows.counted(f"{BEGIN}functions of {name} that are c/asm's, byte for byte", LEAST_SHARED,
                            functools.partial(expect_shared, texts[f"cargo's {name}"], like[name])) for name in LIKE),
             rows.counted(f"{BEGIN}exports of {V4} that have the code of {V3}", EXPORTS - len(WIDENED),
                          lambda: expect_code_of_v3(texts[f"cargo's {V4}"], texts[f"cargo's {V3}"])),
-            of(f"{BEGIN}the number of the interface", 1, cargo_calls.interface),
-            of(f"{BEGIN}hashes of a word", 3, cargo_calls.words),
-            of(f"{BEGIN}derived secrets", 2, cargo_calls.derived_secret),
-            of(f"{BEGIN}null inputs and secrets of no bytes", 14, calls.null_pointers),
-            of(f"{BEGIN}records of XXH32 and XXH64 without a mark", 6, cargo_calls.without_mark),
-            of(f"{BEGIN}streams of XXH3 that no call leaves", 6, cargo_calls.out_of_range),
-            of(f"{BEGIN}streams of XXH3: secrets that are too short", 2 * calls.SHORTEST, cargo_calls.short_secrets),
-            of(f"{BEGIN}records that bytes lead to", 300, cargo_calls.reachable),
-            of(f"{BEGIN}records with another rest or no mark", 300, cargo_calls.other_rests),
-            of(f"{BEGIN}records with other accumulators", 200, cargo_calls.other_accumulators),
-            rows.counted(f"{BEGIN}wrong texts are refused", len(cargo_planted.WRONG), cargo_planted.refused),
-            *with_begin(change_rows(texts, is_all))]
-
-
-def change_rows(texts, is_all):
-    """Changes of one instruction of the text that has no function of c/asm's."""
-    make = rows.makers(texts)[f"cargo's {V1}"]
-    yield rows.change_row(f"cargo's {V1}", (30, 30), is_all, f"cargo-{V1}", make,
-                          beside=Beside(cargo_calls.ALL, cargo_streams.CargoUpdates))
+            *with_begin(refusal_rows(functools.partial(rows.of_each, texts))),
+            *with_begin([rows.frames_row(texts, FRAMED), rows.assembler_row([(f"{FOLDER}/{name}.s", V1) for name in NAMES])])]

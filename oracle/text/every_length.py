@@ -12,11 +12,10 @@ import itertools
 import table
 from terms import definition, nodes
 from terms.definition import Bytes, suppositions
-from terms.every_length import LONGEST, LONGEST_SECRET
-from terms.loops import REFUSALS, NotShown
+from terms.refusals import REFUSALS, NotShown
+from terms.requests import LONGEST, LONGEST_SECRET, seed_symbol
 from terms.memory import Input
 from terms.polynomials import Poly, at_most, given, minus, parts_of, plus, times, value_at, variable
-from terms.sides import seed_symbol
 
 from .induction import Family, Loops
 from .values import address

@@ -1,6 +1,6 @@
 """The exports of the texts for C, each with what shows it: a beginning of a row's title. A text that has another name,
 or lacks one, fails."""
-from terms.loops import NotShown
+from terms.refusals import NotShown
 
 from .one_shots import NAMES, WAYS, is_plain
 
@@ -94,9 +94,9 @@ def led(program, section):
 
 def code_of(program, name):
     """The instructions of a function's section, by their distance from its beginning."""
-    section, first = program.exports[name]
-    if first:
-        raise NotShown(f"{name} begins inside of its section")
+    if name not in program.exports:
+        raise NotShown(f"{name} isn't exported")
+    section, _ = program.exports[name]
     code = program.sections[section]
     return [(at, x.end, x.mnemonic, x.operands, ("here", x.target[1]) if x.target and x.target[0] == section
              else x.target) for at, x in sorted(code.items())]

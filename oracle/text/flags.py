@@ -8,12 +8,12 @@ import collections
 import operator
 
 from terms import operations
-from terms.llvm_text import Unsupported
-from terms.machine import TESTS
-from terms.nodes import OPAQUE, Node, Undecided
+from terms.refusals import Undecided, Unsupported
+from terms.words import TESTS
+from terms.nodes import OPAQUE, Node
 from terms.polynomials import is_natural, is_number, is_same, lifted, minus, plus
 
-from .memory import ENTRY
+from .memory import ENTRY, lie_apart
 from .values import Address, Either, quotients
 
 Flags = collections.namedtuple("Flags", "kind width a b result")
@@ -144,10 +144,13 @@ def is_below_as_places(cpu, a, b):
 
 def is_far(cpu, distance, n):
     """Whether the distance mod 2 ^ 64 of two places is n or more, since their objects lie apart. Of an object at P
-    with p bytes and one at Q with q, either P - Q >= q or Q - P >= p, and both are below 2 ^ 62."""
+    with p bytes and one at Q with q, either P - Q >= q or Q - P >= p, and both are below 2 ^ 62. Objects that are only
+    read may be the same bytes."""
     if sorted(count for _, count in distance.bases) != [-1, 1]:
         return False
     (first, _), (second, _) = sorted(distance.bases, key=lambda base: -base[1])
+    if not lie_apart(first, second):
+        return False
     p, q = (ENTRY if memory is cpu.stack else memory.length for memory in (first, second))
     at = distance.offset
     ahead, behind = minus(plus(at, q), n), minus(minus(p, at), 1)

@@ -9,10 +9,10 @@ what is said may be anything, and the turn is run once more. The last cell that 
 unset at a head."""
 import contextlib
 
-from terms.loops import REFUSALS, NotShown, agree
+from terms.refusals import REFUSALS, NotShown, Undecided
 from terms.memory import RUNS, Input
-from terms.nodes import Node, Undecided
-from terms.polynomials import divided, given, is_natural, is_number, minus, plus, times, variable
+from terms.nodes import Node
+from terms.polynomials import agree, divided, given, is_natural, is_number, minus, plus, times, variable
 from terms.polynomials import is_same as is_same_number
 
 from .values import Address, half_of, joined, with_half

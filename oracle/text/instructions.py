@@ -4,7 +4,7 @@ A form is a mnemonic with a letter for each operand, as `add ml`: b, w, l, q a r
 second byte of one, x, y and z one of 128, 256 and 512, m memory, i a number. What isn't in the table is refused. scalar.py and
 lanes.py fill it: each entry is a function of the processor and the instruction, which gives the place of the next
 instruction where that isn't the one behind it."""
-from terms.llvm_text import Unsupported
+from terms.refusals import Unsupported
 
 from .objects import Immediate, Place, Register
 

@@ -1,6 +1,6 @@
 """What the instructions on vectors do. A register of 512 bits is eight lanes of 64, each a value. The older forms leave
 the upper lanes of a register as they are, and want their places in memory aligned; those with a `v` make them 0."""
-from terms.llvm_text import Unsupported
+from terms.refusals import Unsupported
 from terms.polynomials import plus
 
 from .instructions import OLDER, V1, V2, V3, V4, VECTORS, form

@@ -6,7 +6,10 @@ from .values import address
 
 class ForC:
     SIZES = SIZES     # of states, in bytes
-    IS_SEEDED = False  # whether each stream has a seed
+
+    @staticmethod
+    def has(request):
+        return True
 
     @staticmethod
     def one_shot(cpu, hash_name, kind, *arguments):

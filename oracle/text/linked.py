@@ -5,12 +5,12 @@ As processor.py does it for x86-64: branches, addresses and lengths are numbers,
 known at the beginning is a symbol of its own for each call. A place in memory outside of the objects that were handed
 over, a byte that was never stored, a store to what is read only, a branch on a symbol and an instruction that the table
 lacks are errors."""
-from terms.llvm_text import Unsupported
-from terms.nodes import Undecided, symbol
+from terms.refusals import Undecided, Unsupported
+from terms.nodes import symbol
 from terms.polynomials import is_same
 
+from .listed import OUTER
 from .memory import ENTRY, Constants, Stack, Words, copy, fill
-from .objects import OUTER
 from .values import WORD, Address, address, joined, low, place_of
 
 MOST_STEPS = 1 << 24
@@ -98,7 +98,7 @@ class Processor:
             self.registers[register] = value if width == WORD else self.widened(register, value)
         kept = {name: self.registers[name] for name in [*self.KEPT, self.LINK]}
         lanes = {k: self.vectors[k][0] for k in self.KEPT_LANES}
-        place, self.steps = self.program.functions[name], 0
+        place, self.steps = self.program.function(name), 0
         while place is not None:
             if self.loops:
                 place = self.loops.pass_by(self, place)

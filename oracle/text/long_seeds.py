@@ -2,8 +2,8 @@
 places by another instruction."""
 from terms import definition
 from terms.definition import Bytes, suppositions
-from terms.every_length import LONGEST
-from terms.loops import NotShown
+from terms.refusals import NotShown
+from terms.requests import LONGEST
 from terms.memory import Input
 from terms.nodes import is_same
 from terms.polynomials import at_most, given, minus, variable

@@ -5,9 +5,9 @@ outside, as memcpy, may use all that lies below the stack pointer: there is no r
 import collections
 import contextlib
 
-from terms.llvm_text import Unsupported
-from terms.memory import Memory, Unset
-from terms.nodes import Node, Undecided, memo
+from terms.refusals import Undecided, Unsupported
+from terms.memory import Input, Memory, Unset, is_inside
+from terms.nodes import Node, memo
 from terms.operations import bits
 from terms.polynomials import WORD, Poly, divided, is_natural, is_same, lifted, minus, plus
 from terms.rules import ones
@@ -80,24 +80,33 @@ class Words(Memory):
         super().clear(at, n)
 
 
-class Constants(Words):
-    """What is read only."""
-
-    def __init__(self, name, data, alignment):
-        super().__init__(name, len(data), [(k, 1, byte) for k, byte in enumerate(data)], alignment=alignment)
+class OnlyRead(Words):
+    """What a call may only read. Another such object may be the same bytes, or some of them."""
 
     def allow(self, at, n):
         raise Unsupported(f"a store to {self.name}")
 
 
+class Constants(OnlyRead):
+    def __init__(self, name, data, alignment):
+        super().__init__(name, len(data), [(k, 1, byte) for k, byte in enumerate(data)], alignment=alignment)
+
+
+def lie_apart(first, second):
+    """Whether two objects have no byte in common: one of them is written to."""
+    return any(isinstance(memory, Words) and not isinstance(memory, OnlyRead) for memory in (first, second))
+
+
 class Stack(Words):
-    """Below the caller's frame."""
+    """Below the caller's frame. `lowest` is the lowest byte that was stored."""
 
     def __init__(self):
         super().__init__("stack", STACK, alignment=16)
+        self.lowest = ENTRY
 
     def allow(self, at, n):
         super().allow(at, n)
+        self.lowest = min(self.lowest, at)
         if at + n > ENTRY:
             raise Unsupported(f"a store to the caller's frame, at {at}")
 
@@ -105,6 +114,19 @@ class Stack(Words):
         """What lies below the stack pointer may be anything."""
         for first in [first for first in self.cells if first < at]:
             del self.cells[first]
+
+
+class Numbers(Input):
+    """An input whose bytes are numbers."""
+
+    def __init__(self, name, data):
+        super().__init__(name, len(data))
+        self.data, self.whole = data, int.from_bytes(data, "little")
+
+    def window(self, at, n):
+        if not is_inside(at, n, self.length):
+            raise Unsupported(f"{n} bytes at {at} of {self.name}, which has {self.length}")
+        return self.whole, at
 
 
 def spell(x, width=WORD):

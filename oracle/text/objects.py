@@ -1,23 +1,18 @@
 """An assembled object as what runs: instructions by section and address, and constants.
 
 The instructions are those that objdump reads out of the object's bytes; nothing of the assembler's text is used. Each
-byte of a section belongs to one instruction. What a linker could make something else of is refused: two sections of
-one name, sections that are written to or that run before a program, relocations in constants, another place of a
-mergeable constant than its first byte, and a name that another library may take the place of."""
+byte of a section belongs to one instruction. What the object holds is listed (listed.py), and a relocation leads to a place
+that no linker moves or takes from another library."""
 import collections
 import functools
-import os
 import re
 import struct
 import subprocess
-import sys
 
-from terms.llvm_text import Unsupported
-from terms.sides import TOP
+from terms.refusals import Unsupported
 
-sys.path.append(os.path.join(TOP, "assembly"))
-from same_bytes import (FRAMES, LOADED, NONE, NOTE, RELA, STRTAB, SYMTAB, WITHOUT_MEANING, X86_64, Object,
-                        is_global)
+from .decoded import expect_bytes
+from .listed import CODE, RELA, Loaded
 
 # An instruction: `end` is the address of the next one; `target` is (section or outer name, offset), where it names one.
 Instruction = collections.namedtuple("Instruction", "section at end mnemonic operands target")
@@ -25,11 +20,7 @@ Register = collections.namedtuple("Register", "name")
 Immediate = collections.namedtuple("Immediate", "value")
 Place = collections.namedtuple("Place", "displacement base index scale")     # what is in memory
 
-PROGBITS, SECTION, FUNCTION, LABEL, GLOBAL = 1, 3, 2, 0, 1
-CODE, CONSTANTS, MERGEABLE = LOADED | 4, LOADED, LOADED | 0x10      # a section's flags
-UNLOADED = NONE, SYMTAB, STRTAB, RELA
 PC32, PLT32 = 2, 4                            # relocations: a distance from the next instruction
-OUTER = "memcpy", "memmove", "memset"         # what the text calls and another library has
 PREFIXES = "data16", "cs"                     # of an instruction that does nothing
 RELOCATED = Place(0, "rip", None, 1)          # what a relocation at an instruction's end says
 LINE = re.compile(r" *([0-9a-f]+):\t((?:[0-9a-f]{2} )+) *(?:\t(.*))?")
@@ -38,81 +29,32 @@ TEXT = ".text."                               # how a section of a function begi
 TARGET = re.compile(r"([0-9a-f]+)(?: <.*>)?")
 
 
-class Program:
-    """The sections of instructions, name -> address -> Instruction; the functions and exports, name -> (section,
-    address); and the constants, name -> (bytes, alignment)."""
-
-    BINDING = GLOBAL              # of an export
+class Program(Loaded):
+    """What is loaded, with the sections of instructions, name -> address -> Instruction."""
 
     def __init__(self, path):
-        self.object = Object(path)
-        if self.object.machine != X86_64:
-            raise Unsupported("an object of another processor")
-        self.heads = self.loaded_sections()
-        self.constants = dict(self.read_constants())
+        super().__init__(path)
         self.relocations = {name: self.relocations_of(head) for name, head in self.heads.items()}
-        self.sections = {name: self.read(name, lines) for name, lines in listing(path).items()}
+        self.listing = listing(path)
+        self.sections = {name: self.read(name, lines) for name, lines in self.listing.items()}
         if set(self.sections) != {name for name, head in self.heads.items() if head.flags == CODE}:
             raise Unsupported("a section that objdump doesn't list")
-        self.functions, self.exports = self.names()
+        self.expect_decoded()
         self.labels = {symbol.name: self.place_of(symbol) for symbol in self.object.symbols
                        if symbol.section and symbol.section < len(self.object.heads)}
 
-    # ---- sections and names
-
-    def loaded_sections(self):
-        found = {}
-        for head in self.object.heads:
-            if not head.flags & LOADED and head.kind not in UNLOADED and head.name not in WITHOUT_MEANING:
-                raise Unsupported(f"the section {head.name}, which a linker may make something of")
-            if not head.flags & LOADED or not head.size or head.kind == NOTE or head.name == FRAMES:
-                continue
-            is_known = head.flags in (CODE, CONSTANTS) or head.flags == MERGEABLE and head.entry
-            if head.kind != PROGBITS or not is_known:
-                raise Unsupported(f"the section {head.name}, which isn't only read or run")
-            if head.name in found:
-                raise Unsupported(f"two sections are named {head.name}")
-            found[head.name] = head
-        return found
-
-    def read_constants(self):
-        """Each entry of a mergeable section is an object of its own: a linker may move it alone."""
-        for name, head in self.heads.items():
-            data = self.object.body(head)
-            if head.flags == CONSTANTS:
-                yield name, (data, head.align)
-            elif head.flags == MERGEABLE:
-                for at in range(0, len(data), head.entry):
-                    yield f"{name}+{at}", (data[at:at + head.entry], min(head.align, head.entry & -head.entry))
-
-    def names(self):
-        functions, exports = {}, {}
-        for symbol in self.object.symbols:
-            kind = symbol.info & 15
-            binding = self.BINDING if symbol.section else GLOBAL
-            if is_global(symbol) and (symbol.info >> 4 != binding or kind not in (LABEL, FUNCTION)):
-                raise Unsupported(f"{symbol.name} is weak, or no function")
-            if symbol.section and is_global(symbol):
-                exports[symbol.name] = self.place_of(symbol)
-            elif is_global(symbol) and symbol.name not in (*OUTER, "_GLOBAL_OFFSET_TABLE_"):
-                raise Unsupported(f"{symbol.name}, which isn't here")
-            if symbol.section and kind == FUNCTION:
-                if symbol.name in functions:
-                    raise Unsupported(f"two functions are named {symbol.name}")
-                functions[symbol.name] = self.place_of(symbol)
-        return functions, exports
+    def expect_decoded(self):
+        expect_bytes(self)
 
     @staticmethod
     def title_of(section):
         """The section's name, as it is in other versions too."""
         return section
 
-    def place_of(self, symbol):
-        if symbol.section >= len(self.object.heads):
-            raise Unsupported(f"{symbol.name} has a place in no section")
-        return self.object.heads[symbol.section].name, symbol.value
-
     # ---- relocations
+
+    def is_relocated(self, section, first, end):
+        return any(first <= place < end for place in self.relocations[section])
 
     def relocations_of(self, section):
         """Place -> (symbol, addend)."""
@@ -125,21 +67,6 @@ class Program:
                     raise Unsupported(f"a relocation at {place:#x} of {section.name}")
                 found[place] = self.object.symbols[info >> 32], addend
         return found
-
-    def target_of(self, symbol, addend):
-        """What a relocation leads to: (section, constant or outer name, offset)."""
-        if is_global(symbol):
-            if symbol.section or symbol.name not in OUTER or addend:
-                raise Unsupported(f"a way to {symbol.name}{addend:+#x}, which another library may have")
-            return symbol.name, 0
-        name, value = self.place_of(symbol)
-        if name not in self.heads:
-            raise Unsupported(f"a way to {name}")
-        if self.heads[name].flags != MERGEABLE:
-            return name, value + addend
-        if symbol.info & 15 == SECTION or addend or f"{name}+{value}" not in self.constants:
-            raise Unsupported(f"a place in the constant at {value + addend:#x} of {name}, which a linker may move")
-        return f"{name}+{value}", 0
 
     # ---- instructions
 

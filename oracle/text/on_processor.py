@@ -10,9 +10,10 @@ import os
 import random
 import subprocess
 
-from terms.loops import NotShown
+from terms.refusals import NotShown
 from terms.rules import ones
 
+from .decoded import NOPS
 from .instructions import OLDER, PARTS, SETS, TABLE, V3, V4, WIDE, letters, needs_v4
 from .memory import ENTRY, Stack, Words
 from .objects import Immediate, Place, Program, Register
@@ -42,7 +43,8 @@ NUMBERS = {"vpternlogq": 0x96, "vpalignr": 8}     # those that the table has
 SNIPPETS = [*([f"cmp %{other},%rax", f"j{name} 1f", "not %rax", "1: not %rcx"] for name in CONDITIONS
               for other in ("rax", "rbx")),
             ["jmp 1f", "not %rax", "1: not %rcx"], ["push %rax", "not %rax", "pop %rbx"], ["vzeroupper"], ["nop"],
-            ["call 1f", "jmp 2f", "1: not %rax", "ret", "2: not %rcx"], ["prefetcht0 (%rsp)"]]
+            ["call 1f", "jmp 2f", "1: not %rax", "ret", "2: not %rcx"], ["prefetcht0 (%rsp)"],
+            *([".byte " + ",".join(map(str, raw))] for raw in sorted(NOPS))]
 
 
 # ---- the instructions
@@ -147,6 +149,13 @@ def moves(operands, first):
         yield f"{word} " + operands.format(place=f"{first + WHOLE * k}(%rdi)", vector=f"%{letter}mm{k}")
 
 
+class Snippets(Program):
+    """A program of functions that no library has."""
+
+    def expect_listed(self):
+        pass
+
+
 def assembled(snippets, room):
     """The functions as a library that runs, and as a program that is read."""
     with open(f"{room}/snippets.s", "w", encoding="utf-8") as file:
@@ -155,7 +164,7 @@ def assembled(snippets, room):
             print(*function(number, lines), sep="\n", file=file)
     for words in (["-c", "-o", f"{room}/snippets.o"], ["-shared", "-o", f"{room}/snippets.so"]):
         subprocess.run(["gcc", *words, f"{room}/snippets.s"], check=True)
-    return ctypes.CDLL(f"{room}/snippets.so"), Program(f"{room}/snippets.o")
+    return ctypes.CDLL(f"{room}/snippets.so"), Snippets(f"{room}/snippets.o")
 
 
 # ---- both sides
@@ -223,8 +232,16 @@ def run_to(cpu, place, end):
         place = operation(cpu, instruction) or (place[0], instruction.end)
 
 
-def compare(texts, room):
-    """Of instructions, each with its form, and of SNIPPETS: (how many there are, what differs)."""
+def own_bytes(programs):
+    """Text -> bytes, of the programs' instructions of registers and numbers: those of memory are asked at another place."""
+    return {written(x.mnemonic, x.operands): program.object.body(program.heads[section])[at:x.end]
+            for program in programs for section, code in program.sections.items() for at, x in code.items()
+            if x.operands and not any(isinstance(y, Place) or y == Register("rsp") for y in x.operands)}
+
+
+def compare(texts, room, own=None):
+    """Of instructions, each with its form, and of SNIPPETS: (how many there are, what differs). `own` are bytes that some of
+    them have to have."""
     snippets = [*([text] for text in texts), *SNIPPETS]
     library, program = assembled(snippets, room)
     cpu, draw, wrong = Processor(program, processor_here()), random.Random(1), []
@@ -233,6 +250,9 @@ def compare(texts, room):
     state = (ctypes.c_ubyte * SIZE).from_buffer(whole, first)
     for number, (lines, form) in enumerate(zip(snippets, [*texts.values(), *[None] * len(SNIPPETS)])):
         section, at = program.labels[f"b{number}"]
+        raw = program.object.body(program.heads[section])[at:program.labels[f"e{number}"][1]]
+        if len(lines) == 1 and raw != (own or {}).get(lines[0], raw):
+            wrong.append(f"{lines[0]} has other bytes in a text than {raw.hex()}")
         if form not in (None, form_of(program.sections[section][at])):
             wrong.append(f"{lines[0]} isn't of the form {' '.join(form)}")
         run = getattr(library, f"t{number}")

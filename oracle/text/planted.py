@@ -8,16 +8,17 @@ import tempfile
 import unittest.mock
 
 from terms import definition, nodes, operations
-from terms.loops import REFUSALS, NotShown
+from terms.refusals import REFUSALS, NotShown
+from terms.requests import TOP, Request
 from terms.nodes import WrongRule
 from terms.polynomials import variable
-from terms.sides import TOP, Request
 
 from . import (any_updates, calls, covered, every_length, exports, on_processor, one_shots, streams, values,
                xxh3_updates)
-from .instructions import TABLE, V2
+from .instructions import TABLE, V1, V2
 from .objects import Program
 from .processor import Processor
+from .sources import by_gnu
 
 SOURCE = os.path.join(TOP, "c", "asm", f"{V2}.s")
 # A wrong text: what it is, how it is made of the text, what is asked, and words of the refusal.
@@ -68,6 +69,12 @@ def ended(*lines):
     return lambda text: text + "".join(f"\t{line}\n" for line in lines)
 
 
+def function(name, *more):
+    """The lines of a function that returns, with further ones before its name."""
+    return (f'.section .text.{name},"ax",@progbits', *more, f".type {name},@function", f"{name}:", "ret",
+            f".size {name},.-{name}")
+
+
 # ---- what is asked
 
 def request(*words, **more):
@@ -78,6 +85,12 @@ def request(*words, **more):
             side = one_shots if each.cuts is None else streams
             calls.expect(repr(each), side.of_text(cpu, each), each.of_definition(entries))
     return ask
+
+
+def raising_limit(cpu):
+    """The version, in fewer instructions than a call may have otherwise."""
+    cpu.limit = 1000
+    calls.version(cpu)
 
 
 def of_every_length(kind, seed=None):
@@ -112,6 +125,9 @@ def adds_to(place):
 
 SEED_0 = begun("XXH3_64bits_withSeed", "test %rdx,%rdx", "jne 1f", "xor %eax,%eax", "ret", "1:")
 VERSION = "XXH_versionNumber"
+FUNCTION = '.section .text.elsewhere,"ax",@progbits', ".type elsewhere,@function", "elsewhere:"
+END = ".size elsewhere,.-elsewhere",
+NEAR = "mov %rdi,%rax", "sub %rdx,%rax", "cmp $0x8,%rax", "jae 1f"      # whether an address lies just behind another
 SAVED = "mov %rdi,-0x40(%rsp)", "mov %rsi,-0x48(%rsp)"
 TAKEN = "mov -0x40(%rsp),%rdi", "mov -0x48(%rsp),%rsi"
 
@@ -138,15 +154,15 @@ TEXTS = [
     Wrong("a jump into an instruction", begun(VERSION, "jmp 1f+1", "1: mov $0x1234,%eax"), calls.version,
           "no instruction at"),
     Wrong("a jump to an address in memory", begun(VERSION, "jmp *1f(%rip)", "1:"), calls.version, "no one place"),
-    Wrong("a function that goes on behind its end", begun(VERSION, "jmp 1f", '.section .text.elsewhere,"ax"', "1: nop",
+    Wrong("a function that goes on behind its end", begun(VERSION, "jmp 1f", *FUNCTION, "1: nop", *END,
                                                           ".section .text.XXH_versionNumber"), calls.version,
           "no instruction at"),
     Wrong("another place of a mergeable constant", other_constant, calls.version, "a linker may move"),
     Wrong("two sections of one name", ended('.section .text.XXH32,"ax",@progbits,unique,7', "ret"), calls.version,
           "two sections"),
     Wrong("an address in the constants", ended('.section .rodata.more,"a",@progbits', ".quad XXH32"), calls.version,
-          "a relocation at"),
-    Wrong("a section that is written to", ended(".data", ".quad 1"), calls.version, "isn't only read or run"),
+          "the section .rela.rodata.more"),
+    Wrong("a section that is written to", ended(".data", ".quad 1"), calls.version, "the section .data"),
     Wrong("a call that another library may answer", begun("XXH128", "jmp XXH3_128bits_withSeed@PLT"),
           calls.version, "another library"),
     Wrong("what the caller left in a register", hidden_register, request("64", "seed", 5, cuts=[2]), "another value"),
@@ -172,22 +188,51 @@ TEXTS = [
     Wrong("a branch on a byte of the message", begun("XXH32", "cmpq $0x0,(%rdi)", "jne 1f", "1:"),
           request("32", "seed", 40), "== 0"),
     Wrong("a read behind the message", begun("XXH32", "mov 0x1(%rdi),%rax"), request("32", "seed", 8), "which has 8"),
-    Wrong("an export that no row shows", ended(".globl XXH_more", "XXH_more: ret"), exported, "no row shows it"),
+    Wrong("a value by where the secret lies beside the message", begun("XXH3_64bits_withSecret", *NEAR, "xor %eax,%eax", "ret", "1:"),
+          request("3-64", "secret", 40, 136), "< 8"),
+    Wrong("another value where the secret is the message", begun("XXH3_64bits_withSecret", "cmp %rdi,%rdx", "jne 1f", "xor %eax,%eax",
+                                                                 "ret", "1:"), calls.in_one_place, "from 0, secret of"),
+    Wrong("an order by where two hashes lie", begun("XXH128_cmp", "mov %rsi,%rdx", *NEAR, "mov $0x1,%eax", "ret", "1:"),
+          calls.compare, "< 8"),
+    Wrong("another order of two hashes in one place", begun("XXH128_cmp", "mov %rsi,%rdx", *NEAR, "mov $0x1,%eax", "ret", "1:"),
+          calls.compare_in_one_place, "in one place: another value"),
+    Wrong("a comparison that writes to what it compares", begun("XXH128_cmp", "mov (%rdi),%rax", "mov %rax,(%rdi)"),
+          calls.compare, "a store to first"),
+    Wrong("an export that no row shows", ended(*function("XXH_more", ".globl XXH_more")), exported, "no row shows it"),
 ]
 
 
-def is_refused(wrong, room, source=SOURCE, read=lambda path: Processor(Program(path), V2)):
-    """None, or what there is to say of a wrong text, which is made of another one."""
-    with open(source, encoding="utf-8") as file:
-        text = wrong.change(file.read())
-    with open(f"{room}/wrong.s", "w", encoding="utf-8") as file:
-        file.write(text)
-    subprocess.run(["gcc", "-c", f"{room}/wrong.s", "-o", f"{room}/wrong.o"], check=True)
-    try:
-        wrong.ask(read(f"{room}/wrong.o"))
-    except REFUSALS as error:
-        return None if re.search(wrong.words, str(error)) else f"{wrong.what}: refused for another reason: {error}"
-    return f"{wrong.what}: not refused"
+class Asked:
+    """A wrong text that is made of another one, and isn't asked for its grammar; `read` makes a processor of an object."""
+
+    def __init__(self, wrong, source, read, kind=V1):
+        self.title, self.words, self.wrong, self.source, self.read, self.kind = wrong.what, wrong.words, wrong, source, read, kind
+
+    def ask(self):
+        """Raises what refuses it."""
+        with open(self.source, encoding="utf-8") as file:
+            text = self.wrong.change(file.read())
+        with tempfile.TemporaryDirectory(prefix="machine-text-") as room:
+            with open(f"{room}/wrong.s", "w", encoding="utf-8") as file:
+                file.write(text)
+            self.wrong.ask(self.read(by_gnu(f"{room}/wrong.s", self.kind, room)))
+
+
+def complaints(asked):
+    """What there is to say of wrong texts that aren't refused, or for other reasons than they should be."""
+    for one in asked:
+        try:
+            one.ask()
+            yield f"{one.title}: not refused"
+        except REFUSALS as error:
+            if not re.search(one.words, str(error)):
+                yield f"{one.title}: refused for another reason: {error}"
+
+
+def refused(asked):
+    """(how many were refused, what there is to say of the others)."""
+    bad = list(complaints(asked))
+    return len(asked) - len(bad), bad
 
 
 # ---- what of the check itself is wrong
@@ -242,12 +287,11 @@ def raises(kind, call):
 
 
 CHECKS = [lacks_a_case, has_a_wrong_sum, has_a_wrong_join, has_a_wrong_table]
-WRONG = [*TEXTS, *CHECKS]
+ASKED = [Asked(wrong, SOURCE, lambda path: Processor(Program(path), V2)) for wrong in TEXTS]
 
 
-def refused():
-    """(what was refused, what wasn't)."""
+def noticed():
+    """(faults of the check itself that are noticed, those that aren't)."""
     with tempfile.TemporaryDirectory(prefix="machine-text-") as room:
-        bad = [told for wrong in TEXTS if (told := is_refused(wrong, room))]
-        bad += [f"{check.__name__}: not noticed" for check in CHECKS if not check(room)]
-    return len(WRONG) - len(bad), bad
+        bad = [f"{check.__name__}: not noticed" for check in CHECKS if not check(room)]
+    return len(CHECKS) - len(bad), bad

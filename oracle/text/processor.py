@@ -7,7 +7,7 @@ byte that was never stored, a store to what is read only, a branch on a symbol a
 in the table are errors."""
 import functools
 
-from terms.llvm_text import Unsupported
+from terms.refusals import Unsupported
 from terms.nodes import symbol
 from terms.polynomials import is_natural, is_number, is_same, minus
 from terms.rules import ones
@@ -15,8 +15,9 @@ from terms.rules import ones
 from . import flags
 from .instructions import PARTS, VECTORS, WIDE, known
 from .library import ForC
+from .listed import OUTER
 from .memory import ENTRY, RED, Constants, ReturnTo, Stack, Words, copy, fill
-from .objects import OUTER, Immediate, Register
+from .objects import Immediate, Register
 from .values import WORD, Address, address, arithmetic, bits, joined, low, place_of
 
 KEPT = "rbx", "rbp", "r12", "r13", "r14", "r15"          # of the caller, which gets them back
@@ -34,11 +35,7 @@ class Processor:
     begin."""
 
     ARGUMENTS = ARGUMENTS
-    # Where the arguments lie of a function that takes stripes: a register, or a place in its caller's frame.
-    TAKES_STRIPES = ARGUMENTS
-    OUTER = ARGUMENTS             # .. and of another library's
-    WITHIN, LANES_WITHIN = KEPT, ()      # what a function that the text itself calls leaves as it was: of vectors two lanes
-    RED, SHADOW = RED, 0          # bytes below the stack pointer that are a function's own, and above what it returns to
+    TAKES_STRIPES = ARGUMENTS     # of a function that takes stripes
     TOGETHER = 1                  # accumulators of 32 bits that one-shots have in a cell
     library = ForC                # how its exports are called
 
@@ -81,30 +78,20 @@ class Processor:
             if isinstance(x, tuple):
                 value, width = x
                 x = joined((value, width), (self.fresh(where, WORD - width), WORD - width))
-            if isinstance(where, int):
-                self.stack.cells[ENTRY + where] = WORD // 8, x
-            else:
-                self.registers[where] = x
-        names, vectors = (KEPT, ()) if into is self.ARGUMENTS else (self.WITHIN, self.LANES_WITHIN)
-        kept, lanes = {name: self.registers[name] for name in names}, {k: self.vectors[k][:2] for k in vectors}
-        self.run(self.program.functions[name])
-        self.expect_kept(kept, lanes)
+            self.registers[where] = x
+        kept = {name: self.registers[name] for name in KEPT}
+        self.run(self.program.function(name))
+        self.expect_kept(kept)
         return self.registers["rax"], self.registers["rdx"]
 
-    def expect_kept(self, kept, lanes):
+    def expect_kept(self, kept):
+        """A return finds its address at one place of the stack alone, so the stack pointer is the caller's."""
         for register, x in kept.items():
             if self.registers[register] is not x:
                 raise Unsupported(f"{register} isn't the caller's at the end")
-        if any(now is not x for k, pair in lanes.items() for now, x in zip(self.vectors[k], pair)):
-            raise Unsupported("a vector isn't the caller's at the end")
-        if self.registers["rsp"].place() != (self.stack, ENTRY):
-            raise Unsupported("the stack isn't the caller's at the end")
 
     def argument(self, where):
-        """What a function is given there, at its first instruction."""
-        if isinstance(where, int):
-            memory, at = self.frame()
-            return memory.load(at + where, WORD // 8)
+        """What a function is given in a register, at its first instruction."""
         return self.registers[where]
 
     @staticmethod
@@ -161,12 +148,9 @@ class Processor:
         memory, at = self.registers["rsp"].place()
         memory.forget_below(at)
         for register in WIDE:
-            if register not in self.WITHIN and register != "rsp":
+            if register not in KEPT and register != "rsp":
                 self.registers[register] = self.fresh(register)
-        lanes = {k: self.vectors[k][:2] for k in self.LANES_WITHIN}
         self.forget_vectors()
-        for k, pair in lanes.items():
-            self.vectors[k][:2] = pair
         self.forget_flags()
         return self.pop()
 
@@ -187,7 +171,7 @@ class Processor:
         memory, at = place_of(to)
         if memory is not self.stack or not isinstance(at, int):
             raise Unsupported("another stack")
-        memory.forget_below(at - self.RED)
+        memory.forget_below(at - RED)
         self.registers["rsp"] = to
 
     # ---- places in memory
@@ -211,7 +195,7 @@ class Processor:
     def place(self, operand, instruction, alignment=1):
         """The object and the offset that an operand says."""
         memory, at = place_of(self.effective(operand, instruction))
-        if memory is self.stack and not (isinstance(at, int) and at >= self.registers["rsp"].place()[1] - self.RED):
+        if memory is self.stack and not (isinstance(at, int) and at >= self.registers["rsp"].place()[1] - RED):
             raise Unsupported("a place below the stack")
         is_aligned = alignment == 1 or not memory.alignment % alignment and isinstance(at, int) and not at % alignment
         if not is_aligned:
@@ -296,15 +280,11 @@ class Processor:
 
 def call_of_outer(name, cpu, _):
     """memcpy, memmove or memset, which are another's."""
-    to, source, n = (cpu.registers[name] for name in cpu.OUTER[:3])
+    to, source, n = (cpu.registers[name] for name in ARGUMENTS[:3])
     memory, at = cpu.registers["rsp"].place()
     if (at + 8) % 16:
         raise Unsupported("a call with the stack at no multiple of 16")
     memory.forget_below(at)
-    if cpu.SHADOW:
-        if at + 8 + cpu.SHADOW > ENTRY:
-            raise Unsupported("a call without the room that it lends")
-        memory.clear(at + 8, cpu.SHADOW)
     if not is_same(n, 0):
         room, first = place_of(to)
         cpu.expect_writable(room)

@@ -9,13 +9,12 @@ import functools
 import random
 
 from terms import nodes
-from terms.loops import REFUSALS, NotShown
-from terms.memory import Input, is_inside
+from terms.refusals import REFUSALS, NotShown
+from terms.requests import Request
 from terms.nodes import WrongRule, is_same
-from terms.llvm_text import Unsupported
-from terms.sides import Request
 
 from . import any_secret, any_updates, calls, every_length, long_seeds, one_shots, streams, xxh3_updates
+from .memory import Numbers
 
 CRASH, ANOTHER_VALUE, ANOTHER_TERM = "A CRASH", "another value", "another term"
 CASES = 8                         # cases of an induction that a change is asked
@@ -70,19 +69,6 @@ def long_requests():
 
 def with_twins(request):
     return [request, *request.with_seed_0()]
-
-
-class Numbers(Input):
-    """An input whose bytes are numbers."""
-
-    def __init__(self, name, data):
-        super().__init__(name, len(data))
-        self.data, self.whole = data, int.from_bytes(data, "little")
-
-    def window(self, at, n):
-        if not is_inside(at, n, self.length):
-            raise Unsupported(f"{n} bytes at {at} of {self.name}, which has {self.length}")
-        return self.whole, at
 
 
 def in_numbers(request, is_extreme):
@@ -159,9 +145,8 @@ class OfRequest:
 
 
 def questions(entries, is_all, others, library):
-    """The requests, the shortest first, and the other calls. Where all streams have seeds none has a secret alone."""
-    asked = [twin for request in requests(is_all)
-             if not library.IS_SEEDED or request.cuts is None or request.kind != "secret" for twin in with_twins(request)]
+    """The requests that a library has a call for, the shortest first, and the other calls."""
+    asked = [twin for request in requests(is_all) if library.has(request) for twin in with_twins(request)]
     asked.sort(key=lambda request: request.length)
     return [*(OfRequest(request, entries) for request in asked), *map(Call, others)]
 
@@ -215,16 +200,9 @@ def reaching(cpu, asked):
     return {place: bits for place, bits in found.items() if place[0] in cpu.program.sections}
 
 
-def some_secrets(cpu):
-    return calls.made_secrets(cpu, [(135, 3), (136, 0), (143, 3), (200, 17), (256, 241)])
-
-
 # What a library's texts are asked beside one-shots and cut streams: other calls, and what shows any updates of XXH3.
 Beside = collections.namedtuple("Beside", "calls updates")
-FOR_C = Beside([calls.canonical_forms, calls.is_equal, calls.compare, calls.version, calls.copies, calls.forgotten,
-                calls.without_mark, calls.out_of_range, calls.counters_stay, calls.refused_resets,
-                calls.updates_of_nothing, calls.null_pointers, calls.derived_secret, some_secrets],
-               xxh3_updates.Xxh3Updates)
+FOR_C = Beside([call for _, _, call in calls.OTHERS], xxh3_updates.Xxh3Updates)
 
 
 # ---- by induction

@@ -2,22 +2,22 @@
 import functools
 import itertools
 import os
-import subprocess
-import tempfile
 
 from terms import comparison, nodes
-from terms.loops import REFUSALS
+from terms.refusals import REFUSALS
+from terms.requests import TOP, Request
 from terms.nodes import WrongRule
 from terms.polynomials import variable
 from terms.processes import Row
-from terms.sides import TOP, Request
 
-from . import (any_secret, any_updates, calls, changes, covered, every_length, exports, lanes, long_seeds, on_processor,
-               one_shots, planted, scalar, streams, xxh3_updates)
+from . import (any_secret, any_updates, calls, covered, every_length, exports, lanes, long_seeds, one_shots, scalar, streams,
+               xxh3_updates)
 from .cargo import CargoProcessor, CargoProgram
-from .instructions import SETS, TABLE, V2, V3, V4
+from .instructions import V1, V2, V3, V4
 from .objects import Program
 from .processor import Processor
+from .sources import assembled, expect_alike
+from .unwinding import expect_frames
 
 NAMES = V2, V3, V4
 FOLDER = os.path.join(TOP, "c", "asm")
@@ -36,19 +36,13 @@ ANY_SECRET = [f"{name}:{way}" for name in ("3-64", "3-128") for way in ("secret"
 MOST_NODES = 400_000                                # of the cases of a proof
 SOME_LENGTHS = 5                                   # each so many of the cases of a secret of any length, without --all
 OF_LONG_SEEDS = 137,                                # bytes of secrets that are made of 2^32 bytes and more
+FEWEST_FRAMED = 9000                                # instructions of a text
 SMALL = [0, 1, 3, 4, 8, 9, 16, 17, 128, 129, 240, 241, 1000]
 assert scalar and lanes                             # which fill the table
 
 
 def programs():
-    """The texts as gcc assembles them, which is how users do it."""
-    with tempfile.TemporaryDirectory(prefix="machine-text-") as room:
-        return {name: assembled(f"{FOLDER}/{name}.s", f"{room}/{name}.o") for name in NAMES}
-
-
-def assembled(source, to):
-    subprocess.run(["gcc", "-c", source, "-o", to], check=True)
-    return Program(to)
+    return {name: assembled(f"{FOLDER}/{name}.s", V1, Program) for name in NAMES}
 
 
 def makers(texts):
@@ -70,10 +64,11 @@ def counted(title, least, ask):
     return Row(title, outcome)
 
 
-def choose(options, texts, others):
-    """The rows on c/asm; other texts have their own, but their instructions are compared here."""
+def choose(options, texts):
+    """The rows on c/asm."""
     rows = one_shot_rows(texts, options.all) + secret_rows(texts, options.all) + every_length_rows(texts, options.all)
-    rows += stream_rows(texts, options.all) + call_rows(texts, options.all) + machine_rows(texts, others, options.all)
+    rows += stream_rows(texts, options.all) + call_rows(texts, options.all)
+    rows += [assembler_row([(f"{FOLDER}/{name}.s", V1) for name in texts])]
     rows.insert(0, export_row(texts, [row.title for row in rows]))
     return rows
 
@@ -165,7 +160,8 @@ def xxh3_rows(made, is_all, kind=xxh3_updates.Xxh3Updates):
     out = [counted("each update of XXH3 has its row", COVERED[is_all] * len(made),
                    functools.partial(points_left_out, made, is_all, kind))]
     for name, make in made.items():
-        for what, (some, parts) in XXH3_CASES.items():
+        for what in kind.KINDS:
+            some, parts = XXH3_CASES[what]
             for part in range(parts) if is_all else [None]:
                 words = f"part {part + 1} of {parts}" if is_all else "some cases"
                 out.append(counted(f"streams of XXH3: {what}, to 2^64 - 1 bytes, {name}, {words}", some,
@@ -323,68 +319,28 @@ def call_rows(texts, is_all):
     seeds = [0, 1, 17, 136, 241, 300] if is_all else [0, 3, 241]
     made = [(size, length) for size in sizes for length in seeds]
     of = functools.partial(of_each, before_v4(texts))
-    of_streams = functools.partial(of_each, texts)
-    return [of("canonical forms and back", 6, calls.canonical_forms), of("equal hashes", 4, calls.is_equal),
-            of("the order of hashes", 9, calls.compare), of("the version", 1, calls.version),
-            of("copies of states", 3, calls.copies), of("freed states are refused", 4, calls.forgotten),
-            of_streams("streams: memory without the mark of a reset", 8, calls.without_mark),
-            of_streams("streams: states of XXH3 that no call leaves", 10, calls.out_of_range),
-            of_streams("streams: counters that stay at 2^64 - 1", 20, calls.counters_stay),
-            of_streams("streams: secrets that a state doesn't keep", 80, calls.refused_resets),
-            of_streams("streams: null pieces of no bytes", 20, calls.updates_of_nothing),
-            of_streams("null inputs and secrets of no bytes", 14, calls.null_pointers),
-            of("the derived secret", 2, calls.derived_secret),
+    return [*(of(*call) for call in calls.WITHOUT_MESSAGE), *(of_each(texts, *call) for call in calls.OF_MESSAGES),
             of("made secrets", len(made) + len(OF_LONG_SEEDS), functools.partial(made_secrets, asked=made)),
             counted(f"exports of {V4} that have the code of {V3}", 24,
                     lambda: (exports.expect_code_of_v3(texts[V4], texts[V3]), [])),
-            counted("names of another's code", 9 * len(texts),
-                    lambda: (sum(exports.expect_twins(program) for program in texts.values()), []))]
+            twin_row(texts), frames_row(texts)]
+
+
+def twin_row(texts):
+    return counted("names of another's code", 9 * len(texts),
+                   lambda: (sum(exports.expect_twins(program) for program in texts.values()), []))
+
+
+def frames_row(texts, least=FEWEST_FRAMED):
+    """The unwinding tables: of each text at least so many instructions."""
+    return counted("the frame at each instruction", least * len(texts),
+                   lambda: (sum(map(expect_frames, texts.values())), []))
 
 
 def made_secrets(cpu, asked):
     return calls.made_secrets(cpu, asked) + long_seeds.made_secrets(cpu, OF_LONG_SEEDS)
 
 
-# ---- the machine, and what has to be noticed
-
-def machine_rows(texts, others, is_all):
-    forms = sum(kind in SETS[on_processor.processor_here()] for kind, _ in TABLE.values())
-    without = "" if on_processor.is_v4() else ", without what it lacks of x86-64-v4"
-    return [counted(f"the table of instructions beside the processor{without}", forms - 40,
-                    functools.partial(beside_processor, [*texts.values(), *others.values()], is_all)),
-            counted("wrong texts of each kind are refused", len(planted.WRONG), planted.refused),
-            *change_rows(texts, is_all)]
-
-
-def change_rows(texts, is_all):
-    """Changes of one instruction; of x86-64-v4 in the functions that it has by itself."""
-    for name, make in makers(texts).items():
-        if name == V4:
-            yield change_row(f"in the widened functions of {name}", (20, 100), is_all, name, make, is_drawn=is_widened)
-        else:
-            yield change_row(name, (40, 100), is_all, name, make)
-
-
-def is_widened(section):
-    return "widened" in section
-
-
-def change_row(where, counts, is_all, *asked, **more):
-    """So many changes of one draw, or with --all of each draw."""
-    count, draws = counts[is_all], changes.DRAWS if is_all else 1
-    return counted(f"changes of one instruction, {where}", count * draws,
-                   functools.partial(changes.noticed, *asked, count, is_all, **more))
-
-
-def parts_of_changes(title, asked, program, is_all):
-    """Few of the changes that a module asks, or with --all a row of each part of them."""
-    for part in range(changes.ROWS) if is_all else [None]:
-        words = f", part {part + 1} of {changes.ROWS}" if is_all else ""
-        yield counted(title + words, asked.MANY // changes.ROWS if is_all else asked.FEW,
-                      functools.partial(asked.noticed, program, part))
-
-
-def beside_processor(programs, is_all):
-    on_processor.expect_processor()
-    with tempfile.TemporaryDirectory(prefix="machine-text-") as room:
-        return on_processor.compare(on_processor.asked(programs, is_all), room)
+def assembler_row(sources):
+    """Objects of each text by three assemblers."""
+    return counted("one object by GNU as, clang and rustc", 2 * len(sources), lambda: (expect_alike(sources), []))

@@ -2,7 +2,7 @@
 isn't a number."""
 import contextlib
 
-from terms.llvm_text import Unsupported
+from terms.refusals import Unsupported
 from terms.memory import RUNS, Input, in_order, is_inside, is_within, outside
 from terms.nodes import NODES, SYMBOL, Node
 from terms.polynomials import is_natural, is_same, minus, plus

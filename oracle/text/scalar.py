@@ -1,7 +1,7 @@
 """What the instructions on words do."""
 from terms import operations
-from terms.llvm_text import Unsupported
-from terms.machine import BINARY
+from terms.refusals import Unsupported
+from terms.words import BINARY
 from terms.polynomials import Poly, is_same, lifted, plus
 from terms.rules import ones
 

@@ -3,11 +3,11 @@ update is handed its piece alone, as an object of its own, and no digest changes
 import os
 import re
 
-from terms.llvm_text import Unsupported
+from terms.refusals import Unsupported
+from terms.requests import TOP
 from terms.memory import Piece
 from terms.nodes import is_same
 from terms.polynomials import is_same as is_same_number
-from terms.sides import TOP
 
 from .memory import Words
 from .one_shots import NAMES, WAYS, is_plain, of_seed, suppose_seed

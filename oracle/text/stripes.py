@@ -8,7 +8,7 @@ import collections
 import functools
 
 from terms.definition import suppositions
-from terms.loops import REFUSALS, NotShown
+from terms.refusals import REFUSALS, NotShown
 from terms.memory import Input
 from terms.nodes import Node
 from terms.polynomials import divided, given, is_natural, minus, plus, times, variable

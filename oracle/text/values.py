@@ -6,8 +6,9 @@ here and not by operations.py is compared at the points as well."""
 import contextlib
 
 from terms import nodes, operations
-from terms.machine import BINARY
-from terms.nodes import Node, Undecided, WrongRule, symbol
+from terms.refusals import Undecided
+from terms.words import BINARY
+from terms.nodes import Node, WrongRule, symbol
 from terms.polynomials import Poly, as_word, constant_of, divided, is_natural, lifted, minus, parts_of, plus, wrapped
 from terms.rules import ones, zeros_below
 

@@ -15,8 +15,8 @@ import itertools
 
 from terms import definition, nodes
 from terms.definition import Bytes, suppositions
-from terms.every_length import LONGEST, LONGEST_SECRET
-from terms.loops import REFUSALS, NotShown
+from terms.refusals import REFUSALS, NotShown
+from terms.requests import LONGEST, LONGEST_SECRET
 from terms.memory import RUNS, Piece
 from terms.nodes import is_same
 from terms.polynomials import at_most, given, is_natural, minus, plus, times, variable
@@ -95,6 +95,7 @@ EMPTY = Start((0, 0), 0, 0, (0, 0), [])
 class Xxh3Updates:
     CORE = 0                      # where in a state the accumulators lie, and behind them all but what `own` has
     HAS_SEED = 0, 1               # whether a stream was made with a seed
+    KINDS = UPDATES, DIGESTS, STRIPES                 # what a text has
     longest_secret, longest_piece = LONGEST_KEPT, LONGEST
 
     def __init__(self, cpu):
@@ -439,7 +440,7 @@ class Xxh3Updates:
 
     def expect_stack(self, summary):
         """That a function has used no more of the stack than its summary says."""
-        if min(self.cpu.stack.cells, default=ENTRY) < ENTRY - DEEP:
+        if self.cpu.stack.lowest < ENTRY - DEEP:
             raise NotShown(f"{summary.name}: more than {DEEP} bytes of stack")
 
     def all_taken(self):

@@ -7,6 +7,7 @@ import re
 import shutil
 import tomllib
 
+import by_cargo
 import provenance
 from arm_roots import debian_root
 from packing import read_tar, tree_of, write_tar
@@ -108,6 +109,27 @@ def programs(commit, made):
     return write_archive(commit, made, 'programs-x86_64', files)
 
 
+def cargo_programs(commit, made):
+    names = []
+    for machine in MACHINES:
+        files = by_cargo.files(commit, machine)
+        if files:
+            files |= {**documents(commit, made), 'README.md': words_of(commit, 'The programs, by cargo')}
+            names += write_archive(commit, made, f'cargo-programs-{machine}', files)
+    return names
+
+
+def debian_without_rt(commit, made):
+    """The Debian packages with the programs that cargo builds, where dpkg-deb is."""
+    names = []
+    for machine, (_, target) in MACHINES.items():
+        programs = shutil.which('dpkg-deb') and by_cargo.installed(commit, machine)
+        if programs:
+            words = [commit.path('c', 'package'), '--target', target, '--programs', programs, '--provenance', f'{made}/PROVENANCE', made]
+            names += new_files(made, lambda words=words: must(words))
+    return names
+
+
 def crate(commit, made):
     """The crate: the files that its manifest includes, as cargo packs them. cargo itself would ask a registry for serde, to
     write a lock file."""
@@ -173,5 +195,6 @@ def api(commit, made):
     return write_archive(commit, made, 'api', {**documents(commit, made), **tree_of(folder)})
 
 
-PARTS_WITHOUT_RT = (library, crate, python, node, page, api)
-PARTS = (debian, programs, *PARTS_WITHOUT_RT)
+PARTS_OF_BOTH = (library, cargo_programs, crate, python, node, page, api)
+PARTS_WITHOUT_RT = (debian_without_rt, *PARTS_OF_BOTH)
+PARTS = (debian, programs, *PARTS_OF_BOTH)

@@ -196,7 +196,7 @@ def has_provenance(room, folder):
     names = [name for name in sorted(os.listdir(folder)) if name.endswith(('.gz', '.tgz', '.crate', '.whl', '.deb'))]
     for name in names:
         want(provenances(room, os.path.join(folder, name)) == [right], f'{name} has another one, or none')
-    words, has_programs = right.decode(), any('-programs-' in name for name in names)
+    words, has_programs = right.decode(), any('-programs-' in name and '-cargo-' not in name for name in names)
     kit = ('rattle-kit', '[0-9a-f]{64}  bin/rattle') if has_programs else ('none: release/make --without-rt',)
     for part in ('commit [0-9a-f]{40}', *kit, '[0-9a-f]{64}  c/asm/x86-64-v2.s'):
         want(re.search(part, words), f'without {part}')

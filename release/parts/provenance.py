@@ -35,7 +35,7 @@ def kit():
 
 def tools():
     """The first line that each compiler says of itself."""
-    names = filter(shutil.which, ('gcc', 'aarch64-linux-gnu-gcc', 'ld', '/usr/bin/python3', 'cargo', 'npm'))
+    names = filter(shutil.which, ('gcc', 'aarch64-linux-gnu-gcc', 'ld', '/usr/bin/python3', '/usr/bin/rustc', '/usr/bin/cargo', 'npm'))
     return [f'{os.path.basename(name)}: {must([name, "--version"]).splitlines()[0]}' for name in names]
 
 
@@ -74,14 +74,22 @@ def texts(commit):
     return sums(commit.tree, [name for name in names if name.endswith('.s')])
 
 
-UNPROVED = ['none: release/make --without-rt proves nothing. The texts and the modules below are those of the commit, which its',
-            'gate compares with what is proved; the programs and the Debian packages need the toolchain and are left out']
+UNPROVED = ['none: release/make --without-rt proves nothing. The texts, the modules and the erased source are those of the commit,',
+            'which its gate compares with what is proved']
+BY_CARGO = 'compiled by rustc from proved source without its contracts; tested, not proved, as xxhsum --version says'
+BY_RT = 'proved and compiled by the kit'
+
+
+def programs(without_rt):
+    """Which xxh and xxhsum are in which archive."""
+    packages = BY_CARGO if without_rt else f'{BY_RT} (amd64 alone)'
+    return [*([] if without_rt else [f'programs-x86_64: {BY_RT}']), f'cargo-programs: {BY_CARGO}', f'Debian packages: {packages}']
 
 
 def text(commit, log, without_rt):
     """PROVENANCE: what was packed, what proved and compiled it, and the SHA-256 of what it was made of."""
     parts = {f'twox_hash {commit.version}': [f'commit {commit.name}', f'of {commit.date}'],
-             'Kit': UNPROVED if without_rt else kit(), 'Tools': tools(), **gate(log), 'Assembly text': texts(commit),
+             'Kit': UNPROVED if without_rt else kit(), 'Programs': programs(without_rt), 'Tools': tools(), **gate(log), 'Assembly text': texts(commit),
              'Modules': sums(commit.tree, ['web/twox_hash.wasm', 'web/twox_hash_simd.wasm'])}
     return '\n'.join('\n'.join([title, *(f'  {line}' for line in lines), '']) for title, lines in parts.items())
 

@@ -94,6 +94,20 @@ def runs_anywhere(root):
     want(line == must(['xxhsum', '-q', LICENSE]), f'static/xxhsum prints {line}')
 
 
+def cargo_programs(root):
+    """The programs that cargo built, which are static, where there is nothing, and on a processor without AVX2."""
+    typed(root, 'The programs, by cargo')
+    folder = root.at(f'{TAKEN}/{root.stem}-cargo-programs-x86_64/bin')
+    for words in (['chroot', folder, '/xxh'], ['qemu-x86_64', '-cpu', 'Nehalem', f'{folder}/xxh']):
+        want(must([*words, 'hash', '64', '1234'], input='some bytes').strip() == SOME_BYTES, f'{words} prints another')
+    path = f'PATH={TAKEN}/{root.stem}-cargo-programs-x86_64/bin:$PATH'
+    for name in ('xxhsum', 'xxh32sum', 'xxh64sum', 'xxh128sum', 'xxh3sum'):
+        root.must(f'{path} {name} /etc/passwd > list; {path} {name} -c list')
+    said = must([f'{folder}/xxhsum', '--version']).strip()
+    want('compiled by rustc from proved source' in said, said)
+    return said
+
+
 def programs(root):
     """The programs where there is nothing, and lists of Debian's xxhsum, which is installed afterwards."""
     typed(root, 'The programs')
@@ -170,11 +184,12 @@ def made_without_rt(root):
     """release/make --without-rt with the packages of the page, by a user who may install nothing, where the only cargo is Debian's:
     everything it writes equals the full release, except PROVENANCE."""
     packages, = re.findall(r'These packages of Debian 12 are needed: `(.*)`', printed.text_of(printed.RELEASES))
-    root.install(*packages.split(), 'cargo-web')
+    root.install(*packages.split())
     must(['git', 'clone', '-q', TOP, root.at('/srv/clone')])
     must(['git', '-C', root.at('/srv/clone'), 'checkout', '-q', made.commit_of(root.at(TAKEN))])
     root.must('chown -R nobody /srv; runuser -u nobody -- env HOME=/srv /srv/clone/release/make --without-rt /srv/made')
-    names = sorted(set(os.listdir(root.at('/srv/made'))) - {'PROVENANCE', 'SHA256SUMS'})
+    # The Debian packages of the whole release have the programs that rt built.
+    names = sorted(name for name in set(os.listdir(root.at('/srv/made'))) - {'PROVENANCE', 'SHA256SUMS'} if not name.endswith('.deb'))
     other = [name for name in names if not os.path.exists(root.at(f'{TAKEN}/{name}'))
              or made.members(root.at(f'/srv/made/{name}')) != made.members(root.at(f'{TAKEN}/{name}'))]
     want(names and not other, f'other than the whole release has them: {", ".join(other)}')
@@ -238,6 +253,7 @@ TRIALS = (
     Trial('the library for C', BOTH, 'The library for C', library),
     Trial('the Debian package', BOTH, 'The Debian package', package),
     Trial('the programs', BOTH, 'The programs', programs),
+    Trial('the programs that cargo built', BOTH, 'The programs, by cargo', cargo_programs),
     Trial('the crate, with cargo', BOTH, 'The crate for cargo', crate),
     *(Trial(name, suites, heading, functools.partial(python, heading)) for name, suites, heading in (
         ('the wheel, with no compiler', ('bookworm',), 'The Python package'),

@@ -5,7 +5,7 @@ import subprocess
 import sys
 
 CRATES = os.path.join(os.path.dirname(os.path.dirname(os.path.dirname(os.path.abspath(__file__)))), 'crates')
-# Erases each of a list of sources as a file of twox_words, without the counts of edits.
+# Erases each of a list of sources as a file of this name, without the counts of edits.
 EACH = '''
 import importlib.machinery, importlib.util, json, sys
 from collections import Counter
@@ -14,15 +14,16 @@ loader = importlib.machinery.SourceFileLoader('erase', sys.argv[1])
 module = importlib.util.module_from_spec(importlib.util.spec_from_loader('erase', loader))
 loader.exec_module(module)
 
-def one(source):
+def one(file, source):
+    package = module.PROGRAM_PACKAGE if file.startswith('xxh') else module.LIBRARY_PACKAGE
     try:
-        return 'erased', module.as_rust('twox_words/src/case.rt', module.read('case', source), Counter())
+        return 'erased', module.as_rust(file, module.read('case', source), Counter(), package)
     except module.Refused as reason:
         return 'refused', str(reason)
     except Exception as fault:
         return 'failed', repr(fault)
 
-print(json.dumps([one(source) for source in json.load(sys.stdin)]))
+print(json.dumps([one(file, source) for file, source in json.load(sys.stdin)]))
 '''
 
 
@@ -31,12 +32,12 @@ class Eraser:
         self.parts, self.program = parts, os.path.join(os.path.dirname(parts), 'erase')
 
     def each(self, sources):
-        """Of each source 'erased' and the Rust, or 'refused' and why."""
+        """Of each pair of a file's name and its source 'erased' and the Rust, or 'refused' and why."""
         done = subprocess.run([sys.executable, '-c', EACH, self.program], input=json.dumps(sources),
                               stdout=subprocess.PIPE, stderr=subprocess.PIPE, text=True)
         return json.loads(done.stdout) if done.returncode == 0 else [('failed', done.stderr[-300:])] * len(sources)
 
-    def tree(self, folder, crates=CRATES):
-        """Writes the erased crates there. What it says if it fails."""
-        done = subprocess.run([sys.executable, self.program, '--to', folder, '--from', crates], stderr=subprocess.PIPE, text=True)
+    def tree(self, folder, crates=CRATES, *words):
+        """Writes the erased crates there, with `--programs` those of the programs. What it says if it fails."""
+        done = subprocess.run([sys.executable, self.program, *words, '--to', folder, '--from', crates], stderr=subprocess.PIPE, text=True)
         return done.stderr if done.returncode else ''

@@ -130,6 +130,20 @@ pub struct P {
     v: usize,
 }
 pub fn case() -> usize { P { v: 3 }.v }'''),
+    ('comments above clauses', 2, '''
+pub fn two(x: usize) -> usize
+    // It isn't much.
+    requires { x < 2 }
+
+    // What follows.
+    ensures { result ≡ 2 }
+{ 2 }
+pub fn case() -> usize { two(1) }'''),
+    ('a trait whose types may be let go', 6, '''
+pub trait Six: Drop { fn six(&self) -> usize; }
+impl Six for u8 { fn six(&self) -> usize { 6 } }
+pub fn case() -> usize { 0u8.six() }'''.replace('six', 'upper_half')),
+    ('a condition that begins with a bracket', 1, 'pub fn case() -> usize { let n = 3; if !(n == 4) { 1 } else { 2 } }'),
     # ---- refused ----
     ('a clause at a closure', 'a clause outside of the head', '''
 pub fn case() -> usize { let add = |x: usize| -> usize requires { x < 2 } { x }; add(1) }'''),
@@ -162,16 +176,37 @@ pub struct P { a: u8, b: u32 } const _: () = prove!(size_of::<P>() == 8);'''),
     ('a cast from a word to a size', 'the cast', 'pub fn f(n: u64) -> usize { n as usize }'),
     ('unsafe code', '1 times `unsafe`', 'pub fn f(p: *const u8) -> u8 { unsafe { *p } }'),
     ('another attribute', 'the attribute `allow`', '#[tactic(auto)] #[allow(dead_code)] pub fn a() { }'),
-    ('a comment between clauses', 'a comment between clauses', '''
+    ('a comment behind the clauses', 'a comment behind the clauses', '''
 pub fn f(x: usize) -> usize
     requires { x < 2 }
     // It isn't much.
-    ensures { result ≡ x }
 { x }'''),
+    ('a loop without a condition', '`loop`', 'pub fn f() { loop { } }'),
+    ('a bound in a where clause', '`Drop` as a bound of an unknown form', 'pub fn f<T>(t: T) where T: Drop { }'),
     ('a comment in what an edit takes', 'a comment in what the edit', 'pub fn f() { items /* all */ .as_chunks(); }'),
     ('a model with code', 'with more than ghost items', 'impl Model for P { fn f() { } }'),
     ('a string with a brace in a contract', "in a contract", 'pub fn f() ensures { result ≡ codes "}" } { }'),
     ('a word of contracts as a name', 'begins no clause', 'pub fn f() { let requires = 1; }'),
+)
+
+# The same in a file of the programs of this name.
+CASE = 'xxh_io/src/case.rt'
+PLANTED_IN_PROGRAMS = (
+    (CASE, 'a loop in the programs', 4, 'pub fn case() -> usize { let mut n = 0; loop { n += 1; if n == 4 { return n; } } }'),
+    (CASE, 'a range to the greatest number', 3, 'pub fn case() -> usize { for n in 3..usize::MAX { return n; } 0 }'),
+    (CASE, 'a file that is dropped', 5, '''
+pub trait Store { type File: Copy + Drop; fn len(&self) -> usize; }
+impl Store for Vec5 { type File = u8; fn len(&self) -> usize { 5 } }
+pub struct Vec5;
+pub fn case() -> usize { Vec5.len() }'''),
+    (CASE, 'a cast that 32 bits lack', 'the cast `n as usize`', 'pub fn f(n: u64) -> usize { n as usize }'),
+    (CASE, 'such a cast of a result', 'the cast `? as usize`', 'pub fn f(n: Option<u64>) -> Option<usize> { Some(n? as usize) }'),
+    ('xxh_program/src/program/blocks.rt', 'such a cast beside the one that is guarded', 'line 3: the cast `room as usize`', '''
+pub fn guarded(room: u64) -> usize { room as usize }
+pub fn other(room: u64) -> usize { room as usize }'''),
+    (CASE, 'a macro that prints', 'the macro `println!`', 'pub fn f() { println!("x"); }'),
+    (CASE, 'a stable sort, which takes memory', 'the call `sort`', 'pub fn f(n: &mut [u8]) { n.sort(); }'),
+    (CASE, 'threads', '`std::thread`', 'use std::thread; pub fn f() { }'),
 )
 
 # Changes of the crates that make an edit apply another number of times: the file, the text as it is and as it is then.
@@ -180,4 +215,11 @@ CHANGED_CRATES = (
     ('twox_words/src/words/chunks.rt', 'items.as_chunks()', '{ items.as_chunks(); items.as_chunks() }'),
     ('twox_core/src/xxhash3/streaming/core_state.rt', '#[inline(never)]\n    fn write_through', '#[inline]\n    fn write_through'),
     ('twox_plain/src/xxhash64.rt', 'mod saved;\n', ''),
+)
+# The same in the programs, or a refusal: the text, and why.
+CHANGED_PROGRAMS = (
+    ('xxhsum_program/src/arguments.rt', 'vec![in alloc; 0u8; room]', 'vec![in alloc; 1u8; room]', ' times, not '),
+    ('xxhsum/src/main.rt', 'fn main(rt: HostRuntime)', 'fn main(process: HostRuntime)', ' times, not '),
+    ('twox_plain/src/xxhash64/saved.rt', 'usize_member(value, "buffer_usage")?', 'u64_member(value, "buffer_usage")? as usize',
+     'the cast `? as usize`'),
 )

@@ -6,12 +6,15 @@ import shutil
 
 import reader
 from erasers import Eraser
-from planted_sources import CHANGED_CRATES, PLANTED
+from planted_sources import CHANGED_CRATES, PLANTED, PLANTED_IN_PROGRAMS
 from report import tail, want
 from room import Room, install_packages
 
 RUST = os.path.dirname(os.path.dirname(os.path.abspath(__file__)))
 PARTS, CRATES = os.path.join(RUST, 'eraser'), os.path.join(os.path.dirname(RUST), 'crates')
+
+# The file that each planted source is read as, its name, what is wanted, and the source.
+ALL_PLANTED = (*(('twox_words/src/case.rt', *row) for row in PLANTED), *PLANTED_IN_PROGRAMS)
 
 # What is wrong, the file, the line as it is and as it is then.
 WRONG = (
@@ -58,13 +61,24 @@ WRONG = (
     ('a ghost of any form', 'tokens.py', "    if not after or after[1] not in ';,' or (after[1] == ',' and found[1] != ':'):",
      "    if not after:"),
     ('any method of integers', 'forms.py', "        if code[at].text == 'fn' and code[at + 1].text not in ADDED_METHODS:", "        if False:"),
-    ('any call', 'forms.py', "    if before == '.' and after in ('(', ':') and word not in CALLS | DEFINED:", "    if False:"),
-    ('any cast', 'forms.py', "        if (file, text) not in CASTS:", "        if False:"),
+    ('any call', 'forms.py', "and after in ('(', ':') and word not in known.calls | DEFINED:", "and False:"),
+    ('any cast', 'forms.py', "            if count[text] > CASTS.get((file, text), (0, ''))[0]:", "            if False:"),
+    ('any cast beside one of the list', 'forms.py', "            if count[text] > CASTS.get((file, text), (0, ''))[0]:",
+     "            if (file, text) not in CASTS:"),
+    ('any macro', 'forms.py', "word not in known.macros and", "False and"),
+    ('the forms of the programs in the library', 'forms.py', "PROGRAM_FORMS if is_of_programs(file) else LIBRARY_FORMS", "PROGRAM_FORMS"),
+    ('a bound of any place', 'contracts.py', "and not is_supertrait(tokens, before, after):", "and False:"),
+    ('clauses without the comments above them', 'contracts.py', "            drop(tokens, first_with_comments(tokens, i), i)\n            dropped",
+     "            drop(tokens, i, i)\n            dropped"),
+    ("names of Rust's prelude", '../erase', "use crate::rattle::prelude::{listed}", "use std::prelude::v1::{listed}"),
+    ('files of the library in the programs', 'packages.py', "        return is_of_programs == (self is PROGRAM_PACKAGE)", "        return True"),
+    ('streams of the library in the programs', 'packages.py', "'pub use crate::streams::{self as xxhash3, xxhash3_128, xxhash3_64};'", "''"),
+    ('files of Rust for those of Rattle', 'program_edits.py', "'crate::rattle::fs'", "'std::fs'"),
     ('any clone', 'forms.py', "    if before == '.' and word == 'clone'", "    if before == ':' and word == 'clone'"),
     ('any range', 'forms.py', "    if code[end].text in (')', '{') and code[i - 1].text not in (',', '('):", "    if False:"),
     ('any size', 'forms.py', "    if [one.text for one in code[i + 1:i + 4]] != [':', ':', '<'] or name not in FIXED_LAYOUT:", "    if False:"),
-    ('any of std', 'forms.py', "        if name.text not in STD:", "        if False:"),
-    ('any word', 'forms.py', "    if word in REFUSED_WORDS:", "    if False:"),
+    ('any of std', 'forms.py', "        if name.text not in known:", "        if False:"),
+    ('any word', 'forms.py', "    if word in known.refused:", "    if False:"),
     ('any unsafe', 'forms.py', "    if found != wanted:", "    if False:"),
     ('a proof that runs', 'forms.py', "    if word == 'prove' and", "    if word == 'proves' and"),
     ('any module', 'forms.py', "    if word in ('core', 'alloc', 'erased', 'rattle') and", "    if word in ('kore',) and"),
@@ -90,13 +104,13 @@ def wrong_parts(room, number, file, old, new):
 
 @functools.cache
 def of_planted(parts):
-    return Eraser(parts).each([source for _, _, source in PLANTED])
+    return Eraser(parts).each([(file, source) for file, _, _, source in ALL_PLANTED])
 
 
 def changed_crates(room, number, file, old, new):
     """A copy of the crates with one text changed."""
     folder = os.path.join(room, f'crates-{number}')
-    for crate in reader.CRATES:
+    for crate in reader.PROGRAMS.crates:
         shutil.copytree(os.path.join(CRATES, crate, 'src'), os.path.join(folder, crate, 'src'), dirs_exist_ok=True)
     path = os.path.join(folder, file)
     with open(path, encoding='utf-8') as text:
@@ -114,13 +128,19 @@ def noticed_by(eraser, room):
         return 'the eraser'
     if reader.faults(CRATES, tree)[1]:
         return 'the reader'
-    for (name, _, _), right, found in zip(PLANTED, of_planted(PARTS), of_planted(eraser.parts)):
+    for (_, name, _, _), right, found in zip(ALL_PLANTED, of_planted(PARTS), of_planted(eraser.parts)):
         if right != found:
             return f'"{name}"'
     for number, change in enumerate(CHANGED_CRATES):
         if not eraser.tree(tree, changed_crates(room, number, *change)):
             return f'a changed {change[0]}'
-    return ''
+    return noticed_in_programs(eraser, os.path.join(room, 'programs'))
+
+
+def noticed_in_programs(eraser, tree):
+    if eraser.tree(tree, CRATES, '--programs'):
+        return 'the eraser, in the programs'
+    return 'the reader, in the programs' if reader.faults(CRATES, tree, reader.PROGRAMS)[1] else ''
 
 
 def is_noticed(room, number, file, old, new):

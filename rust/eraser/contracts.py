@@ -46,7 +46,7 @@ def drop_clauses_of_head(tokens, i):
         if tokens[i].kind == 'clause':
             if not parameters:
                 refuse(tokens[i], 'a clause before the parameters')
-            drop(tokens, i, i)
+            drop(tokens, first_with_comments(tokens, i), i)
             dropped = True
         elif tokens[i].kind in ('item', 'field', 'use'):
             refuse(tokens[i], 'a `ghost` in the head of a function')
@@ -57,7 +57,7 @@ def drop_clauses_of_head(tokens, i):
     if dropped:
         before = preceding(tokens, i)
         if any(token.kind == 'comment' for token in tokens[before:i]):
-            refuse(tokens[i], 'a comment between clauses')
+            refuse(tokens[i], 'a comment behind the clauses')
         drop(tokens, before + 1, i - 1)
         if tokens[i].text == '{':
             tokens[i - 1] = Token('space', ' ', tokens[i].line)
@@ -136,16 +136,22 @@ def drop_derive(tokens, first, begin, last):
 
 
 def drop_bounds(tokens):
-    """Drops `+ Drop`, and `: Drop` of a type parameter. Every type of Rust may be let go."""
+    """Drops `+ Drop`, and `: Drop` of a type parameter or of a trait. Every type of Rust may be let go."""
     for i, token in enumerate(tokens):
         if token.kind != 'word' or token.text != 'Drop':
             continue
         before, after = preceding(tokens, i), following(tokens, i)
-        if tokens[before].text not in ('+', ':') or tokens[after].text not in ('>', ',', '+', '{'):
+        if tokens[before].text not in ('+', ':') or tokens[after].text not in ('>', ',', '+', '{', ';'):
             refuse(token, '`Drop` of an unknown form')
-        if tokens[before].text == ':' and tokens[after].text not in ('>', ','):
+        if tokens[before].text == ':' and tokens[after].text not in ('>', ',') and not is_supertrait(tokens, before, after):
             refuse(token, '`Drop` as a bound of an unknown form')
         drop(tokens, before, i)
+
+
+def is_supertrait(tokens, before, after):
+    """True for `trait NAME: Drop {`, whose colon and brace these are."""
+    name = preceding(tokens, before)
+    return tokens[after].text == '{' and tokens[name].kind == 'word' and tokens[preceding(tokens, name)].text == 'trait'
 
 
 def without_contracts(tokens):

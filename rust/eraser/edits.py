@@ -8,8 +8,6 @@ from dataclasses import dataclass
 
 from tokens import Refused, Token, closing, lex
 
-TREE = 'crate::erased'
-CRATES = ('twox_words', 'twox_plain', 'twox_core', 'twox_hash')
 
 
 @dataclass(frozen=True)
@@ -50,7 +48,20 @@ BARRIER = 'LLVM otherwise makes a vector of the four accumulators of a stream, w
 LAST = 'LLVM otherwise regroups this index, and keeps the record of a stream in memory'
 KERNEL = 'each target takes the kernel that is fastest there: all are proved to compute the same'
 BLOCKS = 'the products of a block are slow without the instruction for them: blocks are for the proved function'
+PRODUCTS = 'LLVM otherwise adds the products as vectors, for which it has to gather them'
+MIDDLE = 'one test of both lengths, in place of one for each word'
 IN_PARTS = 'a second set of vectors takes in the same file'
+
+# What chooses among the ways to take a long input.
+LONG_INPUT = '''if secret.len() == DEFAULT_SECRET_LENGTH {
+    if is_widened(input) {
+        oneshot_by_eight_lanes(secret, input)
+    } else {
+        oneshot_above_240::<DefaultLength>(secret, input)
+    }
+} else {
+    oneshot_long_of_any_length(secret, input)
+}'''
 
 X86_64 = 'all(not(miri), target_arch = "x86_64")'
 NEON = 'all(not(miri), target_arch = "aarch64", target_endian = "little", target_feature = "neon")'
@@ -94,6 +105,14 @@ EDITS = (
          files='twox_core/src/xxhash3/stripes.*'),
     Edit('inlined', '#[inline(never)] pub(super) fn $name<V', '#[inline(always)] pub(super) fn $name<V', 1, ALWAYS,
          files='twox_core/src/xxhash3/stripes.*'),
+    Edit('kernel of long inputs', LONG_INPUT, 'crate::kernels::long_64(input, secret)', 1, KERNEL,
+         files='twox_core/src/width_64.rt', function='oneshot_long'),
+    Edit('kernel of long inputs', LONG_INPUT, 'crate::kernels::long_128(input, secret)', 1, KERNEL,
+         files='twox_core/src/width_128.rt', function='oneshot_long'),
+    Edit('kernel of long inputs with a seed', 'oneshot_above_240::<Derived>(', 'oneshot_long(', 2, KERNEL,
+         files='twox_core/src/width_(64|128).rt', function='oneshot_long_derived'),
+    Edit('bytes of a secret', "pub struct Secret<'a> { bytes", "pub struct Secret<'a> {\n    pub(crate) bytes", 1,
+         'a kernel takes them', files='twox_core/src/xxhash3/secret.rt'),
     Edit('kernel of XXH32', 'let mut rest = input;',
          'if input.len() >= crate::kernels::STRIPES_32 {\n'
          '            let (stripes, rest) = input.split_at(input.len() / BYTES_IN_BLOCK * BYTES_IN_BLOCK);\n'
@@ -111,19 +130,17 @@ EDITS = (
     Edit('inlined', '#[inline]', '#[inline(always)]', 7, ALWAYS, files='twox_core/src/xxhash3/large/(four|lanes4).rt'),
     Edit('one-shots of XXH64', '#[inline(never)] fn impl_long', '#[inline(always)] fn impl_long', 1,
          'a call costs more than the registers that it saves', files='twox_plain/src/xxhash64/rounds.rt'),
+    Edit('bytes of a middle input', 'let mut acc = input.len()', 'crate::rattle::expect_middle(input, from_8);\n    let mut acc = input.len()',
+         1, MIDDLE, files='twox_core/src/width_64.rt', function='impl_129_to_240_bytes'),
+    Edit('sum of a middle input', 'acc = acc.wrapping_add(mix_at(input, from_8, 16 * c, &words[c], seed));',
+         'acc = crate::rattle::opaque_u64(acc.wrapping_add(mix_at(input, from_8, 16 * c, &words[c], seed)));', 1, PRODUCTS,
+         files='twox_core/src/width_64.rt', function='impl_129_to_240_bytes'),
     Edit('long pieces of XXH32', 'input.len() >= BYTES_IN_BLOCK', 'input.len() >= crate::kernels::STRIPES_32', 1, BLOCKS,
          files='twox_plain/src/xxhash32/state.rt', function='add_rest'),
+    Edit('inlined', '#[inline(never)] fn write_through<V', '#[inline(always)] fn write_through<V', 1, ALWAYS),
     Edit('long one-shots of XXH32', 'input.len() < BYTES_IN_BLOCK', 'input.len() < crate::kernels::STRIPES_32', 1, BLOCKS,
          files='twox_plain/src/xxhash32/rounds.rt', function='impl_oneshot'),
-    Edit('inlined', '#[inline(never)] fn write_through<V', '#[inline(always)] fn write_through<V', 1, ALWAYS),
 )
-
-# Files of which nothing is written.
-NOT_WRITTEN = {
-    'twox_plain/src/by_stripes.rt', 'twox_plain/src/saved_text.rt',
-    *(f'twox_plain/src/xxhash{bits}/{name}.rt' for bits in (32, 64) for name in ('saved', 'build_hashers')),
-}
-
 
 def significant(text):
     return [token.text for token in lex(text) if not token.is_blank()]
@@ -189,18 +206,18 @@ def apply(edit, tokens):
     return count
 
 
-def rename_paths(tokens, crate):
-    """Paths from a crate's root begin at its module. Returns how many there were."""
+def rename_paths(tokens, tree, crate, crates):
+    """Paths from a crate's root begin at its module below `tree`. Returns how many there were."""
     places, count = [i for i, token in enumerate(tokens) if not token.is_blank()], 0
     for at, place in enumerate(places):
         token, before = tokens[place], tokens[places[at - 1]].text if at else ''
         follows = ''.join(tokens[i].text for i in places[at + 1:at + 3])
-        if token.kind != 'word' or token.text not in ('crate', *CRATES):
+        if token.kind != 'word' or token.text not in ('crate', *crates):
             continue
         if token.text == 'crate' and follows.startswith(')') and before == '(':
             continue
         if follows != '::' or before in (':', '.', '$'):
             raise Refused(f'line {token.line}: `{token.text}` that begins no path')
-        tokens[place] = Token('edited', f'{TREE}::{crate if token.text == "crate" else token.text}', token.line)
+        tokens[place] = Token('edited', f'{tree}::{crate if token.text == "crate" else token.text}', token.line)
         count += 1
     return count

@@ -20,33 +20,6 @@ extern crate core as std;
     reason = "whole crates of Rattle, of which this crate calls a part"
 )]
 mod erased;
-// Assembly source of the proved functions is there for these targets. Elsewhere everything is compiled from `erased`.
-#[cfg_attr(
-    all(
-        not(any(miri, twox_hash_no_assembly)),
-        target_os = "linux",
-        target_pointer_width = "64",
-        any(target_env = "gnu", target_env = "musl"),
-        any(
-            target_arch = "x86_64",
-            all(target_arch = "aarch64", target_endian = "little")
-        )
-    ),
-    path = "kernels/assembly.rs"
-)]
-#[cfg_attr(
-    not(all(
-        not(any(miri, twox_hash_no_assembly)),
-        target_os = "linux",
-        target_pointer_width = "64",
-        any(target_env = "gnu", target_env = "musl"),
-        any(
-            target_arch = "x86_64",
-            all(target_arch = "aarch64", target_endian = "little")
-        )
-    )),
-    path = "kernels/source.rs"
-)]
 mod kernels;
 mod library;
 #[cfg(all(target_arch = "x86_64", not(miri)))]
@@ -57,6 +30,8 @@ mod rattle;
 #[cfg(any(feature = "xxhash32", feature = "xxhash64"))]
 #[macro_use]
 mod plain;
+#[cfg(any(feature = "xxhash3_64", feature = "xxhash3_128"))]
+mod streams;
 #[cfg(any(feature = "xxhash3_64", feature = "xxhash3_128"))]
 #[macro_use]
 mod xxhash3;

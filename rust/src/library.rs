@@ -1,6 +1,5 @@
 // SPDX-License-Identifier: MIT
-//! The hashes by their erased source, and which inputs take a call of [`kernels`](crate::kernels): few bytes are hashed in
-//! the caller, many by a kernel.
+//! The hashes by their erased source.
 #![allow(
     dead_code,
     reason = "each hash is a feature, and so are the calls that it makes"
@@ -17,13 +16,9 @@ pub use crate::erased::twox_plain::xxhash32::StateInMemory as Record32;
 pub use crate::erased::twox_plain::xxhash64::StateInMemory as Record64;
 use crate::erased::twox_plain::{xxhash32, xxhash64};
 use crate::erased::twox_words::words::IntoU128;
-use crate::kernels;
 
-/// Inputs of up to so many bytes are tested for first, so that they pay no more than this test.
+/// Inputs of up to so many bytes are tested for first.
 const VERY_FEW: usize = 16;
-
-/// Inputs of up to so many bytes are hashed in the caller.
-const FEW: usize = 128;
 
 // ---- XXH32 and XXH64 ----
 
@@ -163,17 +158,16 @@ marked_record!(Record64, xxhash64, 32);
 
 // ---- XXH3 ----
 
-/// Defines the one-shots of a width, whose erased source answers what `$value_of` makes a number.
+/// Defines the one-shots of a width, whose erased source answers what `$value_of` makes a number. The shortest inputs have
+/// code of their own: they then pay no more than one test.
 macro_rules! oneshots {
     ($width:ident, $value:ty, $value_of:path, $plain:ident, $with_seed:ident, $with_secret:ident, $with_both:ident) => {
         #[inline(always)]
         pub fn $plain(input: &[u8]) -> $value {
             if input.len() <= VERY_FEW {
                 $value_of($width::oneshot(input))
-            } else if input.len() <= FEW {
-                $value_of($width::oneshot(input))
             } else {
-                kernels::$plain(input)
+                $value_of($width::oneshot(input))
             }
         }
 
@@ -181,20 +175,15 @@ macro_rules! oneshots {
         pub fn $with_seed(input: &[u8], seed: u64) -> $value {
             if input.len() <= VERY_FEW {
                 $value_of($width::oneshot_with_seed(seed, input))
-            } else if input.len() <= FEW {
-                $value_of($width::oneshot_with_seed(seed, input))
             } else {
-                kernels::$with_seed(input, seed)
+                $value_of($width::oneshot_with_seed(seed, input))
             }
         }
 
         #[inline(always)]
         pub fn $with_secret(input: &[u8], secret: &[u8]) -> Result<$value, OneshotWithSecretError> {
             let own = Secret::new(secret)?;
-            if input.len() <= FEW {
-                return Ok($value_of($width::oneshot_with_secret(own, input)));
-            }
-            Ok(kernels::$with_secret(input, secret))
+            Ok($value_of($width::oneshot_with_secret(own, input)))
         }
 
         #[inline(always)]
@@ -204,14 +193,11 @@ macro_rules! oneshots {
             seed: u64,
         ) -> Result<$value, OneshotWithSecretError> {
             if input.len() <= CUTOFF {
-                return Ok($value_of($width::oneshot_short(
-                    default_secret(),
-                    seed,
-                    input,
-                )));
+                let value = $width::oneshot_short(default_secret(), seed, input);
+                return Ok($value_of(value));
             }
-            Secret::new(secret)?;
-            Ok(kernels::$with_secret(input, secret))
+            let own = Secret::new(secret)?;
+            Ok($value_of($width::oneshot_long(own, input)))
         }
     };
 }

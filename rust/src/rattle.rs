@@ -107,6 +107,14 @@ pub fn array_at<const N: usize>(bytes: &[u8], i: usize) -> &[u8; N] {
     }
 }
 
+/// Tests what the callers show: an input of 129 bytes or more, and what comes behind its first eight.
+#[inline(always)]
+pub fn expect_middle(input: &[u8], from_8: &[u8]) {
+    if from_8.len() < 121 || input.len() <= from_8.len() {
+        out_of_bounds();
+    }
+}
+
 #[cold]
 #[inline(never)]
 fn out_of_bounds() -> ! {

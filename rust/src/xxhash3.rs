@@ -5,8 +5,8 @@
 use alloc::boxed::Box;
 use core::fmt;
 
-use crate::kernels::Stream;
 use crate::library;
+use crate::streams::Stream;
 
 /// The fewest bytes that a secret may have.
 pub const SECRET_MINIMUM_LENGTH: usize = 136;

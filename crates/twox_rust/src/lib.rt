@@ -1,36 +1,24 @@
-//! What the cargo crate of `rust/` calls: the hashes and streams of the Rust crate `twox-hash`, as a static library
-//! whose records lie in the caller's values.
+//! The kernels that the cargo crate of `rust/` calls for many bytes, as a static library. Everything else in that crate is
+//! the library's own source.
 //!
-//! A slice crosses as an address and a length, a record as its address. No contract asks anything of a caller: what
-//! can be tested is tested. A call that can refuse answers a code, `DONE`, `SECRET_TOO_SHORT` or `NOT_A_STREAM`, and
-//! changes nothing where it refuses.
+//! A slice crosses as its address and its length, a record as its address. No contract requires anything of a caller: a call
+//! that can't do its work returns a code other than `DONE`, and changes nothing.
 #![tactic(auto)]
 
 ghost use Rattle.std.specs.Prelude.{◌≡◌};
 
-mod oneshots_128;
-mod oneshots_64;
-mod secrets;
-mod stream_3;
-mod words;
-mod xxh32;
-mod xxh64;
+mod long_inputs;
+mod pieces_3;
+mod pieces_32;
 
-/// A code beside a value, as two registers. The value is 0 where the code isn't `DONE`.
-#[derive(Clone, Copy)]
-#[repr(C)]
-pub struct Answer {
-    /// `DONE`, or why there is no value.
-    pub code: u32,
-    /// The hash.
-    pub value: u64,
-}
+/// The input has 240 bytes or fewer.
+pub const INPUT_TOO_SHORT: u32 = 3;
 
-/// Its name is the number of this interface: it changes with every change of an export or of a record's layout, so
-/// that a caller of another number finds no such name. The answer is that number.
+/// Its name is the number of this interface: it changes with every change of an export or of a record's layout, so that a
+/// caller of another number finds no such name. Returns that number.
 #[unsafe(no_mangle)]
-pub extern "C" fn twox_rust_interface_4() -> u32
-    ensures { result ≡ 4 }
+pub extern "C" fn twox_rust_interface_5() -> u32
+    ensures { result ≡ 5 }
 {
-    4
+    5
 }

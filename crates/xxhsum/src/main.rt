@@ -6,6 +6,8 @@ use std::process::ExitCode;
 use xxh_io::from_read::FromRead;
 use xxh_io::from_write::FromWrite;
 use xxhsum_files::system::SystemFiles;
+use xxhsum_files::uninterrupted::Uninterrupted;
+use xxhsum_output::visible::Visible;
 use xxhsum_output::whole_lines::WholeLines;
 use xxhsum_program::arguments::ProcessArguments;
 use xxhsum_program::process::{Console, Terminals};
@@ -14,22 +16,23 @@ use xxhsum_tree::run::run;
 
 // Passes the process's arguments, files and streams to the program.
 fn main(rt: HostRuntime) -> ExitCode {
+    let (shows_output, shows_errors) = (rt.stdout().is_terminal(), rt.stderr().is_terminal());
     let console = Console {
-        input: FromRead::new(rt.stdin()),
+        input: FromRead::new(Uninterrupted::new(rt.stdin())),
         terminals: Terminals {
             input: rt.stdin().is_terminal(),
-            errors: rt.stderr().is_terminal(),
+            errors: shows_errors,
         },
         screen: Screen::new(rt.stderr(), &rt),
     };
-    // On a terminal each line is written at once.
-    let gathers = !rt.stdout().is_terminal();
+    // On a terminal control characters are shown, and each line is written at once.
+    let output = Visible::new(FromWrite::new(rt.stdout()), shows_output);
     ExitCode::from(run(
         rt.alloc(),
         &ProcessArguments::new(&rt),
         &SystemFiles::new(&rt),
         console,
-        &mut WholeLines::new(FromWrite::new(rt.stdout()), gathers),
-        &mut FromWrite::new(rt.stderr()),
+        &mut WholeLines::new(output, !shows_output),
+        &mut Visible::new(FromWrite::new(rt.stderr()), shows_errors),
     ))
 }

@@ -3,3 +3,4 @@ pub mod Memory
 pub mod Refusal
 pub mod Rules
 pub mod System
+pub mod Uninterrupted

@@ -13,10 +13,12 @@ use std::alloc::{AllocError, Global};
 pub enum PathKind {
     /// A folder.
     Folder,
-    /// A file; also where the store can't tell: opening it gives the reason.
+    /// A file; also a name that is not UTF-8: opening it gives the reason.
     File,
     /// A link, a device, a pipe or a socket.
     Other,
+    /// The store can't tell, for this reason.
+    Unknown(Refusal),
 }
 
 /// Why the names in a folder are not known.

@@ -6,4 +6,5 @@ pub mod memory;
 pub mod refusal;
 pub mod store;
 pub mod system;
+pub mod uninterrupted;
 mod words;

@@ -6,6 +6,7 @@ ghost use Rattle.xxhsum_files.specs.System.{AnyAnswer, AnyFile, AnyKind, AnyName
 use crate::folders::{FolderError, Folders, PathKind};
 use crate::refusal::Refusal;
 use crate::store::Store;
+use crate::uninterrupted::Uninterrupted;
 use crate::words::words_of;
 use std::alloc::{AllocError, Global};
 use std::fs;
@@ -33,7 +34,7 @@ impl<'a, P: Files> SystemFiles<'a, P> {
 }
 
 impl<P: Files> Store for SystemFiles<'_, P> {
-    type File = FromRead<P::File>;
+    type File = FromRead<Uninterrupted<P::File>>;
 
     ghost opens = { AnyFile };
 
@@ -49,7 +50,8 @@ impl<P: Files> Store for SystemFiles<'_, P> {
         };
         match fs::metadata(self.process, path) {
             Ok(found) => found.is_dir(),
-            Err(_) => false,
+            // What opens as a folder is one, though it could not be looked up.
+            Err(_) => self.process.open_dir(path).is_ok(),
         }
     }
 
@@ -63,12 +65,12 @@ impl<P: Files> Store for SystemFiles<'_, P> {
         }
     }
 
-    fn open(&self, name: &[u8]) -> Result<FromRead<P::File>, Refusal> {
+    fn open(&self, name: &[u8]) -> Result<FromRead<Uninterrupted<P::File>>, Refusal> {
         let Ok(path) = str::from_utf8(name) else {
             return Err(Refusal::new(NOT_A_TEXT, b"The name is not UTF-8"));
         };
         match fs::open(self.process, path) {
-            Ok(file) => Ok(FromRead::new(file)),
+            Ok(file) => Ok(FromRead::new(Uninterrupted::new(file))),
             Err(error) => Err(words_of(error)),
         }
     }
@@ -87,8 +89,9 @@ impl<P: Files> Folders for SystemFiles<'_, P> {
         };
         match fs::symlink_metadata(self.process, path) {
             Ok(found) if found.is_dir() => PathKind::Folder,
-            Ok(found) if !found.is_file() => PathKind::Other,
-            _ => PathKind::File,
+            Ok(found) if found.is_file() => PathKind::File,
+            Ok(_) => PathKind::Other,
+            Err(error) => PathKind::Unknown(words_of(error)),
         }
     }
 
@@ -105,7 +108,7 @@ impl<P: Files> Folders for SystemFiles<'_, P> {
 
 // The names in an open folder, whose reads give them each with a NUL at its end. No read ends within a name.
 fn names_of<D: Read + Drop>(alloc: Global, dir: D) -> Result<Vec<Vec<u8>>, FolderError> {
-    let mut dir = dir;
+    let mut dir = Uninterrupted::new(dir);
     let mut names = Vec::new(alloc);
     let mut buf = [0; OFFERED];
     for _ in 0..u64::MAX {

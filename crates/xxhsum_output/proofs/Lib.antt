@@ -1,1 +1,2 @@
+mod ShownFacts
 pub mod WholeLinesFacts

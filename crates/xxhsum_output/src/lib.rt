@@ -2,4 +2,5 @@
 #![tactic(auto)]
 
 pub mod output;
+pub mod visible;
 pub mod whole_lines;

@@ -129,6 +129,19 @@ fn written_names(rt: HostRuntime) -> Result<(), Fail> {
     Ok(())
 }
 
+// No clause says that there is memory for it.
+#[test]
+fn a_long_name_has_a_line(rt: HostRuntime) -> Result<(), Fail> {
+    let shape = Shape {
+        is_tagged: false,
+        is_little: false,
+    };
+    let name = vec![in rt.alloc(); b'n'; 40_000]?;
+    let line = digest_line(rt.alloc(), X64, shape, 1, &name)?;
+    assert_eq!(rt; line.len(), 40_019);
+    Ok(())
+}
+
 #[test]
 fn a_line_is_read_back(rt: HostRuntime) -> Result<(), Fail> {
     let shape = Shape {

@@ -11,7 +11,7 @@ use Rattle.xxhsum_audit.specs.Item.{IsAmong}
 use Rattle.xxhsum_line.proofs.LackFacts.{first_same, lacks_not, lacks_right}
 use Rattle.xxhsum_line.specs.Parts.{Lacks}
 use Rattle.xxhsum_tree.proofs.VisitFacts.{from-places, leads-here}
-use Rattle.xxhsum_tree.specs.Walk.{Closed, IsSeen, Leaf, Opened, Passed, Place, Seen, Tree, Visits, below, below_of, file_of, files_in, given, with_slash}
+use Rattle.xxhsum_tree.specs.Walk.{Closed, IsSeen, Leaf, Lost, Opened, Passed, Place, Seen, Tree, Visits, below, below_of, file_of, files_in, given, with_slash}
 use Rattle.xxhsum_tree.specs.WalkLaws.{FindsOnce, HoldsNames, IsOnce}
 
 -- ---- a name with no slash behind a folder
@@ -134,6 +134,7 @@ module _ (tree : Tree) (holds : HoldsNames tree) where
   below-apart place (Leaf name) sees = tt
   below-apart place (Passed name) sees = tt
   below-apart place (Closed name why) sees = tt
+  below-apart place (Lost name why) sees = tt
   below-apart place (Opened folder ordered) sees =
       let found = sees.1.1 in
       let moved = found.2.0 in
@@ -146,6 +147,7 @@ module _ (tree : Tree) (holds : HoldsNames tree) where
   below-under place (Leaf name) sees q h path under = absurd h
   below-under place (Passed name) sees q h path under = absurd h
   below-under place (Closed name why) sees q h path under = absurd h
+  below-under place (Lost name why) sees q h path under = absurd h
   below-under place (Opened folder ordered) sees q h path under =
       let found = sees.1.1 in
       let there = from-places (below (with_slash folder) false) ordered q h in
@@ -188,6 +190,7 @@ module _ (tree : Tree) (holds : HoldsNames tree) where
   )
   once (Passed name ∷ trace) (p ∷ places) left visits up = once trace places left visits.1 up.1
   once (Closed name why ∷ trace) (p ∷ places) left visits up = once trace places left visits.1 up.1
+  once (Lost name why ∷ trace) (p ∷ places) left visits up = once trace places left visits.1 up.1
   once (Opened folder names ∷ trace) (p ∷ places) left visits up =
       once trace (below_of (Opened folder names) ++ places) left visits.1
       (next-apart p places (Opened folder names) visits.0 up)

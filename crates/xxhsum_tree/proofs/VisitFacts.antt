@@ -7,10 +7,10 @@ use Rattle.xxhsum_tree.specs.Prelude.{SinkRules, Stop}
 use Rattle.xxhsum_audit.proofs.AmongFacts.{among_either, among_left, among_permutation, among_right}
 use Rattle.xxhsum_audit.specs.Item.{IsAmong}
 use Rattle.xxhsum_files.specs.declared.folders.PathKind.{PathKind}
-use Rattle.xxhsum_files.specs.declared.folders.PathKind.TheVariants.{File, Folder, Other}
+use Rattle.xxhsum_files.specs.declared.folders.PathKind.TheVariants.{File, Folder, Other, Unknown}
 use Rattle.xxhsum_program.proofs.EachFacts.{both-true}
 use Rattle.xxhsum_tree.specs.declared.walk.Walked.{Walked}
-use Rattle.xxhsum_tree.specs.Walk.{Closed, HasKind, IsIn, IsSeen, Leaf, Opened, Passed, Place, Seen, SeesOne, Tree, Visits, are_open, below, below_of, file_of, files_in, given, is_open, with_slash}
+use Rattle.xxhsum_tree.specs.Walk.{Closed, HasKind, IsIn, IsSeen, Leaf, Lost, Opened, Passed, Place, Seen, SeesOne, Tree, Visits, are_open, below, below_of, file_of, files_in, given, is_open, with_slash}
 use Rattle.xxhsum_tree.specs.WalkLaws.{FindsEachFile, FindsNoOther, IsSteady, LeadsTo}
 
 -- the last of a list is the first of its reverse
@@ -49,6 +49,7 @@ module _ (tree : Tree) where
   folder-seen place (Passed name) kind is = absurd is
   folder-seen place (Opened name names) kind is = (kind, is)
   folder-seen place (Closed name why) kind is = (kind, is)
+  folder-seen place (Lost name why) kind is = absurd is
 
   -- ---- a place is of one kind
 
@@ -60,6 +61,8 @@ module _ (tree : Tree) where
   kind-once steady name true Folder File one other = let same = steady.one_answer name true false one other in let no : ⊥ = cc in absurd no
   kind-once steady name true Other b one other = absurd one
   kind-once steady name true a Other one other = absurd other
+  kind-once steady name true (Unknown why) b one other = absurd one
+  kind-once steady name true a (Unknown why) one other = absurd other
 
   -- ---- each file is found
 
@@ -68,12 +71,14 @@ module _ (tree : Tree) where
   finds-file steady place (Passed name) file sees kind is = let same = kind-once steady place.0 place.1 Other File sees.1 kind in let no : ⊥ = cc in absurd no
   finds-file steady place (Opened name names) file sees kind is = let same = kind-once steady place.0 place.1 Folder File sees.0 kind in let no : ⊥ = cc in absurd no
   finds-file steady place (Closed name why) file sees kind is = let same = kind-once steady place.0 place.1 Folder File sees.0 kind in let no : ⊥ = cc in absurd no
+  finds-file steady place (Lost name why) file sees kind is = let same = kind-once steady place.0 place.1 (Unknown why) File sees.1 kind in let no : ⊥ = cc in absurd no
 
   opens-folder : IsSteady tree → (place : Place) (seen : Seen) (name : List ℕ) (names : List (List ℕ)) → IsSeen tree place seen → is_open seen ≡ true → HasKind tree place.0 place.1 Folder
       → tree.holds (with_slash place.0) names → IsAmong names name → IsAmong (below_of seen) (below (with_slash place.0) false name)
   opens-folder steady place (Leaf file) name names sees clear kind holds h = let same = kind-once steady place.0 place.1 File Folder sees.1 kind in let no : ⊥ = cc in absurd no
   opens-folder steady place (Passed other) name names sees clear kind holds h = let same = kind-once steady place.0 place.1 Other Folder sees.1 kind in let no : ⊥ = cc in absurd no
   opens-folder steady place (Closed folder why) name names sees clear kind holds h = let no : ⊥ = cc in absurd no
+  opens-folder steady place (Lost other why) name names sees clear kind holds h = let no : ⊥ = cc in absurd no
   opens-folder steady place (Opened folder ordered) name names sees clear kind holds h =
       let found = sees.1.1 in
       let moved = IsPermutation-trans names found.0 ordered (steady.same_names (with_slash place.0) names found.0 holds found.1) found.2.0 in
@@ -107,6 +112,7 @@ module _ (tree : Tree) where
   leads-in place (Leaf name) next behind file sees h leads = absurd h
   leads-in place (Passed name) next behind file sees h leads = absurd h
   leads-in place (Closed name why) next behind file sees h leads = absurd h
+  leads-in place (Lost name why) next behind file sees h leads = absurd h
   leads-in place (Opened folder ordered) next behind file sees h leads =
       let found = sees.1.1 in
       let there = from-places (below (with_slash place.0) false) ordered next (subst (λ f. IsAmong (map (below (with_slash f) false) ordered) next) sees.1.0 h) in
@@ -119,6 +125,7 @@ module _ (tree : Tree) where
   leads-here place (Passed name) file sees h = absurd h
   leads-here place (Opened name names) file sees h = absurd h
   leads-here place (Closed name why) file sees h = absurd h
+  leads-here place (Lost name why) file sees h = absurd h
 
   finds-later : (p : Place) (seen : Seen) (places : List Place) (file : List ℕ) → IsSeen tree p seen
       → ((place : Place) × (behind : List (List ℕ)) × IsAmong (below_of seen ++ places) place × LeadsTo tree place behind file)

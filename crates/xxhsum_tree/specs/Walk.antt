@@ -5,7 +5,7 @@ use Rattle.std.specs.List.{ends_with, flat_map, list_all}
 use Rattle.std.specs.Ordering.{nat_cmp}
 use Rattle.xxhsum_tree.specs.Prelude.{FolderRules, OutOfMemory, Refusal, SinkRules, Stop, StoreRules, TellsOn, Unread}
 use Rattle.xxhsum_files.specs.declared.folders.PathKind.{PathKind}
-use Rattle.xxhsum_files.specs.declared.folders.PathKind.TheVariants.{File, Folder, Other}
+use Rattle.xxhsum_files.specs.declared.folders.PathKind.TheVariants.{File, Folder, Other, Unknown}
 use Rattle.xxhsum_program.specs.Lines.{told_line}
 use Rattle.xxhsum_program.specs.declared.outcome.Reason.TheVariants.{Unopened}
 use Rattle.xxhsum_tree.specs.declared.walk.Waiting.{Waiting}
@@ -22,13 +22,14 @@ given name = (name, true)
 abbrev pub below : List ℕ → Bool → List ℕ → Place
 below folder is_given name = (folder ++ name, is_given)
 
--- what is found at a name: a file; neither a file nor a folder; a folder with names in it, in order; or one whose names
--- can't be read
+-- what is found at a name: a file; neither a file nor a folder; a folder with names in it, in order; one whose names
+-- can't be read; or nothing, since the name can't be looked up
 pub data Seen : Type 0 where
   Leaf : List ℕ → Seen
   Passed : List ℕ → Seen
   Opened : List ℕ → List (List ℕ) → Seen
   Closed : List ℕ → Refusal → Seen
+  Lost : List ℕ → Refusal → Seen
 
 -- what a walk is told of names: whether a name that was given is a folder's, the names in a folder, or why they can't be
 -- read, and what a name in a folder leads to
@@ -52,6 +53,7 @@ abbrev pub HasKind : Tree → List ℕ → Bool → PathKind → Type 0
 HasKind tree name true File = tree.is_folder name false
 HasKind tree name true Folder = tree.is_folder name true
 HasKind tree name true Other = ⊥
+HasKind tree name true (Unknown why) = ⊥
 HasKind tree name false kind = tree.leads name kind
 
 -- the name of a folder with a slash behind it, unless it ends with one
@@ -69,6 +71,7 @@ IsIn tree name (Opened folder ordered) =
 IsIn tree name (Closed folder why) = (folder ≡ name) × tree.closes (with_slash name) why
 IsIn tree name (Leaf file) = ⊥
 IsIn tree name (Passed other) = ⊥
+IsIn tree name (Lost other why) = ⊥
 
 -- what is found at a name
 abbrev pub IsSeen : Tree → Place → Seen → Type 0
@@ -76,6 +79,7 @@ IsSeen tree place (Leaf name) = (name ≡ place.0) × HasKind tree place.0 place
 IsSeen tree place (Passed name) = (name ≡ place.0) × HasKind tree place.0 place.1 Other
 IsSeen tree place (Opened name names) = HasKind tree place.0 place.1 Folder × IsIn tree place.0 (Opened name names)
 IsSeen tree place (Closed name why) = HasKind tree place.0 place.1 Folder × IsIn tree place.0 (Closed name why)
+IsSeen tree place (Lost name why) = (name ≡ place.0) × HasKind tree place.0 place.1 (Unknown why)
 
 -- the names that are then looked at first
 abbrev pub below_of : Seen → List Place
@@ -83,6 +87,7 @@ below_of (Leaf name) = []
 below_of (Passed name) = []
 below_of (Opened name names) = map (below (with_slash name) false) names
 below_of (Closed name why) = []
+below_of (Lost name why) = []
 
 -- The first of these places is looked at, then the next of those that wait, and so on: this is seen, and these wait still.
 abbrev pub Visits : Tree → List Place → List Seen → List Place → Type 0
@@ -98,12 +103,13 @@ file_of (Leaf name) = name ∷ []
 file_of (Passed name) = []
 file_of (Opened name names) = []
 file_of (Closed name why) = []
+file_of (Lost name why) = []
 
 -- the files, in order
 abbrev pub files_in : List Seen → List (List ℕ)
 files_in trace = flat_map file_of trace
 
--- what is reported of a folder whose names can't be read
+-- what is reported of a folder whose names can't be read, or of a name that can't be looked up
 abbrev pub closed_text : List ℕ → Refusal → List ℕ
 closed_text name why = told_line name (Unread (Unopened why))
 
@@ -112,16 +118,18 @@ closed_of (Leaf name) = []
 closed_of (Passed name) = []
 closed_of (Opened name names) = []
 closed_of (Closed name why) = closed_text name why
+closed_of (Lost name why) = closed_text name why
 
 abbrev pub closed_in : List Seen → List ℕ
 closed_in trace = flat_map closed_of trace
 
--- the names in each folder were read
+-- the names in each folder were read, and looked up
 abbrev pub is_open : Seen → Bool
 is_open (Leaf name) = true
 is_open (Passed name) = true
 is_open (Opened name names) = true
 is_open (Closed name why) = false
+is_open (Lost name why) = false
 
 abbrev pub are_open : List Seen → Bool
 are_open trace = list_all is_open trace

@@ -1,6 +1,6 @@
 //! The files below folders.
 
-ghost use Rattle.std.specs.Prelude.{◌≡◌, ◌++◌, ◌∷◌, [], IfOk, MatchResult, map};
+ghost use Rattle.std.specs.Prelude.{◌≡◌, ◌++◌, ◌∷◌, [], false, IfOk, MatchResult, map};
 ghost use Rattle.xxhsum_program.specs.Told.{TellsOn};
 ghost use Rattle.xxhsum_tree.specs.WalkLaws.{FindsEachFile, FindsNoOther, FindsOnce};
 ghost use Rattle.xxhsum_tree.specs.Walk.{HasKind, IsInOrder, IsSeen, SeesFolder, SeesOne, WalksAll, WalksSome, below, closed_text, place_of, tree_of, waiting_in, with_slash};
@@ -19,7 +19,7 @@ use xxhsum_program::stop::Stop;
 pub struct Walked {
     /// Their names, in order.
     pub files: Vec<Vec<u8>>,
-    /// Whether the names in each folder could be read.
+    /// Whether the names in each folder could be read, and looked up.
     pub are_all: bool,
 }
 
@@ -32,7 +32,7 @@ pub(crate) struct Waiting {
 
 /// The files of these names, and in place of a folder those below it, in the order of their names' bytes. A name that
 /// was given is followed where it is a link. A link in a folder is passed over, and so is what is neither a file nor a
-/// folder. A folder whose names can't be read is reported.
+/// folder. A folder whose names can't be read, and a name in a folder that can't be looked up, is reported.
 ///
 /// # Errors
 ///
@@ -128,6 +128,10 @@ fn see<S: Store + Folders, E: Sink>(
         }
         PathKind::Folder => open_folder(alloc, store, &name, waiting, walked, err),
         PathKind::Other => Ok(()),
+        PathKind::Unknown(refusal) => {
+            lose(&name, refusal, &mut walked.are_all, err);
+            Ok(())
+        }
     }
 }
 
@@ -175,8 +179,7 @@ fn open_folder<S: Store + Folders, E: Sink>(
         }
         Err(FolderError::OutOfMemory) => Err(Stop::OutOfMemory),
         Err(FolderError::Refused(refusal)) => {
-            tell_closed(name, refusal, err);
-            walked.are_all = false;
+            lose(name, refusal, &mut walked.are_all, err);
             Ok(())
         }
     }
@@ -204,7 +207,16 @@ fn in_order(names: Vec<Vec<u8>>) -> Vec<Vec<u8>>
     names
 }
 
-// Reports a folder whose names can't be read.
+// Reports a folder whose names can't be read, or a name that can't be looked up: not all files are known.
+fn lose<E: Sink>(name: &[u8], refusal: Refusal, are_all: &mut bool, err: &mut E)
+    ensures tells { TellsOn E.Sink (closed_text name.now refusal) err.old err.new }
+    ensures lost { are_all.new ≡ false }
+{
+    tell_closed(name, refusal, err);
+    *are_all = false;
+}
+
+// Reports why nothing is known of a name, or of those in a folder.
 fn tell_closed<'a, E: Sink>(name: &'a [u8], refusal: Refusal, err: &mut E)
     ensures { TellsOn E.Sink (closed_text name.now refusal) err.old err.new }
 {

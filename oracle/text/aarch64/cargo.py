@@ -1,37 +1,28 @@
 """The text below the cargo crate for 64-bit ARM."""
 import os
-import subprocess
-import tempfile
 
-from terms.llvm_text import Unsupported
-
-from ..cargo import FOLDER, HIDDEN, WEAK, ForCargo, plain
+from ..cargo import FOLDER, ForCargo, plain
+from ..listed import HIDDEN, WEAK
+from ..sources import assembled
 from . import objects
 from .table import Processor
 
 NAME = "aarch64"
-ASSEMBLER = "clang", "--target=aarch64-linux-gnu", "-x", "assembler", "-c", "-o"
+SOURCE = os.path.join(FOLDER, f"{NAME}.s")
 
 
 def program():
     """The text as an object."""
-    with tempfile.TemporaryDirectory(prefix="arm-text-") as room:
-        return CargoProgram(NAME, room)
+    return assembled(SOURCE, NAME, CargoProgram)
 
 
 class CargoProgram(objects.Program):
     """A text, whose names have the number of the interface in them: here they are without."""
 
-    def __init__(self, name, room):
-        path = os.path.join(room, f"{name}.o")
-        subprocess.run([*ASSEMBLER, path, os.path.join(FOLDER, f"{name}.s")], check=True)
-        super().__init__(path)
-        self.name = name
-        for symbol in self.object.symbols:
-            if symbol.section and objects.is_global(symbol) and (symbol.info >> 4, symbol.other & 3) != (WEAK, HIDDEN):
-                raise Unsupported(f"{symbol.name}, which others see")
-        self.functions, self.exports = ({plain(name): place for name, place in found.items()}
-                                        for found in (self.functions, self.exports))
+    EXPORT = WEAK, HIDDEN
+
+    def names(self):
+        return ({plain(name): place for name, place in found.items()} for found in super().names())
 
     def all_names(self):
         """The names as they stand in the text."""

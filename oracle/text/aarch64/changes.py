@@ -7,7 +7,7 @@ import functools
 import os
 import tempfile
 
-from terms.llvm_text import Unsupported
+from terms.refusals import Unsupported
 
 from .. import changes
 from .objects import SIZE, Shift, listing

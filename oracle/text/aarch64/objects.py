@@ -1,20 +1,13 @@
-"""An assembled object of 64-bit ARM as what runs: instructions by section and address, and constants.
-
-The instructions are those that objdump reads out of the object's bytes. What a linker could make something else of is
-refused: two sections of one name, sections that are written to, a relocation of another kind, and a name that another
-library may take the place of."""
+"""An assembled object of 64-bit ARM as what runs, as ../objects.py has it for x86-64."""
 import collections
-import os
 import re
 import struct
 import subprocess
-import sys
 
-from terms.llvm_text import Unsupported
-from terms.sides import TOP
+from terms.refusals import Unsupported
 
-sys.path.append(os.path.join(TOP, "assembly"))
-from same_bytes import FRAMES, LOADED, NONE, NOTE, RELA, STRTAB, SYMTAB, WITHOUT_MEANING, Object, is_global
+from ..decoded import expect_bytes
+from ..listed import AARCH64, CODE, RELA, Loaded
 
 # An instruction: `form` has a word for each operand; `target` is (section or constant, offset), where it names one
 Instruction = collections.namedtuple("Instruction", "section at end mnemonic form operands target")
@@ -24,62 +17,32 @@ Immediate = collections.namedtuple("Immediate", "value")
 Shift = collections.namedtuple("Shift", "kind amount")
 Place = collections.namedtuple("Place", "base index offset mode")      # mode: offset, before or after
 
-AARCH64, PROGBITS, FUNCTION = 183, 1, 2
-CODE, CONSTANTS, MERGEABLE = LOADED | 4, LOADED, LOADED | 0x10
-UNLOADED = NONE, SYMTAB, STRTAB, RELA
 PAGE, LOW_ADD, JUMP, CALL, LOW_64, LOW_128 = 275, 277, 282, 283, 286, 299      # relocations
 OF_RELOCATION = {PAGE: "adrp", LOW_ADD: "add", JUMP: "b", CALL: "bl", LOW_64: "ldr", LOW_128: "ldr"}
+MULTIPLES = {LOW_64: 8, LOW_128: 16}          # of which the rest of an address has to be one
 SIZE = 4
 LINE = re.compile(r" *([0-9a-f]+):\t([0-9a-f]{8}) +\t(.*)")
 CONDITIONS = "eq", "ne", "cs", "cc", "hi", "ls"
 JUMPS = re.compile(r"b|bl|b\.\w\w|t?cbn?z|tbn?z")
 
 
-class Program:
-    """The sections of instructions, name -> address -> Instruction; the functions and exports, name -> (section,
-    address); and the constants, name -> (bytes, alignment)."""
+class Program(Loaded):
+    """What is loaded, with the sections of instructions, name -> address -> Instruction."""
+
+    MACHINE = AARCH64
 
     def __init__(self, path, objdump="aarch64-linux-gnu-objdump"):
-        self.object = Object(path)
-        if self.object.machine != AARCH64:
-            raise Unsupported("an object of another processor")
-        self.heads = dict(self.loaded_sections())
-        self.constants = dict(self.read_constants())
-        self.sections = {}
-        for name, lines in listing(path, objdump).items():
-            self.sections[name] = dict(self.read(name, lines))
+        super().__init__(path)
+        self.listing, self.relocated = listing(path, objdump), {}
+        self.sections = {name: dict(self.read(name, lines)) for name, lines in self.listing.items()}
         if set(self.sections) != {name for name, head in self.heads.items() if head.flags == CODE}:
             raise Unsupported("a section that objdump doesn't list")
-        functions = [symbol for symbol in self.object.symbols if symbol.section and symbol.info & 15 == FUNCTION]
-        self.functions, self.exports = ({symbol.name: (self.object.heads[symbol.section].name, symbol.value)
-                                         for symbol in functions if is_global(symbol) or not of_exports}
-                                        for of_exports in (False, True))
-        if len(self.functions) < len(functions):
-            raise Unsupported("two functions of one name")
-
-    def loaded_sections(self):
-        names = set()
-        for head in self.object.heads:
-            if not head.flags & LOADED and head.kind not in UNLOADED and head.name not in WITHOUT_MEANING:
-                raise Unsupported(f"the section {head.name}, which a linker may make something of")
-            if not head.flags & LOADED or not head.size or head.kind == NOTE or head.name == FRAMES:
-                continue
-            if head.kind != PROGBITS or head.flags not in (CODE, CONSTANTS, MERGEABLE) or head.name in names:
-                raise Unsupported(f"the section {head.name}")
-            names.add(head.name)
-            yield head.name, head
-
-    def read_constants(self):
-        """Each entry of a mergeable section is an object of its own: a linker may move it alone."""
-        for name, head in self.heads.items():
-            data = self.object.body(head)
-            if head.flags == CONSTANTS:
-                yield name, (data, head.align)
-            elif head.flags == MERGEABLE:
-                for at in range(0, len(data), head.entry):
-                    yield f"{name}+{at}", (data[at:at + head.entry], min(head.align, head.entry & -head.entry))
+        expect_bytes(self)
 
     # ---- relocations
+
+    def is_relocated(self, section, first, end):
+        return any(first <= place < end for place in self.relocated[section])
 
     def relocations_of(self, section):
         """Place -> (kind, target)."""
@@ -93,28 +56,13 @@ class Program:
                     found[place] = kind, self.target_of(self.object.symbols[info >> 32], addend)
         return found
 
-    def target_of(self, symbol, addend):
-        """What a relocation leads to: (section or constant, offset), or the name of another library's function."""
-        if not symbol.section:
-            return symbol.name, 0
-        if is_global(symbol):
-            raise Unsupported(f"a way to {symbol.name}, which another library may have")
-        name, at = self.object.heads[symbol.section].name, symbol.value + addend
-        head = self.heads.get(name)
-        if head is None:
-            raise Unsupported(f"a way to {name}")
-        if head.flags != MERGEABLE:
-            return name, at
-        if at % head.entry:
-            raise Unsupported(f"a place in the constant at {at} of {name}, which a linker may move")
-        return f"{name}+{at}", 0
-
     # ---- instructions
 
     def read(self, section, lines):
         """The instructions of a section, which have all of its bytes and of its relocations."""
         head, at = self.heads[section], 0
         body, relocations = self.object.body(head), self.relocations_of(head)
+        self.relocated[section] = set(relocations)
         for address, raw, text in lines:
             if address != at or body[at:at + SIZE] != raw:
                 raise Unsupported(f"{section} {address:#x}: objdump leaves bytes out")
@@ -135,12 +83,19 @@ class Program:
                 raise Unsupported(f"{section} {at:#x}: {text} with a relocation of kind {kind}")
             if kind not in (PAGE, JUMP, CALL):
                 found = without_offset(found)
+                self.expect_multiple(target, MULTIPLES.get(kind, 1))
         elif is_jump:
             target = section, to
         elif mnemonic == "adrp":
             raise Unsupported(f"{section} {at:#x}: {text} without a relocation")
         form = " ".join(map(word_of, found))
         return Instruction(section, at, at + SIZE, mnemonic, form, tuple(found), target)
+
+    def expect_multiple(self, target, size):
+        """A load has the rest of an address without the bits that a multiple lacks."""
+        _, alignment = self.constants.get(target[0], (b"", 1))
+        if target[0] not in self.constants or alignment % size or target[1] % size:
+            raise Unsupported(f"{target[1]:#x} of {target[0]}, which may be no multiple of {size}")
 
 
 def without_offset(found):

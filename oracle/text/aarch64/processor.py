@@ -1,7 +1,6 @@
 """The processor of 64-bit ARM: its registers, places in memory and conditions. linked.py runs it."""
-from terms.llvm_text import Unsupported
-from terms.machine import TESTS
-from terms.nodes import Undecided
+from terms.refusals import Undecided, Unsupported
+from terms.words import TESTS
 from terms.polynomials import is_number, plus
 
 from .. import linked

@@ -1,20 +1,18 @@
 """The rows of oracle/arm-text: what is asked of the text for C for 64-bit ARM, and of the one below the cargo crate."""
 import functools
 import os
-import subprocess
-import tempfile
 
 from terms import comparison
 from terms.processes import Row
 from terms.rows import title_of
-from terms.sides import TOP
+from terms.requests import TOP
 
-from .. import calls, cargo_whole, every_length, one_shots, streams
+from .. import calls, cargo_whole, every_length, one_shots, planted_checks, planted_lines, planted_objects, self_tests, streams
 from .. import rows as shared
-from ..questions import FOR_C
+from ..sources import assembled
 from . import cargo, changes, on_qemu
 from .objects import Program
-from .table import Processor
+from .table import TABLE, Processor
 
 TEXT = os.path.join(TOP, "c", "asm", "aarch64.s")
 SECRETS = 136, 192
@@ -22,10 +20,7 @@ STREAMED = (5, 33, 70, 257, 300, 513, 700)
 
 
 def program():
-    """The text, as GNU as assembles it."""
-    with tempfile.TemporaryDirectory(prefix="arm-text-") as room:
-        subprocess.run(["aarch64-linux-gnu-as", "-o", f"{room}/text.o", TEXT], check=True)
-        return Program(f"{room}/text.o")
+    return assembled(TEXT, cargo.NAME, Program)
 
 
 def choose(given, found):
@@ -41,11 +36,19 @@ def choose(given, found):
             out.append(compared(f"{title_of(*kind)}, streams of 5 to 700 bytes", found, kind, asked, True))
     for name in ("3-64", "3-128"):
         out.append(Row(f"XXH{name}, secrets of 0 to 135 bytes", functools.partial(short_secrets, found, name)))
-    out += [Row(f"the other calls: {ask.__name__.replace('_', ' ')}", functools.partial(other, found, ask)) for ask in FOR_C.calls]
-    made = {"aarch64": functools.partial(Processor, found)}
+    made = {cargo.NAME: functools.partial(Processor, found)}
+    out += [shared.counted(title, least, functools.partial(other, found, ask)) for title, least, ask in calls.OTHERS]
+    out += [shared.twin_row({cargo.NAME: found}), shared.frames_row({cargo.NAME: found})]
     out += every_length_rows(made, given.all)
     out.append(Row("the table of instructions beside qemu", on_qemu.tell))
-    out += shared.parts_of_changes("changes of one bit", changes, found, given.all)
+    out.append(shared.counted("each instruction is of the table", 15_000, functools.partial(in_table, [found, cargo.program()])))
+    out += self_tests.parts_of_changes("changes of one bit", changes, found, given.all)
+    out += [shared.assembler_row([(source, cargo.NAME) for source in (TEXT, cargo.SOURCE)]),
+            self_tests.planted_row("wrong lines are refused", planted_lines.ARM_ASKED),
+            self_tests.planted_row("texts that assemblers read otherwise are refused", planted_lines.ARM_ALIKE)]
+    out += [self_tests.planted_row("wrong objects are refused", planted_objects.ARM_ASKED),
+            self_tests.planted_row("wrong texts, one for each check, are refused", planted_checks.ARM_ASKED)]
+    out.insert(0, shared.export_row({cargo.NAME: found}, [row.title for row in out]))
     out += cargo_text_rows(given.all)
     return [row for row in out if given.only in row.title]
 
@@ -73,9 +76,16 @@ def compared(title, found, kind, lengths, is_stream=False):
     return Row(title, ask)
 
 
+def in_table(programs):
+    """(instructions that the table has, those that it lacks)."""
+    code = [x for program in programs for section in program.sections.values() for x in section.values()]
+    bad = [f"{x.section} {x.at:#x}: {x.mnemonic} {x.form}" for x in code if (x.mnemonic, x.form) not in TABLE]
+    return len(code) - len(bad), bad[:5]
+
+
 def short_secrets(found, name):
     return f"{calls.short_secrets(Processor(found), name, (240, 241))} requests", []
 
 
 def other(found, ask):
-    return f"{ask(Processor(found))} cases", []
+    return ask(Processor(found)), []

@@ -1,6 +1,5 @@
 """What the instructions on vectors do. A vector is two lanes of 64 bits."""
-from terms.llvm_text import Unsupported
-from terms.nodes import Undecided
+from terms.refusals import Undecided, Unsupported
 
 from ..values import WORD, arithmetic, bits, joined, low
 from .processor import form

@@ -1,6 +1,6 @@
 """What the instructions on words do, and those of control and memory."""
-from terms.llvm_text import Unsupported
-from terms.machine import rotated
+from terms.refusals import Unsupported
+from terms.words import rotated
 from terms.polynomials import lifted, plus
 from terms.rules import ones
 

@@ -11,21 +11,21 @@ import struct
 import subprocess
 import tempfile
 
-from terms.llvm_text import Unsupported
-from terms.sides import TOP
+from terms.refusals import Unsupported
+from terms.requests import TOP
 
 from .. import lanes, scalar
-from ..cargo import ForCargo
-from ..objects import (CODE, CONSTANTS, FRAMES, FUNCTION, LOADED, MERGEABLE, NOTE, PC32, PLT32, RELA, Instruction, Program,
-                       is_global, split)
 from ..instructions import known
+from ..listed import CODE, CONSTANTS, FRAMES, FUNCTION, LOADED, MERGEABLE, NOTE, RELA, is_global
+from ..objects import PC32, PLT32, Instruction, Program, split
 from ..processor import Processor
+from .library import ForRust
 
 TABLES = lanes, scalar            # they fill the table of instructions
 SOURCE = os.path.join(TOP, "rust", "src")
 EXPORTS = os.path.join(os.path.dirname(os.path.abspath(__file__)), "exports.rs.in")
 FLAGS = ("--edition", "2021", "--crate-type", "lib", "--emit", "obj", "-C", "opt-level=3", "-C", "panic=abort", "-C",
-         "codegen-units=1", "-C", "force-unwind-tables=no", "--cap-lints", "allow", "--crate-name", "erased_source")
+         "codegen-units=1", "-C", "force-unwind-tables=no", "--cfg", "twox_hash_no_assembly", "--cap-lints", "allow", "--crate-name", "erased_source")
 BY_TABLE = 9, 41, 42              # relocations by the global offset table
 STRINGS = 0x20                    # a section's flag
 NOWHERE = "nowhere", 0
@@ -45,6 +45,9 @@ class RustProgram(Program):
     def __init__(self, name, path):
         self.name = name
         super().__init__(path)
+
+    def expect_listed(self):
+        pass
 
     def loaded_sections(self):
         found = {}
@@ -111,7 +114,7 @@ def known_where_reached(instruction, name):
 
 
 class RustProcessor(Processor):
-    library, known = ForCargo, staticmethod(known_where_reached)
+    library, known = ForRust, staticmethod(known_where_reached)
 
     def __init__(self, found):
         super().__init__(found, found.name)

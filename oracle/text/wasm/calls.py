@@ -1,6 +1,6 @@
 """What a module answers to a request, called as web/twox_hash.js calls it: one-shots, and streams whose record is saved
 and restored on the way. A call that is answered has to write its value, and one that is refused nothing."""
-from terms.llvm_text import Unsupported
+from terms.refusals import Unsupported
 from terms.memory import Memory, Piece
 from terms.nodes import Node
 

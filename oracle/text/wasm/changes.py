@@ -13,9 +13,9 @@ import os
 import random
 
 from terms import comparison, nodes
-from terms.loops import REFUSALS
+from terms.refusals import REFUSALS
+from terms.requests import Request, differing_point
 from terms.nodes import WrongRule
-from terms.sides import Request, differing_point
 
 from ..xxh3_updates import TAKE_BLOCKS
 from . import calls, every_length, refusals

@@ -1,6 +1,6 @@
 """The modules beside the definition: for each request both have to come to one term."""
 from terms import comparison, definition, nodes
-from terms.sides import Request
+from terms.requests import Request
 
 MOST_NODES = 300_000
 

@@ -8,11 +8,11 @@ import collections
 import table
 from terms import definition, nodes
 from terms.definition import Bytes, suppositions
-from terms.loops import NotShown
+from terms.refusals import NotShown
+from terms.requests import seed_symbol
 from terms.memory import Input, Memory
 from terms.nodes import Node
 from terms.polynomials import at_most, given, minus, plus, times, variable
-from terms.sides import seed_symbol
 
 from .calls import BYTES, WAYS, address, answered, export, is_plain
 from .induction import Family, Loops

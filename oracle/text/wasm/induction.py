@@ -5,7 +5,7 @@ loop's head after k turns some cells, the words, hold what the definition says; 
 a turn; some may be anything; the others are as at the start. Which cells are which is guessed from two first turns and
 then shown: the words are the definition's for k = 0, and a turn from any k, with words that are the definition's, leads
 to all of that for k + 1. A cell of the words or of the places is never let go."""
-from terms.loops import REFUSALS, NotShown
+from terms.refusals import REFUSALS, NotShown
 from terms.memory import RUNS
 from terms.polynomials import divided, given, is_natural, minus, plus, times, variable
 

@@ -3,7 +3,7 @@ numbers, or what facts decide; what is loaded of an input is a term.
 
 Memory is objects: the stack, and the constants of the module, at places that are numbers, and what a call is handed at
 places that aren't known (Address). Each access has to be shown to lie inside of one object."""
-from terms.llvm_text import Unsupported
+from terms.refusals import Unsupported
 from terms.machine import copy
 from terms.memory import Memory, is_inside
 from terms.nodes import Node, symbol

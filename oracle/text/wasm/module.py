@@ -98,9 +98,6 @@ class Module:
         while reader.at < reader.end:
             kind, size = reader.byte(), reader.unsigned()
             part = Reader(whole, reader.at, reader.at + len(reader.take(size)))
-            if kind == 0:           # notes, which have no effect
-                part.name()
-                continue
             place, read = self.sections().get(kind, (0, None))
             if place <= order:
                 raise Malformed(f"section {kind}, where none is expected")
@@ -112,7 +109,8 @@ class Module:
             raise Malformed("functions without a body")
 
     def sections(self):
-        """The kind of a section -> its place among the others, and what reads it."""
+        """The kind of a section -> its place among the others, and what reads it. There are no others: no imports, tables
+        and their elements, no function that starts, and no section of an own name."""
         return {1: (1, self.read_types), 3: (2, self.read_signatures), 5: (3, self.read_memory),
                 6: (4, self.read_globals), 7: (5, self.read_exports), 12: (6, self.read_count_of_segments),
                 10: (7, self.read_functions), 11: (8, self.read_segments)}
@@ -171,6 +169,9 @@ class Module:
                 raise Malformed("a segment's place")
             return place, part.take(part.unsigned())
         self.segments = part.many(one)
+        ends = [0, *(place + len(content) for place, content in self.segments)]
+        if any(place < end or not content for end, (place, content) in zip(ends, self.segments)):
+            raise Malformed("segments of no bytes, in another order, or over one another")
         if self.count_of_segments not in (None, len(self.segments)):
             raise Malformed("another number of segments")
 

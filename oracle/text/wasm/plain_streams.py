@@ -6,10 +6,10 @@ accumulators after a stripes, r as the bytes that wait, and these bytes; the res
 gives a record that stands for no byte; each update leads from one that stands for stripe * a + r bytes to one for
 stripe * b + s, for all numbers r and s; and a digest of one is the definition's value, and changes nothing."""
 from terms.definition import Bytes, suppositions
-from terms.loops import NotShown
+from terms.refusals import NotShown
+from terms.requests import seed_symbol
 from terms.memory import Input, Memory, Piece
 from terms.polynomials import at_most, given, minus, plus, times, variable
-from terms.sides import seed_symbol
 
 from . import every_length
 from .calls import RECORDS, address, answered, anything, expect_kept

@@ -1,11 +1,11 @@
 """Wrong modules that are planted: instructions at the begin of an export, each of which has to be refused."""
 import functools
 
-from terms.loops import REFUSALS
+from terms.refusals import REFUSALS
+from terms.requests import Request
 from terms.nodes import is_same
 from terms.polynomials import Poly
 from terms.polynomials import is_same as is_same_number
-from terms.sides import Request
 
 from .. import covered
 from ..xxh3_updates import TAKE, TAKE_MANY
@@ -40,6 +40,8 @@ PLANTED = [
     ("a trap at one length", ONE_SHOT, OF_ONE_LENGTH.format("unreachable")),
     ("a store behind the value", "twox_xxh3_128", "local.get 2; i32.const 0; i32.store8 16"),
     ("a refused call that writes", "twox_xxh3_64_with_secret", "local.get 4; i32.const 0; i32.store8 0"),
+    ("a value by where the secret lies beside the message", "twox_xxh3_64_with_secret",
+     "local.get 0; i64.extend_i32_u; local.get 2; i64.extend_i32_u; i64.sub; i64.const 8; i64.lt_u; if; unreachable; end"),
     ("a digest that changes the record", "twox_xxh64_digest", "local.get 0; i32.const 0; i32.store8 8"),
 ]
 
@@ -67,7 +69,8 @@ def answers(vm):
     """What each question says of a module: None where nothing is wrong, as by the rows of its kind."""
     texts = Texts()
     for request, answer in ((Request("64", "seed", 40), calls.one_shot), (Request("3-128", "default", 5), calls.one_shot),
-                            (Request("64", "seed", 40, cuts=[3]), calls.stream)):
+                            (Request("64", "seed", 40, cuts=[3]), calls.stream),
+                            (Request("3-64", "secret", 17, 136), calls.one_shot)):
         vm.has_asked = False
         yield lambda: is_same(answer(vm, request), texts.value(request))
         if vm.has_asked:

@@ -1,8 +1,8 @@
 """What the modules refuse, with nothing written: secrets of fewer than 136 bytes, and records that are no stream's. And
 that a counter which is 2^64 - 1 stays so."""
-from terms.llvm_text import Unsupported
+from terms.refusals import Unsupported
+from terms.requests import Request
 from terms.memory import Memory
-from terms.sides import Request
 
 from . import calls
 from .calls import NOT_A_STREAM, SECRET_TOO_SHORT, Stream, answered, expect_kept

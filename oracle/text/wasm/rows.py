@@ -10,7 +10,7 @@ from terms.rows import STREAM_SECRETS, title_of
 from .. import covered
 from .. import rows as of_texts
 from ..xxh3_updates import DIGESTS, STRIPES, UPDATES
-from . import calls, changes, comparing, engine, every_length, plain_streams, planted, refusals, xxh3_streams
+from . import calls, changes, comparing, engine, every_length, plain_streams, planted, planted_sections, refusals, xxh3_streams
 from .machine import STACK, Machine
 from .module import FUNCTION, GLOBAL, MEMORY, Module
 
@@ -86,7 +86,8 @@ def of_memory(vm, found):
         return ["exports of another kind"]
     base = vm.module.globals[found["__heap_base"][1]]
     is_behind = base.value >= max(vm.end_of_stack, vm.module.end_of_segments()) and vm.end_of_stack > STACK
-    return [] if is_behind and not base.is_mutable else ["__heap_base isn't behind the stack and the constants"]
+    bad = [] if is_behind and not base.is_mutable else ["__heap_base isn't behind the stack and the constants"]
+    return bad + [f"constants at {place}, on the stack" for place, _ in vm.module.segments if place < vm.end_of_stack]
 
 
 # ---- lengths one by one
@@ -117,6 +118,7 @@ def compared(title, kind, asked, is_stream):
 
 def of_refusals():
     return [("planted modules", planted.tell), ("planted modules, streams of XXH3", planted.tell_of_streams),
+            ("planted sections", planted_sections.tell),
             ("secrets of 0 to 135 bytes, one-shots", refusals.one_shots_with_short_secrets),
             ("secrets of 0 to 135 bytes, streams", refusals.streams_with_short_secrets),
             ("records that are no stream's", refusals.wrong_records),

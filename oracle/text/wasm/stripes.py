@@ -4,7 +4,7 @@ and the module's functions that take stripes, each of which is taken at its word
 The functions have no names: they are found by who calls whom, and have those of a text."""
 import functools
 
-from terms.loops import NotShown
+from terms.refusals import NotShown
 from terms.memory import RUNS
 
 from .. import values as of_text

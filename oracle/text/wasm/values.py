@@ -3,9 +3,10 @@
 import contextlib
 
 from terms import halves, operations
-from terms.llvm_text import Unsupported
-from terms.machine import BINARY, compare_numbers, rotated
-from terms.nodes import Node, Undecided
+from terms.refusals import Undecided, Unsupported
+from terms.words import BINARY, compare_numbers, rotated
+from terms.memory import Memory
+from terms.nodes import Node
 from terms.polynomials import (Poly, at_most, divided, is_natural, is_number, is_same, made, minus, plus, remainder,
                                times, wrapped)
 from terms.rules import ones, zeros_below
@@ -106,9 +107,9 @@ def sum_of_addresses(width, a, b, sign):
 
 def is_far(x, least):
     """Whether the difference of two objects' places, which lie apart, is `least` or more, or else negative: then it is
-    no less than that as a number of 64 bits."""
+    no less than that as a number of 64 bits. Objects that are only read may be the same bytes."""
     places = {count: memory for memory, count in x.bases}
-    if len(x.bases) != 2 or set(places) != {1, -1}:
+    if len(x.bases) != 2 or set(places) != {1, -1} or not any(isinstance(memory, Memory) for memory in places.values()):
         return False
     is_behind = minus(plus(places[-1].length, x.offset), least)
     is_before = minus(minus(places[1].length, x.offset), 1)

@@ -6,13 +6,12 @@ and no secret: each call is given that, which may be any that the memory has roo
 numbers agree: so a record of no stripe, whose accumulators are known, is a case of its own."""
 import functools
 
-from terms.every_length import LONGEST as MOST_BYTES
-from terms.loops import REFUSALS, NotShown
+from terms.refusals import REFUSALS, NotShown
+from terms.requests import LONGEST as MOST_BYTES, Request
 from terms.memory import Memory
 from terms.nodes import Node, symbol
 from terms.polynomials import at_most, given, minus, plus, times, variable
 from terms.polynomials import is_same as is_same_number
-from terms.sides import Request
 
 from ..cargo_streams import CargoUpdates
 from ..induction import same

@@ -117,15 +117,7 @@ fn oneshot_with_secret_from_65(input: &[u8], secret: Secret<'_>) -> Wide {
 /// known, nothing is divided or tested for it.
 #[inline(never)]
 pub fn oneshot_long(secret: Secret<'_>, input: &[u8]) -> Wide {
-    if secret.len() == DEFAULT_SECRET_LENGTH {
-        if is_widened(input) {
-            oneshot_by_eight_lanes(secret, input)
-        } else {
-            oneshot_above_240::<DefaultLength>(secret, input)
-        }
-    } else {
-        oneshot_long_of_any_length(secret, input)
-    }
+    crate::kernels::long_128(input, secret)
 }
 
 // As a last call, so that the default's length keeps no register for the division.
@@ -174,7 +166,7 @@ fn oneshot_long_with_seed(seed: u64, input: &[u8]) -> Wide {
 #[inline(never)]
 fn oneshot_long_derived(seed: u64, input: &[u8]) -> Wide {
     let secret = derived_secret(seed);
-    oneshot_above_240::<Derived>(Secret::new(&secret).unwrap(), input)
+    oneshot_long(Secret::new(&secret).unwrap(), input)
 }
 
 // Those that eight lanes take, in code of its own: whoever has fewer bytes then keeps no register for this call.

@@ -83,15 +83,7 @@ pub fn oneshot_with_seed(seed: u64, input: &[u8]) -> u64 {
 /// known, nothing is divided or tested for it.
 #[inline(never)]
 pub fn oneshot_long(secret: Secret<'_>, input: &[u8]) -> u64 {
-    if secret.len() == DEFAULT_SECRET_LENGTH {
-        if is_widened(input) {
-            oneshot_by_eight_lanes(secret, input)
-        } else {
-            oneshot_above_240::<DefaultLength>(secret, input)
-        }
-    } else {
-        oneshot_long_of_any_length(secret, input)
-    }
+    crate::kernels::long_64(input, secret)
 }
 
 // As a last call, so that the default's length keeps no register for the division.
@@ -138,7 +130,7 @@ fn oneshot_long_with_seed(seed: u64, input: &[u8]) -> u64 {
 #[inline(never)]
 fn oneshot_long_derived(seed: u64, input: &[u8]) -> u64 {
     let secret = derived_secret(seed);
-    oneshot_above_240::<Derived>(Secret::new(&secret).unwrap(), input)
+    oneshot_long(Secret::new(&secret).unwrap(), input)
 }
 
 // Those that eight lanes take, in code of its own: whoever has fewer bytes then keeps no register for this call.
@@ -264,11 +256,12 @@ fn mix_at(input: &[u8], from_8: &[u8], i: usize, words: &[u8; 16], seed: u64) ->
 // neighbours; it would make vectors of them, and taking the words out again costs more than it saves.
 #[inline(never)]
 fn impl_129_to_240_bytes(secret: Secret<'_>, seed: u64, input: &[u8], from_8: &[u8]) -> u64 {
+    crate::rattle::expect_middle(input, from_8);
     let mut acc = input.len().into_u64().wrapping_mul(PRIME64_1);
 
     let words = secret.for_64().words_for_129_to_240_part1();
     'early: for c in 0..8 {
-        acc = acc.wrapping_add(mix_at(input, from_8, 16 * c, &words[c], seed));
+        acc = crate::rattle::opaque_u64(acc.wrapping_add(mix_at(input, from_8, 16 * c, &words[c], seed)));
     }
     acc = avalanche(acc);
 

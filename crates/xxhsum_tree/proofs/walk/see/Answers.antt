@@ -1,7 +1,8 @@
-use Rattle.std.proofs.Common.{append-nil, refl, sym}
-use Rattle.xxhsum_program.proofs.EachFacts.{and-true}
+use Rattle.std.proofs.Common.{append-nil, refl, subst, sym, ◌∙◌}
+use Rattle.xxhsum_program.proofs.EachFacts.{and-false, and-true}
 use Rattle.xxhsum_program.proofs.ToldFacts.{tells-nothing}
-use Rattle.xxhsum_tree.specs.Walk.{IsIn, IsSeen, Leaf, Passed, Tree, place_of, tree_of, waiting_in}
+use Rattle.xxhsum_program.specs.Told.{TellsOn}
+use Rattle.xxhsum_tree.specs.Walk.{closed_text, IsIn, IsSeen, Leaf, Lost, Passed, Tree, place_of, tree_of, waiting_in}
 use Rattle.xxhsum_tree.proofs.VisitFacts.{folder-seen, sees-as}
 use Rattle.xxhsum_tree.proofs.walk.see.Goals as goal
 
@@ -23,3 +24,9 @@ pub returns-in-Other : goal.returns-in-Other
 returns-in-Other g c =
     let is_other = rw (c.deref.ensures.value, c.in-Other.is) at c.kind_at.ensures in
     (Passed c.args.place.name.items, (refl, is_other), refl, sym (append-nil _), sym (and-true _), tells-nothing g.E.Sink c.args.err.now)
+
+pub returns-in-Unknown : goal.returns-in-Unknown
+returns-in-Unknown g c =
+    let is_lost = rw (c.deref.ensures.value, c.in-Unknown.is) at c.kind_at.ensures in
+    let told = subst (λ name. TellsOn g.E.Sink (closed_text name c.in-Unknown.refusal) c.args.err.now c.lose.new.err) c.deref-in-Unknown.ensures.value c.lose.ensures.tells in
+    (Lost c.args.place.name.items c.in-Unknown.refusal, (refl, is_lost), refl, sym (append-nil _), c.lose.ensures.lost ∙ and-false _, told)

@@ -14,7 +14,7 @@ pub const SECRET_MINIMUM_LENGTH: usize = 136;
 /// A secret: at least 136 bytes, lent.
 #[derive(Clone, Copy)]
 pub struct Secret<'a> {
-    bytes: &'a [u8],
+    pub(crate) bytes: &'a [u8],
 }
 
 /// The secret has fewer than 136 bytes.

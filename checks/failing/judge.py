@@ -1,0 +1,140 @@
+"""What has to come of a run in which one system call fails."""
+from .scenarios import INPUT
+from .traces import BY_NAME, FOR_MEMORY
+from .worlds import NO_MEMORY, WRITE_FAILED, Fault, Outcome
+
+# What each call is made to fail with. Linux returns each of these for some file system or device.
+ERRORS = {
+    'open': ('EIO', 'EACCES', 'EMFILE', 'EINTR'), 'openat': ('EIO', 'EACCES', 'EMFILE', 'EINTR'),
+    'read': ('EIO', 'EACCES', 'EINTR'), 'write': ('EIO', 'ENOSPC', 'EINTR'), 'getdents64': ('EIO', 'EACCES', 'EINTR'),
+    'close': ('EIO', 'EINTR'), 'ioctl': ('EIO',),
+    **{name: ('EIO', 'EACCES', 'EMFILE') for name in ('stat', 'lstat', 'statx', 'newfstatat', 'readlink', 'readlinkat')},
+}
+WHYS = {'EIO': 'Input/output error', 'EACCES': 'Permission denied', 'EMFILE': 'Too many open files',
+        'EINTR': 'Interrupted system call', 'ENOSPC': 'No space left on device'}
+OPENS = ('open', 'openat')
+READS = ('read', 'readv', 'pread64')
+WRITES = ('write', 'writev')
+
+
+def errors_of(call):
+    """The errors that this call is made to fail with: all of one class alike."""
+    if call.name in FOR_MEMORY:
+        # Without an address, `brk` only asks where the memory ends.
+        return () if (call.name, call.target) == ('brk', 'NULL') else ('ENOMEM',)
+    like = 'read' if call.name in READS else 'write' if call.name in WRITES else call.name
+    return ERRORS.get(like, ('EIO',))
+
+
+def opened_as(calls, at):
+    """The call that opened the descriptor of this one, by its index, or None for a standard stream."""
+    number = int(calls[at].target or -1)
+    return next((it for it in range(at - 1, -1, -1) if calls[it].name in OPENS and calls[it].result == number), None)
+
+
+def name_of(calls, at):
+    """The name that this call is about, as the program was given it."""
+    call = calls[at]
+    if call.name in BY_NAME:
+        return call.target
+    opened = opened_as(calls, at)
+    return INPUT if opened is None else calls[opened].target
+
+
+def given_before(calls, at):
+    """How many bytes the reads of the same file gave before this one."""
+    opened = opened_as(calls, at) or 0
+    return sum(call.result for call in calls[opened:at]
+               if call.name in READS and call.target == calls[at].target and call.result > 0)
+
+
+def faults_of(calls, at, error):
+    """What the failing call may mean to the program: a fault of some name, or None, where it has another way."""
+    call, name, why = calls[at], name_of(calls, at), WHYS[error]
+    bare = name[:-1] if name.endswith('/') else name
+    if call.name in OPENS:
+        step = 'folder' if call.is_folder else 'open'
+        return [None, Fault(step, bare, why)] if error == 'EINTR' or call.is_folder and bare == name else [Fault(step, bare, why)]
+    if call.name in READS:
+        return [Fault('read', name, why, given_before(calls, at))]
+    if call.name == 'getdents64':
+        return [Fault('folder', bare, why)]
+    if call.name in BY_NAME:
+        return [None, Fault('look-up', bare, why)]
+    return [None]
+
+
+def is_tried(scenario, calls, at):
+    """Whether this call is made to fail: of runs into one pipe those for memory, and the reads of the lists."""
+    if scenario.out != 'merged' or calls[at].name in FOR_MEMORY:
+        return True
+    return calls[at].name in READS and name_of(calls, at) in scenario.words
+
+
+# ---- whether a run is as it has to be
+
+def text(outcome):
+    return outcome.out.encode(), outcome.err.encode(), outcome.status
+
+
+def written(calls, at):
+    """How many bytes the output took before this call."""
+    return sum(call.result for call in calls[:at] if call.name in WRITES and call.target == '1' and call.result > 0)
+
+
+def after_failed_write(scenario, right, calls, at, done):
+    """What is wrong after a failed write: output is reported as lost, a message that is lost changes nothing."""
+    out, err = right.out.encode(), right.err.encode()
+    if calls[at].target == '2':
+        is_well = (done.out, done.status) == (out, right.status) and err.startswith(done.err)
+        return '' if is_well else 'a lost message changed more than the messages'
+    told = WRITE_FAILED.encode() if scenario.program == 'xxhsum' else b'xxh: write failed\n'
+    if done.status != 1 or not done.err.endswith(told):
+        return 'the lost output is not reported'
+    if done.out != out[:written(calls, at)]:
+        return 'the output is not what was written before'
+    return '' if err.startswith(done.err[:-len(told)]) else 'another message than those of the run'
+
+
+def after_no_memory(scenario, right, done):
+    """What is wrong where memory runs out: the run is as ever, or stops with a message."""
+    if (done.out, done.err, done.status) == text(right):
+        return ''
+    told, status = (NO_MEMORY.encode(), 1) if scenario.program == 'xxhsum' else (b'xxh: out of memory\n', 3)
+    if scenario.out == 'merged':
+        is_well = done.status == status and done.out.endswith(told) and right.out.encode().startswith(done.out[:-len(told)])
+        return '' if is_well else 'neither the right output nor a beginning of it and then a message on memory'
+    if done.status != status or not done.err.endswith(told):
+        return 'neither the right output nor a message on memory'
+    begins = right.out.encode().startswith(done.out) and right.err.encode().startswith(done.err[:-len(told)])
+    return '' if begins else 'what was printed before is no beginning of the right output'
+
+
+def is_repeated(scenario, call, error):
+    """Whether an interrupted read is repeated: `xxh` reports each as failed."""
+    return error == 'EINTR' and call.name in (*READS, 'getdents64') and scenario.program == 'xxhsum'
+
+
+def fault_in(scenario, right, planned, at, error, done):
+    """What is wrong with a run in which the call of this index failed, or nothing."""
+    if not any(call.is_failed for call in done.calls) or any(call.is_failed for call in done.before):
+        return 'the call did not fail'
+    if isinstance(done.status, str):
+        return done.status
+    call = planned[at]
+    if call.name in FOR_MEMORY:
+        return after_no_memory(scenario, right, done)
+    if scenario.out not in ('pipe', 'merged'):
+        return '' if done.status and not done.out else 'lost output, and the status is 0'
+    if call.name in WRITES:
+        return after_failed_write(scenario, right, planned, at, done)
+    faults = [None] if is_repeated(scenario, call, error) else faults_of(planned, at, error)
+    allowed = [text(right if fault is None else scenario.outcome(fault)) for fault in faults]
+    return '' if (done.out, done.err, done.status) in allowed else f'wanted {" or ".join(map(repr, allowed))}'
+
+
+def right_of(scenario, done):
+    """What is right where nothing fails. Help and version are compared elsewhere."""
+    if scenario.outcome is None or scenario.out not in ('pipe', 'merged'):
+        return Outcome(done.out.decode(), done.err.decode(), done.status)
+    return scenario.outcome(None)

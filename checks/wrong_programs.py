@@ -1,0 +1,85 @@
+"""Wrong bodies of `xxhsum` that the proofs let through, since no clause speaks of what the system gives, of the order of the two
+streams, or of memory: each with its file, what it changes, and the check and the row that have to detect it."""
+from typing import NamedTuple
+
+
+class Wrong(NamedTuple):
+    file: str
+    old: str
+    new: str
+    check: str
+    row: str
+
+
+SYSTEM, CHECK = 'xxhsum_files/src/system.rt', 'xxhsum_program/src/check.rt'
+EVER = 'for _ in 0..u64::MAX {'
+BELOW, DEEP = 'files below a folder', 'a list, both streams one pipe'
+TREE = 'a tree of many names'
+TELLS_NONE = ('tell_line(\n                &[\n                    self.name,\n                    b": no properly formatted xxHash '
+              'checksum lines found",\n                ],\n                err,\n            );')
+TELLS_IMPROPER = ('tell_of_line(\n                self.name,\n                number,\n                b"Improperly formatted '
+                  'checksum line",\n                err,\n            );')
+
+
+def turned(file, first, second, indent, check, row):
+    """Two statements, the other way round."""
+    between = '\n' + ' ' * indent
+    return Wrong(file, first + between + second, second + between + first, check, row)
+
+
+WRONG = {
+    'kind_of takes a failed look-up for a device': Wrong(
+        SYSTEM, 'Err(error) => PathKind::Unknown(words_of(error)),', 'Err(_) => PathKind::Other,', 'failing', BELOW),
+    'kind_of takes a failed look-up for a file': Wrong(
+        SYSTEM, 'Err(error) => PathKind::Unknown(words_of(error)),', 'Err(_) => PathKind::File,', 'failing', BELOW),
+    'is_directory takes a failed look-up for no': Wrong(
+        SYSTEM, 'Err(_) => self.process.open_dir(path).is_ok(),', 'Err(_) => false,', 'failing', 'an audit below a folder'),
+    'open calls every file missing': Wrong(
+        SYSTEM, 'Err(error) => Err(words_of(error)),', 'Err(_) => Err(Refusal::new(2, b"No such file or directory")),',
+        'failing', 'one file'),
+    'names_in takes a refused folder for an empty one': Wrong(
+        SYSTEM, '            Err(error) => Err(FolderError::Refused(words_of(error))),', '            Err(_) => Ok(Vec::new(alloc)),',
+        'failing', BELOW),
+    'names_in takes a folder for an empty one where too many files are open': Wrong(
+        SYSTEM, '            Err(error) => Err(FolderError::Refused(words_of(error))),',
+        '            Err(error) => { if error.raw_os_error() == Some(24) { return Ok(Vec::new(alloc)); } '
+        'Err(FolderError::Refused(words_of(error))) }', 'failing', BELOW),
+    'names_of ends a folder at a failed read': Wrong(
+        SYSTEM, 'Err(error) => return Err(FolderError::Refused(words_of(error))),', 'Err(_) => return Ok(names),', 'failing', BELOW),
+    'names_of repeats no interrupted read': Wrong(
+        SYSTEM, 'let mut dir = Uninterrupted::new(dir);', 'let mut dir = dir;', 'failing', BELOW),
+    'main repeats no interrupted read of the input': Wrong(
+        'xxhsum/src/main.rt', 'FromRead::new(Uninterrupted::new(rt.stdin()))', 'FromRead::new(rt.stdin())', 'failing', 'a long input'),
+    'names_of has no memory past 8 reads': Wrong(SYSTEM, EVER, 'for _ in 0..8 {', 'many', TREE),
+    'files_below has no memory past 100,000 names': Wrong(
+        'xxhsum_tree/src/walk.rt', EVER, 'for _ in 0..100_000 {', 'many', TREE),
+    'same_in has no memory past 65,536 files': Wrong(
+        'xxhsum_audit/src/moves.rt', '            kept.push(name)?;',
+        '            if kept.len() >= 65536 { return Err(AllocError); }\n            kept.push(name)?;', 'many',
+        'an audit of many equal files'),
+    'read_text has no memory past 100,000 reads': Wrong(
+        'xxhsum_audit/src/read.rt', EVER, 'for _ in 0..100_000 {', 'many', 'a list in many reads'),
+    'all_arguments has no memory past 20,000': Wrong(
+        'xxhsum_program/src/arguments.rt', 'for index in 0..usize::MAX {', 'for index in 0..20_000 {', 'many', 'many arguments'),
+    'sum_up reports a list with no line before the output that waits': turned(
+        CHECK, 'release(out);', TELLS_NONE, 12, 'pipes', 'output before messages about lists with no line'),
+    'check_lines reports a list that breaks off before the output that waits': turned(
+        CHECK, 'release(out);', 'self.tell_of_failure(number, &report, err);', 20, 'failing', DEEP),
+    'count_improper reports a line before the output that waits': turned(
+        CHECK, 'release(out);', TELLS_IMPROPER, 12, 'failing', DEEP),
+    'digest_line has no memory past 16,000 bytes': Wrong(
+        'xxhsum_line/src/printed.rt', '    put_formed(&mut line, kind, shape, value, name, false)?;',
+        '    if name.len() > 16000 { return Err(AllocError); }\n    put_formed(&mut line, kind, shape, value, name, false)?;',
+        'tests', 'xxhsum_tests'),
+    'main shows no progress where the output is a terminal': Wrong(
+        'xxhsum/src/main.rt', 'errors: shows_errors,', 'errors: shows_errors && !shows_output,', 'terminals',
+        'progress of a file, terminals: out, err'),
+    'now counts microseconds': Wrong(
+        'xxhsum_program/src/screen.rt', 'time.as_millis()', 'time.as_micros()', 'terminals', 'progress of a file, terminals: err'),
+    'watch begins at the time 0': Wrong(
+        'xxhsum_program/src/watched.rt', '        let started = time_of(&self.screen, self.is_on);\n        Watched::new(',
+        '        let started = 0;\n        Watched::new(', 'terminals', 'progress of input'),
+    'size is modulo 2^40': Wrong(
+        SYSTEM, 'Some(found.len())', 'Some(found.len() % 1_099_511_627_776)', 'terminals',
+        'the rate and the time left of more than a tebibyte'),
+}

@@ -1,0 +1,17 @@
+"""What a comparison, a reader or a run is refused by. Each is an error of its own: a crash is no refusal."""
+
+
+class Unsupported(Exception):
+    """Text or an operation that isn't known here, or one that a program mustn't do, as an access outside of an
+    object."""
+
+
+class Undecided(Exception):
+    """A comparison, a branch or an address that depends on symbols."""
+
+
+class NotShown(Exception):
+    """The two sides aren't shown to be the same."""
+
+
+REFUSALS = NotShown, Undecided, Unsupported

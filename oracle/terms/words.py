@@ -1,0 +1,98 @@
+"""Operations, comparisons and rotations of words, which are numbers, polynomials or terms."""
+import contextlib
+
+from . import operations
+from .nodes import SUM, Node
+from .operations import bits
+from .polynomials import divided, is_less, is_natural, is_number, lifted, minus, plus, times, wrapped
+from .refusals import Undecided, Unsupported
+from .rules import ones
+
+
+def words(on_numbers, on_terms, on_polynomials=None):
+    """An operation of a width. Where a polynomial has no answer as one, it becomes a term."""
+    def operation(width, a, b):
+        if isinstance(a, int) and isinstance(b, int):
+            return on_numbers(width, a, b) % (1 << width)
+        if on_polynomials and is_number(a) and is_number(b):
+            with contextlib.suppress(Undecided):
+                return on_polynomials(width, a, b)
+        return on_terms(width, lifted(a), lifted(b))
+    return operation
+
+
+def amount(k):
+    if not isinstance(k, int):
+        raise Undecided("the amount of a shift")
+    return k
+
+
+def no_terms(width, a, b):
+    raise Undecided(f"a quotient or remainder of {a} and {b}")
+
+
+def xor(width, a, b):
+    for x, other in ((a, b), (b, a)):
+        if other.__class__ is int and other == ones(width) and isinstance(x, Node) and x.kind is SUM:
+            return operations.complement(width, x)
+    return operations.xor(a, b)
+
+
+def low_bits(width, a, b):
+    """a and b, where one is 2 ^ k - 1."""
+    if isinstance(a, int):
+        a, b = b, a
+    if not isinstance(b, int) or b & b + 1:
+        raise Undecided("a mask")
+    return divided(a, b + 1)[1]
+
+
+BINARY = {
+    "add": words(lambda w, a, b: a + b, lambda w, a, b: operations.add_at(w, (1, a), (1, b)),
+                 lambda w, a, b: wrapped(plus(a, b), w)),
+    "sub": words(lambda w, a, b: a - b, lambda w, a, b: operations.add_at(w, (1, a), (-1, b)),
+                 lambda w, a, b: wrapped(minus(a, b), w)),
+    "mul": words(lambda w, a, b: a * b, operations.multiply_at, lambda w, a, b: wrapped(times(a, b), w)),
+    "xor": words(lambda w, a, b: a ^ b, xor),
+    "or": words(lambda w, a, b: a | b, lambda w, a, b: operations.either(a, b)),
+    "and": words(lambda w, a, b: a & b, lambda w, a, b: operations.both(a, b), low_bits),
+    "shl": words(lambda w, a, b: a << b, lambda w, a, b: operations.multiply_at(w, a, 1 << amount(b)),
+                 lambda w, a, b: wrapped(times(a, 1 << amount(b)), w)),
+    "lshr": words(lambda w, a, b: a >> b, lambda w, a, b: operations.shift_right(a, amount(b)),
+                  lambda w, a, b: divided(a, 1 << amount(b))[0]),
+    "udiv": words(lambda w, a, b: a // b, no_terms, lambda w, a, b: divided(a, b)[0]),
+    "urem": words(lambda w, a, b: a % b, no_terms, lambda w, a, b: divided(a, b)[1]),
+    "sdiv": words(lambda w, a, b: int(signed(a, w) / signed(b, w)), no_terms),
+}
+
+
+# ---- comparisons
+
+TESTS = {"eq": lambda a, b: a == b, "ne": lambda a, b: a != b, "lt": is_less, "gt": lambda a, b: is_less(b, a),
+         "le": lambda a, b: not is_less(b, a), "ge": lambda a, b: not is_less(a, b)}
+
+
+def compare_numbers(test, width, a, b):
+    if test[0] == "s":
+        a, b = (with_sign(x, width) for x in (a, b))
+    return TESTS[test[-2:]](a, b)
+
+
+def with_sign(x, width):
+    if isinstance(x, int):
+        return signed(x, width)
+    if not is_natural(minus(ones(width - 1), x)):
+        raise Undecided(f"the sign of {x}")
+    return x
+
+
+def rotated(width, a, b, k):
+    if a is not b and a != b:
+        raise Unsupported("a shift of two words")
+    k = amount(k) % width
+    return operations.either(operations.multiply_at(width, a, 1 << k), bits(a, width - k, k)) if k else a
+
+
+def signed(n, width=64):
+    n %= 1 << width
+    return n - (1 << width) if n >> width - 1 else n

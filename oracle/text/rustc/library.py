@@ -1,0 +1,68 @@
+"""How the exports of rustc's object are called: exports.rs.in has them.
+
+A stream of XXH3 is given its secret by each call: the default one, one of 192 bytes that a seed derived, or its own."""
+from ..cargo import DONE, LONGEST_WITHOUT, SHORTEST, TOO_SHORT, call_into, expect_code, export_name
+from ..memory import OnlyRead, Words
+from ..one_shots import is_plain
+from ..values import address, joined, low
+
+WAYS = {"default": "", "seed": "_with_seed", "secret": "_with_secret", "both": "_with_seed_and_secret"}
+DERIVED = 192                     # bytes of a secret that a seed derives
+
+
+class ForRust:
+    SIZES = {"32": 48, "64": 88, "3": 680}
+
+    @staticmethod
+    def one_shot(cpu, hash_name, kind, *arguments):
+        """The hash; or 0, where a secret has to be refused, and is."""
+        name = export_name(hash_name) + ("" if is_plain(hash_name) else WAYS[kind])
+        if kind not in ("secret", "both"):
+            rax, rdx = cpu.call(name, *arguments)
+            if hash_name == "3-128":
+                return joined((rax, 64), (rdx, 64))
+            return low(rax, 32) if hash_name == "32" else rax
+        length, secret_length = arguments[1], arguments[3]
+        is_short = isinstance(secret_length, int) and secret_length < SHORTEST
+        is_refused = is_short and (kind == "secret" or length > LONGEST_WITHOUT)
+        code, value = call_into(cpu, hash_name, name, *arguments)
+        expect_code(name, code, TOO_SHORT if is_refused else DONE)
+        return value
+
+    @staticmethod
+    def reset(cpu, request, state):
+        """A stream of no bytes yet. `state.secret` has its secret, and `state.is_of_192` whether that is one of 192
+        bytes for which there is a call of its own."""
+        name, seed = export_name(request.hash_name), request.seed()
+        if is_plain(request.hash_name):
+            cpu.call(f"{name}_start", address(state), (seed, int(request.hash_name)))
+            return
+        cpu.call("xxh3_start", address(state), seed)
+        state.secret, state.is_of_192 = request.secret or derived(cpu, seed), not request.secret
+
+    @staticmethod
+    def update(cpu, hash_name, state, piece):
+        piece = (address(piece), piece.length) if piece else (0, 0)
+        if is_plain(hash_name):
+            name, secret = f"{export_name(hash_name)}_write", ()
+        elif state.is_of_192:
+            name, secret = "xxh3_write_192", (address(state.secret),)
+        else:
+            name, secret = "xxh3_write", (address(state.secret), state.secret.length)
+        expect_code(name, low(cpu.call(name, address(state), *secret, *piece)[0], 32), DONE)
+
+    @staticmethod
+    def digest(cpu, hash_name, state):
+        """The hash of what a stream was given."""
+        name = f"{export_name(hash_name)}_finish"
+        secret = () if is_plain(hash_name) else (address(state.secret), state.secret.length)
+        code, value = call_into(cpu, hash_name, name, address(state), *secret)
+        expect_code(name, code, DONE)
+        return value
+
+
+def derived(cpu, seed):
+    """The secret that a seed derives, as a call writes it. Other calls only read it."""
+    secret = Words("secret", DERIVED, [(k, 8, cpu.fresh("a word")) for k in range(0, DERIVED, 8)], alignment=1)
+    cpu.call("derive_secret", address(secret), seed)
+    return OnlyRead("secret", DERIVED, [(at, n, x) for at, (n, x) in secret.cells.items()], alignment=1)

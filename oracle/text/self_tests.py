@@ -1,0 +1,80 @@
+"""The rows on the checker itself: wrong texts, checks that are switched off, changes of instructions, and the table beside the
+processor. They can only fail: nothing that is shown of a text rests on them."""
+import functools
+import tempfile
+
+from . import (cargo_calls, cargo_planted, cargo_streams, changes, on_processor, planted, planted_checks, planted_lines,
+               planted_objects, switched_off)
+from .cargo_exports import BEGIN
+from .instructions import SETS, TABLE, V1, V4
+from .questions import CASES, Beside, plain_update, xxh3_update
+from .rows import counted, makers
+
+SOME_CHECKS, SWITCHED_OFF = 9, (4, 100)      # each so manieth wrong text without --all, and checks that are switched off
+
+
+def planted_row(title, asked):
+    return counted(title, len(asked), functools.partial(planted.refused, asked))
+
+
+def choose(texts, others, is_all):
+    """Those of c/asm's texts and of cargo's, which are `others`."""
+    forms = sum(kind in SETS[on_processor.processor_here()] for kind, _ in TABLE.values())
+    without = "" if on_processor.is_v4() else ", without what it lacks of x86-64-v4"
+    return [counted(f"the table of instructions beside the processor{without}", forms - 40,
+                    functools.partial(beside_processor, [*texts.values(), *others.values()], is_all)),
+            planted_row("wrong lines are refused", planted_lines.X86_ASKED),
+            planted_row("texts that assemblers read otherwise are refused", planted_lines.X86_ALIKE),
+            planted_row("wrong objects are refused", planted_objects.X86_ASKED),
+            planted_row("wrong texts of each kind are refused", planted.ASKED),
+            planted_row("wrong texts, one for each check, are refused", planted_checks.X86_ASKED[::1 if is_all else SOME_CHECKS]),
+            counted("checks that are switched off are noticed", SWITCHED_OFF[is_all], functools.partial(switched_off.tell, is_all)),
+            counted("faults of the check itself are noticed", len(planted.CHECKS), planted.noticed),
+            planted_row(f"{BEGIN}wrong texts are refused", cargo_planted.ASKED), *change_rows(texts, others, is_all)]
+
+
+def change_rows(texts, others, is_all):
+    """Changes of one instruction; of x86-64-v4 in the functions that it has by itself, and of cargo's texts of the one that
+    has no function of c/asm's."""
+    for name, make in makers(texts).items():
+        if name == V4:
+            yield change_row(f"in the widened functions of {name}", (20, 100), is_all, name, make, is_drawn=is_widened)
+        else:
+            yield change_row(name, (40, 100), is_all, name, make)
+    name = f"cargo's {V1}"
+    row = change_row(name, (30, 30), is_all, f"cargo-{V1}", makers(others)[name],
+                     beside=Beside([*cargo_calls.ALL, *pieces()], cargo_streams.CargoUpdates))
+    row.title = BEGIN + row.title
+    yield row
+
+
+def pieces():
+    """Pieces that are taken: a changed text below cargo is asked these too, since it has no whole streams."""
+    for k in range(CASES):
+        yield functools.partial(plain_update, "32", k)
+        yield functools.partial(xxh3_update, cargo_streams.CargoUpdates, k)
+
+
+def is_widened(section):
+    return "widened" in section
+
+
+def change_row(where, counts, is_all, *asked, **more):
+    """So many changes of one draw, or with --all of each draw."""
+    count, draws = counts[is_all], changes.DRAWS if is_all else 1
+    return counted(f"changes of one instruction, {where}", count * draws,
+                   functools.partial(changes.noticed, *asked, count, is_all, **more))
+
+
+def parts_of_changes(title, asked, program, is_all):
+    """Few of the changes that a module asks, or with --all a row of each part of them."""
+    for part in range(changes.ROWS) if is_all else [None]:
+        words = f", part {part + 1} of {changes.ROWS}" if is_all else ""
+        yield counted(title + words, asked.MANY // changes.ROWS if is_all else asked.FEW,
+                      functools.partial(asked.noticed, program, part))
+
+
+def beside_processor(programs, is_all):
+    on_processor.expect_processor()
+    with tempfile.TemporaryDirectory(prefix="machine-text-") as room:
+        return on_processor.compare(on_processor.asked(programs, is_all), room, on_processor.own_bytes(programs))

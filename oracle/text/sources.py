@@ -1,0 +1,81 @@
+"""The assembly texts as objects. A text is of the grammar; GNU as, which gcc calls, clang and rustc make one object of it, as
+users do, and GNU as' is the one that is read."""
+import os
+import struct
+import subprocess
+import tempfile
+
+from terms.refusals import NotShown, Unsupported
+
+from .grammar import expect_grammar
+from .listed import Object, difference, differences
+
+GNU = {"x86-64": "as", "aarch64": "aarch64-linux-gnu-as"}
+TARGETS = {"x86-64": ("x86_64-linux-gnu", "x86_64-unknown-linux-gnu", "att_syntax, raw"),
+           "aarch64": ("aarch64-linux-gnu", "aarch64-unknown-linux-gnu", "raw")}
+# The crate has these macros from `core`, which a machine has of its own processor alone.
+CRATE = """#![feature(no_core, rustc_attrs)]
+#![no_core]
+#![allow(internal_features)]
+#[rustc_builtin_macro]
+macro_rules! global_asm {{ () => {{}} }}
+#[rustc_builtin_macro]
+macro_rules! include_str {{ () => {{}} }}
+global_asm!(include_str!("{source}"), options({options}));
+"""
+ASSEMBLERS = "GNU as", "clang", "rustc"
+
+
+def assembled(source, kind, read):
+    """What `read` makes of the object's path."""
+    expect_grammar(source, kind)
+    with tempfile.TemporaryDirectory(prefix="machine-text-") as room:
+        return read(by_gnu(source, kind, room))
+
+
+def by_gnu(source, kind, room):
+    made = os.path.join(room, "gnu.o")
+    run([GNU[kind], "--no-warn", source, "-o", made])
+    return made
+
+
+def by_clang(source, kind, room):
+    made = os.path.join(room, "clang.o")
+    run(["clang", "-c", f"--target={TARGETS[kind][0]}", source, "-o", made])
+    return made
+
+
+def by_rustc(source, kind, room):
+    made, crate = os.path.join(room, "rustc.o"), os.path.join(room, "rustc.rs")
+    _, target, options = TARGETS[kind]
+    with open(crate, "w", encoding="utf-8") as file:
+        file.write(CRATE.format(source=os.path.abspath(source), options=options))
+    run(["rustc", "--crate-type=lib", "--emit=obj", f"--target={target}", crate, "-o", made], RUSTC_BOOTSTRAP="1")
+    return made
+
+
+def run(words, **more):
+    done = subprocess.run(words, capture_output=True, text=True, env={**os.environ, **more})
+    if done.returncode:
+        raise Unsupported(f"{words[0]} refuses the text: {done.stderr.strip()[:300]}")
+
+
+def expect_alike(sources):
+    """How many objects are alike: of each text, (path, kind), those of the three assemblers. Bytes, relocations, names, notes
+    and frames are compared."""
+    for source, kind in sources:
+        with tempfile.TemporaryDirectory(prefix="machine-text-") as room:
+            first, *others = [parts_of(by(source, kind, room)) for by in (by_gnu, by_clang, by_rustc)]
+        for name, other in zip(ASSEMBLERS[1:], others):
+            found = next(differences(first, other, difference), None)
+            if found:
+                raise NotShown(f"{os.path.basename(source)} by GNU as and by {name}: {found}")
+    return 2 * len(sources)
+
+
+def parts_of(path):
+    object_ = Object(path)
+    try:
+        return {**object_.parts(), **object_.added()}
+    except (ValueError, LookupError, struct.error) as fault:
+        raise Unsupported(f"an object that isn't read: {fault}") from None

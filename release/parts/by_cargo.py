@@ -1,0 +1,60 @@
+"""The programs as cargo builds them: static, for each machine that there is a compiler for."""
+import functools
+import os
+import shutil
+
+from arm_roots import debian_root
+from packing import tree_of
+from tools import must
+
+TARGETS = {'x86_64': 'x86_64-unknown-linux-gnu', 'aarch64': 'aarch64-unknown-linux-gnu'}
+COMPILERS = {'x86_64': 'gcc', 'aarch64': 'aarch64-linux-gnu-gcc'}
+# They need no other file. Nothing in them says where they were built.
+FLAGS = '-C target-feature=+crt-static -C strip=symbols'
+# The other names of xxhsum, under which it uses another algorithm.
+NAMES = ('xxh32sum', 'xxh64sum', 'xxh128sum', 'xxh3sum')
+
+
+def sysroot_flag(commit, machine):
+    """Debian's compiler takes its standard library for another processor from a folder of that processor's packages."""
+    if machine == 'x86_64':
+        return ''
+    sysroot, libraries = os.path.join(commit.room, 'sysroot'), os.path.join('lib', 'rustlib')
+    root = debian_root(os.path.join(commit.room, 'rust-arm'), 'libstd-rust-web-dev')
+    os.makedirs(os.path.join(sysroot, libraries))
+    os.symlink(os.path.join(root, 'usr', libraries, TARGETS[machine]), os.path.join(sysroot, libraries, TARGETS[machine]))
+    return f' --sysroot {sysroot}'
+
+
+@functools.cache
+def installed(commit, machine):
+    """A folder with bin and share, as `cargo install` and its users lay them out. Or None where no compiler is."""
+    if not shutil.which(COMPILERS[machine]):
+        print(f'no {COMPILERS[machine]}: the programs for {machine} are left out')
+        return None
+    target, made = TARGETS[machine], os.path.join(commit.room, 'cargo')
+    variables = {'CARGO_TARGET_DIR': made, 'CARGO_NET_OFFLINE': 'true', 'RUSTC': '/usr/bin/rustc',
+                 'RUSTFLAGS': FLAGS + sysroot_flag(commit, machine),
+                 f'CARGO_TARGET_{target.upper().replace("-", "_")}_LINKER': COMPILERS[machine]}
+    must(['/usr/bin/cargo', 'build', '-q', '--release', '--target', target], cwd=commit.path('rust', 'programs'),
+         env={**os.environ, **variables})
+    return laid_out(commit, os.path.join(made, target, 'release'), os.path.join(commit.room, f'cargo-{machine}'))
+
+
+def laid_out(commit, built, folder):
+    manual = os.path.join(folder, 'share', 'man', 'man1')
+    for path in (os.path.join(folder, 'bin'), manual):
+        os.makedirs(path)
+    for name in ('xxh', 'xxhsum'):
+        shutil.copy(os.path.join(built, name), os.path.join(folder, 'bin', name))
+        shutil.copy(commit.path('docs', f'{name}.1'), manual)
+    for name in NAMES:
+        os.symlink('xxhsum', os.path.join(folder, 'bin', name))
+        os.symlink('xxhsum.1', os.path.join(manual, f'{name}.1'))
+    return folder
+
+
+def files(commit, machine):
+    """The files of an archive, or none where there is no compiler."""
+    folder = installed(commit, machine)
+    return tree_of(folder) if folder else {}

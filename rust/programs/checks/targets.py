@@ -1,0 +1,91 @@
+"""The programs for other targets, run by emulators: 64-bit ARM by qemu, and Windows by wine."""
+import os
+import re
+import shutil
+import subprocess
+
+from report import tail, want
+from room import ARM_PACKAGES, FURTHER, SOURCE_PACKAGES, ArmRoom, install_packages
+from tools import TOP, must
+
+PROGRAMS = ('xxh', 'xxhsum')
+RIGHT = re.compile(r'(\d+) (?:cases|rows on \w+) as wanted, (\d+) otherwise')
+
+
+def emulated(room, programs, runner):
+    """A script for each program that runs it by an emulator, under the name by which the script is called."""
+    found = {}
+    for name, program in programs.items():
+        found[name] = os.path.join(room.path, f'{name}-emulated')
+        with open(found[name], 'w') as file:
+            file.write(f'#!/bin/sh\nexec {" ".join(runner)} {program} "$@"\n')
+        os.chmod(found[name], 0o755)
+    return found
+
+
+def rows_of_xxhsum(program):
+    """The cases and rows of checks/xxhsum. What it plants depends on times, which an emulator stretches."""
+    words = [os.path.join(TOP, 'checks', 'xxhsum'), '--stored', program]
+    done = subprocess.run(words, stdout=subprocess.PIPE, stderr=subprocess.STDOUT, text=True, errors='replace')
+    counts = RIGHT.findall(done.stdout)
+    want(len(counts) == 3 and all(wrong == '0' for _, wrong in counts), f'{counts}: {tail(done.stdout)}')
+    return f'{sum(int(right) for right, _ in counts)} cases and rows'
+
+
+def check_arm(report, path, built):
+    install_packages(ARM_PACKAGES)
+    room = ArmRoom(path)
+    programs = emulated(room, built(room), [room.runner[0], '-0', '"$0"', *room.runner[1:]])
+    report.attempt("xxh's table", lambda: tail(must([os.path.join(TOP, 'checks', 'program'), programs['xxh']])))
+    report.attempt("xxhsum's table", rows_of_xxhsum, programs['xxhsum'])
+
+
+# What is run, its input, what it prints, and its status. {a} and {b} are the lines of Debian's xxhsum, {32} that of XXH32.
+ON_WINDOWS = (
+    ('xxh hash 64 1234', 'some bytes', 'eab55659a496d78b', 0),
+    ('xxhsum a folder/b', '', '{a}\n{b}', 0),
+    ('xxhsum -r folder', '', '{b}', 0),
+    ('xxh32sum a', '', '{32}', 0),
+    ('xxhsum nowhere', '', "Error: Could not open 'nowhere': No such file or directory. ", 1),
+    ('xxhsum no/where', '', "Error: Could not open 'no/where': No such file or directory. ", 1),
+    ('xxhsum -c list', '', 'a: OK\nfolder/b: OK', 0),
+    ('xxhsum -c --ignore-missing missing', '', 'a: OK', 0),
+)
+
+
+def on_windows(wine, folder, words, given, told, status):
+    name, *arguments = words.split()
+    done = subprocess.run([*wine, os.path.join(folder, f'{name}.exe'), *arguments], input=given, cwd=folder, stdout=subprocess.PIPE,
+                          stderr=subprocess.STDOUT, text=True)
+    found = '\n'.join(line for line in done.stdout.splitlines() if not line.startswith('wine:'))
+    want((found.rstrip('\n'), done.returncode) == (told, status), f'{found}, {done.returncode}')
+
+
+def lay_out_for_windows(programs, folder):
+    """Files, lists of Debian's xxhsum, and the programs under three names."""
+    os.makedirs(os.path.join(folder, 'folder'))
+    for name, text in (('a', 'some bytes'), ('folder/b', 'other bytes')):
+        with open(os.path.join(folder, name), 'w') as file:
+            file.write(text)
+    listed = must(['xxhsum', '-q', 'a', 'folder/b'], cwd=folder)
+    for name, text in (('list', listed), ('missing', listed.splitlines(True)[0] + listed.split()[0] + '  no/where\n')):
+        with open(os.path.join(folder, name), 'w') as file:
+            file.write(text)
+    for name, program in (('xxh', 'xxh'), ('xxhsum', 'xxhsum'), ('xxh32sum', 'xxhsum')):
+        shutil.copy(programs[program], os.path.join(folder, f'{name}.exe'))
+    return listed
+
+
+def check_windows(report, path, built):
+    make_room, packages = FURTHER['windows']
+    install_packages({**SOURCE_PACKAGES, **packages})
+    room = make_room(path)
+    folder = os.path.join(path, 'on-windows')
+    a, b = lay_out_for_windows(built(room), folder).splitlines()
+    lines = {'{a}': a, '{b}': b, '{32}': must(['xxhsum', '-q', '-H0', 'a'], cwd=folder).strip()}
+    for words, given, told, status in ON_WINDOWS:
+        told = re.sub(r'\{\w+\}', lambda found: lines[found[0]], told)
+        report.attempt(f'on Windows: {words}', on_windows, room.runner.split(), folder, words, given, told, status)
+
+
+TARGETS = {'aarch64': check_arm, 'windows': check_windows}

@@ -1,0 +1,3 @@
+// SPDX-License-Identifier: MIT
+#![cfg_attr(unix, no_main)]
+twox_programs::program!(twox_programs::programs::xxhsum::main);

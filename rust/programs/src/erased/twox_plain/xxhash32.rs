@@ -1,0 +1,8 @@
+// SPDX-License-Identifier: MIT
+//! The library's `twox_plain::xxhash32`, and what only the programs have in it, written by `rust/erase --programs`.
+
+pub use crate::erased::twox_plain::xxhash32::*;
+
+mod saved;
+
+pub use saved::FormError;

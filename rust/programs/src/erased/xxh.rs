@@ -1,0 +1,12 @@
+// SPDX-License-Identifier: MIT
+// crates/xxh/src/main.rt without its contracts, written by rust/erase --programs: change that file.
+
+//! The program `xxh`: hashes standard input, as the words of the command line ask.
+
+use crate::rattle::prelude::HostRuntime;
+use crate::rattle::process::ExitCode;
+use crate::programs::xxh_program::program::run_process;
+
+pub fn main(rt: HostRuntime) -> ExitCode {
+    ExitCode::from(run_process(&rt, &mut rt.stdin(), rt.stdout(), rt.stderr()))
+}

@@ -1,0 +1,128 @@
+// SPDX-License-Identifier: MIT
+// crates/xxh_io/src/command.rt without its contracts, written by rust/erase --programs: change that file.
+
+//! What the words of the command line ask for.
+
+use crate::programs::xxh_io::fault::Fault;
+use crate::programs::xxh_io::kind::{Kind, SavedKind};
+
+/// What the words ask for.
+#[derive(Clone, Copy, Debug, PartialEq, Eq)]
+pub enum Command<'w> {
+    /// Prints the digest line of the input.
+    Hash { kind: Kind, seed: u64 },
+    /// Prints the saved text of XXH32 of the input.
+    Save32 { seed: u32 },
+    /// Prints the saved text of XXH64 of the input.
+    Save64 { seed: u64 },
+    /// Goes on from a saved text of XXH32, and prints the digest line.
+    Resume32 { json: &'w str },
+    /// Goes on from a saved text of XXH64, and prints the digest line.
+    Resume64 { json: &'w str },
+    /// Prints the digest lines of the blocks of the input.
+    Blocks { size: u64 },
+}
+
+// The seed where the words have none.
+const NO_SEED: &str = "0";
+
+/// The command that the words after the program's name ask for.
+pub fn parse<'w>(words: &[&'w str]) -> Result<Command<'w>, Fault> {
+    match words {
+        [name, word] => pair(name, word),
+        [name, kind, last] => with_last(name, kind, last),
+        _ => Err(Fault::Usage),
+    }
+}
+
+fn pair(name: &str, word: &str) -> Result<Command<'static>, Fault> {
+    match name {
+        "blocks" => blocks(word),
+        _ => seeded(name, word, NO_SEED),
+    }
+}
+
+fn with_last<'w>(name: &str, kind: &str, last: &'w str) -> Result<Command<'w>, Fault> {
+    match name {
+        "resume" => resume(kind, last),
+        _ => seeded(name, kind, last),
+    }
+}
+
+fn seeded(name: &str, kind: &str, seed: &str) -> Result<Command<'static>, Fault> {
+    match name {
+        "hash" => hash(kind, seed),
+        "save" => save(kind, seed),
+        _ => Err(Fault::Usage),
+    }
+}
+
+fn hash(kind: &str, seed: &str) -> Result<Command<'static>, Fault> {
+    let kind = kind_from(kind)?;
+    let seed = seed_from(seed, kind.most_seed())?;
+    Ok(Command::Hash { kind, seed })
+}
+
+fn save(kind: &str, seed: &str) -> Result<Command<'static>, Fault> {
+    match saved_kind_from(kind)? {
+        SavedKind::X32 => {
+            let seed = seed_from(seed, u64::from(u32::MAX))?;
+            Ok(Command::Save32 { seed: seed as u32 })
+        }
+        SavedKind::X64 => {
+            let seed = seed_from(seed, u64::MAX)?;
+            Ok(Command::Save64 { seed })
+        }
+    }
+}
+
+fn resume<'w>(kind: &str, json: &'w str) -> Result<Command<'w>, Fault> {
+    Ok(match saved_kind_from(kind)? {
+        SavedKind::X32 => Command::Resume32 { json },
+        SavedKind::X64 => Command::Resume64 { json },
+    })
+}
+
+fn blocks(size: &str) -> Result<Command<'static>, Fault> {
+    match number_from(size, u64::MAX, Fault::BadSize)? {
+        0 => Err(Fault::BadSize),
+        size => Ok(Command::Blocks { size }),
+    }
+}
+
+// The kind of this name.
+fn kind_from(name: &str) -> Result<Kind, Fault> {
+    match name {
+        "32" => Ok(Kind::X32),
+        "64" => Ok(Kind::X64),
+        "3-64" => Ok(Kind::X3_64),
+        "3-128" => Ok(Kind::X3_128),
+        _ => Err(Fault::Usage),
+    }
+}
+
+// The kind of this name, of those whose hashers have saved states.
+fn saved_kind_from(name: &str) -> Result<SavedKind, Fault> {
+    match name {
+        "32" => Ok(SavedKind::X32),
+        "64" => Ok(SavedKind::X64),
+        _ => Err(Fault::Usage),
+    }
+}
+
+// The seed that the word writes in decimal digits, up to the greatest of its kind.
+fn seed_from(word: &str, most: u64) -> Result<u64, Fault> {
+    number_from(word, most, Fault::BadSeed)
+}
+
+// The number that the word writes in decimal digits, up to the greatest; or this fault.
+fn number_from(word: &str, most: u64, fault: Fault) -> Result<u64, Fault> {
+    // `parse` takes a sign too.
+    if word.starts_with('+') {
+        return Err(fault);
+    }
+    match word.parse::<u64>() {
+        Ok(number) if number <= most => Ok(number),
+        _ => Err(fault),
+    }
+}

@@ -1,0 +1,77 @@
+// SPDX-License-Identifier: MIT
+// crates/xxh_io/src/fault.rt without its contracts, written by rust/erase --programs: change that file.
+
+//! Why a command is not carried out: the line and the exit status of each fault, and how it is told.
+
+use crate::programs::xxh_io::ends::Sink;
+use crate::programs::xxh_io::error::DigestError;
+use crate::programs::xxh_io::write::write_all;
+use crate::rattle::AllocError;
+
+/// Why a command is not carried out.
+#[derive(Clone, Copy, Debug, PartialEq, Eq)]
+pub enum Fault {
+    /// The words are no command, or the kind is none of the command's.
+    Usage,
+    /// The seed is not one or more decimal digits, or the kind has no such seed.
+    BadSeed,
+    /// The size of a block is not one or more decimal digits with a value from 1 to 2^64 - 1.
+    BadSize,
+    /// The text is not a saved state, or no hasher has that state.
+    BadState,
+    /// There was no memory.
+    OutOfMemory,
+    /// A read or a write failed, or the input was too long.
+    Digest(DigestError),
+}
+
+impl Fault {
+    /// The line for standard error.
+    pub fn line(self) -> &'static [u8] {
+        match self {
+            Fault::Usage => {
+                b"xxh: usage: xxh hash|save|resume 32|64|3-64|3-128 [SEED|JSON] or xxh blocks SIZE\n"
+            }
+            Fault::BadSeed => b"xxh: bad seed\n",
+            Fault::BadSize => b"xxh: bad size\n",
+            Fault::BadState => b"xxh: bad state\n",
+            Fault::OutOfMemory => b"xxh: out of memory\n",
+            Fault::Digest(DigestError::ReadFailed) => b"xxh: read failed\n",
+            Fault::Digest(DigestError::WriteFailed) => b"xxh: write failed\n",
+            Fault::Digest(DigestError::TooLong) => b"xxh: too long\n",
+        }
+    }
+
+    /// The exit status.
+    pub fn status(self) -> u8 {
+        match self {
+            Fault::Digest(_) => 1,
+            Fault::Usage | Fault::BadSeed | Fault::BadSize | Fault::BadState => 2,
+            Fault::OutOfMemory => 3,
+        }
+    }
+}
+
+impl From<DigestError> for Fault {
+    fn from(error: DigestError) -> Fault {
+        Fault::Digest(error)
+    }
+}
+
+impl From<AllocError> for Fault {
+    fn from(_error: AllocError) -> Fault {
+        Fault::OutOfMemory
+    }
+}
+
+/// Tells the fault, where there is one, and answers the exit status.
+pub fn conclude<E: Sink>(done: Result<(), Fault>, err: &mut E) -> u8 {
+    match done {
+        Ok(()) => 0,
+        Err(fault) => {
+            // Whether the line could be written does not change the status.
+            let _ = write_all(fault.line(), err);
+            fault.status()
+        }
+    }
+}

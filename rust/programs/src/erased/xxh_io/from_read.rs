@@ -1,0 +1,49 @@
+// SPDX-License-Identifier: MIT
+// crates/xxh_io/src/from_read.rt without its contracts, written by rust/erase --programs: change that file.
+
+//! Standard readers as sources.
+
+use crate::programs::xxh_io::ends::{Failed, Source};
+use crate::rattle::io::Read;
+
+/// A standard reader as a source. Every error of a read is a failure, an interruption too.
+pub struct FromRead<R> {
+    inner: R,
+    failed: bool,
+}
+
+impl<R: Read> FromRead<R> {
+    /// A source that has not failed.
+    pub fn new(inner: R) -> FromRead<R> {
+        FromRead {
+            inner,
+            failed: false,
+        }
+    }
+
+    /// The reader.
+    pub fn into_inner(self) -> R {
+        let FromRead { inner, failed: _ } = self;
+        inner
+    }
+}
+
+impl<R: Read> Source for FromRead<R> {
+    fn failed(&self) -> bool {
+        self.failed
+    }
+
+    fn read(&mut self, buf: &mut [u8]) -> Result<usize, Failed> {
+        match self.inner.read(buf) {
+            Ok(count) => Ok(count),
+            Err(_) => {
+                self.failed = true;
+                Err(Failed)
+            }
+        }
+    }
+}
+
+/// A law, with nothing to run: where a reader tells the bytes that it has left, the pieces that are read,
+/// joined, and then those that are left afterwards are those that were left before.
+pub fn reader_pieces<R: Read>() {}

@@ -1,0 +1,45 @@
+// SPDX-License-Identifier: MIT
+// crates/xxh_io/src/kind.rt without its contracts, written by rust/erase --programs: change that file.
+
+//! The kinds of digest.
+
+/// Which hash a digest line shows.
+#[derive(Clone, Copy, Debug, PartialEq, Eq)]
+pub enum Kind {
+    /// XXH32, in 8 digits. Its seeds are below 2^32.
+    X32,
+    /// XXH64, in 16 digits.
+    X64,
+    /// XXH3 of 64 bits, in 16 digits.
+    X3_64,
+    /// XXH3 of 128 bits, in 32 digits.
+    X3_128,
+}
+
+impl Kind {
+    /// How many digits the line has.
+    pub fn digits(self) -> usize {
+        match self {
+            Kind::X32 => 8,
+            Kind::X64 | Kind::X3_64 => 16,
+            Kind::X3_128 => 32,
+        }
+    }
+
+    /// The greatest seed of the kind.
+    pub fn most_seed(self) -> u64 {
+        match self {
+            Kind::X32 => u64::from(u32::MAX),
+            Kind::X64 | Kind::X3_64 | Kind::X3_128 => u64::MAX,
+        }
+    }
+}
+
+/// The kinds whose hashers have saved states.
+#[derive(Clone, Copy, Debug, PartialEq, Eq)]
+pub enum SavedKind {
+    /// XXH32.
+    X32,
+    /// XXH64.
+    X64,
+}

@@ -1,0 +1,104 @@
+// SPDX-License-Identifier: MIT
+// crates/xxh_io/src/script_source.rt without its contracts, written by rust/erase --programs: change that file.
+
+//! Sources in memory, which tell their bytes: one that follows a script, and one of a slice.
+
+use crate::programs::xxh_io::ends::{Failed, Source};
+
+/// A source that gives bytes in pieces of given sizes, and fails at one read. It takes no memory.
+///
+/// Read j, counted from 1, fails where j is `fail_at`, and never where that is 0. Else it gives the next
+/// bytes: as many as the least of `sizes[j - 1]`, what is left, and what is offered. Past the end of `sizes`
+/// it gives none.
+///
+/// ```rattle
+/// let mut source = ScriptSource::new(b"some bytes", &[4, 1, 5], 3);
+/// let mut buf = [0; 8];
+/// source.read(&mut buf) // Ok(4), `some`
+/// source.read(&mut buf) // Ok(1), a space
+/// source.read(&mut buf) // Err(Failed)
+/// ```
+#[derive(Clone, Copy)]
+pub struct ScriptSource<'a> {
+    bytes: &'a [u8],
+    sizes: &'a [usize],
+    fail_at: u64,
+    // How many of the bytes were given.
+    at: usize,
+    reads: u64,
+    failed: bool,
+}
+
+impl<'a> ScriptSource<'a> {
+    /// A source that was not read yet.
+    pub fn new(bytes: &'a [u8], sizes: &'a [usize], fail_at: u64) -> ScriptSource<'a> {
+        ScriptSource {
+            bytes,
+            sizes,
+            fail_at,
+            at: 0,
+            reads: 0,
+            failed: false,
+        }
+    }
+
+    /// How many reads there were, failed ones among them. The count stays at the greatest `u64`.
+    pub fn reads(&self) -> u64 {
+        let ScriptSource { reads, .. } = *self;
+        reads
+    }
+
+    // How many bytes the next read gives where so many are offered.
+    fn next_size(&self, offered: usize) -> usize {
+        let size = match usize::try_from(self.reads) {
+            Ok(read) if read < self.sizes.len() => self.sizes[read],
+            _ => 0,
+        };
+        size.min(self.bytes.len() - self.at).min(offered)
+    }
+}
+
+impl Source for ScriptSource<'_> {
+    fn failed(&self) -> bool {
+        self.failed
+    }
+
+    fn read(&mut self, buf: &mut [u8]) -> Result<usize, Failed> {
+        let size = self.next_size(buf.len());
+        self.reads = self.reads.saturating_add(1);
+        if self.reads == self.fail_at {
+            self.failed = true;
+            return Err(Failed);
+        }
+        buf[..size].copy_from_slice(&self.bytes[self.at..self.at + size]);
+        self.at += size;
+        Ok(size)
+    }
+}
+
+/// The bytes of a slice as a source. Each read gives as many as are left and offered, and none fails.
+#[derive(Clone, Copy)]
+pub struct SliceSource<'a> {
+    rest: &'a [u8],
+}
+
+impl<'a> SliceSource<'a> {
+    /// A source that was not read yet.
+    pub fn new(bytes: &'a [u8]) -> SliceSource<'a> {
+        SliceSource { rest: bytes }
+    }
+}
+
+impl Source for SliceSource<'_> {
+    fn failed(&self) -> bool {
+        false
+    }
+
+    fn read(&mut self, buf: &mut [u8]) -> Result<usize, Failed> {
+        let size = self.rest.len().min(buf.len());
+        let (piece, rest) = self.rest.split_at(size);
+        buf[..size].copy_from_slice(piece);
+        self.rest = rest;
+        Ok(size)
+    }
+}

@@ -1,0 +1,85 @@
+// SPDX-License-Identifier: MIT
+// crates/xxh_program/src/program/engine.rt without its contracts, written by rust/erase --programs: change that file.
+
+//! The digest engine: reads a source to its end through a hasher, and writes the value as a line.
+
+use crate::programs::xxh_program::program::feed::Feed;
+use crate::programs::xxh_program::program::value::value_of_source;
+use crate::programs::xxh_io::ends::{Failed, Sink, Source};
+use crate::programs::xxh_io::error::DigestError;
+use crate::programs::xxh_io::kind::Kind;
+use crate::programs::xxh_io::write::write_line;
+
+// How many bytes each read of the public calls is offered.
+pub(crate) const OFFERED: usize = 4096;
+
+// Feeds the hasher what is read, until a read gives nothing. Each read is offered the whole buffer.
+pub(crate) fn read_all<H: Feed, R: Source>(
+    hasher: H,
+    max_reads: u64,
+    r: &mut R,
+    buf: &mut [u8],
+) -> Result<H, DigestError> {
+    let mut hasher = hasher;
+    for turn in 0..max_reads {
+        match r.read(buf) {
+            Ok(0) => return Ok(hasher),
+            Ok(count) => hasher.feed(&buf[..count]),
+            Err(Failed) => return Err(DigestError::ReadFailed),
+        }
+    }
+    Err(DigestError::TooLong)
+}
+
+// Feeds the hasher what is read, and writes the line of what it then answers.
+pub(crate) fn digest_on<H: Feed, R: Source, W: Sink, const READ: usize>(
+    hasher: H,
+    digits: usize,
+    max_reads: u64,
+    r: &mut R,
+    w: &mut W,
+) -> Result<(), DigestError> {
+    let hasher = read_all(hasher, max_reads, r, &mut [0; READ])?;
+    write_line(hasher.value(), digits, w)
+}
+
+// What `digest` does, with reads that are offered so many bytes.
+pub(crate) fn digest_reading<R: Source, W: Sink, const READ: usize>(
+    kind: Kind,
+    seed: u64,
+    max_reads: u64,
+    r: &mut R,
+    w: &mut W,
+) -> Result<(), DigestError> {
+    let value = value_of_source(kind, seed, max_reads, r, &mut [0; READ])?;
+    write_line(value, kind.digits(), w)
+}
+
+/// Reads to the end of the source and writes the digest line of what was read: the hash of the kind under
+/// the seed, in lower-case hexadecimal with leading zeros, and a line feed. Each read is offered 4,096
+/// bytes, which is tested and no clause says, and no memory is taken: there is no allocator to take it from.
+///
+/// The caller shows that neither end has failed and that the seed of [`Kind::X32`] is below 2^32.
+///
+/// # Errors
+///
+/// - [`DigestError::ReadFailed`] exactly where the source has failed afterwards. Nothing was written.
+/// - [`DigestError::WriteFailed`] exactly where the sink has failed afterwards. A beginning of the line was
+///   written, and not all of it.
+/// - [`DigestError::TooLong`] exactly where `max_reads` reads each gave at least one byte. Nothing was
+///   written, and no further read was made. With `max_reads` 0 that is at once.
+///
+/// ```rattle
+/// let mut input = FromRead::new(b"some bytes".as_slice());
+/// let mut output = FromWrite::new(Vec::new(alloc));
+/// digest(Kind::X64, 1234, u64::MAX, &mut input, &mut output)?; // writes eab55659a496d78b
+/// ```
+pub fn digest<R: Source, W: Sink>(
+    kind: Kind,
+    seed: u64,
+    max_reads: u64,
+    r: &mut R,
+    w: &mut W,
+) -> Result<(), DigestError> {
+    digest_reading::<_, _, OFFERED>(kind, seed, max_reads, r, w)
+}

@@ -1,0 +1,40 @@
+// SPDX-License-Identifier: MIT
+// crates/xxh_program/src/program/hasher_32.rt without its contracts, written by rust/erase --programs: change that file.
+
+//! XXH32 in the digest engine.
+
+use crate::programs::xxh_program::program::engine::{OFFERED, digest_on, read_all};
+use crate::programs::xxh_program::program::feed::Feed;
+use crate::programs::twox_hash::XxHash32;
+use crate::programs::xxh_io::ends::{Sink, Source};
+use crate::programs::xxh_io::error::DigestError;
+
+impl Feed for XxHash32 {
+    fn feed(&mut self, piece: &[u8]) {
+        self.write(piece);
+    }
+
+    fn value(&self) -> u128 {
+        u128::from(self.finish_32())
+    }
+}
+
+/// Goes on from the hasher as `digest` goes on from a fresh one, with the same errors: the line is that of
+/// the bytes that the hasher was given, followed by what is read.
+pub fn digest_from_32<R: Source, W: Sink>(
+    hasher: XxHash32,
+    max_reads: u64,
+    r: &mut R,
+    w: &mut W,
+) -> Result<(), DigestError> {
+    digest_on::<_, _, _, OFFERED>(hasher, 8, max_reads, r, w)
+}
+
+/// Reads as `digest` does, with the same errors of reading, and answers the hasher after what was read.
+pub fn read_on_32<R: Source>(
+    hasher: XxHash32,
+    max_reads: u64,
+    r: &mut R,
+) -> Result<XxHash32, DigestError> {
+    read_all(hasher, max_reads, r, &mut [0; OFFERED])
+}

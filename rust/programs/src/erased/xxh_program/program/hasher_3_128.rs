@@ -1,0 +1,24 @@
+// SPDX-License-Identifier: MIT
+// crates/xxh_program/src/program/hasher_3_128.rt without its contracts, written by rust/erase --programs: change that file.
+
+//! XXH3 of 128 bits in the digest engine.
+
+use crate::programs::xxh_program::program::derived_secret::derived_secret_of;
+use crate::programs::xxh_program::program::feed::Feed;
+use crate::programs::twox_hash::xxhash3::DefaultSecret;
+use crate::programs::twox_hash::xxhash3_128::RawHasher;
+
+impl Feed for RawHasher<DefaultSecret> {
+    fn feed(&mut self, piece: &[u8]) {
+        self.write(piece);
+    }
+
+    fn value(&self) -> u128 {
+        self.finish_128()
+    }
+}
+
+// The stream of no bytes.
+pub(crate) fn with_seed_128(seed: u64) -> RawHasher<DefaultSecret> {
+    RawHasher::new(derived_secret_of(seed))
+}

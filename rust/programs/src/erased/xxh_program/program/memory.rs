@@ -1,0 +1,33 @@
+// SPDX-License-Identifier: MIT
+// crates/xxh_program/src/program/memory.rt without its contracts, written by rust/erase --programs: change that file.
+
+//! The digest line of bytes in memory, with no relation of an end in its contract.
+
+use crate::programs::xxh_program::program::engine::digest;
+use crate::programs::xxh_io::ends::Sink;
+use crate::programs::xxh_io::error::DigestError;
+use crate::programs::xxh_io::kind::Kind;
+use crate::programs::xxh_io::script_sink::ScriptSink;
+use crate::programs::xxh_io::script_source::SliceSource;
+
+/// Writes the digest line of the bytes into the sink, as [`digest`] does from a source that gives them all and
+/// never fails. The caller shows that the sink has not failed, that no write of its script fails, and that
+/// it has room for the line; so the answer is `Ok`, and the sink then holds what it held and the line.
+///
+/// It is `digest` over memory, and shows what its clauses say where both ends tell their bytes. What is in a
+/// file that standard input reads, no contract can say.
+///
+/// ```rattle
+/// let mut sink = ScriptSink::<17>::new(17, 0);
+/// digest_of_bytes(Kind::X64, 1234, b"some bytes", &mut sink)?;
+/// sink.bytes() // eab55659a496d78b and a line feed
+/// ```
+pub fn digest_of_bytes<const N: usize>(
+    kind: Kind,
+    seed: u64,
+    bytes: &[u8],
+    w: &mut ScriptSink<N>,
+) -> Result<(), DigestError> {
+    let max_reads = bytes.len() as u64 + 1;
+    digest(kind, seed, max_reads, &mut SliceSource::new(bytes), w)
+}

@@ -1,0 +1,86 @@
+// SPDX-License-Identifier: MIT
+// crates/xxh_program/src/program/process.rt without its contracts, written by rust/erase --programs: change that file.
+
+//! The program over a process: its arguments, its streams, and the flush at the end.
+
+use crate::rattle::prelude::{AllocGlobal, String, Vec};
+use crate::programs::xxh_program::program::command_line::run;
+use crate::rattle::{AllocError, Global};
+use crate::rattle::env;
+use crate::rattle::io::{Read, Write};
+use crate::rattle::rt::Env;
+use crate::programs::xxh_io::arguments::{argument_fault, words_after_name};
+use crate::programs::xxh_io::buffered::Buffered;
+use crate::programs::xxh_io::ends::{Failed, Sink, Source};
+use crate::programs::xxh_io::error::DigestError;
+use crate::programs::xxh_io::fault::{Fault, conclude};
+use crate::programs::xxh_io::from_read::FromRead;
+use crate::programs::xxh_io::from_write::FromWrite;
+
+// The input is read by this many bytes where a read is offered fewer, as for `save` and `resume`: one system call for
+// each of these would halve the speed.
+const INPUT_BUFFER: usize = 65536;
+
+/// Runs the program with the arguments of the process over these streams, and answers the exit status.
+///
+/// The words are the arguments after the first, and [`run`] says what they do. The input is read behind a
+/// buffer, and the output is flushed at the end. Where an argument is not UTF-8, the words are no command;
+/// where there is no memory for them, that is the fault. Either is told before anything is read.
+///
+/// Its clause says which statuses there are. What its words do, what is told and what a flush does are proved of the
+/// function that it calls with the arguments; that it calls that once, and with the arguments of this process, is
+/// tested, since no clause can name them.
+///
+/// It is all that `main` does:
+///
+/// ```rattle
+/// fn main(rt: HostRuntime) -> ExitCode {
+///     ExitCode::from(run_process(&rt, &mut rt.stdin(), rt.stdout(), rt.stderr()))
+/// }
+/// ```
+pub fn run_process<P, R, W, E>(process: &P, input: &mut R, output: W, errors: E) -> u8
+where
+    P: Env + AllocGlobal,
+    R: Read ,
+    W: Write ,
+    E: Write , {
+    let mut r = FromRead::new(Buffered::<&mut R, INPUT_BUFFER>::new(input));
+    let mut out = FromWrite::new(output);
+    let mut err = FromWrite::new(errors);
+    match arguments(process) {
+        Ok(args) => run_arguments(process.alloc(), &args, &mut r, &mut out, &mut err),
+        Err(fault) => conclude(Err(fault), &mut err),
+    }
+}
+
+// The arguments of the process, the program's name first.
+fn arguments<P: Env + AllocGlobal>(process: &P) -> Result<Vec<String>, Fault> {
+    match env::args(process) {
+        Ok(args) => Ok(args.collect(process.alloc())?),
+        Err(error) => Err(argument_fault(error)),
+    }
+}
+
+// Does what the words of these arguments ask for, and flushes the output where all went well.
+fn run_arguments<R: Source, W: Write, E: Sink>(
+    alloc: Global,
+    args: &[String],
+    r: &mut R,
+    out: &mut FromWrite<W>,
+    err: &mut E,
+) -> u8 {
+    match words_after_name(alloc, args) {
+        Ok(words) => match run(alloc, &words, r, out, err) {
+            0 => conclude(flush(out), err),
+            status => status,
+        },
+        Err(AllocError) => conclude(Err(Fault::OutOfMemory), err),
+    }
+}
+
+fn flush<W: Write>(out: &mut FromWrite<W>) -> Result<(), Fault> {
+    match out.flush() {
+        Ok(()) => Ok(()),
+        Err(Failed) => Err(Fault::Digest(DigestError::WriteFailed)),
+    }
+}

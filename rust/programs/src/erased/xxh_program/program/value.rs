@@ -1,0 +1,64 @@
+// SPDX-License-Identifier: MIT
+// crates/xxh_program/src/program/value.rt without its contracts, written by rust/erase --programs: change that file.
+
+//! The hash of what a source gives, by the kind of digest.
+
+use crate::programs::xxh_program::program::engine::read_all;
+use crate::programs::xxh_program::program::feed::Feed;
+use crate::programs::xxh_program::program::hasher_3_64::with_seed_64;
+use crate::programs::xxh_program::program::hasher_3_128::with_seed_128;
+use crate::programs::twox_hash::{XxHash32, XxHash64};
+use crate::programs::xxh_io::ends::Source;
+use crate::programs::xxh_io::error::DigestError;
+use crate::programs::xxh_io::kind::Kind;
+
+// The value of what is read, by a hasher that was given no bytes and answers the kind's value under the seed.
+fn value_by<H: Feed, R: Source>(
+    kind: Kind,
+    seed: u64,
+    hasher: H,
+    max_reads: u64,
+    r: &mut R,
+    buf: &mut [u8],
+) -> Result<u128, DigestError> {
+    let hasher = read_all(hasher, max_reads, r, buf)?;
+    Ok(hasher.value())
+}
+
+/// Reads to the end of the source and answers the hash of what was read: that of the kind under the seed, its number
+/// of digits saying how many of the value's bits it has. Each read is offered the whole buffer, which no clause says.
+///
+/// The caller shows that the source has not failed, that the buffer is not empty, and that the seed of [`Kind::X32`] is
+/// below 2^32.
+///
+/// # Errors
+///
+/// - [`DigestError::ReadFailed`] exactly where the source has failed afterwards.
+/// - [`DigestError::TooLong`] exactly where `max_reads` reads each gave at least one byte. No further read was made.
+///   With `max_reads` 0 that is at once.
+pub fn value_of_source<R: Source>(
+    kind: Kind,
+    seed: u64,
+    max_reads: u64,
+    r: &mut R,
+    buf: &mut [u8],
+) -> Result<u128, DigestError> {
+    match kind {
+        Kind::X32 => {
+            let hasher = XxHash32::with_seed(seed as u32);
+            value_by(kind, seed, hasher, max_reads, r, buf)
+        }
+        Kind::X64 => {
+            let hasher = XxHash64::with_seed(seed);
+            value_by(kind, seed, hasher, max_reads, r, buf)
+        }
+        Kind::X3_64 => {
+            let hasher = with_seed_64(seed);
+            value_by(kind, seed, hasher, max_reads, r, buf)
+        }
+        Kind::X3_128 => {
+            let hasher = with_seed_128(seed);
+            value_by(kind, seed, hasher, max_reads, r, buf)
+        }
+    }
+}

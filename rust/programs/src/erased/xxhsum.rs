@@ -1,0 +1,41 @@
+// SPDX-License-Identifier: MIT
+// crates/xxhsum/src/main.rt without its contracts, written by rust/erase --programs: change that file.
+
+//! `xxhsum` prints and checks digests of files. The page docs/XXHSUM.md says what is proved of it.
+
+use crate::rattle::prelude::HostRuntime;
+use crate::rattle::io::IsTerminal;
+use crate::rattle::process::ExitCode;
+use crate::programs::xxh_io::from_read::FromRead;
+use crate::programs::xxh_io::from_write::FromWrite;
+use crate::programs::xxhsum_files::system::SystemFiles;
+use crate::programs::xxhsum_files::uninterrupted::Uninterrupted;
+use crate::programs::xxhsum_output::visible::Visible;
+use crate::programs::xxhsum_output::whole_lines::WholeLines;
+use crate::programs::xxhsum_program::arguments::ProcessArguments;
+use crate::programs::xxhsum_program::process::{Console, Terminals};
+use crate::programs::xxhsum_program::screen::Screen;
+use crate::programs::xxhsum_tree::run::run;
+
+// Passes the process's arguments, files and streams to the program.
+pub fn main(rt: HostRuntime) -> ExitCode {
+    let (shows_output, shows_errors) = (rt.stdout().is_terminal(), rt.stderr().is_terminal());
+    let console = Console {
+        input: FromRead::new(Uninterrupted::new(rt.stdin())),
+        terminals: Terminals {
+            input: rt.stdin().is_terminal(),
+            errors: shows_errors,
+        },
+        screen: Screen::new(rt.stderr(), &rt),
+    };
+    // On a terminal control characters are shown, and each line is written at once.
+    let output = Visible::new(FromWrite::new(rt.stdout()), shows_output);
+    ExitCode::from(run(
+        rt.alloc(),
+        &ProcessArguments::new(&rt),
+        &SystemFiles::new(&rt),
+        console,
+        &mut WholeLines::new(output, !shows_output),
+        &mut Visible::new(FromWrite::new(rt.stderr()), shows_errors),
+    ))
+}

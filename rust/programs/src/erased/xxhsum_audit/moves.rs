@@ -1,0 +1,98 @@
+// SPDX-License-Identifier: MIT
+// crates/xxhsum_audit/src/moves.rt without its contracts, written by rust/erase --programs: change that file.
+
+//! What became of files, once lines and names stand side by side and the names have their digests.
+
+use crate::rattle::prelude::Vec;
+use crate::programs::xxhsum_audit::digest::FileDigest;
+use crate::programs::xxhsum_audit::order::{compare_digests, put_digests_in_order};
+use crate::programs::xxhsum_audit::side::{Side, first_by_digest};
+use crate::programs::xxhsum_audit::verdict::Verdict;
+use crate::rattle::{AllocError, Global};
+use std::cmp::Ordering;
+
+/// Lines and names, of which it is known what stands in both.
+pub struct Compared<'n> {
+    /// What became of those that stand in both.
+    pub settled: Vec<Verdict<'n>>,
+    /// The lines whose names were not given.
+    pub gone: Vec<FileDigest<'n>>,
+    /// The names that no line has, with their digests.
+    pub come: Vec<FileDigest<'n>>,
+    /// Whether each name that was given has a digest.
+    pub are_all: bool,
+}
+
+/// What became of all lines and names: of those that stand in both first, and of the others in the order of their digests.
+/// `AllocError` where memory runs out.
+pub fn verdicts<'n>(alloc: Global, compared: Compared<'n>) -> Result<Vec<Verdict<'n>>, AllocError> {
+    let Compared {
+        settled,
+        gone,
+        come,
+        are_all: _,
+    } = compared;
+    let mut kept = same_in(alloc, &settled)?;
+    let mut gone = gone;
+    let mut come = come;
+    let mut found = settled;
+    put_digests_in_order(&mut kept);
+    put_digests_in_order(&mut gone);
+    put_digests_in_order(&mut come);
+    add_moves(&gone, &come, &kept, &mut found)?;
+    Ok(found)
+}
+
+// The files that stayed as they were.
+fn same_in<'n>(alloc: Global, settled: &[Verdict<'n>]) -> Result<Vec<FileDigest<'n>>, AllocError> {
+    let mut kept = Vec::new(alloc);
+    for verdict in settled {
+        if let Verdict::Same { name, .. } = *verdict {
+            kept.push(name)?;
+        }
+    }
+    Ok(kept)
+}
+
+// Puts what became of the lines that are gone and the names that have come behind what is known.
+fn add_moves<'n>(
+    gone: &[FileDigest<'n>],
+    come: &[FileDigest<'n>],
+    kept: &[FileDigest<'n>],
+    found: &mut Vec<Verdict<'n>>,
+) -> Result<(), AllocError> {
+    let mut gone_left = gone;
+    let mut come_left = come;
+    while let Some(side) = first_by_digest(gone_left, come_left) {
+        found.push(verdict_of(kept, side))?;
+        gone_left = &gone_left[side.lines()..];
+        come_left = &come_left[side.names()..];
+    }
+    Ok(())
+}
+
+// What became of a line that is gone, of a name that has come, or of both.
+fn verdict_of<'n>(
+    kept: &[FileDigest<'n>],
+    side: Side<FileDigest<'n>, FileDigest<'n>>,
+) -> Verdict<'n> {
+    match side {
+        Side::Line(line) => Verdict::Missing { line },
+        Side::Both(line, name) => Verdict::Moved { line, name },
+        Side::Name(name) => match original_in(kept, name) {
+            Some(original) => Verdict::Copied { original, name },
+            None => Verdict::New { name },
+        },
+    }
+}
+
+// The first of these that has the digest of the name.
+fn original_in<'n>(kept: &[FileDigest<'n>], name: FileDigest<'_>) -> Option<FileDigest<'n>> {
+    let place = kept.partition_point(|one| compare_digests(*one, name) == Ordering::Less);
+    let first = *kept.get(place)?;
+    if compare_digests(first, name) == Ordering::Equal {
+        Some(first)
+    } else {
+        None
+    }
+}

@@ -1,0 +1,35 @@
+// SPDX-License-Identifier: MIT
+// crates/xxhsum_audit/src/text.rt without its contracts, written by rust/erase --programs: change that file.
+
+//! An audit in words.
+
+use crate::rattle::prelude::Vec;
+use crate::programs::xxhsum_audit::verdict::Verdict;
+use crate::rattle::{AllocError, Global};
+use crate::programs::xxhsum_line::escapes::put_line;
+
+/// What became of a line, of a name or of both, as a line with its line feed, which is the only one in it: names stand
+/// as lists have them. `AllocError` where memory runs out.
+pub fn verdict_line(alloc: Global, verdict: Verdict<'_>) -> Result<Vec<u8>, AllocError> {
+    match verdict {
+        Verdict::Same { name, .. } => line_of(alloc, name.name, b": same", b""),
+        Verdict::Changed { name, .. } => line_of(alloc, name.name, b": changed", b""),
+        Verdict::Moved { line, name } => line_of(alloc, name.name, b": moved from ", line.name),
+        Verdict::Copied { original, name } => {
+            line_of(alloc, name.name, b": copy of ", original.name)
+        }
+        Verdict::New { name } => line_of(alloc, name.name, b": new", b""),
+        Verdict::Missing { line } => line_of(alloc, line.name, b": missing", b""),
+    }
+}
+
+// A name, a word and another name as one line.
+fn line_of(alloc: Global, name: &[u8], word: &[u8], other: &[u8]) -> Result<Vec<u8>, AllocError> {
+    let mut text = Vec::new(alloc);
+    text.extend_from_slice(name)?;
+    text.extend_from_slice(word)?;
+    text.extend_from_slice(other)?;
+    let mut line = Vec::new(alloc);
+    put_line(&mut line, &text)?;
+    Ok(line)
+}

@@ -1,0 +1,64 @@
+// SPDX-License-Identifier: MIT
+// crates/xxhsum_files/src/memory.rt without its contracts, written by rust/erase --programs: change that file.
+
+//! Files in memory, for tests: a table of names and of the sources that they lead to.
+
+use crate::programs::xxhsum_files::refusal::{MISSING, Refusal};
+use crate::programs::xxhsum_files::store::Store;
+use crate::programs::xxh_io::ends::Source;
+
+/// A name, and what it leads to.
+#[derive(Clone, Copy)]
+pub struct MemoryEntry<'a, S> {
+    /// The name, byte for byte as `open` is given it.
+    pub name: &'a [u8],
+    /// What each open of this name reads, from its start.
+    pub source: S,
+    /// Whether the name is a directory's.
+    pub is_directory: bool,
+}
+
+/// A table of names as a store. Of two entries with one name the first counts.
+///
+/// Over `SliceSource` a name gives just the bytes of the slice; over `ScriptSource` a read may fail too.
+#[derive(Clone, Copy)]
+pub struct MemoryFiles<'a, S> {
+    entries: &'a [MemoryEntry<'a, S>],
+}
+
+impl<'a, S: Copy> MemoryFiles<'a, S> {
+    /// The store of this table.
+    pub fn new(entries: &'a [MemoryEntry<'a, S>]) -> MemoryFiles<'a, S> {
+        MemoryFiles { entries }
+    }
+
+    // The first entry of this name.
+    fn find(&self, name: &[u8]) -> Option<&MemoryEntry<'a, S>> {
+        self.entries.iter().find(|entry| entry.name == name)
+    }
+}
+
+impl<S: Source + Copy> Store for MemoryFiles<'_, S> {
+    type File = S;
+
+    fn is_directory(&self, name: &[u8]) -> bool {
+        match self.find(name) {
+            Some(entry) => entry.is_directory,
+            None => false,
+        }
+    }
+
+    fn size(&self, _name: &[u8]) -> Option<u64> {
+        None
+    }
+
+    fn open(&self, name: &[u8]) -> Result<S, Refusal> {
+        let Some(entry) = self.find(name) else {
+            return Err(Refusal::new(MISSING, b"No such file or directory"));
+        };
+        if entry.source.failed() {
+            return Err(Refusal::new(5, b"Input/output error"));
+        }
+        Ok(entry.source)
+    }
+}

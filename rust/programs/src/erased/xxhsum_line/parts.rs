@@ -1,0 +1,70 @@
+// SPDX-License-Identifier: MIT
+// crates/xxhsum_line/src/parts.rt without its contracts, written by rust/erase --programs: change that file.
+
+//! The parts of a line.
+
+use crate::rattle::memchr::{memchr, memrchr};
+
+/// The parts of a line.
+#[derive(Clone, Copy, Debug, PartialEq, Eq)]
+pub enum Parts<'a> {
+    /// Digits, a space, any byte but `(`, and the name of a file.
+    Plain {
+        digits: &'a [u8],
+        name: &'a [u8],
+    },
+    /// A tag, the name of a file in parentheses, an equals sign and digits.
+    Tagged {
+        tag: &'a [u8],
+        name: &'a [u8],
+        digits: &'a [u8],
+    },
+}
+
+/// The line up to its first NUL, or whole where it has none.
+pub fn up_to_nul(line: &[u8]) -> &[u8] {
+    match memchr(0, line) {
+        Some(place) => &line[..place],
+        None => line,
+    }
+}
+
+/// The line without the carriage return at its end, where it has one.
+pub fn without_return(line: &[u8]) -> &[u8] {
+    match line.strip_suffix(b"\r") {
+        Some(front) => front,
+        None => line,
+    }
+}
+
+/// Splits a line, which is given without its line feed, into its parts. `None` where it has neither form.
+pub fn parts_of(line: &[u8]) -> Option<Parts<'_>> {
+    let (first, rest) = split_at_first_space(line)?;
+    match rest {
+        [] => None,
+        [b'(', inside @ ..] => tagged_parts(first, inside),
+        [_, name @ ..] => Some(Parts::Plain {
+            digits: first,
+            name,
+        }),
+    }
+}
+
+// The parts of a tagged line, which has this tag, a space, `(` and then these bytes.
+fn tagged_parts<'a>(tag: &'a [u8], inside: &'a [u8]) -> Option<Parts<'a>> {
+    let (before, digits) = split_at_last_space(inside)?;
+    let name = before.strip_suffix(b") =")?;
+    Some(Parts::Tagged { tag, name, digits })
+}
+
+// Splits bytes at the first space.
+fn split_at_first_space(line: &[u8]) -> Option<(&[u8], &[u8])> {
+    let place = memchr(b' ', line)?;
+    Some((&line[..place], &line[place + 1..]))
+}
+
+// Splits bytes at the last space.
+fn split_at_last_space(line: &[u8]) -> Option<(&[u8], &[u8])> {
+    let place = memrchr(b' ', line)?;
+    Some((&line[..place], &line[place + 1..]))
+}

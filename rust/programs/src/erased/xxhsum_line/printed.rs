@@ -1,0 +1,141 @@
+// SPDX-License-Identifier: MIT
+// crates/xxhsum_line/src/printed.rt without its contracts, written by rust/erase --programs: change that file.
+
+//! The lines that are printed.
+
+use crate::rattle::prelude::Vec;
+use crate::programs::xxhsum_line::digits::{MOST_DIGITS, turn};
+use crate::programs::xxhsum_line::escapes::{put_escaped, put_mark};
+use crate::programs::xxhsum_line::tags::tag_of;
+use crate::rattle::{AllocError, Global};
+use crate::programs::xxh_io::hex::write_digits;
+use crate::programs::xxh_io::kind::Kind;
+
+/// The form of a line.
+#[derive(Clone, Copy, Debug, PartialEq, Eq)]
+pub struct Shape {
+    /// BSD-style: a tag before the name, and the digits after it.
+    pub is_tagged: bool,
+    /// The digest has its least significant byte first.
+    pub is_little: bool,
+}
+
+/// The form of printed lines, and what each ends with.
+#[derive(Clone, Copy, Debug, PartialEq, Eq)]
+pub struct Style {
+    /// Their form.
+    pub shape: Shape,
+    /// Each ends with a NUL in place of a line feed, and its name isn't escaped.
+    pub ends_in_nul: bool,
+}
+
+/// The line of this file's digest, in this style: with its line feed as [`digest_line`] has it, or with its NUL, and
+/// then no byte of the name is escaped and the line begins with no backslash of its own. `AllocError` where memory runs
+/// out.
+pub fn styled_line(
+    alloc: Global,
+    kind: Kind,
+    style: Style,
+    value: u128,
+    name: &[u8],
+) -> Result<Vec<u8>, AllocError> {
+    if !style.ends_in_nul {
+        return digest_line(alloc, kind, style.shape, value, name);
+    }
+    let mut line = Vec::new(alloc);
+    put_formed(&mut line, kind, style.shape, value, name, true)?;
+    line.extend_from_slice(b"\0")?;
+    Ok(line)
+}
+
+/// The line of this file's digest, with its line feed, which is the only one in it. A name with a backslash, a line
+/// feed or a carriage return is escaped, and its line begins with a backslash. Of a digest with more digits than the
+/// algorithm has, the least significant are printed. `AllocError` where memory runs out.
+pub fn digest_line(
+    alloc: Global,
+    kind: Kind,
+    shape: Shape,
+    value: u128,
+    name: &[u8],
+) -> Result<Vec<u8>, AllocError> {
+    let mut line = Vec::new(alloc);
+    put_mark(&mut line, name)?;
+    put_formed(&mut line, kind, shape, value, name, false)?;
+    line.extend_from_slice(b"\n")?;
+    Ok(line)
+}
+
+fn put_formed(
+    line: &mut Vec<u8>,
+    kind: Kind,
+    shape: Shape,
+    value: u128,
+    name: &[u8],
+    is_raw: bool,
+) -> Result<(), AllocError> {
+    if shape.is_tagged {
+        put_tagged(line, kind, shape.is_little, value, name, is_raw)
+    } else {
+        put_plain(line, kind, shape.is_little, value, name, is_raw)
+    }
+}
+
+// Appends the name, as it is or escaped.
+fn put_name(line: &mut Vec<u8>, name: &[u8], is_raw: bool) -> Result<(), AllocError> {
+    if is_raw {
+        line.extend_from_slice(name)
+    } else {
+        put_escaped(line, name)
+    }
+}
+
+fn put_plain(
+    line: &mut Vec<u8>,
+    kind: Kind,
+    is_little: bool,
+    value: u128,
+    name: &[u8],
+    is_raw: bool,
+) -> Result<(), AllocError> {
+    line.extend_from_slice(prefix_of(kind))?;
+    put_value(line, kind, is_little, value)?;
+    line.extend_from_slice(b"  ")?;
+    put_name(line, name, is_raw)
+}
+
+fn put_tagged(
+    line: &mut Vec<u8>,
+    kind: Kind,
+    is_little: bool,
+    value: u128,
+    name: &[u8],
+    is_raw: bool,
+) -> Result<(), AllocError> {
+    line.extend_from_slice(tag_of(kind))?;
+    if is_little {
+        line.extend_from_slice(b"_LE")?;
+    }
+    line.extend_from_slice(b" (")?;
+    put_name(line, name, is_raw)?;
+    line.extend_from_slice(b") = ")?;
+    put_value(line, kind, is_little, value)
+}
+
+// The prefix of the digits in a plain line.
+fn prefix_of(kind: Kind) -> &'static [u8] {
+    match kind {
+        Kind::X3_64 => b"XXH3_",
+        Kind::X32 | Kind::X64 | Kind::X3_128 => b"",
+    }
+}
+
+// The digits of the digest.
+fn put_value(line: &mut Vec<u8>, kind: Kind, is_little: bool, value: u128) -> Result<(), AllocError> {
+    let mut room = [0; MOST_DIGITS];
+    let digits = &mut room[..kind.digits()];
+    write_digits(value, digits);
+    if is_little {
+        turn(digits);
+    }
+    line.extend_from_slice(digits)
+}

@@ -1,0 +1,24 @@
+// SPDX-License-Identifier: MIT
+// crates/xxhsum_program/src/lib.rt without its contracts, written by rust/erase --programs: change that file.
+
+//! The program `xxhsum` over any store of files and any streams: digest lines of named files, and checks of lists of
+//! them.
+
+pub mod arguments;
+pub mod check;
+mod entry;
+pub mod good_lists;
+pub mod hash;
+pub mod job;
+pub mod lines;
+pub mod outcome;
+pub mod printed_lists;
+pub mod process;
+pub mod progress;
+pub mod say;
+pub mod screen;
+pub mod stop;
+pub mod tell;
+pub mod told_lines;
+mod usage;
+pub mod watched;

@@ -1,0 +1,471 @@
+// SPDX-License-Identifier: MIT
+// crates/xxhsum_program/src/check.rt without its contracts, written by rust/erase --programs: change that file.
+
+//! Lists of checksum lines, and whether their files are as the lines say.
+
+use crate::rattle::prelude::Vec;
+use crate::programs::xxhsum_program::entry::{Found, compare};
+use crate::programs::xxhsum_program::job::Job;
+use crate::programs::xxhsum_program::lines::{Lines, Next};
+use crate::programs::xxhsum_program::outcome::OFFERED;
+use crate::programs::xxhsum_program::say::{line_of, print, release, say_line};
+use crate::programs::xxhsum_program::stop::Stop;
+use crate::programs::xxhsum_program::tell::tell_line;
+use crate::rattle::itoa::Buffer;
+use crate::rattle::{AllocError, Global};
+use crate::programs::xxh_io::ends::{Sink, Source};
+use crate::programs::xxh_io::waiting::Waiting;
+use crate::programs::xxhsum_files::store::Store;
+use crate::programs::xxhsum_line::entry::{Meaning, meaning_of};
+use crate::programs::xxhsum_output::output::Output;
+use crate::programs::xxhsum_words::options::Options;
+
+/// Counts of the lines of a list, by what was found of them.
+#[derive(Clone, Copy, Debug, PartialEq, Eq)]
+pub struct Report {
+    /// Well-formed lines.
+    pub proper: u64,
+    /// Malformed lines, and those of more than 32,767 bytes.
+    pub improper: u64,
+    /// Well-formed lines whose file could not be opened, or not be read to its end. With `--ignore-missing` without
+    /// those whose file isn't there.
+    pub unread: u64,
+    /// Well-formed lines whose file has their value.
+    pub same: u64,
+    /// Well-formed lines whose file has another value.
+    pub different: u64,
+    /// A line is too long to be checked, or a read of the list failed.
+    pub is_broken: bool,
+}
+
+impl Report {
+    // The report of no line.
+    fn new() -> Report {
+        Report {
+            proper: 0,
+            improper: 0,
+            unread: 0,
+            same: 0,
+            different: 0,
+            is_broken: false,
+        }
+    }
+
+    // Counts a well-formed line by `found`. A missing file that is passed over counts neither as read nor as unread.
+    fn count(&mut self, found: &Found, ignores_missing: bool) {
+        self.proper = self.proper.saturating_add(1);
+        match found {
+            Found::Same => self.same = self.same.saturating_add(1),
+            Found::Different => self.different = self.different.saturating_add(1),
+            Found::Unread(reason) => {
+                if !(ignores_missing && reason.is_missing()) {
+                    self.unread = self.unread.saturating_add(1);
+                }
+            }
+        }
+    }
+
+    // This report, of a list that breaks off.
+    fn with_broken_end(self) -> Report {
+        Report {
+            is_broken: true,
+            ..self
+        }
+    }
+
+    /// Whether the list is good: it has a well-formed line, each file was read and has its value, no line is too long,
+    /// no read of the list failed, and, where the check is strict, no line is malformed.
+    pub fn is_good(&self, is_strict: bool) -> bool {
+        self.proper > 0
+            && self.different == 0
+            && self.unread == 0
+            && (!is_strict || self.improper == 0)
+            && !self.is_broken
+    }
+
+    // Whether no file has its value, under `--ignore-missing`.
+    fn is_unverified(&self, ignores_missing: bool) -> bool {
+        ignores_missing && self.same == 0
+    }
+
+    // Whether the list is good by `options`: under `--ignore-missing` a file of it has to have its value.
+    fn passes(&self, options: Options) -> bool {
+        self.is_good(options.is_strict) && !self.is_unverified(options.ignores_missing)
+    }
+}
+
+// A line of a list. One that has no text is too long.
+#[derive(Clone, Copy)]
+struct ListLine<'a> {
+    number: u64,
+    text: Option<&'a [u8]>,
+}
+
+// What the check of a list needs.
+#[derive(Clone, Copy)]
+struct ListCheck<'a, S> {
+    alloc: Global,
+    store: &'a S,
+    options: Options,
+    name: &'a [u8],
+}
+
+impl<S: Store> ListCheck<'_, S> {
+    // Checks the lines of `source`, and prints and reports what was found.
+    fn check<R: Source , W: Output, E: Sink>(
+        &self,
+        source: R,
+        out: &mut W,
+        err: &mut E,
+    ) -> Result<bool, Stop> {
+        let unverified = self.unverified_line()?;
+        let report = self.check_lines(source, out, err)?;
+        self.sum_up(&report, &unverified, out, err)?;
+        Ok(report.passes(self.options))
+    }
+
+    // Checks the lines of `source` up to its end, to a line without one, or as many as have numbers.
+    fn check_lines<R: Source , W: Output, E: Sink>(
+        &self,
+        source: R,
+        out: &mut W,
+        err: &mut E,
+    ) -> Result<Report, Stop> {
+        let mut lines = Lines::new(source);
+        let mut report = Report::new();
+        let mut buf = [0; OFFERED];
+        for number in 1..u64::MAX {
+            match lines.next() {
+                Next::End => return Ok(report),
+                Next::Failed => {
+                    release(out);
+                    self.tell_of_failure(number, &report, err);
+                    return Ok(report.with_broken_end());
+                }
+                Next::Endless => {
+                    self.tell_too_long(number, out, err);
+                    return Ok(report.with_broken_end());
+                }
+                Next::Line => {
+                    let line = ListLine {
+                        number,
+                        text: lines.line(),
+                    };
+                    self.check_line(line, &mut report, &mut buf, out, err)?;
+                }
+            }
+        }
+        Ok(report)
+    }
+
+    // Compares the file that `line` names, counts the line and prints the result. A comment isn't counted.
+    fn check_line<W: Output, E: Sink>(
+        &self,
+        line: ListLine<'_>,
+        report: &mut Report,
+        buf: &mut [u8],
+        out: &mut W,
+        err: &mut E,
+    ) -> Result<(), Stop> {
+        let Some(text) = line.text else {
+            self.count_too_long(line.number, report, out, err);
+            return Ok(());
+        };
+        let entry = match meaning_of(self.alloc, text, self.options.is_little_endian)? {
+            Meaning::Entry(entry) => entry,
+            Meaning::Comment => return Ok(()),
+            Meaning::Malformed => {
+                self.count_improper(line.number, report, out, err);
+                return Ok(());
+            }
+        };
+        let found = compare(self.store, &entry, buf);
+        report.count(&found, self.options.ignores_missing);
+        if is_silent(self.options, &found) {
+            return Ok(());
+        }
+        self.say_found(line.number, &entry.name, &found, out)
+    }
+
+    // Counts a malformed line, and reports it under `--warn`.
+    fn count_improper<W: Output, E: Sink>(
+        &self,
+        number: u64,
+        report: &mut Report,
+        out: &mut W,
+        err: &mut E,
+    ) {
+        report.improper = report.improper.saturating_add(1);
+        if self.options.warns {
+            release(out);
+            tell_of_line(
+                self.name,
+                number,
+                b"Improperly formatted checksum line",
+                err,
+            );
+        }
+    }
+
+    // Counts a line that is too long, and reports it.
+    fn count_too_long<W: Output, E: Sink>(
+        &self,
+        number: u64,
+        report: &mut Report,
+        out: &mut W,
+        err: &mut E,
+    ) {
+        *report = Report {
+            improper: report.improper.saturating_add(1),
+            ..report.with_broken_end()
+        };
+        self.tell_too_long(number, out, err);
+    }
+
+    // Reports that the line of this number is too long.
+    fn tell_too_long<W: Output, E: Sink>(&self, number: u64, out: &mut W, err: &mut E) {
+        release(out);
+        tell_of_line(self.name, number, b"Line too long", err);
+    }
+
+    // Prints `found`, of the line of this number.
+    fn say_found<W: Output>(
+        &self,
+        number: u64,
+        name: &[u8],
+        found: &Found,
+        out: &mut W,
+    ) -> Result<(), Stop> {
+        match found {
+            Found::Same if self.options.is_quiet => Ok(()),
+            Found::Same => say_line(self.alloc, &[name, b": OK"], out),
+            Found::Different => say_line(self.alloc, &[name, b": FAILED"], out),
+            Found::Unread(reason) => {
+                say_unread(self.alloc, self.name, number, name, reason.text(), out)
+            }
+        }
+    }
+
+    // Reports that a read of the list failed. Where it has no well-formed line so far, the summary reports that
+    // instead.
+    fn tell_of_failure<E: Sink>(&self, number: u64, report: &Report, err: &mut E) {
+        if report.proper == 0 {
+            return;
+        }
+        tell_of_line(
+            self.name,
+            number,
+            b"A failure occurred reading the list",
+            err,
+        );
+    }
+
+    // The line `no file was verified`.
+    fn unverified_line(&self) -> Result<Vec<u8>, AllocError> {
+        line_of(self.alloc, &[self.name, b": no file was verified"])
+    }
+
+    // Prints and reports the summary of a list.
+    fn sum_up<W: Output, E: Sink>(
+        &self,
+        report: &Report,
+        unverified: &[u8],
+        out: &mut W,
+        err: &mut E,
+    ) -> Result<(), Stop> {
+        self.say_counts(report, out, err)?;
+        self.say_unverified(report, unverified, out)
+    }
+
+    // Prints `unverified` where no file has its value, under `--ignore-missing`.
+    fn say_unverified<W: Output>(
+        &self,
+        report: &Report,
+        unverified: &[u8],
+        out: &mut W,
+    ) -> Result<(), Stop> {
+        if report.is_unverified(self.options.ignores_missing) {
+            return print(unverified, out);
+        }
+        Ok(())
+    }
+
+    // Prints how many lines are malformed, unread and different, or reports that none is well-formed.
+    fn say_counts<W: Output, E: Sink>(
+        &self,
+        report: &Report,
+        out: &mut W,
+        err: &mut E,
+    ) -> Result<(), Stop> {
+        if report.proper == 0 {
+            release(out);
+            tell_line(
+                &[
+                    self.name,
+                    b": no properly formatted xxHash checksum lines found",
+                ],
+                err,
+            );
+            return Ok(());
+        }
+        if self.options.is_status_only {
+            return Ok(());
+        }
+        say_count(
+            report.improper,
+            b" line is improperly formatted\n",
+            b" lines are improperly formatted\n",
+            out,
+        )?;
+        say_count(
+            report.unread,
+            b" listed file could not be read\n",
+            b" listed files could not be read\n",
+            out,
+        )?;
+        say_count(
+            report.different,
+            b" computed checksum did NOT match\n",
+            b" computed checksums did NOT match\n",
+            out,
+        )
+    }
+}
+
+// Whether nothing is printed of a file.
+fn is_silent(options: Options, found: &Found) -> bool {
+    options.is_status_only || (options.ignores_missing && found.is_missing())
+}
+
+// Prints why the file of the line of this number in `list` could not be read.
+fn say_unread<'a, W: Output>(
+    alloc: Global,
+    list: &'a [u8],
+    number: u64,
+    name: &'a [u8],
+    why: &'a [u8],
+    out: &mut W,
+) -> Result<(), Stop> {
+    let mut digits = Buffer::new();
+    let digits = digits.format(number).as_bytes();
+    let parts: [&[u8]; 8] = [
+        list,
+        b":",
+        digits,
+        b": Could not open or read '",
+        name,
+        b"': ",
+        why,
+        b".",
+    ];
+    say_line(alloc, &parts, out)
+}
+
+/// Reports what is wrong with the line of this number in `list`.
+pub fn tell_of_line<'a, E: Sink>(list: &'a [u8], number: u64, what: &'a [u8], err: &mut E) {
+    let mut digits = Buffer::new();
+    let digits = digits.format(number).as_bytes();
+    let parts: [&[u8]; 6] = [list, b":", digits, b": Error: ", what, b"."];
+    tell_line(&parts, err);
+}
+
+// The most bytes that a line with a count has.
+const MOST_COUNT_LINE: usize = 80;
+
+// Prints `count` with `one` or `more` behind it, unless it is 0.
+fn say_count<W: Output>(count: u64, one: &[u8], more: &[u8], out: &mut W) -> Result<(), Stop> {
+    if count == 0 {
+        return Ok(());
+    }
+    let mut line = Waiting::<MOST_COUNT_LINE>::new();
+    line.append(Buffer::new().format(count).as_bytes());
+    line.append(word_for(count, one, more));
+    match line.flush(out) {
+        Ok(()) => Ok(()),
+        Err(_) => Err(Stop::WriteFailed),
+    }
+}
+
+fn word_for<'a>(count: u64, one: &'a [u8], more: &'a [u8]) -> &'a [u8] {
+    if count == 1 { one } else { more }
+}
+
+/// Checks the lines of the list `name`: prints for each well-formed line whether its file has the value, and at the end
+/// how many lines failed. Returns whether the list is good, up to its end or to a read of it that fails. A file that
+/// can't be read is printed as such, and the next line is checked. A line of more than 32,767 bytes is reported, counts
+/// as malformed and keeps the list from being good; the lines after it are checked. Under `--ignore-missing` a file
+/// that isn't there is neither printed nor counted; a list of which no file has its value is then reported and isn't
+/// good.
+///
+/// # Errors
+///
+/// [`Stop::WriteFailed`] where a write to standard output fails, or one had failed before; [`Stop::OutOfMemory`] where
+/// there is no memory for a line: at once. What was found before it is printed.
+pub fn check_list<S: Store, R: Source , W: Output, E: Sink>(
+    job: &Job<'_, S>,
+    name: &[u8],
+    source: R,
+    out: &mut W,
+    err: &mut E,
+) -> Result<bool, Stop> {
+    if out.failed() {
+        return Err(Stop::WriteFailed);
+    }
+    let list = ListCheck {
+        alloc: job.alloc,
+        store: job.store,
+        options: job.options,
+        name,
+    };
+    list.check(source, out, err)
+}
+
+// Checks the list `name`. One that can't be opened is reported, and isn't good.
+fn check_named<S: Store, W: Output, E: Sink>(
+    job: &Job<'_, S>,
+    name: &[u8],
+    out: &mut W,
+    err: &mut E,
+) -> Result<bool, Stop> {
+    match job.store.open(name) {
+        Ok(file) => {
+            let list = ListCheck {
+                alloc: job.alloc,
+                store: job.store,
+                options: job.options,
+                name,
+            };
+            list.check(file, out, err)
+        }
+        Err(refusal) => {
+            release(out);
+            tell_line(
+                &[b"Error: Could not open '", name, b"': ", refusal.text()],
+                err,
+            );
+            Ok(false)
+        }
+    }
+}
+
+/// Checks each list of `names`. Returns whether all are good. A list that can't be opened is reported, and isn't good.
+///
+/// # Errors
+///
+/// As [`check_list`], at once: the lists before are checked, and those after are not opened.
+pub fn check_lists<S: Store, W: Output, E: Sink>(
+    job: &Job<'_, S>,
+    names: &[Vec<u8>],
+    out: &mut W,
+    err: &mut E,
+) -> Result<bool, Stop> {
+    if out.failed() {
+        return Err(Stop::WriteFailed);
+    }
+    let mut all = true;
+    for name in names {
+        let good = check_named(job, name, out, err)?;
+        all = all && good;
+    }
+    Ok(all)
+}

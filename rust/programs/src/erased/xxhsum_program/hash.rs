@@ -1,0 +1,126 @@
+// SPDX-License-Identifier: MIT
+// crates/xxhsum_program/src/hash.rt without its contracts, written by rust/erase --programs: change that file.
+
+//! Digest lines of named files.
+
+use crate::rattle::prelude::Vec;
+use crate::programs::xxhsum_program::job::Job;
+use crate::programs::xxhsum_program::outcome::{MAX_READS, OFFERED, Outcome, Reason, outcome_of};
+use crate::programs::xxhsum_program::say::{print, release};
+use crate::programs::xxhsum_program::stop::Stop;
+use crate::programs::xxhsum_program::tell::tell_line;
+use crate::rattle::Global;
+use crate::programs::xxh_io::ends::{Sink, Source};
+use crate::programs::xxh_program::program::value_of_source;
+use crate::programs::xxhsum_files::store::Store;
+use crate::programs::xxhsum_line::printed::{Shape, Style, styled_line};
+use crate::programs::xxhsum_output::output::Output;
+use crate::programs::xxhsum_words::options::Options;
+
+/// Writes the digest line of each named file, in order, and reports the names that have none, because they are
+/// directories, can't be opened or can't be read to their end. Returns whether all have one.
+///
+/// The caller shows that no write to the output has failed before.
+///
+/// # Errors
+///
+/// [`Stop::WriteFailed`] where a write of a line fails, and [`Stop::OutOfMemory`] where there is no memory for a line:
+/// at once, and the names after it are not opened. The lines before it are written. Nothing else stops it.
+pub fn hash_names<S: Store, W: Output, E: Sink>(
+    job: &Job<'_, S>,
+    names: &[Vec<u8>],
+    out: &mut W,
+    err: &mut E,
+) -> Result<bool, Stop> {
+    let mut buf = [0; OFFERED];
+    let mut all = true;
+    for name in names {
+        let outcome = outcome_of(job.store, job.options.kind, name, &mut buf);
+        print_outcome(job.alloc, job.options, name, &outcome, out)?;
+        tell_outcome(name, &outcome, err);
+        all = all && outcome.is_digested();
+    }
+    Ok(all)
+}
+
+/// Writes the digest line of what `input` gives, under this name. Where it can't be read to its end, that is reported.
+/// Returns whether it was.
+///
+/// The caller shows that neither the source nor the output has failed.
+///
+/// # Errors
+///
+/// [`Stop::WriteFailed`] where a write of the line fails, and [`Stop::OutOfMemory`] where there is no memory for it.
+pub fn hash_input<R: Source, W: Output, E: Sink>(
+    alloc: Global,
+    options: Options,
+    name: &[u8],
+    input: &mut R,
+    out: &mut W,
+    err: &mut E,
+) -> Result<bool, Stop> {
+    match value_of_source(options.kind, 0, MAX_READS, input, &mut [0; OFFERED]) {
+        Ok(value) => {
+            let line = styled_line(alloc, options.kind, style_of(options), value, name)?;
+            print(&line, out)?;
+            Ok(true)
+        }
+        Err(error) => {
+            release(out);
+            tell_line(&[b"Error: ", Reason::from(error).text(), b"."], err);
+            Ok(false)
+        }
+    }
+}
+
+// Writes the digest line of a name that has a value. For one that has none, writes what `out` holds, since a message
+// follows.
+fn print_outcome<W: Output>(
+    alloc: Global,
+    options: Options,
+    name: &[u8],
+    outcome: &Outcome,
+    out: &mut W,
+) -> Result<(), Stop> {
+    match outcome {
+        Outcome::Digested { value } => {
+            let line = styled_line(alloc, options.kind, style_of(options), *value, name)?;
+            print(&line, out)
+        }
+        Outcome::IsDirectory | Outcome::Unread { .. } => {
+            release(out);
+            Ok(())
+        }
+    }
+}
+
+// The style of lines by the options.
+fn style_of(options: Options) -> Style {
+    Style {
+        shape: Shape {
+            is_tagged: options.is_tagged,
+            is_little: options.is_little_endian,
+        },
+        ends_in_nul: options.ends_in_nul,
+    }
+}
+
+/// Reports why a name has no value. Of one that has, nothing.
+pub fn tell_outcome<'a, E: Sink>(name: &'a [u8], outcome: &'a Outcome, err: &mut E) {
+    match outcome {
+        Outcome::Digested { .. } => {}
+        Outcome::IsDirectory => tell_line(&[b"xxhsum: ", name, b": Is a directory "], err),
+        Outcome::Unread { reason } => {
+            let parts: [&[u8]; 7] = [
+                b"Error: Could not ",
+                reason.step(),
+                b" '",
+                name,
+                b"': ",
+                reason.text(),
+                b". ",
+            ];
+            tell_line(&parts, err);
+        }
+    }
+}

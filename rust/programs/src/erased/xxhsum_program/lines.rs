@@ -1,0 +1,145 @@
+// SPDX-License-Identifier: MIT
+// crates/xxhsum_program/src/lines.rt without its contracts, written by rust/erase --programs: change that file.
+
+//! The lines of a list.
+
+use crate::programs::xxh_io::ends::{Failed, Source};
+
+const BUFFER: usize = 65536;
+
+// The most bytes that a line has, without its line feed. A longer one is skipped.
+const MOST: usize = 32767;
+
+/// What comes next in a list.
+#[derive(Clone, Copy, Debug, PartialEq, Eq)]
+pub enum Next {
+    /// A line, or one that is too long.
+    Line,
+    /// A line that didn't end within 2^64 - 1 reads: its list ends there.
+    Endless,
+    End,
+    /// A read failed.
+    Failed,
+}
+
+/// The lines of a source, one after another.
+pub struct Lines<R> {
+    source: R,
+    buf: [u8; BUFFER],
+    // `buf[start..end]` is buffered.
+    start: usize,
+    end: usize,
+    // `buf[line_start..line_end]` is the current line, without its line feed.
+    line_start: usize,
+    line_end: usize,
+    // The current line has more than MOST bytes.
+    is_long: bool,
+    has_ended: bool,
+}
+
+impl<R: Source > Lines<R> {
+    /// The lines of a source of which nothing was read yet.
+    pub fn new(source: R) -> Lines<R> {
+        Lines {
+            source,
+            buf: [0; BUFFER],
+            start: 0,
+            end: 0,
+            line_start: 0,
+            line_end: 0,
+            is_long: false,
+            has_ended: false,
+        }
+    }
+
+    // Moves the buffered bytes to the front, and reads once behind them.
+    fn refill(&mut self) -> Result<(), Failed> {
+        let len = self.end - self.start;
+        self.buf.copy_within(self.start..self.end, 0);
+        self.start = 0;
+        self.end = len;
+        if self.source.failed() {
+            return Err(Failed);
+        }
+        let count = self.source.read(&mut self.buf[len..])?;
+        self.end = len + count;
+        self.has_ended = count == 0;
+        Ok(())
+    }
+
+    // How many of the buffered bytes come before the first line feed.
+    fn before_line_feed(&self) -> Option<usize> {
+        crate::rattle::memchr::memchr(b'\n', &self.buf[self.start..self.end])
+    }
+
+    // Reads until the buffered bytes have a line feed or are more than a line has, or the source has ended. Returns how
+    // many come before the line feed.
+    fn gather(&mut self) -> Result<Option<usize>, Failed> {
+        loop {
+            let found = self.before_line_feed();
+            if found.is_some() || self.has_ended || self.end - self.start > MOST {
+                return Ok(found);
+            }
+            self.refill()?;
+        }
+    }
+
+    // Consumes `taken` buffered bytes: the first `len` are the line, or all belong to one that is too long.
+    fn take(&mut self, len: usize, taken: usize, is_long: bool) {
+        self.line_start = self.start;
+        self.line_end = self.start + len;
+        self.start += taken;
+        self.is_long = is_long;
+    }
+
+    // Skips a line of which more than MOST bytes are buffered: to behind its line feed, or to the end.
+    fn pass_over(&mut self) -> Next {
+        for turn in 0..u64::MAX {
+            let waiting = self.end - self.start;
+            self.take(0, waiting, true);
+            if self.has_ended {
+                return Next::Line;
+            }
+            match self.refill() {
+                Ok(()) => {}
+                Err(Failed) => return Next::Failed,
+            }
+            if let Some(len) = self.before_line_feed() {
+                self.take(0, len + 1, true);
+                return Next::Line;
+            }
+        }
+        Next::Endless
+    }
+
+    /// Advances to the next line.
+    pub fn next(&mut self) -> Next {
+        match self.gather() {
+            Err(Failed) => Next::Failed,
+            Ok(Some(len)) if len > MOST => {
+                self.take(0, len + 1, true);
+                Next::Line
+            }
+            Ok(Some(len)) => {
+                self.take(len, len + 1, false);
+                Next::Line
+            }
+            Ok(None) => match self.end - self.start {
+                0 => Next::End,
+                waiting if waiting > MOST => self.pass_over(),
+                waiting => {
+                    self.take(waiting, waiting, false);
+                    Next::Line
+                }
+            },
+        }
+    }
+
+    /// The current line, without its line feed. `None` where it has more than 32,767 bytes.
+    pub fn line(&self) -> Option<&[u8]> {
+        if self.is_long {
+            return None;
+        }
+        Some(&self.buf[self.line_start..self.line_end])
+    }
+}

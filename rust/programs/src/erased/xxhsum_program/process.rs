@@ -1,0 +1,229 @@
+// SPDX-License-Identifier: MIT
+// crates/xxhsum_program/src/process.rt without its contracts, written by rust/erase --programs: change that file.
+
+//! What the arguments ask for, and a run over files and lists.
+
+use crate::rattle::prelude::Vec;
+use crate::programs::xxhsum_program::arguments::last_part;
+use crate::programs::xxhsum_program::check::{check_list, check_lists};
+use crate::programs::xxhsum_program::hash::{hash_input, hash_names};
+use crate::programs::xxhsum_program::job::Job;
+use crate::programs::xxhsum_program::stop::Stop;
+use crate::programs::xxhsum_program::tell::{tell, tell_line};
+use crate::programs::xxhsum_program::usage::{ABOUT, BEFORE, BEHIND, NO_BENCHMARK, TITLE, tell_options};
+use crate::programs::xxh_io::ends::{Sink, Source};
+use crate::programs::xxhsum_files::store::Store;
+use crate::programs::xxhsum_output::output::Output;
+use crate::programs::xxhsum_words::options::{Asked, Options};
+
+// What standard input is called in lines.
+const INPUT: &[u8] = b"stdin";
+
+// The message where `-` stands beside names or behind `--`.
+const INPUT_BESIDE_NAMES: &[u8] =
+    b"Error: '-' is standard input, which is read alone; a file of that name is './-'.\n";
+
+/// Which of the standard streams are terminals.
+#[derive(Clone, Copy, Debug, PartialEq, Eq)]
+pub struct Terminals {
+    /// Standard input.
+    pub input: bool,
+    /// Standard error.
+    pub errors: bool,
+}
+
+/// What the program has of where it was called: its input, and what it is to know of terminals.
+pub struct Console<R, T> {
+    /// Standard input.
+    pub input: R,
+    /// Which of the standard streams are terminals.
+    pub terminals: Terminals,
+    /// Where progress is shown, which is standard error too.
+    pub screen: T,
+}
+
+/// The options of the run that is asked for, and the index of the argument at which its names begin.
+pub fn run_asked(asked: Asked) -> Option<(Options, usize)> {
+    match asked {
+        Asked::Run {
+            options,
+            names_from,
+        } => Some((options, names_from)),
+        Asked::Benchmark
+        | Asked::Version
+        | Asked::Help
+        | Asked::WrongOption { .. }
+        | Asked::NulsInList
+        | Asked::WalkBesideLists
+        | Asked::WalkOfNothing
+        | Asked::InputBesideNames
+        | Asked::NumberTooLarge => None,
+    }
+}
+
+/// The name by which the program was called.
+pub fn program_of(args: &[Vec<u8>]) -> &[u8] {
+    match args.split_first() {
+        Some((path, _)) => last_part(path),
+        None => b"xxhsum",
+    }
+}
+
+/// The arguments behind the program's name.
+pub fn arguments_behind_name(args: &[Vec<u8>]) -> &[Vec<u8>] {
+    match args.split_first() {
+        Some((_, words)) => words,
+        None => args,
+    }
+}
+
+// Whether a run over a tree is asked for: an audit, the files below folders, or names that stand in lists of names.
+fn is_tree(options: Options) -> bool {
+    options.audits || options.walks || options.names_from.are_listed()
+}
+
+/// Whether progress is to be shown: on a terminal, and there neither with `-q` nor with `--status`.
+pub fn shows_progress(terminals: Terminals, options: Options) -> bool {
+    terminals.errors && !options.is_quiet && !options.is_status_only
+}
+
+/// Whether standard input would be read from a terminal that nobody asked for.
+pub fn waits_for_terminal(terminals: Terminals, options: Options, names: &[Vec<u8>]) -> bool {
+    has_none(names) && !is_tree(options) && !options.takes_terminal && terminals.input
+}
+
+/// Writes what is asked for where that is no run, and returns whether all is well. Of a run nothing is written.
+pub fn tell_answer<E: Sink>(program: &[u8], words: &[Vec<u8>], asked: Asked, err: &mut E) -> bool {
+    match asked {
+        Asked::Version => {
+            tell_line(&[program, TITLE], err);
+            true
+        }
+        Asked::Help => {
+            tell_usage(program, err);
+            true
+        }
+        Asked::Benchmark => {
+            tell_line(&[program, NO_BENCHMARK], err);
+            false
+        }
+        Asked::WrongOption { at } => {
+            tell_wrong(
+                &[b"Wrong parameters: '", word_at(words, at), b"'"],
+                program,
+                err,
+            );
+            false
+        }
+        Asked::NulsInList => {
+            tell_wrong(
+                &[b"Wrong parameters: '-z' beside '-c' or '--audit'"],
+                program,
+                err,
+            );
+            false
+        }
+        Asked::WalkBesideLists => {
+            tell_wrong(
+                &[b"Wrong parameters: '-r' beside '-c' or lists of names"],
+                program,
+                err,
+            );
+            false
+        }
+        Asked::WalkOfNothing => {
+            tell_wrong(&[b"Wrong parameters: '-r' without a FILE"], program, err);
+            false
+        }
+        Asked::InputBesideNames => {
+            tell(INPUT_BESIDE_NAMES, err);
+            false
+        }
+        Asked::Run { .. } => false,
+        Asked::NumberTooLarge => {
+            tell(b"Error: numeric value too large \n", err);
+            false
+        }
+    }
+}
+
+// The argument of this index.
+fn word_at(words: &[Vec<u8>], at: usize) -> &[u8] {
+    match words.get(at) {
+        Some(word) => word,
+        None => b"",
+    }
+}
+
+/// Reports what is wrong with the arguments, in these parts of a line, and how the program is used.
+pub fn tell_wrong<E: Sink>(line: &[&[u8]], program: &[u8], err: &mut E) {
+    tell_line(line, err);
+    tell(b"\n", err);
+    tell_usage(program, err);
+}
+
+// Reports how the program is used.
+fn tell_usage<E: Sink>(program: &[u8], err: &mut E) {
+    tell_line(&[program, TITLE], err);
+    tell(ABOUT, err);
+    tell_line(&[b"Usage: ", program, b" [OPTION].. [FILE].."], err);
+    tell(BEFORE, err);
+    tell_options(err);
+    tell(BEHIND, err);
+}
+
+/// Digests the files of the names, or checks the lists of these names. Returns whether all went well.
+///
+/// The caller shows that neither the input nor the output has failed.
+///
+/// # Errors
+///
+/// [`Stop::WriteFailed`] where a write to the output fails, and [`Stop::OutOfMemory`] where memory runs out.
+pub fn perform<S, R, W, E>(
+    job: &Job<'_, S>,
+    names: &[Vec<u8>],
+    input: R,
+    out: &mut W,
+    err: &mut E,
+) -> Result<bool, Stop>
+where
+    S: Store,
+    R: Source ,
+    W: Output,
+    E: Sink, {
+    let mut input = input;
+    if job.options.checks {
+        if has_none(names) {
+            return check_list(job, INPUT, input, out, err);
+        }
+        return check_lists(job, names, out, err);
+    }
+    if has_none(names) {
+        return hash_input(job.alloc, job.options, INPUT, &mut input, out, err);
+    }
+    hash_names(job, names, out, err)
+}
+
+fn has_none(names: &[Vec<u8>]) -> bool {
+    names.is_empty()
+}
+
+/// Reports why the program stops, and returns the exit status: 0 where all went well, and else 1.
+pub fn conclude<E: Sink>(done: Result<bool, Stop>, err: &mut E) -> u8 {
+    match done {
+        Ok(true) => 0,
+        Ok(false) => 1,
+        Err(stop) => {
+            tell(line_of(stop), err);
+            1
+        }
+    }
+}
+
+// The message of why the program stops.
+fn line_of(stop: Stop) -> &'static [u8] {
+    match stop {
+        Stop::WriteFailed => b"Error: a failure occurred writing the output.\n",
+        Stop::OutOfMemory => b"\nError: Out of memory.\n",
+    }
+}

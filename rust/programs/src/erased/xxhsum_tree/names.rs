@@ -1,0 +1,72 @@
+// SPDX-License-Identifier: MIT
+// crates/xxhsum_tree/src/names.rt without its contracts, written by rust/erase --programs: change that file.
+
+//! The names that stand in lists of names.
+
+use crate::rattle::prelude::Vec;
+use crate::programs::xxhsum_tree::texts::texts_named;
+use crate::rattle::{AllocError, Global};
+use crate::programs::xxh_io::ends::{Sink, Source};
+use crate::programs::xxhsum_audit::parts::cut_at;
+use crate::programs::xxhsum_files::store::Store;
+use crate::programs::xxhsum_program::stop::Stop;
+use crate::programs::xxhsum_words::options::NamesFrom;
+
+/// The names that stand in the lists of these names, or in the input where there are none: those of the first list and
+/// then those of the next, in their order there. `None` where a list can't be opened or read, which is reported.
+///
+/// # Errors
+///
+/// [`Stop::OutOfMemory`] where there is no memory for them.
+pub fn names_listed<S: Store, R: Source , E: Sink>(
+    alloc: Global,
+    store: &S,
+    names_from: NamesFrom,
+    lists: &[Vec<u8>],
+    input: R,
+    err: &mut E,
+) -> Result<Option<Vec<Vec<u8>>>, Stop> {
+    let Some(texts) = texts_named(alloc, store, lists, input, err)? else {
+        return Ok(None);
+    };
+    let names = names_in(alloc, end_of(names_from), &texts)?;
+    Ok(Some(names))
+}
+
+// The byte that ends each name of a list.
+fn end_of(names_from: NamesFrom) -> u8 {
+    match names_from {
+        NamesFrom::Nuls => 0,
+        NamesFrom::Words | NamesFrom::Lines => b'\n',
+    }
+}
+
+// The names of all texts.
+fn names_in(alloc: Global, end: u8, texts: &[Vec<u8>]) -> Result<Vec<Vec<u8>>, AllocError> {
+    let mut names = Vec::new(alloc);
+    for text in texts {
+        add_names(alloc, end, text, &mut names)?;
+    }
+    Ok(names)
+}
+
+// Puts the names of a text behind these.
+fn add_names(
+    alloc: Global,
+    end: u8,
+    text: &[u8],
+    names: &mut Vec<Vec<u8>>,
+) -> Result<(), AllocError> {
+    let parts = cut_at(alloc, end, text)?;
+    for part in &parts {
+        add_name(alloc, part, names)?;
+    }
+    Ok(())
+}
+
+fn add_name(alloc: Global, name: &[u8], names: &mut Vec<Vec<u8>>) -> Result<(), AllocError> {
+    let mut owned = Vec::new(alloc);
+    owned.extend_from_slice(name)?;
+    names.push(owned)?;
+    Ok(())
+}

@@ -1,0 +1,210 @@
+// SPDX-License-Identifier: MIT
+// crates/xxhsum_tree/src/run.rt without its contracts, written by rust/erase --programs: change that file.
+
+//! The program over its arguments.
+
+use crate::rattle::prelude::Vec;
+use crate::programs::xxhsum_tree::audit::audit_names;
+use crate::programs::xxhsum_tree::names::names_listed;
+use crate::programs::xxhsum_tree::walk::files_below;
+use crate::rattle::{AllocError, Global};
+use crate::programs::xxh_io::ends::{Sink, Source};
+use crate::programs::xxhsum_files::folders::Folders;
+use crate::programs::xxhsum_files::store::Store;
+use crate::programs::xxhsum_output::output::Output;
+use crate::programs::xxhsum_program::arguments::{Arguments, all_arguments};
+use crate::programs::xxhsum_program::check::check_lists;
+use crate::programs::xxhsum_program::hash::hash_names;
+use crate::programs::xxhsum_program::job::Job;
+use crate::programs::xxhsum_program::process::{
+    Console, arguments_behind_name, conclude, perform, program_of, run_asked, shows_progress,
+    tell_answer, tell_wrong, waits_for_terminal,
+};
+use crate::programs::xxhsum_program::say::finish;
+use crate::programs::xxhsum_program::screen::Ticks;
+use crate::programs::xxhsum_program::stop::Stop;
+use crate::programs::xxhsum_program::tell::tell;
+use crate::programs::xxhsum_program::watched::WatchedFiles;
+use crate::programs::xxhsum_words::name::default_kind;
+use crate::programs::xxhsum_words::options::{asked_by, words_behind};
+
+/// Does what the arguments ask for, over a store of files and these streams. Returns the exit status: 0 where every file was digested, or has its line's value, and all that was
+/// printed is written, and else 1.
+///
+/// The caller shows that neither the input nor the output has failed.
+pub fn run<A, S, R, W, E, T>(
+    alloc: Global,
+    arguments: &A,
+    store: &S,
+    console: Console<R, T>,
+    out: &mut W,
+    err: &mut E,
+) -> u8
+where
+    A: Arguments,
+    S: Store + Folders,
+    R: Source ,
+    W: Output,
+    E: Sink,
+    T: Sink + Ticks + Copy , {
+    match all_arguments(alloc, arguments) {
+        Ok(args) => {
+            let done = run_arguments(alloc, &args, store, console, out, err);
+            conclude(finish(done, out), err)
+        }
+        Err(AllocError) => conclude(finish(Err(Stop::OutOfMemory), out), err),
+    }
+}
+
+// Decides by the arguments what the program does, and does it. Returns whether all went well.
+fn run_arguments<S, R, W, E, T>(
+    alloc: Global,
+    args: &[Vec<u8>],
+    store: &S,
+    console: Console<R, T>,
+    out: &mut W,
+    err: &mut E,
+) -> Result<bool, Stop>
+where
+    S: Store + Folders,
+    R: Source ,
+    W: Output,
+    E: Sink,
+    T: Sink + Ticks + Copy , {
+    let Console {
+        input,
+        terminals,
+        screen,
+    } = console;
+    let program = program_of(args);
+    let words = arguments_behind_name(args);
+    let asked = asked_by(default_kind(program), words);
+    let Some(found) = run_asked(asked) else {
+        return Ok(tell_answer(program, words, asked, err));
+    };
+    let (options, place) = found;
+    let names = words_behind(words, place);
+    if waits_for_terminal(terminals, options, names) {
+        tell_wrong(&[b"Wrong parameters"], program, err);
+        return Ok(false);
+    }
+    let files = WatchedFiles::new(store, screen, shows_progress(terminals, options));
+    let input = files.watch(input);
+    let job = Job {
+        alloc,
+        store: &files,
+        options,
+    };
+    perform_words(&job, names, input, out, err)
+}
+
+// Audits the words, digests the files below folders, or digests or checks the words or the names in lists of names.
+fn perform_words<S: Store + Folders, R: Source , W: Output, E: Sink>(
+    job: &Job<'_, S>,
+    words: &[Vec<u8>],
+    input: R,
+    out: &mut W,
+    err: &mut E,
+) -> Result<bool, Stop> {
+    if job.options.audits {
+        return walk_audit(job, words, input, out, err);
+    }
+    if job.options.walks {
+        return walk_folders(job, words, out, err);
+    }
+    if job.options.names_from.are_listed() {
+        return walk_names(job, words, input, out, err);
+    }
+    perform(job, words, input, out, err)
+}
+
+// Audits names against the list that the first argument names.
+fn walk_audit<S: Store + Folders, R: Source , W: Output, E: Sink>(
+    job: &Job<'_, S>,
+    words: &[Vec<u8>],
+    input: R,
+    out: &mut W,
+    err: &mut E,
+) -> Result<bool, Stop> {
+    let Some((list, rest)) = words.split_first() else {
+        tell(b"Error: --audit needs a list.\n", err);
+        return Ok(false);
+    };
+    if job.options.walks {
+        return audit_below(job, list, rest, out, err);
+    }
+    let names_from = job.options.names_from;
+    if !names_from.are_listed() {
+        return audit_names(job, list, rest, out, err);
+    }
+    let Some(names) = names_listed(job.alloc, job.store, names_from, rest, input, err)? else {
+        return Ok(false);
+    };
+    audit_names(job, list, &names, out, err)
+}
+
+// Audits the files of the names and of the folders below them against `list`. Where a folder can't be read, there is no
+// audit: nobody knows whether a line of it is missing.
+fn audit_below<S: Store + Folders, W: Output, E: Sink>(
+    job: &Job<'_, S>,
+    list: &[u8],
+    names: &[Vec<u8>],
+    out: &mut W,
+    err: &mut E,
+) -> Result<bool, Stop> {
+    match files_below(job.alloc, job.store, names, err) {
+        Ok(walked) => {
+            if !walked.are_all {
+                return Ok(false);
+            }
+            audit_names(job, list, &walked.files, out, err)
+        }
+        Err(stop) => Err(stop),
+    }
+}
+
+// Digests the files of the names and of the folders below them.
+fn walk_folders<S: Store + Folders, W: Output, E: Sink>(
+    job: &Job<'_, S>,
+    names: &[Vec<u8>],
+    out: &mut W,
+    err: &mut E,
+) -> Result<bool, Stop> {
+    match files_below(job.alloc, job.store, names, err) {
+        Ok(walked) => {
+            let done = hash_names(job, &walked.files, out, err);
+            all_well(walked.are_all, done)
+        }
+        Err(stop) => Err(stop),
+    }
+}
+
+// Whether the names in each folder were read, and all went well with the files.
+fn all_well(are_all: bool, done: Result<bool, Stop>) -> Result<bool, Stop> {
+    match done {
+        Ok(all) => Ok(are_all && all),
+        Err(stop) => Err(stop),
+    }
+}
+
+// Digests or checks the names that stand in lists of names.
+fn walk_names<S: Store, R: Source , W: Output, E: Sink>(
+    job: &Job<'_, S>,
+    lists: &[Vec<u8>],
+    input: R,
+    out: &mut W,
+    err: &mut E,
+) -> Result<bool, Stop> {
+    let names_from = job.options.names_from;
+    let Some(names) = names_listed(job.alloc, job.store, names_from, lists, input, err)? else {
+        return Ok(false);
+    };
+    if job.options.checks {
+        return check_lists(job, &names, out, err);
+    }
+    hash_names(job, &names, out, err)
+}
+
+/// A law, with nothing to run: what a run does over watched files and a watched input it does over the files and the input
+/// themselves.
+pub fn watched_runs<S: Store + Folders, R: Source, W: Sink, E: Sink, T>() {}

@@ -1,0 +1,195 @@
+// SPDX-License-Identifier: MIT
+// crates/xxhsum_tree/src/walk.rt without its contracts, written by rust/erase --programs: change that file.
+
+//! The files below folders.
+
+use crate::rattle::prelude::Vec;
+use crate::rattle::{AllocError, Global};
+use crate::programs::xxh_io::ends::Sink;
+use crate::programs::xxhsum_files::folders::{FolderError, Folders, PathKind};
+use crate::programs::xxhsum_files::refusal::Refusal;
+use crate::programs::xxhsum_files::store::Store;
+use crate::programs::xxhsum_program::hash::tell_outcome;
+use crate::programs::xxhsum_program::outcome::{Outcome, Reason};
+use crate::programs::xxhsum_program::stop::Stop;
+
+/// The files of names and of the folders below them.
+pub struct Walked {
+    /// Their names, in order.
+    pub files: Vec<Vec<u8>>,
+    /// Whether the names in each folder could be read, and looked up.
+    pub are_all: bool,
+}
+
+// A name that is still to be looked at: one that was given, or one in a folder.
+pub(crate) struct Waiting {
+    pub(crate) name: Vec<u8>,
+    pub(crate) is_given: bool,
+}
+
+/// The files of these names, and in place of a folder those below it, in the order of their names' bytes. A name that
+/// was given is followed where it is a link. A link in a folder is passed over, and so is what is neither a file nor a
+/// folder. A folder whose names can't be read, and a name in a folder that can't be looked up, is reported.
+///
+/// # Errors
+///
+/// [`Stop::OutOfMemory`] where there is no memory for their names.
+pub fn files_below<S: Store + Folders, E: Sink>(
+    alloc: Global,
+    store: &S,
+    names: &[Vec<u8>],
+    err: &mut E,
+) -> Result<Walked, Stop> {
+    let mut walked = Walked {
+        files: Vec::new(alloc),
+        are_all: true,
+    };
+    let mut waiting = Vec::new(alloc);
+    put_names(alloc, b"", true, names, &mut waiting)?;
+    for _ in 0..u64::MAX {
+        let Some(place) = waiting.pop() else {
+            return Ok(walked);
+        };
+        see(alloc, store, place, &mut waiting, &mut walked, err)?;
+    }
+    Err(Stop::OutOfMemory)
+}
+
+// Puts the names in a folder on top of those that wait, the first of them on top.
+fn put_names(
+    alloc: Global,
+    folder: &[u8],
+    is_given: bool,
+    names: &[Vec<u8>],
+    waiting: &mut Vec<Waiting>,
+) -> Result<(), AllocError> {
+    for at in 0..names.len() {
+        put_name(
+            alloc,
+            folder,
+            is_given,
+            &names[names.len() - 1 - at],
+            waiting,
+        )?;
+    }
+    Ok(())
+}
+
+fn put_name(
+    alloc: Global,
+    folder: &[u8],
+    is_given: bool,
+    name: &[u8],
+    waiting: &mut Vec<Waiting>,
+) -> Result<(), AllocError> {
+    let mut path = Vec::new(alloc);
+    path.extend_from_slice(folder)?;
+    path.extend_from_slice(name)?;
+    waiting.push(Waiting {
+        name: path,
+        is_given,
+    })?;
+    Ok(())
+}
+
+// Looks at a name: takes it for a file, or puts the names in its folder before those that wait.
+fn see<S: Store + Folders, E: Sink>(
+    alloc: Global,
+    store: &S,
+    place: Waiting,
+    waiting: &mut Vec<Waiting>,
+    walked: &mut Walked,
+    err: &mut E,
+) -> Result<(), Stop> {
+    let Waiting { name, is_given } = place;
+    match kind_at(store, &name, is_given) {
+        PathKind::File => {
+            add_file(name, &mut walked.files)?;
+            Ok(())
+        }
+        PathKind::Folder => open_folder(alloc, store, &name, waiting, walked, err),
+        PathKind::Other => Ok(()),
+        PathKind::Unknown(refusal) => {
+            lose(&name, refusal, &mut walked.are_all, err);
+            Ok(())
+        }
+    }
+}
+
+// What a name leads to: a link is followed where its name was given.
+fn kind_at<S: Store + Folders>(store: &S, name: &[u8], is_given: bool) -> PathKind {
+    if !is_given {
+        return store.kind_of(name);
+    }
+    if store.is_directory(name) {
+        PathKind::Folder
+    } else {
+        PathKind::File
+    }
+}
+
+fn add_file(name: Vec<u8>, files: &mut Vec<Vec<u8>>) -> Result<(), AllocError> {
+    files.push(name)?;
+    Ok(())
+}
+
+// Puts the names in a folder before those that wait, in order. Where they can't be read, that is reported.
+fn open_folder<S: Store + Folders, E: Sink>(
+    alloc: Global,
+    store: &S,
+    name: &[u8],
+    waiting: &mut Vec<Waiting>,
+    walked: &mut Walked,
+    err: &mut E,
+) -> Result<(), Stop> {
+    let folder = with_slash(alloc, name)?;
+    match store.names_in(alloc, &folder) {
+        Ok(names) => {
+            let ordered = in_order(names);
+            put_names(alloc, &folder, false, &ordered, waiting)?;
+            Ok(())
+        }
+        Err(FolderError::OutOfMemory) => Err(Stop::OutOfMemory),
+        Err(FolderError::Refused(refusal)) => {
+            lose(name, refusal, &mut walked.are_all, err);
+            Ok(())
+        }
+    }
+}
+
+// The name of a folder with a slash behind it, unless it ends with one.
+fn with_slash(alloc: Global, name: &[u8]) -> Result<Vec<u8>, AllocError> {
+    let mut folder = Vec::new(alloc);
+    folder.extend_from_slice(name)?;
+    if !name.ends_with(b"/") {
+        folder.push(b'/')?;
+    }
+    Ok(folder)
+}
+
+// The names in the order of their bytes.
+fn in_order(names: Vec<Vec<u8>>) -> Vec<Vec<u8>> {
+    let mut names = names;
+    names.sort_unstable();
+    names
+}
+
+// Reports a folder whose names can't be read, or a name that can't be looked up: not all files are known.
+fn lose<E: Sink>(name: &[u8], refusal: Refusal, are_all: &mut bool, err: &mut E) {
+    tell_closed(name, refusal, err);
+    *are_all = false;
+}
+
+// Reports why nothing is known of a name, or of those in a folder.
+fn tell_closed<'a, E: Sink>(name: &'a [u8], refusal: Refusal, err: &mut E) {
+    let outcome = Outcome::Unread {
+        reason: Reason::Unopened { refusal },
+    };
+    tell_outcome(name, &outcome, err);
+}
+
+/// A law, with nothing to run. The files of a walk are those that names in folders lead to from the names that were
+/// given, and no other; and each of those is found, where the names in each folder could be read and the store says one
+/// thing of each name. Below one name no path is found twice, where each name in a folder stands there once and has no
+/// slash. `hash_names` then has one outcome for each.
+pub fn laws_of_walks<S: Store + Folders>() {}

@@ -1,0 +1,59 @@
+// SPDX-License-Identifier: MIT
+//! The programs `xxh` and `xxhsum`: proved source without its contracts, and what it needs of a process.
+//!
+//! | module | what it is |
+//! |---|---|
+//! | [`programs`] | the proved crates of the programs without their contracts, written by `rust/erase --programs` |
+//! | [`rattle`] | Rattle's standard library, as far as they call it. Nothing there is proved |
+//! | [`streams`] | XXH3 by the kernels of the crate beside this package |
+//! | the others | files of that crate, which has no public name for the programs |
+#![deny(rust_2018_idioms, unsafe_op_in_unsafe_fn)]
+
+pub mod rattle;
+pub mod streams;
+
+#[rustfmt::skip]
+#[allow(
+    dead_code,
+    missing_docs,
+    unused_imports,
+    unused_variables,
+    clippy::all,
+    reason = "whole crates of Rattle, of which the programs call a part"
+)]
+#[path = "erased/mod.rs"]
+pub mod programs;
+
+// ---- The crate beside this package, by its files ----
+
+#[rustfmt::skip]
+#[allow(
+    dead_code,
+    missing_docs,
+    unused_imports,
+    unused_labels,
+    clippy::all,
+    reason = "whole crates of Rattle, of which the programs call a part"
+)]
+#[path = "../../src/erased/mod.rs"]
+mod erased;
+
+#[path = "../../src/kernels.rs"]
+mod kernels;
+
+#[path = "../../src/library.rs"]
+mod library;
+
+#[path = "../../src/streams.rs"]
+mod stream;
+
+#[cfg(all(target_arch = "x86_64", not(miri)))]
+#[allow(dead_code, reason = "some builds need no question for the processor")]
+#[path = "../../src/processor.rs"]
+mod processor;
+
+// A folder, so that the file's own modules are found.
+#[path = "../../src"]
+mod crate_files {
+    pub mod rattle;
+}

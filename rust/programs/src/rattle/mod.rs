@@ -1,0 +1,27 @@
+// SPDX-License-Identifier: MIT
+//! Replaces the parts of Rattle's standard library and of its ports of crates that the programs call.
+//!
+//! Nothing here is proved. The proofs of the programs rest on the contracts of Rattle's library. The comment of each
+//! function quotes the sentence that it has to keep.
+//!
+//! No function here panics, and none stops the process if memory runs out: each asks for its memory by `try_reserve`.
+
+pub mod clock;
+pub mod env;
+pub mod fs;
+pub mod io;
+pub mod itoa;
+mod json_reader;
+pub mod memchr;
+pub mod process;
+pub mod rt;
+pub mod serde_json;
+pub mod vec;
+
+pub use crate::crate_files::rattle::*;
+
+/// The names of Rattle's prelude that Rust's lacks, or has for something else.
+pub mod prelude {
+    pub use super::rt::{AllocGlobal, HostRuntime};
+    pub use super::vec::{String, Vec};
+}

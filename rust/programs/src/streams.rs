@@ -1,0 +1,87 @@
+// SPDX-License-Identifier: MIT
+//! XXH3 of bytes that come in pieces, by the kernels of the crate beside this package. The names are those of the proved
+//! `twox_hash`, whose streams take one kernel: these take the one that is fastest on the processor that runs them.
+//!
+//! Nothing here is proved. `rust/check` tests the kernels beside other libraries, and the tables of both programs test this
+//! file.
+
+use std::convert::Infallible;
+
+use crate::library::overwrite_with_secret;
+use crate::stream::Stream;
+
+/// The bytes of a secret that a seed derives.
+pub const DEFAULT_SECRET_LENGTH: usize = 192;
+
+/// A secret that a seed derives.
+pub type DefaultSecret = [u8; DEFAULT_SECRET_LENGTH];
+
+/// A seed, and the secret that it derives.
+pub struct SecretBuffer<S> {
+    seed: u64,
+    secret: S,
+}
+
+impl SecretBuffer<DefaultSecret> {
+    /// The seed and the secret that it derives, which is written to `secret`. "The buffer hasn't exactly 192 bytes" is the
+    /// one error, which an array of that length can't have.
+    pub fn with_seed(seed: u64, secret: DefaultSecret) -> Result<Self, Infallible> {
+        Ok(SecretBuffer::derived(seed, secret))
+    }
+
+    fn derived(seed: u64, mut secret: DefaultSecret) -> Self {
+        overwrite_with_secret(&mut secret, seed);
+        SecretBuffer { seed, secret }
+    }
+
+    /// "The seed 0 and the default secret", which the seed 0 derives.
+    #[allow(
+        clippy::should_implement_trait,
+        reason = "the source calls it by this name"
+    )]
+    pub fn default() -> Self {
+        SecretBuffer::derived(0, [0; DEFAULT_SECRET_LENGTH])
+    }
+}
+
+/// Defines the stream of a width.
+macro_rules! raw_hasher {
+    ($(#[$doc:meta])* $module:ident, $finish:ident, $finish_by:ident, $value:ty) => {
+        $(#[$doc])*
+        pub mod $module {
+            use super::{SecretBuffer, Stream, DefaultSecret};
+
+            /// A stream, beside its secret.
+            pub struct RawHasher<S> {
+                stream: Stream,
+                secret: S,
+            }
+
+            impl RawHasher<DefaultSecret> {
+                /// "A stream of no bytes yet, with the seed and the secret of the buffer."
+                pub fn new(buffer: SecretBuffer<DefaultSecret>) -> Self {
+                    RawHasher { stream: Stream::new(buffer.seed), secret: buffer.secret }
+                }
+
+                /// "Takes the bytes of a piece after those taken before."
+                pub fn write(&mut self, input: &[u8]) {
+                    self.stream.write(&self.secret, input);
+                }
+
+                /// "The hash of the bytes taken so far, which stay."
+                pub fn $finish(&self) -> $value {
+                    self.stream.$finish_by(&self.secret)
+                }
+            }
+        }
+    };
+}
+
+raw_hasher! {
+    /// XXH3 of 64 bits.
+    xxhash3_64, finish, finish_64, u64
+}
+raw_hasher! {
+    /// XXH3 of 128 bits.
+    xxhash3_128, finish_128, finish_128, u128
+}
