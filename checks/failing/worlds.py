@@ -204,7 +204,7 @@ def all_checked(world, lists, fault=None, warns=False):
 # ---- lists of names
 
 def digests_listed(world, lists, fault=None):
-    """The digests of the names that stand in lists."""
+    """The digests of the names in lists."""
     told = unread_list(lists, fault)
     return Outcome('', told, 1) if told else digests(world, [name for names in lists.values() for name in names], fault)
 

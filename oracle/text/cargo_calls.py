@@ -15,7 +15,7 @@ HASHES = "3-64", "3-128"
 
 
 def interface(cpu):
-    """The number that stands in the names of the exports."""
+    """The number in the names of the exports."""
     names = cpu.program.all_names()
     numbers = {int(found[1]) for name in names if (found := re.match(r"twox_rust_(\d+)_", name))}
     rax, _ = cpu.call("interface")

@@ -178,15 +178,13 @@ def is_equal(text, known):
 
 
 def more_ways(cpu, asked, entries, is_all, section, beside):
-    """Of a change in a section: the calls among some questions, and with --all inductions, which are the cheapest, and
-    further requests. A function that takes many stripes is shown by induction in any case: requests of its longest way
-    are dear."""
+    """Of a change in a section: the calls among some questions, inductions with --all, and further requests. A function that
+    takes many stripes is shown by induction in any case: requests of its longest way take long."""
     requests = [question for question in asked if question.request]
     yield from (question.over_symbols for question in asked if not question.request)
     if beside.updates and (is_all or takes_stripes(cpu.program, section)):
         yield from (question.over_symbols for question in by_induction(cpu.program, requests, section, beside.updates))
-    if is_all:
-        yield from (question.twice for question in further(requests, entries))
+    yield from (question.twice for question in further(requests, entries))
 
 
 def noticed(name, make, count, is_all, is_drawn=anywhere, beside=FOR_C):

@@ -16,7 +16,7 @@ GUARD = r"\t\.ifndef .*\n"
 
 
 def put(*lines, place=BODY, behind="\t"):
-    """Lines in the first place that a pattern finds, and what stands there behind it goes on."""
+    """Inserts lines at the first place that a pattern finds."""
     return lambda text: re.sub(place, lambda _: "".join(f"{behind}{line}\n" for line in lines), text, count=1)
 
 

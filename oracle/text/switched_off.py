@@ -2,8 +2,8 @@
 refuses is refused no longer, or for another reason.
 
 A check is a statement that only raises under an `if`, a `want`, or a line that the grammar takes. Which check refuses a wrong
-text is seen when it does. A check that no wrong text notices has to stand in unplanted.txt, with the reason; one that stands
-there and is noticed fails as well. What a check would be without it is asked in a process of its own, where the
+text is seen when it does. A check that no wrong text notices needs a line in unplanted.txt with the reason. A line
+whose check is noticed fails too. What a check would be without it is asked in a process of its own, where the
 module is compiled without that statement."""
 import ast
 import concurrent.futures
@@ -179,7 +179,7 @@ def tell(is_all, jobs=1):
     asked = [(module, found[key][0], *refused[key], key) for module, found in where.items() for key in found if key in refused]
     module, _, number, before, _ = asked[0]
     if plain(told_without(module, 0, number)) != plain(before):
-        bad.append("with no check switched off another refusal is told")
+        bad.append("with no check switched off the refusal is another")
     with concurrent.futures.ThreadPoolExecutor(jobs) as pool:
         for (*_, before, key), told in zip(asked, pool.map(lambda one: told_without(*one[:3]), asked)):
             is_noticed = plain(told) != plain(before)

@@ -22,7 +22,7 @@ class Package:
     tree: str      # the module that they are
     read: tuple    # the crates whose files are read
     edits: tuple[Edit, ...]
-    roots: dict    # its files that come from no file of the crates: mod.rs, whose first line tells that a tree is the package's
+    roots: dict    # its files that come from no file of the crates: mod.rs, whose first line marks a tree as the package's
 
     def has(self, file):
         """True if this file of the crates that are read is written."""
@@ -37,7 +37,7 @@ def root(command, title, *lines):
 
 
 def beside(module, *lines):
-    """A module of the programs' tree that is the library's, but for what is declared here."""
+    """A module of the programs' tree that is the library's, except what is declared here."""
     return root('rust/erase --programs', f"The library's `{module}`, and what only the programs have in it",
                 f'pub use crate::erased::{module}::*;', '', *lines)
 
