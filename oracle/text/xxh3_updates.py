@@ -15,6 +15,7 @@ import itertools
 
 from terms import definition, nodes
 from terms.definition import Bytes, suppositions
+from terms.induction import same
 from terms.refusals import REFUSALS, NotShown
 from terms.requests import LONGEST, LONGEST_SECRET
 from terms.memory import RUNS, Piece
@@ -24,7 +25,7 @@ from terms.polynomials import is_same as is_same_number
 
 from . import exports, streams
 from .every_length import FAR, LIMIT
-from .induction import Loops, same
+from .induction import Loops
 from .memory import ENTRY, Words
 from .runs import Source, State
 from .stripes import DEEP, Part, Stripes, StripesProof, Summary
