@@ -46,6 +46,8 @@ class Induction:
     makes them these; `turn()`, from the head to the head; `new_name(prefix)`; `said(k)`, the definition's words after k turns;
     `supposed(k)`, new symbols that are supposed to be these; and `may_hold_anything(cell)`."""
 
+    name_of = staticmethod(str)
+
     def __init__(self, start):
         self.start = start
         self.forget()
@@ -103,10 +105,6 @@ class Induction:
         for known in (self.words, self.places, self.counts):
             known.pop(cell, None)
         self.unset.add(cell)
-
-    @staticmethod
-    def name_of(cell):
-        return cell
 
     # ---- guesses
 

@@ -5,12 +5,13 @@ written to. The words are those that the definition says of so many stripes. Whi
 that hold the definition's words at the start, and those of some stripes more after a first turn. The last cell that has a
 word is never let go. The flags are unset at a head."""
 import contextlib
+import functools
 
-from terms.induction import Induction, moved, same, step_between
+from terms.induction import Induction, same, step_between
 from terms.refusals import REFUSALS, NotShown, Undecided
 from terms.memory import RUNS, Input
 from terms.nodes import Node
-from terms.polynomials import divided, given, is_natural, is_number, minus, plus, times, variable
+from terms.polynomials import divided, given, is_natural, is_number, minus, plus, times
 from terms.polynomials import is_same as is_same_number
 
 from .values import Address, half_of, joined, with_half
@@ -93,7 +94,7 @@ class Loops:
     in other calls, by their heads."""
 
     def __init__(self, program, family, proof=None, guesses=None):
-        self.program, self.family, self.told, self.refused, self.known = program, family, [], [], {}
+        self.program, self.family, self.refused, self.known = program, family, [], {}
         self.proof, self.guesses = proof or Proof, {} if guesses is None else guesses
         self.running, self.stop, self.is_guessing, self.given_up = {}, None, False, set()
         self.tried = set()       # heads, and after how many stripes it was guessed in vain that their loop begins
@@ -133,6 +134,7 @@ class Loops:
 
 class Proof(Induction):
     HAS_INNER = False         # whether the loops within a turn have numbers of turns that are no numbers
+    name_of = staticmethod(name_of)
 
     def __init__(self, loops, cpu, head):
         self.flags = cpu.flags, cpu.carry
@@ -162,21 +164,15 @@ class Proof(Induction):
     def is_shown_from(self, first):
         """The same, by what is known of the loop, or guessed by one first turn, or by two: what doesn't go on as it began is
         let go by two at once."""
-        for guess in (self.guess_again, self.guess_by_one, self.guess_by_two):
-            if self.outcome(first, guess):
-                self.loops.told.append(self.told(first))
-                self.loops.guesses[self.head] = self.known()
-                return True
+        for guess in (self.guess_again, *(functools.partial(self.guess_of, is_twice) for is_twice in (False, True))):
+            try:
+                if self.by_turns(first, guess):
+                    self.loops.guesses[self.head] = self.known()
+                    return True
+            except REFUSALS as error:
+                self.loops.refused.append(f"{self.head[0]} {self.head[1]:x} from {first}: {error}")
             self.again()
         self.loops.tried.add((self.head, repr(first)))
-        return False
-
-    def outcome(self, first, guess):
-        """Whether the loop is shown."""
-        try:
-            return self.by_turns(first, guess)
-        except REFUSALS as error:
-            self.loops.refused.append(f"{self.head[0]} {self.head[1]:x} from {first}: {error}")
         return False
 
     def firsts(self):
@@ -210,12 +206,6 @@ class Proof(Induction):
         self.show_below(last)
         self.enter(last, self.supposed(last))
         return True
-
-    def told(self, first):
-        words = sorted(f"{name_of(cell)} has word {j}" for cell, j in self.words.items())
-        places = sorted(f"{name_of(cell)} = {moved(x, step, variable('k'))}" for cell, (x, step) in self.places.items())
-        return (f"{self.family.name}, {self.head[0]} {self.head[1]:x}: {self.step} stripes a turn from {first} on; "
-                f"{', '.join(words + places)}; {len(self.unset)} cells may be anything")
 
     # ---- a turn
 
@@ -272,10 +262,6 @@ class Proof(Induction):
         """Whether another cell has the same word, if it has one."""
         return list(self.words.values()).count(self.words.get(cell)) != 1
 
-    @staticmethod
-    def name_of(cell):
-        return name_of(cell)
-
     # ---- a guess
 
     def known(self):
@@ -301,11 +287,8 @@ class Proof(Induction):
                 self.unset.add(cell)
         return len({*self.words.values()}) == len(begun)
 
-    def guess_by_one(self, first):
-        return any(self.guess(first, turns, False) for turns in FIRST_TURNS)
-
-    def guess_by_two(self, first):
-        return any(self.guess(first, turns, True) for turns in FIRST_TURNS)
+    def guess_of(self, is_twice, first):
+        return any(self.guess(first, turns, is_twice) for turns in FIRST_TURNS)
 
     def guess(self, first, turns, is_twice):
         """Two turns, or one, tell the words, the steps and what is left."""

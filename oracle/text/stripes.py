@@ -68,7 +68,6 @@ class StripesProof(Proof):
             for done in (4, 1, 0):
                 try:
                     if self.by_places(part, done):
-                        self.loops.told.append(self.told(part.start))
                         return True
                 except REFUSALS as error:
                     self.loops.refused.append(f"{self.head[0]} {self.head[1]:x} from {part.start}: {error}")

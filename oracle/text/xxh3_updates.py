@@ -100,7 +100,7 @@ class Xxh3Updates:
     longest_secret, longest_piece = LONGEST_KEPT, LONGEST
 
     def __init__(self, cpu):
-        self.cpu, self.told, self.refused = cpu, [], []
+        self.cpu, self.refused = cpu, []
         self.use(variable("q"))
 
     @property
@@ -256,7 +256,7 @@ class Xxh3Updates:
         except REFUSALS as error:
             raise NotShown("; ".join([str(error), *cpu.loops.refused])) from error
         finally:
-            self.told, self.refused = cpu.loops.told, cpu.loops.refused
+            self.refused = cpu.loops.refused
             cpu.loops, cpu.limit, cpu.replaced = None, limit, {}
 
     def small_pieces(self):

@@ -23,7 +23,7 @@ class Loops:
     else a turn is run. `live` are the memories that a call may change, beside the stack."""
 
     def __init__(self, family, live):
-        self.family, self.live, self.told, self.refused = family, live, [], []
+        self.family, self.live, self.refused = family, live, []
         self.is_busy = False
 
     def pass_by(self, vm, frame):

@@ -157,7 +157,7 @@ class ModuleUpdates(CargoUpdates):
         except REFUSALS as error:
             raise NotShown("; ".join([str(error), *vm.loops.refused])) from error
         finally:
-            self.told, self.refused = vm.loops.told, vm.loops.refused
+            self.refused = vm.loops.refused
             vm.loops, vm.replaced = None, {}
 
     def expect_stack(self, summary):
