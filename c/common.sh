@@ -8,6 +8,9 @@ fail() {
     exit 1
 }
 
+# meant NAME: the path that the caller means, who stood in $folder, which may be one that can't be entered here.
+meant() { case $1 in /* | '') printf %s "$1" ;; *) printf %s "$folder/$1" ;; esac; }
+
 # require PACKAGE COMMAND: stops where the command is missing, and names the package that has it.
 require() {
     command -v "$2" > /dev/null || fail "no $2: install the package $1"
