@@ -1,5 +1,5 @@
 // SPDX-License-Identifier: MIT
-//! What XXH32 and XXH64 share: their hashers differ in the width of a word and the length of a stripe.
+//! Code shared by XXH32 and XXH64: their hashers differ in the width of a word and the length of a stripe.
 
 /// Defines the module of a plain hash.
 macro_rules! plain_hash {
@@ -91,7 +91,7 @@ macro_rules! plain_hash {
             }
         }
 
-        /// A hasher with the seed 0.
+        /// Creates a hasher with the seed 0.
         impl Default for Hasher {
             fn default() -> Self {
                 Self::with_seed(0)
@@ -190,7 +190,7 @@ macro_rules! plain_hash {
         pub struct State($word);
 
         impl State {
-            /// Hashers of this seed.
+            /// Creates the state whose hashers have this seed.
             pub fn with_seed(seed: $word) -> Self {
                 Self(seed)
             }
@@ -235,7 +235,7 @@ macro_rules! plain_hash {
             }
         }
 
-        // What is saved of a hasher, under the names that texts of all versions have.
+        // The saved fields of a hasher, under the names that saved texts of all versions have.
         #[cfg(feature = "serialize")]
         #[derive(serde::Serialize, serde::Deserialize)]
         #[serde(rename = "Shim")]
@@ -276,7 +276,7 @@ macro_rules! plain_hash {
             }
         }
 
-        /// Takes a record only if hashing some bytes gives it.
+        /// Accepts a record only if hashing some bytes produces it.
         #[cfg(feature = "serialize")]
         impl<'de> serde::Deserialize<'de> for Hasher {
             fn deserialize<D: serde::Deserializer<'de>>(deserializer: D) -> Result<Self, D::Error> {
