@@ -1,4 +1,4 @@
-"""Ratios of speed that README.md says, beside the tables that they are the lowest or the highest of."""
+"""Ratios of speed in README.md, compared with the tables of which they are the minimum or the maximum."""
 import os
 import re
 import sys
@@ -10,8 +10,8 @@ RUST = 'docs/RUST.md', '## Speed'
 SECTIONS = [('README.md', '## Speed')]
 RATIO = r'(?<![\d.])\d+\.\d\d(?![\d.])'
 EACH, PLAIN, PLAIN_BESIDE_XXHASH_RUST, NATIVE, SOURCE = slice(None), *(slice(at, at + 1) for at in range(4))
-# A page, what it says, with <> for the lowest and perhaps one for the highest ratio, and where both are: a table, the names
-# of its rows, and its columns behind the name.
+# A page, its text, with <> for the minimum and possibly one for the maximum ratio, and their source: a table, the names
+# of its rows, and its columns after the name.
 SAID = [
     ('README.md', r'the lowest <> \(\[their', LOWEST_ROWS, '', slice(3, 4)),
     ('README.md', r'AVX-512: <> in pieces', DISPATCH, '', EACH),
@@ -23,7 +23,7 @@ SAID = [
     ('README.md', r"Debian's: <> at x86-64-v2", XXHSUM, '1024 MiB', slice(1, 2)),
     ('README.md', r'<> at x86-64-v3', XXHSUM, '1024 MiB', slice(2, 3)),
 ]
-# A bound, and geometric means of all rows, which `rust/bench` prints.
+# A bound, and geometric means of all measurements, which `rust/bench` prints.
 APART = {'0.95'}
 
 
@@ -33,7 +33,7 @@ def text_of(path):
 
 
 def rows_of(page, before):
-    """The first table after these words of a page: the cells of each row."""
+    """The first table after this text of a page: the cells of each row."""
     text = text_of(page)
     found = re.search(r'^\|---.*\n((?:\|.*\n)+)', text[text.index(before):], re.M)
     return [[cell.strip() for cell in line.strip('|').split('|')] for line in found[1].splitlines()]
@@ -46,7 +46,7 @@ def ratios(table, names, columns):
 
 
 def that_differ():
-    """Each ratio that a page says and no table has so, and each that it says and nobody looks at."""
+    """Each ratio of a page that is in no table, and each that no rule covers."""
     seen = {page: set(APART) for page, _ in SECTIONS}
     for page, words, table, names, columns in SAID:
         found = ratios(table, names, columns)
@@ -63,7 +63,7 @@ def that_differ():
 
 
 def counts_that_differ():
-    """README.md has how many rows there are, and how many are below 0.95."""
+    """README.md has the number of measurements, and of those below 0.95."""
     sys.path.append(os.path.join(TOP, 'bench'))
     import measured
     import page

@@ -3,7 +3,7 @@
 import { SECRET_MINIMUM_LENGTH } from "./twox_hash.js";
 import { $ } from "./words.js";
 
-/** The seed that is written, undefined where there is none; an error where it is no seed. */
+/** Returns the seed in the field, or undefined if there is none. Throws if it is no seed. */
 function readSeed() {
   const words = $("seed").value.trim();
   if (words === "") return undefined;
@@ -13,7 +13,7 @@ function readSeed() {
   return BigInt(words);
 }
 
-/** The secret that is written, undefined where there is none; an error where it is no secret. */
+/** Returns the secret in the field, or undefined if there is none. Throws if it is no secret. */
 function readSecret() {
   const words = $("secret").value;
   if (words === "") return undefined;
@@ -33,7 +33,7 @@ function bytesOfHex(words) {
   return Uint8Array.from(digits.match(/../g) ?? [], (pair) => parseInt(pair, 16));
 }
 
-/** What a field says, with its error shown: `error` is empty where there is none. */
+/** Returns the value of a field, and shows its error: `error` is empty if there is none. */
 export function readField(field, read) {
   let error = "";
   let value;
@@ -49,8 +49,8 @@ export function readField(field, read) {
 }
 
 /**
- * The seed and the secret. `wrong` names the fields that are wrong, and is empty where none is. `id` is one text for each
- * seed and secret, and undefined where a field is wrong.
+ * Returns the seed and the secret. `wrong` has the names of the invalid fields. `id` is one text for each seed and
+ * secret, and undefined if a field is invalid.
  */
 export function readKey() {
   const seed = readField("seed", readSeed);

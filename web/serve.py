@@ -1,5 +1,5 @@
 #!/usr/bin/env python3
-"""Serves the page and the repository's pages that it links to, on this machine alone.
+"""Serves the page and the repository's pages that it links to, only on this machine.
 
     web/serve.py [PORT] [--open]
 
@@ -16,7 +16,7 @@ PUBLIC = ("/web/", "/docs/", "/crates/", "/README.md", "/CALLING.md", "/CONTRIBU
 
 
 def is_public(path):
-    """Whether a whole path is one of `PUBLIC`, or lies below one that ends with a slash."""
+    """True if a whole path is in `PUBLIC`, or below one that ends with a slash."""
     return any(path + "/" == TOP + it or path.startswith(TOP + it) if it.endswith("/") else path == TOP + it for it in PUBLIC)
 
 

@@ -4,8 +4,8 @@
 #include "kinds.h"
 #include "values.h"
 
-/* Hashes what `name(input, seed=0, *, secret=None)` is given into `value`. Answers 0 with an exception where it isn't
- * right. Bytes alone, as most calls have them, are taken as they are. */
+/* Hashes the arguments of `name(input, seed=0, *, secret=None)` into `value`. Returns 0 with an exception set if
+ * they are invalid. A single bytes object, as in most calls, is used directly. */
 static inline int oneshot(hash_value *value, const struct kind *kind, const char *name, PyObject *const *args,
                           Py_ssize_t count, PyObject *names)
 {

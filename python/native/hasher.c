@@ -21,7 +21,7 @@ void leave(struct hasher *hasher)
     if (hasher->lock) PyThread_release_lock(hasher->lock);
 }
 
-/* Takes a piece while other threads run. The lock is there. */
+/* Hashes a chunk with the GIL released. The lock exists. */
 static void take_long(struct hasher *hasher, const void *start, size_t length)
 {
     Py_BEGIN_ALLOW_THREADS
@@ -31,7 +31,7 @@ static void take_long(struct hasher *hasher, const void *start, size_t length)
     Py_END_ALLOW_THREADS
 }
 
-/* Takes a piece. Without memory for a lock no other thread runs meanwhile. */
+/* Hashes a chunk. If there is no memory for a lock, the GIL is kept. */
 static void take(struct hasher *hasher, const void *start, size_t length)
 {
     if (length >= LONG_INPUT && !hasher->lock) hasher->lock = PyThread_allocate_lock();
@@ -51,9 +51,9 @@ static void start(struct hasher *hasher, const struct key *key)
     leave(hasher);
 }
 
-/* ---- Making and ending ---- */
+/* ---- Construction and destruction ---- */
 
-/* An object whose state is not written yet. */
+/* Allocates an object whose state is not written yet. */
 static struct hasher *unwritten(PyTypeObject *type, const struct kind *kind)
 {
     struct hasher *hasher = PyObject_New(struct hasher, type);
@@ -63,7 +63,7 @@ static struct hasher *unwritten(PyTypeObject *type, const struct kind *kind)
     return hasher;
 }
 
-/* An object without its start: one of no bytes, with the seed 0. */
+/* Creates an object before __init__: one of no bytes, with the seed 0. */
 static PyObject *new_of(PyTypeObject *type, const struct kind *kind)
 {
     struct hasher *hasher = unwritten(type, kind);
@@ -71,7 +71,7 @@ static PyObject *new_of(PyTypeObject *type, const struct kind *kind)
     return (PyObject *)hasher;
 }
 
-/* Begins anew with the key, and takes the input if there is one. */
+/* Resets with the key, and hashes the input if there is one. */
 static int begin(struct hasher *hasher, const struct arguments *arguments)
 {
     const struct key *key = &arguments->key;
@@ -93,8 +93,8 @@ static int hasher_init(struct hasher *hasher, PyObject *args, PyObject *keywords
     return begun ? 0 : -1;
 }
 
-/* A call of a type makes an object and begins it at once, where a type has a place for that: the limited interface calls
- * new, and then init. */
+/* A call of a type creates and initializes an object at once, if a type has a slot for that: the limited interface
+ * calls new, and then init. */
 #ifdef Py_LIMITED_API
 #define FAST_CALL(kind)
 #define SET_FAST_CALL(type, kind)
@@ -126,7 +126,7 @@ static void hasher_dealloc(struct hasher *hasher)
     Py_DECREF(type);
 }
 
-/* ---- What an object does ---- */
+/* ---- Methods ---- */
 
 static PyObject *hasher_update(struct hasher *hasher, PyObject *input)
 {
@@ -180,7 +180,7 @@ static PyObject *hasher_reset(struct hasher *hasher, PyObject *none)
     (void)none;
     enter(hasher);
     struct key key = hasher->kind->key_of(hasher->state);
-    /* A start takes no secret that lies in the state which it writes. */
+    /* A constructor refuses a secret in the state that it writes. */
     if (key.secret) key.secret = memcpy(secret, key.secret, key.secret_length);
     hasher->kind->start(hasher->state, &key);
     leave(hasher);

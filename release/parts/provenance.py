@@ -1,4 +1,4 @@
-"""What a release says of itself: what it was made of, and by what."""
+"""The provenance of a release: what it was made from, and by what."""
 import hashlib
 import os
 import platform
@@ -11,7 +11,7 @@ from tools import must
 VERDICT = re.compile(r'^logic=')
 CRATE = re.compile(r'^== (\w+)$')
 COUNTS = re.compile(r'^\d+ passed, \d+ failed$')
-# What of the kit makes the programs and the assembly text, below its folder.
+# The toolchain files that make the programs and the assembly source, below its folder.
 KIT_FILES = ('bin/rattle', 'bin/rattle-link', 'bin/rt', 'bin/rtlib.py', 'toolchain/bin/clang', 'toolchain/bin/ld.lld',
              'rattle/logic/antt-project.json', 'c/liblibc_c.a', 'c/libos_c.a')
 
@@ -34,7 +34,7 @@ def kit():
 
 
 def tools():
-    """The first line that each compiler says of itself."""
+    """The first line of each compiler's version."""
     names = filter(shutil.which, ('gcc', 'aarch64-linux-gnu-gcc', 'ld', '/usr/bin/python3', '/usr/bin/rustc', '/usr/bin/cargo', 'npm'))
     return [f'{os.path.basename(name)}: {must([name, "--version"]).splitlines()[0]}' for name in names]
 
@@ -57,7 +57,7 @@ def machine():
 
 
 def gate(log):
-    """The verdicts of a log of the gate, and its last line, or that there is none."""
+    """The verdicts of a log of CI, and its last line, or that there is none."""
     if not log:
         return {'Verdicts': ['absent: release/make was given no log of the gate'],
                 'Gate': ['absent: release/make was given no log of the gate']}
@@ -81,13 +81,13 @@ BY_RT = 'proved and compiled by the kit'
 
 
 def programs(without_rt):
-    """Which xxh and xxhsum are in which archive."""
+    """The origin of xxh and xxhsum in each archive."""
     packages = BY_CARGO if without_rt else f'{BY_RT} (amd64 alone)'
     return [*([] if without_rt else [f'programs-x86_64: {BY_RT}']), f'cargo-programs: {BY_CARGO}', f'Debian packages: {packages}']
 
 
 def text(commit, log, without_rt):
-    """PROVENANCE: what was packed, what proved and compiled it, and the SHA-256 of what it was made of."""
+    """PROVENANCE: what was packed, what proved and compiled it, and the SHA-256 of its inputs."""
     parts = {f'twox_hash {commit.version}': [f'commit {commit.name}', f'of {commit.date}'],
              'Kit': UNPROVED if without_rt else kit(), 'Programs': programs(without_rt), 'Tools': tools(), **gate(log), 'Assembly text': texts(commit),
              'Modules': sums(commit.tree, ['web/twox_hash.wasm', 'web/twox_hash_simd.wasm'])}

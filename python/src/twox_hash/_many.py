@@ -11,7 +11,7 @@ Into = TypeVar('Into', bound=Sized)
 FIELD = re.compile(':[^:]*:')
 # Addresses of bytes, text, anything, a function and a type. Before the letter of a float, Z is a complex number.
 POINTER = re.compile('[zPX&]|Z(?![efdgFDG])')
-# Integers in the machine's order of bytes, which is little-endian wherever the package runs.
+# Integers in the machine's byte order, which is little-endian on every supported machine.
 NATIVE_INTEGER = re.compile('[@=<]?[hHiIlLqQnN]')
 
 
@@ -23,20 +23,20 @@ def many(rows: Iterable[Any], algorithm: Union[str, HasherType] = ..., *, width:
          into: Into, **key: Any) -> Into: ...
 def many(rows: Iterable[Any], algorithm: Union[str, HasherType] = 'xxh3_64', *, width: Optional[int] = None,
          into: Any = None, **key: Any) -> Any:
-    """The digests of many inputs, each what `<algorithm>_digest(row, ...)` answers, as a list of bytes.
+    """Returns the digests of many inputs, each as `<algorithm>_digest(row, ...)` returns it, as a list of bytes.
 
     `rows` is an iterable of bytes-like objects or str, or a contiguous buffer of rows of one length: of two dimensions
     or more (each item of the first is a row), of one dimension with items of several bytes (each is a row), or of any
-    form with `width`, the bytes of a row.
+    form with `width`, the length of a row in bytes.
 
-    With `into`, a contiguous buffer that can be written and has just the bytes of all digests, these go there one after
-    another, no objects are made, and `into` is the answer. Native integers get the values as numbers, and have to be of
-    a digest's size; all else gets the digests' bytes. `seed` and `secret` are as the algorithm's type takes them.
+    With `into`, a writable contiguous buffer with exactly the size of all digests, these are written there one after
+    another, no objects are created, and `into` is returned. Native integers get the values as numbers, and must have a
+    digest's size; everything else gets the digests' bytes. `seed` and `secret` are as for the algorithm's type.
 
-    ValueError: the lengths don't fit, `into` lies over a row, or there is no such algorithm. BufferError: a buffer isn't
-    contiguous, or can't be written. TypeError: the rows are a str, hold text as UTF-32, objects or addresses, or one of them has
-    no bytes. OverflowError: there are more digests than a buffer can have. What a row raises names the row, and `into` is then as
-    it was."""
+    ValueError: the lengths don't fit, `into` overlaps a row, or the algorithm is unknown. BufferError: a buffer
+    isn't contiguous or writable. TypeError: the rows are a str, contain text as UTF-32, objects or addresses, or one
+    of them has no bytes. OverflowError: there are more digests than a buffer can have. An exception for a row has
+    the row's number, and `into` is then unchanged."""
     hasher = begun(algorithm, key)
     if isinstance(rows, str):
         raise TypeError("rows are wanted, not 'str'")
@@ -54,7 +54,7 @@ def many(rows: Iterable[Any], algorithm: Union[str, HasherType] = 'xxh3_64', *, 
 
 
 def _takes_numbers(into: Any, digest_bytes: int) -> bool:
-    """Whether a buffer gets the values as native integers, and not the digests' bytes."""
+    """True if a buffer gets the values as native integers, and not the digests' bytes."""
     with memoryview(into) as room:
         if room.readonly or not room.c_contiguous:
             raise BufferError(f'into {"can not be written" if room.readonly else "is not C-contiguous"}')
@@ -67,7 +67,7 @@ def _takes_numbers(into: Any, digest_bytes: int) -> bool:
 
 
 def _view_of(rows: Any) -> Optional[memoryview]:
-    """The rows as a buffer, or None where they are objects."""
+    """Returns the rows as a buffer, or None if they are objects."""
     try:
         view = memoryview(rows)
     except TypeError:
@@ -86,7 +86,7 @@ def _view_of(rows: Any) -> Optional[memoryview]:
 
 
 def _count(view: memoryview, width: Optional[int]) -> int:
-    """How many rows a buffer has."""
+    """Returns the number of rows of a buffer."""
     if width is None:
         if view.ndim == 0 or view.ndim == 1 and view.itemsize == 1:
             raise ValueError('these bytes have no rows: width is the bytes of one')
@@ -98,7 +98,7 @@ def _count(view: memoryview, width: Optional[int]) -> int:
 
 
 def name_row(fault: Exception, row: int) -> None:
-    """Has the exception that a row raised name the row. many.c calls it."""
+    """Adds the row's number to an exception. many.c calls it."""
     if isinstance(fault, UnicodeEncodeError):
         fault.reason += f', in row {row}'
     elif fault.args:
