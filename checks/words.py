@@ -1,10 +1,10 @@
-"""The private words of docs/WORDS.md, wherever they stand in a page outside of code."""
+"""The words that checks/words.txt replaces, found in pages outside of code."""
 import functools
 import os
 import re
 
 TOP = os.path.dirname(os.path.dirname(os.path.abspath(__file__)))
-LIST = os.path.join(TOP, 'docs', 'WORDS.md')
+LIST = os.path.join(TOP, 'checks', 'words.txt')
 CODE = re.compile(r'^```.*?^```$|`[^`\n]*`|(?<=\])\([^)\n]*\)', re.M | re.S)
 
 
