@@ -8,6 +8,8 @@ from rattle import CRATES, LISTED, modules_of, trait_of, type_of
 # The crates whose functions state the guarantees beside those that others call.
 STATED = ('headline', 'xxhsum_headline')
 CLAUSE = re.compile(r'\s*(requires|ensures)\b\s*(\w+)?')
+# A definition, by the word before or behind `pub`.
+DEFINED = re.compile(r'^(?:(?:abbrev|unfoldable|data|record) pub|pub (?:data|record)) ([^\s:]+)', re.M)
 HEAD = """# Contracts
 
 Each function that has a contract, with its clauses by name, and the files of definitions that contracts cite. A clause without a name is shown as `ensures`. Written by `docs/api/make`.
@@ -53,15 +55,16 @@ def of_crate(name):
 
 
 def definitions():
-    """The files of definitions of each crate."""
+    """The files of definitions of each crate, with the names that they define."""
     for crate in sorted(os.listdir(CRATES)):
         folder = os.path.join(CRATES, crate, 'specs')
         names = sorted(name.removesuffix('.antt') for name in os.listdir(folder)) if os.path.isdir(folder) else []
-        names = [name for name in names if name != 'Lib']
-        if names:
-            yield f'`{crate}`', ', '.join(f'`{name}`' for name in names)
+        for name in names:
+            if name != 'Lib':
+                with open(os.path.join(folder, f'{name}.antt'), encoding='utf-8') as file:
+                    yield f'`{crate}`', f'`{name}`', ', '.join(f'`{it}`' for it in DEFINED.findall(file.read()))
 
 
 def text():
     parts = [line for name in (*STATED, *LISTED) for line in of_crate(name)]
-    return '\n'.join([HEAD, *parts, '## Files of definitions', '', *table(('crate', 'files of `specs/`'), definitions())]).rstrip('\n') + '\n'
+    return '\n'.join([HEAD, *parts, '## Files of definitions', '', *table(('crate', 'file', 'definitions'), definitions())]).rstrip('\n') + '\n'
