@@ -1,10 +1,10 @@
 #!/usr/bin/env python3
 """Draws docs/SPEED.md and docs/speed.svg from bench/data:
 
-  bench/page.py [--check | FOLDER]
+    bench/page.py [--check | FOLDER]
 
-With --check it says whether the page in docs is as it would be drawn; with a folder, data and page are there. The page
-has figures alone: causes that were found stand in docs/history/TUNING.md."""
+With --check it checks that the page in docs is up to date; with a folder, it reads the data and writes the page
+there. The page has only figures: docs/history/TUNING.md explains some of them."""
 import math
 import os
 import statistics

@@ -23,13 +23,13 @@ macro_rules! plain_hash {
         $(#[doc = $example])*
         /// ```
         ///
-        /// Two hashers are equal if they were made with one seed and were given the same bytes; bytes that were
-        /// hashed and stay in memory are compared too.
+        /// Two hashers are equal if they have the same seed and have hashed the same bytes; hashed bytes that are
+        /// still in memory are compared too.
         #[derive(Clone, PartialEq)]
         pub struct Hasher($record);
 
         impl Hasher {
-            /// The hash of all bytes at once.
+            /// Hashes all bytes at once.
             ///
             /// ```
             #[doc = concat!("use twox_hash::", stringify!($alias), ";")]
@@ -43,7 +43,7 @@ macro_rules! plain_hash {
                 library::$oneshot(data, seed)
             }
 
-            /// A hasher of no bytes yet, also for a `static`.
+            /// Creates a hasher of no bytes, also in a `static`.
             ///
             /// ```
             #[doc = concat!("static EMPTY: twox_hash::", stringify!($alias), " = twox_hash::", stringify!($alias), "::with_seed(7);")]
@@ -57,7 +57,7 @@ macro_rules! plain_hash {
                 Self($record::of_parts(0, seed, $initial(seed), [0; $stripe], 0))
             }
 
-            /// The seed that the hasher was made with.
+            /// Returns the seed of the hasher.
             ///
             /// ```
             #[doc = concat!("assert_eq!(twox_hash::", stringify!($alias), "::with_seed(7).seed(), 7);")]
@@ -66,7 +66,7 @@ macro_rules! plain_hash {
                 self.0.seed
             }
 
-            /// How many bytes were hashed. The count stays at `u64::MAX` once it is there.
+            /// Total bytes hashed, saturating at `u64::MAX`.
             ///
             /// ```
             /// use std::hash::Hasher as _;
@@ -176,7 +176,7 @@ macro_rules! plain_hash {
             })
         }
 
-        /// Makes hashers of one seed, as a map wants them.
+        /// Builds hashers of one seed, for example for a map.
         ///
         /// ```
         /// use std::collections::HashMap;
@@ -204,7 +204,7 @@ macro_rules! plain_hash {
             }
         }
 
-        /// Makes hashers of one seed that was drawn at random.
+        /// Builds hashers of one random seed.
         ///
         /// ```
         /// use std::collections::HashMap;

@@ -431,7 +431,7 @@ macro_rules! xxh3_hashers {
         }
 
         impl Hasher {
-            /// The hash of all bytes at once, with the default secret and the seed 0.
+            /// Hashes all bytes at once, with the default secret and the seed 0.
             ///
             /// ```
             #[doc = concat!("use twox_hash::", stringify!($alias), " as Hash;")]
@@ -444,8 +444,8 @@ macro_rules! xxh3_hashers {
                 library::$oneshot(input)
             }
 
-            /// The hash of all bytes at once, with a seed: up to 240 bytes with the default secret, above with the one
-            /// that the seed derives.
+            /// Hashes all bytes at once, with a seed: up to 240 bytes with the default secret, above that with the one
+            /// derived from the seed.
             ///
             /// ```
             #[doc = concat!("use twox_hash::", stringify!($alias), " as Hash;")]
@@ -458,11 +458,11 @@ macro_rules! xxh3_hashers {
                 library::$with_seed(input, seed)
             }
 
-            /// The hash of all bytes at once, with a secret and the seed 0, at every length.
+            /// Hashes all bytes at once, with a secret and the seed 0, at every length.
             ///
             /// # Errors
             ///
-            /// The secret has fewer than [`SECRET_MINIMUM_LENGTH`] bytes.
+            /// If the secret has fewer than [`SECRET_MINIMUM_LENGTH`] bytes.
             ///
             /// ```
             #[doc = concat!("use twox_hash::", stringify!($alias), " as Hash;")]
@@ -478,12 +478,12 @@ macro_rules! xxh3_hashers {
                 library::$with_secret(input, secret).map_err(|_| OneshotWithSecretError::new())
             }
 
-            /// The hash of all bytes at once: up to 240 bytes with the seed and the default secret, above with the
-            /// secret alone.
+            /// Hashes all bytes at once: up to 240 bytes with the seed and the default secret, above that with only
+            /// the secret.
             ///
             /// # Errors
             ///
-            /// There are more than 240 bytes, and the secret has fewer than [`SECRET_MINIMUM_LENGTH`].
+            /// If there are more than 240 bytes, and the secret has fewer than [`SECRET_MINIMUM_LENGTH`].
             ///
             /// ```
             #[doc = concat!("use twox_hash::", stringify!($alias), " as Hash;")]
@@ -521,11 +521,11 @@ macro_rules! xxh3_hashers {
                 }
             }
 
-            /// A stream of no bytes yet, with a seed and a secret.
+            /// Creates a stream of no bytes, with a seed and a secret.
             ///
             /// # Errors
             ///
-            /// The secret has fewer than [`SECRET_MINIMUM_LENGTH`] bytes, and comes back.
+            /// Returns the secret in the error if it has fewer than [`SECRET_MINIMUM_LENGTH`] bytes.
             ///
             /// ```
             #[doc = concat!("use twox_hash::", stringify!($alias), " as Hash;")]
@@ -544,7 +544,7 @@ macro_rules! xxh3_hashers {
                 })
             }
 
-            /// The secret.
+            /// Returns the secret.
             ///
             /// ```
             #[doc = concat!("assert_eq!(twox_hash::", stringify!($alias), "::new().into_secret().len(), 192);")]

@@ -109,7 +109,7 @@ pub fn good_means_equal<S: Store, R: Source, W: Sink, E: Sink>()
     good_lists::good_means_equal::<S, R>();
 }
 
-/// What is printed is accepted again, line for line, for any names: the lines that a run prints are a good list while
+/// Printed lines are accepted again, line for line, for any names: the lines that a run prints are a good list while
 /// the files stay as they are.
 pub fn printed_is_accepted<S: Store, R: Source + Drop>()
     ensures { PrintedIsGood S.Store S.File.Source R.Source }

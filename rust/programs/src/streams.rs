@@ -34,7 +34,7 @@ impl SecretBuffer<DefaultSecret> {
         SecretBuffer { seed, secret }
     }
 
-    /// "The seed 0 and the default secret", which is derived from the seed 0.
+    /// "Stores the seed 0 and the default secret", which is derived from the seed 0.
     #[allow(
         clippy::should_implement_trait,
         reason = "the source calls it by this name"
@@ -58,17 +58,17 @@ macro_rules! raw_hasher {
             }
 
             impl RawHasher<DefaultSecret> {
-                /// "A stream of no bytes yet, with the seed and the secret of the buffer."
+                /// "Creates a stream of no bytes, with the seed and the secret of the buffer."
                 pub fn new(buffer: SecretBuffer<DefaultSecret>) -> Self {
                     RawHasher { stream: Stream::new(buffer.seed), secret: buffer.secret }
                 }
 
-                /// "Takes the bytes of a piece after those taken before."
+                /// "Hashes a chunk after the bytes before."
                 pub fn write(&mut self, input: &[u8]) {
                     self.stream.write(&self.secret, input);
                 }
 
-                /// "The hash of the bytes taken so far, which stay."
+                /// "Returns the hash of the bytes written so far."
                 pub fn $finish(&self) -> $value {
                     self.stream.$finish_by(&self.secret)
                 }

@@ -1,13 +1,13 @@
-//! Times calls of the crate beside `xxhash-rust` and, with the feature `original`, the crate whose names these are.
-//! It prints a line a row: the row's name, and the nanoseconds a call of each peer, the best of many turns.
+//! Times calls of the crate, of `xxhash-rust` and, with the feature `original`, of the crate that has these names. It
+//! prints one line per measurement: its name, and the nanoseconds per call of each peer, the best of many turns.
 //!
 //! ```text
 //! speed TURNS
 //! speed count CALLS
 //! ```
 //!
-//! The second form makes so many calls for each row and peer, with a call of `mark` before and after them, and prints
-//! the rows' names alone: rust/count has callgrind count the instructions between the marks.
+//! The second form makes this many calls for each measurement and peer, with a call of `mark` before and after them,
+//! and prints only the names: rust/count has callgrind count the instructions between the marks.
 
 use std::hash::{BuildHasher, Hasher};
 use std::hint::black_box;
