@@ -13,7 +13,7 @@ CODE = re.compile(r'^```.*?^```$|`[^`\n]*`|(?<=\])\([^)\n]*\)', re.M | re.S)
 # A value in a message.
 VALUE = re.compile(r'\$?\{[^{}]*\}|\$\w+')
 LIKE_C = ('.rt', '.rs', '.c', '.h', '.js', '.mjs', '.ts', '.go', '.java', '.cpp', '.css')
-LIKE_SHELL = ('', '.sh', '.in', '.cmake', '.toml', '.txt')
+LIKE_SHELL = ('', '.sh', '.in', '.cmake', '.toml', '.txt', '.yml', '.ld')
 # Files whose strings users read: help texts, messages and exceptions; and folders in them that only developers see.
 NOT_READ = re.compile(r'/(checks|tests|bench_c)/')
 MESSAGES = ('crates/xxhsum_*/src/*.rt', 'c/*', 'rust/build-library', 'rust/erase', 'rust/programs/src/bin/*', 'web/*', 'python/*.py',

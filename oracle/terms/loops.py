@@ -151,7 +151,7 @@ class Proof:
                 raise NotShown(f"{self.loop.name} {when}: accumulator {i} is another term")
 
     def compare_others(self, k):
-        """All that lives is as the places say, but for the accumulators and what is unset."""
+        """Everything live is as in the places, except the accumulators and what is unset."""
         for memory, at in self.changed() - set(self.loop.cells) - self.unset - set(self.places):
             raise NotShown(f"{self.loop.name}: {memory.name} changes at {at}")
         for (memory, at), (size, value, step) in self.places.items():
@@ -160,7 +160,7 @@ class Proof:
                 raise NotShown(f"{self.loop.name}: {memory.name} is {now} and not {gone_on(value, step, k)}")
 
     def guess(self, k):
-        """A first turn tells which cells go on, and which are written before they are read."""
+        """A first turn shows which cells are carried on, and which are written before they are read."""
         start = [memory.load(at, self.loop.width // 8) for memory, at in self.loop.cells]
         with given(minus(0, k)):   # k = 0
             self.turn(0, start, is_last=False)

@@ -32,7 +32,7 @@ NOWHERE = "nowhere", 0
 
 
 def program(set_name, source=SOURCE):
-    """The object for a set of instructions."""
+    """The object for an instruction set."""
     with tempfile.TemporaryDirectory(prefix="rust-object-") as room:
         folder, made = os.path.join(room, "src"), os.path.join(room, "made.o")
         shutil.copytree(source, folder)

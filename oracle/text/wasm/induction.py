@@ -167,7 +167,7 @@ class Proof(Head):
     # ---- the proof
 
     def behind(self):
-        """Shows the loop and runs out of it; gives a line that tells of it."""
+        """Shows the loop and runs out of it; returns a line that reports it."""
         family = self.family
         self.guess()
         turns, _ = divided(minus(family.total, family.first), self.step)
@@ -210,7 +210,7 @@ class Proof(Head):
     # ---- the guess
 
     def guess(self):
-        """Two first turns tell which cells have the words, and which go on."""
+        """Two first turns show which cells have the words, and which are carried on."""
         states = self.first_turns()
         changed = [cell for cell in {*states[0], *states[1]} if not same(states[0].get(cell), states[1].get(cell))]
         old, now, then = ({cell: value_of(state.get(cell)) for cell in changed} for state in states)
