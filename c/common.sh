@@ -46,7 +46,7 @@ read_cpu() {
         shift $(($# < 2 ? $# : 2))
         case $cpu in
         x86-64-v2 | x86-64-v3) ;;
-        both) [ "$(best_cpu)" = x86-64-v3 ] || fail '--cpu both runs what it builds: this machine has no x86-64-v3' ;;
+        both) [ "$(best_cpu)" = x86-64-v3 ] || fail '--cpu both runs the programs: this machine has no x86-64-v3' ;;
         *) fail "no processor '$cpu': there are x86-64-v2, x86-64-v3 and both" ;;
         esac
     fi

@@ -1,4 +1,4 @@
-"""The words of checks/words.txt: in pages, in comments, in help texts and in error messages, each outside of code."""
+"""The words of checks/words.txt in pages, comments, help texts and error messages, outside of code."""
 import fnmatch
 import functools
 import io
@@ -10,9 +10,12 @@ TOP = os.path.dirname(os.path.dirname(os.path.abspath(__file__)))
 LIST = os.path.join(TOP, 'checks', 'words.txt')
 # Code in a page, and in a comment.
 CODE = re.compile(r'^```.*?^```$|`[^`\n]*`|(?<=\])\([^)\n]*\)', re.M | re.S)
+# A value in a message.
+VALUE = re.compile(r'\$?\{[^{}]*\}|\$\w+')
 LIKE_C = ('.rt', '.rs', '.c', '.h', '.js', '.mjs', '.ts', '.go', '.java', '.cpp', '.css')
-LIKE_SHELL = ('', '.sh', '.in', '.cmake', '.toml', '.txt')
-# Files whose strings users read: help texts, messages and exceptions.
+LIKE_SHELL = ('', '.sh', '.in', '.cmake', '.toml', '.txt', '.yml', '.ld')
+# Files whose strings users read: help texts, messages and exceptions; and folders in them that only developers see.
+NOT_READ = re.compile(r'/(checks|tests|bench_c)/')
 MESSAGES = ('crates/xxhsum_*/src/*.rt', 'c/*', 'rust/build-library', 'rust/erase', 'rust/programs/src/bin/*', 'web/*', 'python/*.py',
             'python/build', 'python/native/*', 'python/src/*', 'release/*', 'examples/*')
 # Files whose comments are documentation, in which "True if" is clearer than "Whether".
@@ -22,14 +25,16 @@ PUZZLE = re.compile(r'(?:Whether|What)\b')
 
 @functools.cache
 def lists():
-    """The words and the exceptions: (pattern of words, where) and (pattern of paths, set of words, reason)."""
+    """The words, as a pattern for each place in which they are looked for, and the exceptions: (paths, words)."""
     with open(LIST, encoding='utf-8') as file:
         parts = file.read().split('# Exceptions')
     rows = [[[cell.strip() for cell in line.split('|')] for line in part.splitlines()[1:] if '|' in line and line[0] != '#']
             for part in parts]
-    words = [(each, re.compile(rf'(?<![\w/-]){re.escape(each)}(?![\w/-])', re.I), where)
-             for row, _, where in rows[0] for each in row.split(', ')]
-    return words, [(path, set(row.split(', ')), reason) for path, row, reason in rows[1]]
+    patterns = {}
+    for scope in ('pages', 'comments'):
+        each = [re.escape(word) for words, _, where in rows[0] if where in (scope, 'both') for word in words.split(', ')]
+        patterns[scope] = re.compile(r'(?<![\w/-])(?:' + '|'.join(sorted(each, key=len, reverse=True)) + r')(?![\w/-])', re.I)
+    return patterns, [(path, set(words.split(', '))) for path, words, _ in rows[1]]
 
 
 def without_code(text):
@@ -38,7 +43,7 @@ def without_code(text):
 
 
 def is_allowed(name, word):
-    return any(fnmatch.fnmatch(name, path) and (word in words or '*' in words) for path, words, _ in lists()[1])
+    return any(fnmatch.fnmatch(name, path) and (word.lower() in words or '*' in words) for path, words in lists()[1])
 
 
 def of_python(text):
@@ -89,7 +94,6 @@ def is_page(name):
 
 def lines_with_words(*paths):
     """Each use of a word of the list, with its line."""
-    words = lists()[0]
     for path in paths:
         name = os.path.relpath(path, TOP) if path.startswith(TOP + os.sep) else os.path.basename(path)
         with open(path, encoding='utf-8') as file:
@@ -98,12 +102,13 @@ def lines_with_words(*paths):
             parts, scope = [(1, without_code(text))], 'pages'
         else:
             comments, strings = parts_of(path, text)
-            is_read = any(fnmatch.fnmatch(name, it) for it in MESSAGES) or name.startswith('message')
-            parts, scope = [(line, without_code(it)) for line, it in comments + (strings if is_read else [])], 'comments'
+            is_read = name.startswith('message') or not NOT_READ.search(name) and any(fnmatch.fnmatch(name, it) for it in MESSAGES)
+            strings = [(line, VALUE.sub(' ', it)) for line, it in strings] if is_read else []
+            parts, scope = [(line, without_code(it)) for line, it in comments + strings], 'comments'
         for line, part in parts:
-            for word, pattern, where in words:
-                if where in (scope, 'both') and not is_allowed(name, word):
-                    yield from (f'{path}:{line + part.count(chr(10), 0, found.start())}: {found[0]}' for found in pattern.finditer(part))
+            for found in lists()[0][scope].finditer(part):
+                if not is_allowed(name, found[0]):
+                    yield f'{path}:{line + part.count(chr(10), 0, found.start())}: {found[0]}'
 
 
 def puzzles(*paths):

@@ -1,4 +1,4 @@
-"""Changes of one token of the definitions, and whether a row notices them."""
+"""Changes of one token of the definitions, and whether a test case detects them."""
 import os
 import sys
 
@@ -95,7 +95,7 @@ def changes_of(program, reached, definition):
 
 
 def others(program, reached, definition, scope, local, word):
-    """The words that may stand in a word's place: of numbers the next and the one before, of operators other ones,
+    """The words that may replace a word: of numbers the next and the one before, of operators other ones,
     of names those of the same type."""
     if word in OTHERS:
         return OTHERS[word]
@@ -138,7 +138,7 @@ def reasons():
 
 
 def outcome(program, rows, change):
-    """"noticed", "unnoticed" or "unreadable" of a change."""
+    """Returns `"noticed"`, `"unnoticed"` or `"unreadable"` for a change."""
     definition = program.definitions.modules[change.path].definitions[change.name]
     sides = [[word for word, _ in right] for _, right in definition.clauses]
     sides[change.clause][change.place] = change.word

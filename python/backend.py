@@ -80,11 +80,11 @@ def machine():
     try:
         done = subprocess.run([*compiler(), '-dumpmachine'], stdout=subprocess.PIPE, text=True, check=True)
     except (OSError, subprocess.CalledProcessError) as fault:
-        raise SystemExit(f'twox-hash: a C compiler is needed, as of Debian\'s package gcc: {fault}')
+        raise SystemExit(f'twox-hash: a C compiler is needed, for example Debian\'s package gcc: {fault}')
     name, system = done.stdout.strip().partition('-')[::2]
     # Android reserves the register x18, and gnux32 has pointers of 32 bits.
     if name not in SETS or 'linux' not in system or 'android' in system or 'gnux32' in system:
-        raise SystemExit(f'twox-hash: there is no proved code for {done.stdout.strip()}: there is some for Linux on '
+        raise SystemExit(f'twox-hash: there is no proved code for {done.stdout.strip()}, only for Linux on '
                          f'{" and ".join(SETS)}')
     return name
 
@@ -118,7 +118,7 @@ def compile_extension(path, abi=ABI):
                                *texts(room, name), *LINKS,
                                *shlex.split(os.environ.get('LDFLAGS', '')), '-o', path])
     if done.returncode:
-        raise SystemExit('twox-hash: the extension was not compiled')
+        raise SystemExit('twox-hash: cannot compile the extension')
     return name
 
 
@@ -173,7 +173,7 @@ def build_wheel(wheel_directory, config_settings=None, metadata_directory=None):
     """Builds a wheel; with the setting `abi=abi3` by the limited interface."""
     abi = (config_settings or {}).get('abi', ABI)
     if abi not in (ABI, LIMITED):
-        raise SystemExit(f'twox-hash: the interface is {ABI} or {LIMITED}, not {abi}')
+        raise SystemExit(f'twox-hash: the abi must be {ABI} or {LIMITED}, not {abi}')
     with tempfile.TemporaryDirectory() as room:
         path = os.path.join(room, 'library.so')
         name = compile_extension(path, abi)

@@ -26,7 +26,7 @@ export async function filesOfDrop({ items }) {
 }
 
 function neither(path) {
-  return { path, error: new Error("It is neither a file nor a folder that this browser can read.") };
+  return { path, error: new Error("This is neither a file nor a folder that this browser can read.") };
 }
 
 async function filesIn(entry) {

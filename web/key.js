@@ -8,7 +8,7 @@ function readSeed() {
   const words = $("seed").value.trim();
   if (words === "") return undefined;
   if (!/^(0x[0-9a-f]+|[0-9]+)$/i.test(words) || BigInt(words) >= 2n ** 64n) {
-    throw new Error("This is no whole number from 0 to 18446744073709551615, nor one in hexadecimal after 0x.");
+    throw new Error("The seed must be an integer from 0 to 18446744073709551615, decimal or hexadecimal after 0x.");
   }
   return BigInt(words);
 }
@@ -20,7 +20,7 @@ function readSecret() {
   const isHex = document.querySelector("[name=form]:checked").value === "hex";
   const bytes = isHex ? bytesOfHex(words) : new TextEncoder().encode(words);
   if (bytes.length < SECRET_MINIMUM_LENGTH) {
-    throw new Error(`This secret has ${bytes.length} bytes, and ${SECRET_MINIMUM_LENGTH} are needed.`);
+    throw new Error(`This secret has ${bytes.length} bytes. It needs at least ${SECRET_MINIMUM_LENGTH}.`);
   }
   return bytes;
 }
@@ -28,8 +28,8 @@ function readSecret() {
 function bytesOfHex(words) {
   const digits = words.replace(/[\s:]/g, "");
   const wrong = digits.match(/[^0-9a-f]/i);
-  if (wrong) throw new Error(`"${wrong[0]}" is no hexadecimal digit.`);
-  if (digits.length % 2) throw new Error(`These are ${digits.length} hexadecimal digits, and a byte has two.`);
+  if (wrong) throw new Error(`"${wrong[0]}" is not a hexadecimal digit.`);
+  if (digits.length % 2) throw new Error(`There are ${digits.length} hexadecimal digits. Each byte needs two.`);
   return Uint8Array.from(digits.match(/../g) ?? [], (pair) => parseInt(pair, 16));
 }
 

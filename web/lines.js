@@ -8,7 +8,7 @@ const KINDS_BY_LENGTH = { 8: ["xxh32"], 16: ["xxh64", "xxh3_64"], 32: ["xxh3_128
 const OTHERS = { 40: "SHA-1", 56: "SHA-224", 64: "SHA-256", 96: "SHA-384", 128: "SHA-512" };
 const MAY_BE = { 8: "a CRC-32", 32: "an MD5" };
 const OTHER_NAME = /^(md5|crc-?32c?|sha-?[0-9]{1,3}|blake[0-9]\w*)$/i;
-const COMPUTED = "this page computes XXH32, XXH64 and XXH3 alone.";
+const COMPUTED = "this page computes only XXH32, XXH64 and XXH3.";
 
 /** The hashes that a name may mean. */
 const KINDS_BY_NAME = { XXH32: ["xxh32"], XXH64: ["xxh64"], XXH128: ["xxh3_128"], XXH3: ["xxh3_64", "xxh3_128"] };
@@ -112,9 +112,9 @@ function readPasted(words) {
   const other = parts.find((part) => OTHER_NAME.test(part));
   if (other && digits) throw new Error(`This is a digest of ${other}; ${COMPUTED}`);
   if (OTHERS[digits?.length]) throw new Error(`${digits.length} digits: this looks like ${OTHERS[digits.length]}; ${COMPUTED}`);
-  if (!KINDS_BY_LENGTH[digits?.length]) throw new Error("This is no digest: one has 8, 16 or 32 hexadecimal digits.");
+  if (!KINDS_BY_LENGTH[digits?.length]) throw new Error("This is not a digest, which has 8, 16 or 32 hexadecimal digits.");
   const kinds = KINDS_BY_LENGTH[digits.length].filter((kind) => KINDS_BY_NAME[name]?.includes(kind) ?? true);
-  if (!kinds.length) throw new Error(`${name} has another number of digits than these ${digits.length}.`);
+  if (!kinds.length) throw new Error(`A digest of ${name} doesn't have ${digits.length} digits.`);
   return { digits: digits.toLowerCase(), kinds };
 }
 

@@ -13,7 +13,7 @@ export class Hash extends Transform {
 
   /** For `createHash` and `copy`. */
   constructor(stream) {
-    if (!(stream instanceof Stream)) throw new TwoxHashError("kind", "A Hash is made by createHash, and not by new.");
+    if (!(stream instanceof Stream)) throw new TwoxHashError("kind", "Use createHash to create a Hash, not new.");
     super();
     this.#stream = stream;
   }
@@ -44,7 +44,7 @@ export class Hash extends Transform {
   }
 
   #open() {
-    if (this.#stream === undefined) throw new TwoxHashError("freed", "The digest was taken, which ends the hash.");
+    if (this.#stream === undefined) throw new TwoxHashError("freed", "Digest already called.");
     return this.#stream;
   }
 
@@ -81,7 +81,7 @@ export class Hash extends Transform {
 function bytesOf(text, encoding) {
   if (!Buffer.isEncoding(encoding) || /^utf-?8$/i.test(encoding)) return text;
   if (/^hex$/i.test(encoding) && text.length % 2) {
-    throw new TwoxHashError("input", `These are ${text.length} hexadecimal digits, and a byte has two.`);
+    throw new TwoxHashError("input", `There are ${text.length} hexadecimal digits. Each byte needs two.`);
   }
   return Buffer.from(text, encoding);
 }

@@ -112,7 +112,7 @@ const list = {
     const key = readKey();
     if (key.wrong) {
       $("key").open = true;
-      card.tell(`Waiting for ${key.wrong} to be right`);
+      card.tell(`Waiting: ${key.wrong} is invalid`);
       return;
     }
     card.start(key);
@@ -236,7 +236,7 @@ async function add(found) {
     if (i % FILES_IN_A_TURN === FILES_IN_A_TURN - 1) await new Promise((resolve) => setTimeout(resolve));
   }
   if (found.length) say(found.length === 1 ? `${found[0].path} was added` : `${counted(found.length, "file")} were added`);
-  $("files-note").textContent = found.length ? "" : "There is no file in it.";
+  $("files-note").textContent = found.length ? "" : "It contains no file.";
   compare();
   if (found.length) showResults();
 }
@@ -279,7 +279,7 @@ function hashText() {
   if (text) list.forget(text);
   const words = $("text").value;
   const key = readKey();
-  $("text-error").textContent = words && key.wrong ? `Not hashed: ${key.wrong} must be right first.` : "";
+  $("text-error").textContent = words && key.wrong ? `Not hashed: ${key.wrong} is invalid.` : "";
   if (words === "") {
     removeText();
     return;
@@ -291,7 +291,7 @@ function hashText() {
     return;
   }
   text.state = "waiting";
-  text.show(`Waiting for ${key.wrong} to be right`);
+  text.show(`Waiting: ${key.wrong} is invalid`);
 }
 
 function addText() {
@@ -351,8 +351,8 @@ function save() {
 
 // ---- messages of the worker
 
-const WITH_VECTORS = "The fast module runs here: this browser has the vectors of WebAssembly (SIMD).";
-const WITHOUT_VECTORS = "The plain module runs here: this browser has no vectors of WebAssembly (SIMD), with which XXH3 is about twice as fast.";
+const WITH_VECTORS = "The fast module is in use: this browser supports WebAssembly SIMD.";
+const WITHOUT_VECTORS = "The plain module is in use: this browser lacks WebAssembly SIMD, with which XXH3 is about twice as fast.";
 
 const ANSWERS = {
   ready: ({ hasVectors }) => {

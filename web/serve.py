@@ -63,7 +63,7 @@ def main(words):
     try:
         serving = server(int(numbers[0]) if numbers else PORT)
     except OSError as error:
-        sys.exit(f"web/serve.py: {error.strerror}: give another port, as web/serve.py 8001")
+        sys.exit(f"web/serve.py: {error.strerror}: use another port, for example web/serve.py 8001")
     address = f"http://127.0.0.1:{serving.server_address[1]}/web/"
     print(f"{address} (Ctrl-C ends it)", flush=True)
     if "--open" in words:

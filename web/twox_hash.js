@@ -98,7 +98,7 @@ let loading = null;
  */
 export async function load(source = besideThisFile) {
   if (loaded) return;
-  if (!isSupported()) throw new TwoxHashError("unsupported", "There is no WebAssembly here, which the proved module is.");
+  if (!isSupported()) throw new TwoxHashError("unsupported", "WebAssembly is not available here.");
   loading ??= instantiate(source).then((exports) => { loaded = new Room(exports); });
   try {
     await loading;
@@ -134,7 +134,7 @@ async function bytesOf(source) {
   if (isBytes(source)) return ownView(source);
   if (typeof Response === "function" && source instanceof Response) return fetched(source);
   const url = addressOf(source);
-  if (url.protocol === "file:") throw new Error(`${url} is a file, which node.js reads and a page can't`);
+  if (url.protocol === "file:") throw new Error(`${url} is a file: only node.js can read it`);
   return fetched(await fetch(url));
 }
 
@@ -142,12 +142,12 @@ function addressOf(source) {
   try {
     return new URL(source, here);
   } catch (error) {
-    throw new Error(`${wordOr(source, nameOf(source))} is no address here: hand load() the module's bytes, or take twox_hash/inline`, { cause: error });
+    throw new Error(`${wordOr(source, nameOf(source))} is not a URL here: pass the module's bytes to load(), or use twox_hash/inline`, { cause: error });
   }
 }
 
 async function fetched(response) {
-  if (!response.ok) throw new Error(`${response.url} answered ${response.status}`);
+  if (!response.ok) throw new Error(`${response.url}: HTTP status ${response.status}`);
   return response.arrayBuffer();
 }
 
@@ -286,7 +286,7 @@ function growBy(memory, pages, least) {
     memory.grow(pages);
   } catch (error) {
     if (pages > least) return growBy(memory, least, least);
-    throw new TwoxHashError("memory", "The WebAssembly module can't have more memory.", { cause: error });
+    throw new TwoxHashError("memory", "Out of memory in the WebAssembly module.", { cause: error });
   }
 }
 
@@ -323,12 +323,12 @@ function asBytes(input, code = "input", what = "The input", wanted = "text or by
     if (length > 0 && length <= CHUNK_BYTES) return input;
   }
   if (!isBytes(input)) {
-    throw new TwoxHashError(code, `${what} must be ${wanted}, an ArrayBuffer or a view of one, and not ${nameOf(input)}.`);
+    throw new TwoxHashError(code, `${what} must be ${wanted}, an ArrayBuffer or a view of one. Received ${nameOf(input)}.`);
   }
   try {
     return ownView(input);
   } catch (error) {
-    throw new TwoxHashError(code, `${what} has no bytes any more: its buffer was handed on, or is too short.`, { cause: error });
+    throw new TwoxHashError(code, `${what} has no bytes: its buffer is detached or too short.`, { cause: error });
   }
 }
 
@@ -366,14 +366,14 @@ function wordOr(value, otherwise) {
 function asSeed(seed, bits) {
   if (seed === 0 || seed === 0n) return 0n;
   if (typeof seed !== "bigint" && !Number.isInteger(seed)) {
-    throw new TwoxHashError("seed", `The seed must be a BigInt or a whole number, and not ${shown(seed)}.`);
+    throw new TwoxHashError("seed", `The seed must be a BigInt or an integer. Received ${shown(seed)}.`);
   }
   if (seed > Number.MAX_SAFE_INTEGER && typeof seed === "number") {
-    throw new TwoxHashError("seed", `The seed ${seed} may be a rounded number: one of 2^53 or more must be a BigInt.`);
+    throw new TwoxHashError("seed", `The seed ${seed} may be rounded: from 2^53 on it must be a BigInt.`);
   }
   const value = BigInt(seed);
   if (value < 0n || value >> BigInt(bits)) {
-    throw new TwoxHashError("seed", `The seed ${value} isn't from 0 to 2^${bits} - 1.`);
+    throw new TwoxHashError("seed", `The seed ${value} is out of range: it must be from 0 to 2^${bits} - 1.`);
   }
   return value;
 }
@@ -385,23 +385,23 @@ function shown(value) {
 function asSecret(secret) {
   const bytes = typeof secret === "string" ? encoder.encode(secret) : asBytes(secret, "secret", "The secret");
   if (lengthOf(bytes) < SECRET_MINIMUM_LENGTH) {
-    throw new TwoxHashError("secret", `The secret has ${lengthOf(bytes)} bytes, and ${SECRET_MINIMUM_LENGTH} are needed.`);
+    throw new TwoxHashError("secret", `The secret has ${lengthOf(bytes)} bytes. It needs at least ${SECRET_MINIMUM_LENGTH}.`);
   }
   return bytes;
 }
 
 function asKind(kind) {
   if (KINDS.includes(kind)) return kind;
-  throw new TwoxHashError("kind", `The kind must be one of ${KINDS.join(", ")}, and not ${wordOr(kind, nameOf(kind))}.`);
+  throw new TwoxHashError("kind", `The kind must be one of ${KINDS.join(", ")}. Received ${wordOr(kind, nameOf(kind))}.`);
 }
 
 /** Returns the seed and the secret of the options, each undefined if it isn't given. */
 function asKey(kind, options) {
   if (options === null || typeof options !== "object") {
-    throw new TwoxHashError("options", `The options must be an object, and not ${nameOf(options)}.`);
+    throw new TwoxHashError("options", `The options must be an object. Received ${nameOf(options)}.`);
   }
   for (const name of Object.keys(options)) {
-    if (name !== "seed" && name !== "secret") throw new TwoxHashError("options", `There is no option ${name}.`);
+    if (name !== "seed" && name !== "secret") throw new TwoxHashError("options", `Unknown option ${name}.`);
   }
   const { seed, secret } = options;
   if (secret !== undefined && !isXxh3(kind)) throw new TwoxHashError("secret", `${kind} takes no secret.`);
@@ -418,9 +418,9 @@ function isXxh3(kind) {
 /** Converts a code of the module to an error. This file tests everything before it calls, so none occurs. */
 function refuse(code) {
   if (code === DONE) return;
-  if (code === SECRET_TOO_SHORT) throw new TwoxHashError("secret", "The module refused the secret as too short.");
+  if (code === SECRET_TOO_SHORT) throw new TwoxHashError("secret", "The module refused the secret: it is too short.");
   if (code === NOT_A_STREAM) throw new TwoxHashError("kind", "The module found no stream there.");
-  throw new TwoxHashError("load", `The module answered the unknown code ${code}.`);
+  throw new TwoxHashError("load", `The module returned the unknown code ${code}.`);
 }
 
 /**
@@ -434,10 +434,10 @@ export function toHex(value, kind) {
   const bits = VALUE_BITS[asKind(kind)];
   if (typeof value !== "bigint" && !(bits === 32 && Number.isInteger(value))) {
     const wanted = bits === 32 ? "a whole number" : "a BigInt";
-    throw new TwoxHashError("value", `The value must be ${wanted}, and not ${shown(value)}.`);
+    throw new TwoxHashError("value", `The value must be ${wanted}. Received ${shown(value)}.`);
   }
   if (value < 0 || BigInt(value) >> BigInt(bits)) {
-    throw new TwoxHashError("value", `The value ${value} isn't from 0 to 2^${bits} - 1, as those of ${kind} are.`);
+    throw new TwoxHashError("value", `The value ${value} is out of range for ${kind}: it must be from 0 to 2^${bits} - 1.`);
   }
   return value.toString(16).padStart(bits / 4, "0");
 }
@@ -567,7 +567,7 @@ export class Stream {
   static {
     updateFromMemory = (stream, start, length) => stream.#updateFrom(start, length);
     refuseUnlessOpen = (stream) => {
-      if (Object(stream) !== stream || !(#places in stream)) throw new TwoxHashError("input", `A Stream is needed, and not ${nameOf(stream)}.`);
+      if (Object(stream) !== stream || !(#places in stream)) throw new TwoxHashError("input", `Not a Stream. Received ${nameOf(stream)}.`);
       if (stream.#places === null) throw new TwoxHashError("freed", "The stream was freed.");
     };
   }
@@ -614,7 +614,7 @@ export class Stream {
   digest(kind = this.#kind) {
     const memory = this.#enter();
     if (FAMILY[asKind(kind)] !== FAMILY[this.#kind]) {
-      throw new TwoxHashError("kind", `A stream of ${this.#kind} answers no ${kind}.`);
+      throw new TwoxHashError("kind", `A stream of ${this.#kind} has no digest of ${kind}.`);
     }
     refuse(this.#digestCode(memory, kind));
     return memory.written(VALUE_BITS[kind]);
@@ -775,7 +775,7 @@ export class Stream {
  */
 export function updateAll(streams, piece) {
   if (typeof streams?.[Symbol.iterator] !== "function") {
-    throw new TwoxHashError("input", `The streams must be iterable, and not ${nameOf(streams)}.`);
+    throw new TwoxHashError("input", `The streams must be iterable. Received ${nameOf(streams)}.`);
   }
   const all = [...streams];
   all.forEach(refuseUnlessOpen);
@@ -832,11 +832,11 @@ function savedOf(kind, record, digestOfSecret) {
 /** Parses a saved state, if its form is valid. The module tests whether bytes lead to its record. */
 function readSaved(memory, saved) {
   const view = new DataView(saved.buffer, saved.byteOffset, saved.byteLength);
-  if (saved.length < HEAD_BYTES || MARK.some((byte, i) => saved[i] !== byte)) throw notAState("its mark isn't there");
+  if (saved.length < HEAD_BYTES || MARK.some((byte, i) => saved[i] !== byte)) throw notAState("it lacks the mark");
   const kind = KINDS[saved[KIND_AT]];
-  if (kind === undefined) throw notAState("its hash is none of the four");
+  if (kind === undefined) throw notAState("its hash is unknown");
   const length = HEAD_BYTES + memory.places[FAMILY[kind]].length + CHECK_BYTES;
-  if (saved.length !== length) throw notAState(`it has ${saved.length} bytes, and one of ${kind} has ${length}`);
+  if (saved.length !== length) throw notAState(`it has ${saved.length} bytes, not the ${length} of ${kind}`);
   const record = new Uint8Array(saved.subarray(HEAD_BYTES, length - CHECK_BYTES));
   const digestOfSecret = saved[NEEDS_SECRET_AT] ? view.getBigUint64(DIGEST_OF_SECRET_AT, true) : undefined;
   if (!sameBytes(savedOf(kind, record, digestOfSecret), saved)) throw notAState("it was changed");
@@ -862,11 +862,11 @@ function sameBytes(left, right) {
 }
 
 function notAState(why) {
-  return new TwoxHashError("state", `These bytes are no saved state: ${why}.`);
+  return new TwoxHashError("state", `Not a saved state: ${why}.`);
 }
 
 function secretInWords(given, needed) {
-  if (needed === undefined) return "The saved stream has no secret of its own, and one was given.";
-  if (given === undefined) return "The saved stream goes on with the secret alone that it was started with.";
+  if (needed === undefined) return "The saved stream has no secret, but one was passed.";
+  if (given === undefined) return "The saved stream needs the secret that it was started with.";
   return "The saved stream was started with another secret.";
 }

@@ -28,5 +28,5 @@ const CALLS = Object.freeze({
 function goingOn(state, kind) {
   const stream = Stream.load(state);
   if (stream.kind === kind) return stream;
-  throw new TwoxHashError("state", `This is the state of a stream of ${stream.kind}, and not of ${kind}.`);
+  throw new TwoxHashError("state", `The state is of a stream of ${stream.kind}, not of ${kind}.`);
 }

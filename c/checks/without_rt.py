@@ -157,18 +157,18 @@ def foreign_compiler(room, machine):
 
 def check_refusals(report, copy, room):
     for machine in ('riscv64-linux-gnu', 'aarch64-linux-android', 'x86_64-linux-gnux32', 'arm64-apple-darwin22'):
-        said = f'there is no text for {machine}: there is for Linux on'
+        said = f'no assembly source for {machine}, only for Linux on'
         report.attempt(f'{machine} is refused', is_refused, copy, said, f'CC={foreign_compiler(room, machine)}')
     report.attempt('no compiler', is_refused, copy, "no C compiler: CC is '/nowhere/cc'", 'CC=/nowhere/cc')
-    report.attempt('gcc -m32', is_refused, copy, 'there is no text for pointers of 32 bits', 'CC=gcc -m32')
-    report.attempt('a PREFIX that is no whole path', is_refused, copy, 'PREFIX has to begin with /', 'install',
+    report.attempt('gcc -m32', is_refused, copy, 'no assembly source for pointers of 32 bits', 'CC=gcc -m32')
+    report.attempt('a PREFIX that is no whole path', is_refused, copy, 'PREFIX must begin with /', 'install',
                    'PREFIX=here')
     for goal in ('install', 'uninstall'):
         report.attempt(f'{goal} without PREFIX', is_refused, copy,
-                       f'it needs a folder: make -C c {goal} PREFIX=/opt/twox_hash', goal, f'DESTDIR={room}/nowhere')
+                       f'PREFIX is required: make -C c {goal} PREFIX=/opt/twox_hash', goal, f'DESTDIR={room}/nowhere')
     report.attempt('uninstall of another library', other_library_stays, copy, room)
     report.attempt('make check without python3', lambda: is_refused(
-        copy, 'no python3, which compares', 'out=out/no-python', 'check-bytes', PATH=path_without(room, 'python3')))
+        copy, 'python3 not found', 'out=out/no-python', 'check-bytes', PATH=path_without(room, 'python3')))
 
 
 # ---- folders ----

@@ -5,7 +5,7 @@
 #define XXH_X86DISPATCH_H_TWOX_HASH
 
 #ifndef __x86_64__
-#error "xxh_x86dispatch.h is for x86-64 alone: include xxhash.h, and call without _dispatch"
+#error "xxh_x86dispatch.h is only for x86-64: include xxhash.h, and call without _dispatch"
 #endif
 
 #include "xxhash.h"

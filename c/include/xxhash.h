@@ -214,6 +214,6 @@ struct XXH64_state_s {
     uint64_t reserved[11];
 };
 #if defined(__GNUC__) && !defined(__clang__)
-#pragma message "a state of XXH3 comes from XXH3_createState alone: it has no size here"
+#pragma message "only XXH3_createState creates a state of XXH3: it has no size here"
 #endif
 #endif

@@ -14,7 +14,7 @@ from .machine import Module
 from .sides import HEADERS, VECTORS, llvm_text, of_reference
 
 PARTS = 4                    # the changes are tried in so many rows
-SAMPLE = 32                  # in the gate, each so manieth change of the definition's text
+SAMPLE = 32                  # in CI, each so manieth change of the definition's text
 LINES, FEW_LINES = 5000, 100  # changes of LLVM's text
 GATE_SECRETS, STREAM_SECRETS = (136,), (136, 192)
 

@@ -1,10 +1,10 @@
-"""Changes of single instructions of a text, each of which has to be noticed: another register, operand, number,
+"""Changes of single instructions of a text, each of which must be detected: another register, operand, number,
 condition or shift, an instruction left out, or two neighbours in the other order.
 
-A change is asked of questions that run the instruction (questions.py). It is noticed where the text comes to another term
+A change is tested by questions that run the instruction (questions.py). It is detected where the text comes to another term
 than the definition, or does what no call may do. Those that aren't are listed in equal_changes with their reasons, of
-each text in a file of its own; one of these that is noticed after all fails as well, and with --all a reason that no
-change needs. A crash of this program isn't counted as noticed."""
+each text in a file of its own; one of these that is detected after all fails as well, and with --all a reason that no
+change needs. A crash of this program isn't counted as detected."""
 import collections
 import functools
 import hashlib
@@ -35,8 +35,8 @@ ALIKE = [("je", "jne"), ("jb", "jbe"), ("ja", "jae"), ("jb", "jae"), ("sete", "s
 # ---- what becomes of a change
 
 def outcome(cpu, instructions, asked, draw, entries, more):
-    """By the requests that run it and others near to them, and by `more` ways to ask where none of these notices it; first
-    by these where only long requests run it. What notices a change has to accept the text as it is: else it says nothing
+    """By the requests that run it and others near to them, and by `more` ways to ask where none of these detects it; first
+    by these where only long requests run it. What detects a change must accept the unchanged text: otherwise it shows nothing
     of the change."""
     before = [cpu.program.sections[x.section][x.at] for x in instructions]
     requests = [question for question in asked if question.request]
@@ -120,7 +120,7 @@ def anywhere(_):
 
 def drawn(cpu, is_drawn, places, draw):
     """(place, text, instructions) of random changes in some sections. Their order goes by functions and instructions
-    alone, so that of a function that stays as it is the same ones are drawn, whatever becomes of others."""
+    only, so that the same ones are drawn for an unchanged function, whatever becomes of others."""
     salt, kept = draw.getrandbits(32), {place for place in places if is_drawn(place[0])}
     for key, place in sorted((key, place) for key, place in keys(cpu, kept, salt) if place in kept):
         yield from changed_at(cpu, place, random.Random(key))
@@ -197,7 +197,7 @@ def part_of(changes, part):
 
 
 def noticed_of(cpu, changes, known, is_all, beside=FOR_C):
-    """(texts of changes that were tried, what there is to say of those that weren't noticed): of the `changes` that are
+    """(texts of changes that were tried, the messages on those that weren't detected): of the `changes` that are
     drawn out of a text's places, with the reasons that are known. What a change is asked doesn't depend on others."""
     nodes.forget()
     cpu.limit = LIMIT

@@ -49,11 +49,11 @@ class Family:
         return self.count // self.together
 
     def suppose(self, k, values):
-        self.known.clear()       # what was said before may stand on other suppositions
+        self.known.clear()       # what was said before may depend on other suppositions
         self.put(k, values)
 
     def seem(self, k, is_there):
-        """Whether all words for k are there; asked one by one, since each may be dear."""
+        """Whether all words for k are there; asked one by one, since each may be expensive."""
         return all(is_there(self.word(k, j)) for j in range(self.cell_count()))
 
 
@@ -238,7 +238,7 @@ class Proof(Induction):
         return [family.cell(values[k:k + family.together]) for k in range(0, family.count, family.together)]
 
     def turn(self):
-        """From the head to the head. Whoever returns from the function that the head is in has left the loop."""
+        """From the head to the head. A return from the function of the head leaves the loop."""
         loops, place, running, floor = self.loops, self.head, dict(self.loops.running), self.cpu.stack_pointer()
         loops.running[self.head] = None
         try:
@@ -291,7 +291,7 @@ class Proof(Induction):
         return any(self.guess(first, turns, is_twice) for turns in FIRST_TURNS)
 
     def guess(self, first, turns, is_twice):
-        """Two turns, or one, tell the words, the steps and what is left."""
+        """Two turns, or one, determine the words, the steps and what is left."""
         self.forget()
         self.enter(0)
         self.loops.is_guessing = True

@@ -216,7 +216,7 @@ class Summary:
         return cpu.return_from_another()
 
     def take(self, cpu, family, source, secret, arguments, stack, floor):
-        """Takes what a call is handed; its caller's part of the stack begins at a place."""
+        """Takes what a call gets; its caller's part of the stack begins at a place."""
         *records, stripes, length, own, own_length = arguments
         self.expect("the places", all(isinstance(x, Address) for x in (*records, stripes, own)))
         (room, first), (memory, place) = records[0].place(), records[-1].place()

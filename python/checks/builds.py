@@ -168,7 +168,7 @@ def sets_are_chosen(built):
                   TWOX_HASH_INSTRUCTIONS='x86-64-v4').stdout
     want('ImportError: twox_hash: x86-64-v4: this processor lacks it' in lacking, lacking[-200:])
     unknown = run(ask, PYTHONPATH=built.site, TWOX_HASH_INSTRUCTIONS='sparc').stdout
-    want('ImportError: twox_hash: sparc: there is no such set' in unknown, unknown[-200:])
+    want('ImportError: twox_hash: sparc: there is no such instruction set' in unknown, unknown[-200:])
     return '7 processors, and one that is too old'
 
 

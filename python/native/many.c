@@ -30,7 +30,7 @@ static int open_into(struct room *room, PyObject *into)
     room->has_view = 1;
     room->start = room->view.buf;
     if ((size_t)room->view.len == room->bytes) return 1;
-    PyErr_Format(PyExc_ValueError, "into has %zd bytes, and %zu digests of %d bytes go there", room->view.len,
+    PyErr_Format(PyExc_ValueError, "into has %zd bytes, not those of %zu digests of %d bytes", room->view.len,
                  room->digests, room->kind->digest_bytes);
     return 0;
 }
@@ -121,7 +121,7 @@ static int hash_object(const struct room *room, const struct key *key, size_t i,
     if (is_right)
         put(room, i, hash_of(room->kind, row.start, row.length, key));
     else
-        PyErr_Format(PyExc_ValueError, "into lies over row %zu", i);
+        PyErr_Format(PyExc_ValueError, "into overlaps row %zu", i);
     close_bytes(&row);
     return is_right;
 }
@@ -157,7 +157,7 @@ static PyObject *digests_of_rows(const struct hasher *hasher, const struct rows 
     struct room room;
     if (!open_room(&room, hasher->kind, rows->count, into, 0)) return NULL;
     if (is_over(&room, rows->start, rows->bytes)) {
-        PyErr_SetString(PyExc_ValueError, "into lies over the rows");
+        PyErr_SetString(PyExc_ValueError, "into overlaps the rows");
         return end(&room, 0);
     }
     if (rows->bytes < LONG_INPUT)
@@ -183,7 +183,7 @@ PyObject *hasher_many_of_width(struct hasher *hasher, PyObject *const *args, Py_
     if (rows.bytes == bytes.length)
         answer = digests_of_rows(hasher, &rows, args + 2);
     else
-        PyErr_Format(PyExc_ValueError, "%zu bytes are no %zu rows of one length", bytes.length, rows.count);
+        PyErr_Format(PyExc_ValueError, "%zu bytes are not %zu rows of one length", bytes.length, rows.count);
     close_bytes(&bytes);
     return answer;
 }

@@ -88,7 +88,7 @@ static const struct set sets[] = {{is_always, {EACH_PROVED_CALL(IN_ARM).instruct
 
 static const char *choose(const char *wanted)
 {
-    const char *fault = wanted ? "there is no such set of instructions" : "this processor lacks x86-64-v2";
+    const char *fault = wanted ? "there is no such instruction set" : "this processor lacks x86-64-v2";
     for (size_t i = 0; i < sizeof(sets) / sizeof(*sets); i++) {
         if (wanted && strcmp(wanted, sets[i].calls.instructions)) continue;
         if (sets[i].is_there()) {
@@ -104,7 +104,7 @@ const char *choose_proved(const char *wanted)
 {
     pthread_mutex_lock(&choice);
     const char *fault = !proved.instructions ? choose(wanted)
-                        : wanted && strcmp(wanted, proved.instructions) ? "this process runs another" : NULL;
+                        : wanted && strcmp(wanted, proved.instructions) ? "this process uses another one" : NULL;
     pthread_mutex_unlock(&choice);
     return fault;
 }

@@ -135,7 +135,7 @@ class Many(unittest.TestCase):
         rows = [memoryview(memory)[at:at + 8] for at in range(0, 40, 8)]
         before = bytes(memory)
         for start in (0, 8, 39):
-            with self.assertRaisesRegex(ValueError, 'into lies over row'):
+            with self.assertRaisesRegex(ValueError, 'into overlaps row'):
                 ours.many(rows, into=memoryview(memory)[start:start + 40])
         self.assertEqual(memory, before)
         ours.many(rows, into=memoryview(memory)[40:])

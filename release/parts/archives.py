@@ -68,7 +68,7 @@ def installed(commit, machine):
     compiler."""
     tools, root = TOOLS[machine], os.path.join(commit.room, f'c-{machine}')
     if not shutil.which(tools + 'gcc'):
-        print(f'no {tools}gcc: the library for {machine} is left out')
+        print(f'no {tools}gcc: the library for {machine} is omitted')
         return None
     must(['make', '-s', '-C', commit.path('c'), f'CC={tools}gcc', f'out=out/release-{machine}', f'DESTDIR={root}',
           'PREFIX=/prefix', 'install'])

@@ -30,7 +30,7 @@ def sysroot_flag(commit, machine):
 def installed(commit, machine):
     """A folder with bin and share, in the layout of `cargo install` and its users. Or None if there is no compiler."""
     if not shutil.which(COMPILERS[machine]):
-        print(f'no {COMPILERS[machine]}: the programs for {machine} are left out')
+        print(f'no {COMPILERS[machine]}: the programs for {machine} are omitted')
         return None
     target, made = TARGETS[machine], os.path.join(commit.room, 'cargo')
     variables = {'CARGO_TARGET_DIR': made, 'CARGO_NET_OFFLINE': 'true', 'RUSTC': '/usr/bin/rustc',

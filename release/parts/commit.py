@@ -13,7 +13,7 @@ class Commit:
         self.room, self.tree = room, os.path.join(room, 'twox_hash')
         must(['git', 'clone', '-q', top, self.tree])
         if must(['git', '-C', top, 'status', '--porcelain', '--untracked-files=no']):
-            print('release/make: what is not committed is left out', file=sys.stderr)
+            print('release/make: uncommitted changes are omitted', file=sys.stderr)
         self.name, seconds, self.date = self.git('log', '-1', '--format=%H %ct %cI').split()
         self.seconds = int(seconds)
         self.version = self.read('VERSION').strip()

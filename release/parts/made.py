@@ -101,7 +101,7 @@ def change_is_noticed(room, folder):
     done = subprocess.run(['sha256sum', '-c', '--quiet', 'SHA256SUMS'], cwd=copy, stdout=subprocess.PIPE,
                           stderr=subprocess.PIPE, text=True)
     shutil.rmtree(copy)
-    want(done.returncode and os.path.basename(path) in done.stdout, 'it is not noticed')
+    want(done.returncode and os.path.basename(path) in done.stdout, 'it is not detected')
     return os.path.basename(path)
 
 
@@ -200,12 +200,12 @@ def has_provenance(room, folder):
     kit = ('rattle-kit', '[0-9a-f]{64}  bin/rattle') if has_programs else ('none: release/make --without-rt',)
     for part in ('commit [0-9a-f]{40}', *kit, '[0-9a-f]{64}  c/asm/x86-64-v2.s'):
         want(re.search(part, words), f'without {part}')
-    gate = re.search(r'^Gate\n  (.*)', words, re.M)[1]
+    gate = re.search(r'^CI\n  (.*)', words, re.M)[1]
     return f'{len(names)} archives; gate: {gate}'
 
 
 def check_all(report, room, folder):
     report.attempt('SHA256SUMS', sums_agree, folder)
-    report.attempt('a changed byte is noticed', change_is_noticed, room, folder)
+    report.attempt('a changed byte is detected', change_is_noticed, room, folder)
     report.attempt('PROVENANCE in each archive', has_provenance, room, folder)
     report.attempt('release/make in a folder with other files', foreign_folders_stay, folder)

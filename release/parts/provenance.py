@@ -59,14 +59,14 @@ def machine():
 def gate(log):
     """The verdicts of a log of CI, and its last line, or that there is none."""
     if not log:
-        return {'Verdicts': ['absent: release/make was given no log of the gate'],
-                'Gate': ['absent: release/make was given no log of the gate']}
+        return {'Verdicts': ['absent: release/make was called without --gate'],
+                'CI': ['absent: release/make was called without --gate']}
     with open(log, encoding='utf-8', errors='replace') as file:
         lines = [line.strip() for line in file if line.strip()]
     ended = time.strftime('%Y-%m-%d %H:%M UTC', time.gmtime(os.path.getmtime(log)))
     last = lines[-1] if lines and COUNTS.match(lines[-1]) else 'absent: the log has no last line of counts'
     return {'Verdicts': verdicts(lines) or ['absent: the log has none'],
-            'Gate': [last, f'ended {ended}, packed on {machine()}', f'{sum_of(log)}  the log']}
+            'CI': [last, f'ended {ended}, packed on {machine()}', f'{sum_of(log)}  the log']}
 
 
 def texts(commit):
@@ -74,22 +74,22 @@ def texts(commit):
     return sums(commit.tree, [name for name in names if name.endswith('.s')])
 
 
-UNPROVED = ['none: release/make --without-rt proves nothing. The texts, the modules and the erased source are those of the commit,',
-            'which its gate compares with what is proved']
+UNPROVED = ['none: release/make --without-rt proves nothing. The assembly source, the modules and the erased source are',
+            'those of the commit, which CI compares with the proved code']
 BY_CARGO = 'compiled by rustc from proved source without its contracts; tested, not proved, as xxhsum --version says'
-BY_RT = 'proved and compiled by the kit'
+BY_RT = 'proved and compiled by the toolchain'
 
 
 def programs(without_rt):
     """The origin of xxh and xxhsum in each archive."""
-    packages = BY_CARGO if without_rt else f'{BY_RT} (amd64 alone)'
+    packages = BY_CARGO if without_rt else f'{BY_RT} (amd64 only)'
     return [*([] if without_rt else [f'programs-x86_64: {BY_RT}']), f'cargo-programs: {BY_CARGO}', f'Debian packages: {packages}']
 
 
 def text(commit, log, without_rt):
     """PROVENANCE: what was packed, what proved and compiled it, and the SHA-256 of its inputs."""
     parts = {f'twox_hash {commit.version}': [f'commit {commit.name}', f'of {commit.date}'],
-             'Kit': UNPROVED if without_rt else kit(), 'Programs': programs(without_rt), 'Tools': tools(), **gate(log), 'Assembly text': texts(commit),
+             'Toolchain': UNPROVED if without_rt else kit(), 'Programs': programs(without_rt), 'Tools': tools(), **gate(log), 'Assembly source': texts(commit),
              'Modules': sums(commit.tree, ['web/twox_hash.wasm', 'web/twox_hash_simd.wasm'])}
     return '\n'.join('\n'.join([title, *(f'  {line}' for line in lines), '']) for title, lines in parts.items())
 

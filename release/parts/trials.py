@@ -219,10 +219,10 @@ def wrong_pages_are_noticed(root):
     section = printed.section_of(printed.RELEASES, 'The programs', root.suite)
     wrong, = [block._replace(text=block.text.replace("printf 'some bytes'", "printf 'other bytes'"))
               for block in section.blocks]
-    want(fails([section._replace(blocks=[wrong])], root.run), 'another value is not noticed')
+    want(fails([section._replace(blocks=[wrong])], root.run), 'another value is not detected')
     must(['git', 'clone', '-q', TOP, root.at(CLONE)])
     found = printed.sections('docs/C.md', root.suite)
-    want(fails(found, functools.partial(root.run, folder=CLONE)), 'a package that is not named is not noticed')
+    want(fails(found, functools.partial(root.run, folder=CLONE)), 'a missing package name is not detected')
     return 'another value, a package that is not named'
 
 
@@ -263,5 +263,5 @@ TRIALS = (
     Trial('the page', ('bookworm',), 'The page', static_page),
     *(Trial(f'{page} as it is printed', (suite,), None, functools.partial(page_as_printed, page))
       for suite in BOTH for page in pages_of(suite)),
-    Trial('wrong pages are noticed', ('bookworm',), None, wrong_pages_are_noticed),
+    Trial('wrong pages are detected', ('bookworm',), None, wrong_pages_are_noticed),
 )

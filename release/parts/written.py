@@ -48,13 +48,13 @@ def earlier_files(folder):
     if not os.path.lexists(folder):
         return []
     if not os.path.isdir(folder):
-        sys.exit(f'release/make: {folder} is no folder')
+        sys.exit(f'release/make: {folder} is not a folder')
     sums, names = sums_in(folder), sorted(os.listdir(folder))
     foreign = [name for name in names if name not in (sums and {SUMS}) and not is_written(folder, name, sums)]
     if foreign:
         more = f' and {len(foreign) - 5} more' if len(foreign) > 5 else ''
-        sys.exit(f'release/make: {folder} has files that release/make did not write, or that were changed since: '
-                 f'{", ".join(map(ascii, foreign[:5]))}{more}. Name another folder, or delete them')
+        sys.exit(f'release/make: {folder} has files that release/make did not write, or that have changed since: '
+                 f'{", ".join(map(ascii, foreign[:5]))}{more}. Use another folder, or delete them')
     return names
 
 

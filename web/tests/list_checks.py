@@ -55,12 +55,12 @@ def other_digests(page):
     for name, count in (("SHA-1", 40), ("SHA-224", 56), ("SHA-256", 64), ("SHA-384", 96), ("SHA-512", 128)):
         for words in ("ab" * (count // 2), "CD" * (count // 2) + "  some.txt", f"{'ef' * (count // 2)} *some.txt"):
             page.set_field("expected", words)
-            wanted = f"{count} digits: this looks like {name}; this page computes XXH32, XXH64 and XXH3 alone."
+            wanted = f"{count} digits: this looks like {name}; this page computes only XXH32, XXH64 and XXH3."
             want(page.error_of("expected") == [wanted, "true"], page.error_of("expected"))
     for words, name in (("MD5 (some.txt) = " + "ab" * 16, "MD5"), ("sha256:" + "ab" * 32, "sha256"), ("MD5: " + "ab" * 16, "MD5"),
                         ("SHA512 (some.txt) = " + "ab" * 64, "SHA512"), ("crc32 1234abcd", "crc32")):
         page.set_field("expected", words)
-        wanted = f"This is a digest of {name}; this page computes XXH32, XXH64 and XXH3 alone."
+        wanted = f"This is a digest of {name}; this page computes only XXH32, XXH64 and XXH3."
         want(page.error_of("expected") == [wanted, "true"], page.error_of("expected"))
     for words, name in (("ab" * 16, "an MD5"), ("ab" * 16 + "  some.txt", "an MD5"), ("1234abcd", "a CRC-32"), ("XXH128 " + "ab" * 16, "")):
         page.set_field("expected", words)

@@ -95,15 +95,15 @@ def wrong_seed(page):
 
 def wrong_secret(page):
     for secret, form, said in (("ab" * 135, "hex", "135 bytes"), ("short", "text", "5 bytes"), ("abc", "hex", "3 hexadecimal digits"),
-                               ("xy", "hex", '"x" is no hexadecimal digit')):
+                               ("xy", "hex", '"x" is not a hexadecimal digit')):
         page.set_key("", secret, form)
         page.browser.wait("return document.getElementById('secret-error').textContent.includes(arguments[0])", said, seconds=10)
         want(page.error_of("secret")[1] == "true", "aria-invalid isn't set")
     page.set_key("", "short", "text")
     page.browser.type("#text", "some bytes")
-    page.browser.wait("return document.getElementById('text-error').textContent === 'Not hashed: the secret must be right first.'")
+    page.browser.wait("return document.getElementById('text-error').textContent === 'Not hashed: the secret is invalid.'")
     card = page.card("Text")
-    want(card["words"] == "Waiting for the secret to be right" and not card["digests"], card)
+    want(card["words"] == "Waiting: the secret is invalid" and not card["digests"], card)
     page.set_key("", "\u00e9" * 68, "text")
     page.browser.wait("return document.getElementById('secret').getAttribute('aria-invalid') === 'false'")
     page.digests("Text")
@@ -389,13 +389,13 @@ class Lacking:
 def which_module(page):
     """The message about the module in use, with vectors and without: and both hash."""
     said = page.text_of("#module")
-    want(said.startswith("The fast module runs here"), said)
+    want(said.startswith("The fast module is in use"), said)
     with Lacking(page, b"WebAssembly.validate = () => false;\n"):
         plain = page.text_of("#module")
         page.set_key("1234")
         page.browser.type("#text", "some bytes")
         want(page.digests("Text") == SOME_BYTES, page.card("Text"))
-    want(plain.startswith("The plain module runs here"), plain)
+    want(plain.startswith("The plain module is in use"), plain)
 
 
 def reads_by_itself(page):

@@ -125,7 +125,7 @@ def split(text):
 
 
 def parts_with_place(text):
-    """The same where there is a place in memory, with what stands behind it."""
+    """The same if there is a place in memory, with what follows it."""
     match = re.fullmatch(r"(?:(.*), )?(\[[^\]]*\](?:!|, #-?\w+)?)", text) if not re.search(r"v\d+\.\w\[", text) else None
     if match and not (match[1] or "").startswith("{"):
         return [*([part.strip() for part in match[1].split(",")] if match[1] else []), match[2]]

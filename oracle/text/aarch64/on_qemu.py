@@ -101,7 +101,7 @@ def immediates(mnemonic, word):
 
 
 def operand(word, number, mnemonic):
-    """An operand's text; the first is where the answer goes."""
+    """An operand's text; the first is where the result goes."""
     if word in ("x", "w"):
         return f"{word}{3 + number}"
     if word in ("q", "d", "s"):
@@ -212,7 +212,7 @@ class Tests(Program):
 
 
 def by_table(tests, sets, room):
-    """The same by the table: the tests stand one behind the other in an object."""
+    """The same by the table: the tests follow one another in an object."""
     text = "\t.text\n" + "".join(f"t{k}:\n{lines(text)}\n" for k, (_, text) in enumerate(tests)) + "end:\n\tnop\n"
     program = Tests(assembled(text, f"{room}/tests"))
     begins = [symbol.value for symbol in program.object.symbols if re.fullmatch(r"t\d+|end", symbol.name)]
@@ -240,7 +240,7 @@ def same_flags(cpu, nzcv):
     if cpu.flags is None:
         return True
     names = ["eq", "cs"] if cpu.flags[0] in ("add", "borrow") else list(NZCV)
-    if cpu.flags[2:4] == (0, 1):        # what ccmp leaves, of which eq alone is asked
+    if cpu.flags[2:4] == (0, 1):        # what ccmp leaves, of which only eq is used
         names = ["eq"]
     return all(bool(NZCV[name](nzcv)) == cpu.test(name) and cpu.test(name) != cpu.test(NOT[name]) for name in names)
 

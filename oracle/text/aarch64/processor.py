@@ -50,7 +50,7 @@ class Processor(linked.Processor):
     # ---- flags
 
     def test(self, name):
-        """Whether a condition holds, by what the last comparison had: (kind, width, a, b, answer). With a borrow b is one
+        """Whether a condition holds, by the last comparison's (kind, width, a, b, result). With a borrow b is one
         more."""
         if self.flags is None:
             raise Unsupported("flags that aren't set")

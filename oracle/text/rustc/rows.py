@@ -16,7 +16,7 @@ ONE_BY_ONE = range(301)
 SOME = [*range(0, 33), 48, 63, 64, 65, 96, 128, 129, 160, 192, 240, 241, 255, 256, 257, 300]
 STREAMED = [3, 8, 17, 33, 70]
 LONGER = {"32": range(301, 2001), "64": range(301, 2001), "3-64": range(301, 1101), "3-128": range(301, 1101)}
-# Wrong sources: the file, the text as it is and as it is then, and a request that notices it.
+# Wrong sources: the file, the old and the new text, and a request that detects it.
 WRONG = (
     ("twox_plain/xxhash64/rounds.rs", "rotate_left(27)", "rotate_left(26)", ("64", "seed", None), [9]),
     ("twox_plain/xxhash32/rounds.rs", "rotate_left(13)", "rotate_left(14)", ("32", "seed", None), [16]),

@@ -115,7 +115,7 @@ class Takers:
             raise NotShown(f"{name}: a place outside of {DEEP} bytes of stack")
 
     def replaced(self, summaries, family, source, secret):
-        """What stands in the place of functions, by their numbers: a call takes parts of the family, of a message and
+        """The replacements of functions, by their numbers: a call takes parts of the family, of a message and
         under a secret."""
         return {self.found[summary.name][0].index: functools.partial(self.take, summary, family, source, secret)
                 for summary in summaries}

@@ -21,7 +21,7 @@ from . import calls, every_length
 from .stripes import UPDATE, Loops, Takers
 from .values import address
 
-LONGEST = every_length.LONGEST    # bytes of a piece, and of a secret: as many as the memory has room for
+LONGEST = every_length.LONGEST    # bytes of a chunk, and of a secret: as many as the memory can hold
 
 
 class Page:
@@ -103,7 +103,7 @@ class ModuleUpdates(CargoUpdates):
 
     @staticmethod
     def with_room(case):
-        """An update by a piece that the memory has room for."""
+        """An update by a chunk that the memory can hold."""
         start, end, length, facts, *rest = case
         return start, end, length, [*facts, at_most(length, LONGEST)], *rest
 

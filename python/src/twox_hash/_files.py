@@ -46,18 +46,18 @@ def _take_all(hasher: Hasher, file: Any) -> None:
         if not length:
             return
         if not 0 < length <= PIECE_BYTES:
-            raise OSError(f'{file!r}.readinto() answered {length}, and there was room for {PIECE_BYTES} bytes')
+            raise OSError(f'{file!r}.readinto() returned {length}, for a buffer of {PIECE_BYTES} bytes')
         hasher.update(room[:length])
 
 
 def _take_pieces(hasher: Hasher, file: Any) -> None:
     """Hashes the rest of a file whose `read` returns bytes."""
     if not hasattr(file, 'read'):
-        raise TypeError(f'a path or a file that is open for reading is wanted, not {type(file).__name__!r}')
+        raise TypeError(f'file must be a path or a file open for reading, not {type(file).__name__!r}')
     while True:
         piece = file.read(PIECE_BYTES)
         if isinstance(piece, str):
-            raise TypeError(f'{file!r} is open for text, and its bytes are wanted')
+            raise TypeError(f'{file!r} is open for text, not for bytes')
         if piece is None:
             raise BlockingIOError(f'{file!r} has no bytes yet')
         if not piece:

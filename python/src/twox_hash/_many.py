@@ -39,16 +39,16 @@ def many(rows: Iterable[Any], algorithm: Union[str, HasherType] = 'xxh3_64', *, 
     the row's number, and `into` is then unchanged."""
     hasher = begun(algorithm, key)
     if isinstance(rows, str):
-        raise TypeError("rows are wanted, not 'str'")
+        raise TypeError("rows must not be a 'str'")
     numbers = into is not None and _takes_numbers(into, hasher.digest_size)
     view = _view_of(rows)
     if view is None:
         if width is not None:
-            raise TypeError(f'width is for a buffer, not {type(rows).__name__!r}')
+            raise TypeError(f'width is only for a buffer, not {type(rows).__name__!r}')
         digests = hasher._many(tuple(rows), into, numbers)
     else:
         if not view.c_contiguous:
-            raise BufferError('the rows do not lie side by side: the buffer is not C-contiguous')
+            raise BufferError('the rows are not adjacent: the buffer is not C-contiguous')
         digests = hasher._many_of_width(view, _count(view, width), into, numbers)
     return digests if into is None else into
 
@@ -57,7 +57,7 @@ def _takes_numbers(into: Any, digest_bytes: int) -> bool:
     """True if a buffer gets the values as native integers, and not the digests' bytes."""
     with memoryview(into) as room:
         if room.readonly or not room.c_contiguous:
-            raise BufferError(f'into {"can not be written" if room.readonly else "is not C-contiguous"}')
+            raise BufferError(f'into {"is read-only" if room.readonly else "is not C-contiguous"}')
         if not NATIVE_INTEGER.fullmatch(room.format):
             return False
         if room.itemsize == digest_bytes:
@@ -76,12 +76,12 @@ def _view_of(rows: Any) -> Optional[memoryview]:
     if items == 'O' and view.ndim == 1:
         return None
     if 'O' in items:
-        raise TypeError(f'these rows hold objects (format {view.format!r}) and not bytes')
+        raise TypeError(f'the rows must be bytes, not objects (format {view.format!r})')
     if POINTER.search(items):
-        raise TypeError(f'these rows hold addresses (format {view.format!r}) and not what lies there')
+        raise TypeError(f'the rows must be bytes, not addresses (format {view.format!r})')
     if 'w' in items or 'u' in items:
-        raise TypeError(f'these rows hold text as it lies in memory (format {view.format!r}), and not its bytes in UTF-8: '
-                        'rows.tolist() has it as str')
+        raise TypeError(f'the rows must be bytes, not UTF-32 text (format {view.format!r}): '
+                        'use rows.tolist() for str')
     return view
 
 
@@ -89,11 +89,11 @@ def _count(view: memoryview, width: Optional[int]) -> int:
     """Returns the number of rows of a buffer."""
     if width is None:
         if view.ndim == 0 or view.ndim == 1 and view.itemsize == 1:
-            raise ValueError('these bytes have no rows: width is the bytes of one')
+            raise ValueError('the bytes have no rows: width must be the length of a row')
         assert view.shape
         return view.shape[0]
     if width <= 0 or view.nbytes % width:
-        raise ValueError(f'{view.nbytes} bytes are no rows of {width} bytes')
+        raise ValueError(f'{view.nbytes} bytes are not rows of {width} bytes')
     return view.nbytes // width
 
 

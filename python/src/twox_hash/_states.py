@@ -37,7 +37,7 @@ def _whole_number(digits: str) -> Union[int, float]:
 
 
 def _constant(name: str) -> None:
-    raise ValueError(f'{name} is no JSON')
+    raise ValueError(f'{name} is not JSON')
 
 
 def _read(text: Union[str, bytes]) -> dict[str, Any]:
