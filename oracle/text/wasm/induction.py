@@ -166,27 +166,11 @@ class Proof(Induction, Head):
     # ---- the guess
 
     def guess(self):
-<<<<<<< HEAD
         """Two first turns tell which cells have the words, and which go on."""
         once, twice = self.first_turns()
         changed = self.changed(once)
         self.find_words(changed, once)
         self.guess_places(changed, once, twice)
-=======
-        """Two first turns show which cells have the words, and which are carried on."""
-        states = self.first_turns()
-        changed = [cell for cell in {*states[0], *states[1]} if not same(states[0].get(cell), states[1].get(cell))]
-        old, now, then = ({cell: value_of(state.get(cell)) for cell in changed} for state in states)
-        self.find_words(changed, old, now)
-        for cell in changed:
-            step = step_between(old[cell], now[cell])
-            if cell in self.words:
-                continue
-            if step is not None and same(then[cell], moved(now[cell], step, 1)):
-                self.places[cell] = old[cell], step
-            else:
-                self.let_go(cell, now[cell], old[cell])
->>>>>>> comments
 
     def first_turns(self):
         """The states after each of two turns, where many are left, or else some."""
