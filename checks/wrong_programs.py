@@ -1,5 +1,5 @@
 """Wrong bodies of `xxhsum` that the proofs let through, since no clause speaks of what the system gives, of the order of the two
-streams, or of memory: each with its file, what it changes, and the check and the row that have to detect it."""
+streams, of memory, or of which files' progress is shown: each with its file, what it changes, and the check and the row that have to detect it."""
 from typing import NamedTuple
 
 
@@ -15,6 +15,7 @@ SYSTEM, CHECK = 'xxhsum_files/src/system.rt', 'xxhsum_program/src/check.rt'
 EVER = 'for _ in 0..u64::MAX {'
 BELOW, DEEP = 'files below a folder', 'a list, both streams one pipe'
 TREE = 'a tree of many names'
+RUN, SHOWN = 'xxhsum_tree/src/run.rt', 'ProgressDisplay::new(screen, terminals, options)'
 TELLS_NONE = ('tell_line(\n                &[\n                    self.name,\n                    b": no properly formatted xxHash '
               'checksum lines found",\n                ],\n                err,\n            );')
 TELLS_IMPROPER = ('tell_of_line(\n                self.name,\n                number,\n                b"Improperly formatted '
@@ -79,6 +80,12 @@ WRONG = {
     'watch begins at the time 0': Wrong(
         'xxhsum_program/src/watched.rt', '        let started = time_of(&self.screen, self.is_on);\n        Watched::new(',
         '        let started = 0;\n        Watched::new(', 'terminals', 'progress of input'),
+    'run_arguments shows no progress of an audit': Wrong(
+        RUN, SHOWN, 'ProgressDisplay::new(screen, terminals, xxhsum_words::options::Options { is_quiet: options.audits, ..options })',
+        'terminals', 'progress of an audit'),
+    'run_arguments shows no progress below folders': Wrong(
+        RUN, SHOWN, 'ProgressDisplay::new(screen, terminals, xxhsum_words::options::Options { is_quiet: options.walks, ..options })',
+        'terminals', 'progress below a folder'),
     'size is modulo 2^40': Wrong(
         SYSTEM, 'Some(found.len())', 'Some(found.len() % 1_099_511_627_776)', 'terminals',
         'the rate and the time left of more than a tebibyte'),

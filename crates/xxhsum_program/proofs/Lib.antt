@@ -14,4 +14,3 @@ mod StopFacts
 pub mod ToldFacts
 pub mod ToldLineFacts
 pub mod WatchedFacts
-pub mod WatchedListFacts
