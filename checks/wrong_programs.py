@@ -1,5 +1,6 @@
-"""Wrong bodies of `xxhsum` that the proofs let through, since no clause speaks of what the system gives, of the order of the two
-streams, of memory, or of which files' progress is shown: each with its file, what it changes, and the check and the row that have to detect it."""
+"""Wrong bodies of `xxhsum` that the proofs let through, since no clause speaks of what the system gives, of memory, or of which
+files' progress is shown: each with its file, what it changes, and the check and the row that have to detect it. Three change the order of
+the two streams; contracts refuse these too."""
 from typing import NamedTuple
 
 
@@ -16,10 +17,10 @@ EVER = 'for _ in 0..u64::MAX {'
 BELOW, DEEP = 'files below a folder', 'a list, both streams one pipe'
 TREE = 'a tree of many names'
 RUN, SHOWN = 'xxhsum_tree/src/run.rt', 'ProgressDisplay::new(screen, terminals, options)'
-TELLS_NONE = ('tell_line(\n                &[\n                    self.name,\n                    b": no properly formatted xxHash '
-              'checksum lines found",\n                ],\n                err,\n            );')
-TELLS_IMPROPER = ('tell_of_line(\n                self.name,\n                number,\n                b"Improperly formatted '
-                  'checksum line",\n                err,\n            );')
+TELLS_NONE = ('tell_line_after(\n                &[\n                    self.name,\n                    b": no properly formatted xxHash '
+              'checksum lines found",\n                ],\n                out,\n                err,\n            );')
+TELLS_IMPROPER = ('tell_of_line_after(\n                self.name,\n                number,\n                b"Improperly formatted '
+                  'checksum line",\n                out,\n                err,\n            );')
 
 
 def turned(file, first, second, indent, check, row):
@@ -65,7 +66,7 @@ WRONG = {
     'sum_up reports a list with no line before the output that waits': turned(
         CHECK, 'release(out);', TELLS_NONE, 12, 'pipes', 'output before messages about lists with no line'),
     'check_lines reports a list that breaks off before the output that waits': turned(
-        CHECK, 'release(out);', 'self.tell_of_failure(number, &report, err);', 20, 'failing', DEEP),
+        CHECK, 'release(out);', 'self.tell_of_failure(number, &report, out, err);', 20, 'failing', DEEP),
     'count_improper reports a line before the output that waits': turned(
         CHECK, 'release(out);', TELLS_IMPROPER, 12, 'failing', DEEP),
     'digest_line has no memory past 16,000 bytes': Wrong(

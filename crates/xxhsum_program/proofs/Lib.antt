@@ -5,6 +5,7 @@ pub mod HashFacts
 mod LineEndFacts
 mod LineFacts
 mod OkFacts
+mod OrderFacts
 mod OutcomeFacts
 mod PrintedIsGoodFacts
 mod PrintedListFacts

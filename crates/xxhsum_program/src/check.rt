@@ -19,7 +19,7 @@ use crate::outcome::OFFERED;
 use crate::say::{line_of, print, release, say_line};
 use crate::screen::Ticks;
 use crate::stop::Stop;
-use crate::tell::tell_line;
+use crate::tell::{tell_line, tell_line_after};
 use crate::watched::{ProgressDisplay, Watched};
 use itoa::Buffer;
 use std::alloc::{AllocError, Global};
@@ -185,7 +185,7 @@ impl<S: Store, T: Ticks> ListCheck<'_, S, T> {
                 Next::End => return Ok(report),
                 Next::Failed => {
                     release(out);
-                    self.tell_of_failure(number, &report, err);
+                    self.tell_of_failure(number, &report, out, err);
                     return Ok(report.with_broken_end());
                 }
                 Next::Endless => {
@@ -261,10 +261,11 @@ impl<S: Store, T: Ticks> ListCheck<'_, S, T> {
         report.improper = report.improper.saturating_add(1);
         if self.options.warns {
             release(out);
-            tell_of_line(
+            tell_of_line_after(
                 self.name,
                 number,
                 b"Improperly formatted checksum line",
+                out,
                 err,
             );
         }
@@ -302,7 +303,7 @@ impl<S: Store, T: Ticks> ListCheck<'_, S, T> {
         ensures tells { TellsOn E.Sink (too_long_text self.now.name.now number) err.old err.new }
     {
         release(out);
-        tell_of_line(self.name, number, b"Line too long", err);
+        tell_of_line_after(self.name, number, b"Line too long", out, err);
     }
 
     // Prints the result of line `number`.
@@ -330,17 +331,25 @@ impl<S: Store, T: Ticks> ListCheck<'_, S, T> {
     }
 
     // Reports that a read of the list failed. If the list has no well-formed line so far, only the summary reports it.
-    fn tell_of_failure<E: Sink>(&self, number: u64, report: &Report, err: &mut E)
+    fn tell_of_failure<W: Output, E: Sink>(
+        &self,
+        number: u64,
+        report: &Report,
+        out: &W,
+        err: &mut E,
+    )
+        requires { IsWritten W.held W.has_lost out.now }
         ensures { TellsOn E.Sink
             (told_break self.now.name.now number report.now FailedRead) err.old err.new }
     {
         if report.proper == 0 {
             return;
         }
-        tell_of_line(
+        tell_of_line_after(
             self.name,
             number,
             b"A failure occurred reading the list",
+            out,
             err,
         );
     }
@@ -409,11 +418,12 @@ impl<S: Store, T: Ticks> ListCheck<'_, S, T> {
     {
         if report.proper == 0 {
             release(out);
-            tell_line(
+            tell_line_after(
                 &[
                     self.name,
                     b": no properly formatted xxHash checksum lines found",
                 ],
+                out,
                 err,
             );
             return Ok(());
@@ -486,6 +496,22 @@ pub fn tell_of_line<'a, E: Sink>(list: &'a [u8], number: u64, what: &'a [u8], er
     let digits = digits.format(number).as_bytes();
     let parts: [&[u8]; 6] = [list, b":", digits, b": Error: ", what, b"."];
     tell_line(&parts, err);
+}
+
+// Reports what is wrong with line `number` of `list`, after the output `out`. The caller shows that all printed lines
+// are written, or were lost.
+fn tell_of_line_after<W: Output, E: Sink>(
+    list: &[u8],
+    number: u64,
+    what: &[u8],
+    out: &W,
+    err: &mut E,
+)
+    requires { IsWritten W.held W.has_lost out.now }
+    ensures { TellsOn E.Sink (told_of_line list.now number what.now) err.old err.new }
+{
+    let _ = out;
+    tell_of_line(list, number, what, err);
 }
 
 // Maximum length of a line with a count, in bytes.
@@ -586,8 +612,9 @@ fn check_named<S: Store, T: Ticks, W: Output, E: Sink>(
         }
         Err(refusal) => {
             release(out);
-            tell_line(
+            tell_line_after(
                 &[b"Error: Could not open '", name, b"': ", refusal.text()],
+                out,
                 err,
             );
             Ok(false)

@@ -2,8 +2,9 @@
 
 ghost use Rattle.std.specs.Prelude.{◌≡◌, false, map, IfOk};
 ghost use Rattle.xxhsum_program.specs.Finish.{IsWritten};
-ghost use Rattle.xxhsum_program.specs.HashNames.{SaysInput, SaysNames};
+ghost use Rattle.xxhsum_program.specs.HashNames.{HashesInOrder, SaysInput, SaysNames};
 ghost use Rattle.xxhsum_program.specs.Lines.{PrintsLine, told_line, written_line};
+ghost use Rattle.xxhsum_program.specs.Order.{rules_of, streams};
 ghost use Rattle.xxhsum_program.specs.Outcomes.{is_digested};
 ghost use Rattle.xxhsum_program.specs.Run.{style_of};
 ghost use Rattle.xxhsum_program.specs.Told.{TellsOn};
@@ -14,7 +15,7 @@ use crate::outcome::{OFFERED, Outcome, Reason, outcome_of};
 use crate::say::{print, release};
 use crate::screen::Ticks;
 use crate::stop::Stop;
-use crate::tell::tell_line;
+use crate::tell::{tell_line, tell_line_after};
 use crate::watched::Watched;
 use std::alloc::Global;
 use xxh_io::ends::{Sink, Source};
@@ -42,16 +43,23 @@ pub fn hash_names<S: Store, T: Ticks, W: Output, E: Sink>(
 
     // Each name has one outcome, in order. Standard output has the lines of names with a value, and standard error the
     // messages of the others.
-    ensures { SaysNames S.Store S.File.Source W.Sink E.Sink job.now.store.now job.now.options.kind
-        (style_of job.now.options) (map (λ name. name.items) names.now)
+    ensures says { SaysNames S.Store S.File.Source W.Sink E.Sink job.now.store.now
+        job.now.options.kind (style_of job.now.options) (map (λ name. name.items) names.now)
         out.old out.new err.old err.new result }
+
+    // Lines and messages are written in the order of the names. When a message is written, all lines before it are
+    // written, or were lost.
+    ensures order { HashesInOrder S.Store S.File.Source
+        (rules_of W.Sink W.held W.has_lost E.Sink) job.now.store.now job.now.options.kind
+        (style_of job.now.options) (map (λ name. name.items) names.now)
+        (streams out.old err.old) (streams out.new err.new) result }
 {
     let mut buf = [0; OFFERED];
     let mut all = true;
     for name in names {
         let outcome = outcome_of(job, job.options.kind, name, &mut buf);
         print_outcome(job.alloc, job.options, name, &outcome, out)?;
-        tell_outcome(name, &outcome, err);
+        tell_outcome_after(name, &outcome, out, err);
         all = all && outcome.is_digested();
     }
     Ok(all)
@@ -86,7 +94,7 @@ pub fn hash_input<R: Source, T: Ticks, W: Output, E: Sink>(
         }
         Err(error) => {
             release(out);
-            tell_line(&[b"Error: ", Reason::from(error).text(), b"."], err);
+            tell_line_after(&[b"Error: ", Reason::from(error).text(), b"."], out, err);
             Ok(false)
         }
     }
@@ -152,4 +160,14 @@ pub fn tell_outcome<'a, E: Sink>(name: &'a [u8], outcome: &'a Outcome, err: &mut
             tell_line(&parts, err);
         }
     }
+}
+
+// Reports why a name has no value, after the output `out`. The caller shows that all printed lines are written, or were
+// lost, if there is something to report.
+fn tell_outcome_after<W: Output, E: Sink>(name: &[u8], outcome: &Outcome, out: &W, err: &mut E)
+    requires { is_digested outcome.now ≡ false → IsWritten W.held W.has_lost out.now }
+    ensures { TellsOn E.Sink (told_line name.now outcome.now) err.old err.new }
+{
+    let _ = out;
+    tell_outcome(name, outcome, err);
 }

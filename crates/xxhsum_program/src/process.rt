@@ -1,6 +1,7 @@
 //! Decides what the arguments ask for, and runs over files and lists.
 
 ghost use Rattle.std.specs.Prelude.{◌≡◌, false, Bool, List, ℕ, Option, Result, [], drop, get_or, map, IfSome};
+ghost use Rattle.xxhsum_program.specs.Finish.{Finishes, IsWritten};
 ghost use Rattle.xxhsum_program.specs.Joined.{joined};
 ghost use Rattle.xxhsum_program.specs.Run.{PerformsAs, end_text, status_of, stop_text};
 ghost use Rattle.xxhsum_program.specs.Task.{IsProgram, answer_text, has_none, is_tree, is_well, run_asked, shows_progress, usage_text, waits_for_terminal, wrong_text};
@@ -10,6 +11,7 @@ use crate::arguments::last_part;
 use crate::check::{check_list, check_lists};
 use crate::hash::{hash_input, hash_names};
 use crate::job::Job;
+use crate::say::finish;
 use crate::screen::Ticks;
 use crate::stop::Stop;
 use crate::tell::{tell, tell_line};
@@ -247,8 +249,8 @@ fn has_none(names: &[Vec<u8>]) -> bool
     names.is_empty()
 }
 
-/// Reports why the program stops, and returns the exit status: 0 if all went well, otherwise 1.
-pub fn conclude<E: Sink>(done: Result<bool, Stop>, err: &mut E) -> u8
+// Reports why the program stops, and returns the exit status: 0 if all went well, otherwise 1.
+fn conclude<E: Sink>(done: Result<bool, Stop>, err: &mut E) -> u8
     ensures status { result ≡ status_of done }
     ensures tells { TellsOn E.Sink (end_text done) err.old err.new }
 {
@@ -260,6 +262,28 @@ pub fn conclude<E: Sink>(done: Result<bool, Stop>, err: &mut E) -> u8
             1
         }
     }
+}
+
+/// Ends a run: writes the bytes that the output holds, and then reports why the run stops, if it does. Returns the exit
+/// status.
+pub fn end<W: Output, E: Sink>(done: Result<bool, Stop>, out: &mut W, err: &mut E) -> u8
+    ensures { (ended : Result Bool Stop)
+        × Finishes W.Sink W.held W.has_lost done out.old out.new ended
+        × TellsOn E.Sink (end_text ended) err.old err.new × (result ≡ status_of ended) }
+{
+    let ended = finish(done, out);
+    conclude_after(ended, out, err)
+}
+
+// Reports why the run stops, after the output `out`, and returns the exit status. The caller shows that all printed
+// lines are written, or were lost.
+fn conclude_after<W: Output, E: Sink>(done: Result<bool, Stop>, out: &W, err: &mut E) -> u8
+    requires { IsWritten W.held W.has_lost out.now }
+    ensures status { result ≡ status_of done }
+    ensures tells { TellsOn E.Sink (end_text done) err.old err.new }
+{
+    let _ = out;
+    conclude(done, err)
 }
 
 // Returns the message for this reason to stop.

@@ -21,10 +21,9 @@ use xxhsum_program::check::check_lists;
 use xxhsum_program::hash::hash_names;
 use xxhsum_program::job::Job;
 use xxhsum_program::process::{
-    Console, arguments_behind_name, conclude, perform, program_of, run_asked, tell_answer,
-    tell_wrong, waits_for_terminal,
+    Console, arguments_behind_name, end, perform, program_of, run_asked, tell_answer, tell_wrong,
+    waits_for_terminal,
 };
-use xxhsum_program::say::finish;
 use xxhsum_program::screen::Ticks;
 use xxhsum_program::stop::Stop;
 use xxhsum_program::tell::tell;
@@ -65,9 +64,9 @@ where
     match all_arguments(alloc, arguments) {
         Ok(args) => {
             let done = run_arguments(alloc, &args, store, console, out, err);
-            conclude(finish(done, out), err)
+            end(done, out, err)
         }
-        Err(AllocError) => conclude(finish(Err(Stop::OutOfMemory), out), err),
+        Err(AllocError) => end(Err(Stop::OutOfMemory), out, err),
     }
 }
 

@@ -11,4 +11,4 @@ returns-in-Ok-clause-checks g c =
 
 pub returns-in-Err-clause-checks : goal.returns-in-Err-clause-checks
 returns-in-Err-clause-checks g c =
-    (Unopened c.in-Err.refusal, c.in-Err.ensures.refuses, (tt, refl), c.release.ensures.prints, rw c.text.ensures at c.tell_line.ensures)
+    (Unopened c.in-Err.refusal, c.in-Err.ensures.refuses, (tt, refl), c.release.ensures.prints, rw c.text.ensures at c.tell_line_after.ensures)

@@ -11,7 +11,7 @@ use crate::programs::xxhsum_program::outcome::OFFERED;
 use crate::programs::xxhsum_program::say::{line_of, print, release, say_line};
 use crate::programs::xxhsum_program::screen::Ticks;
 use crate::programs::xxhsum_program::stop::Stop;
-use crate::programs::xxhsum_program::tell::tell_line;
+use crate::programs::xxhsum_program::tell::{tell_line, tell_line_after};
 use crate::programs::xxhsum_program::watched::{ProgressDisplay, Watched};
 use crate::rattle::itoa::Buffer;
 use crate::rattle::{AllocError, Global};
@@ -142,7 +142,7 @@ impl<S: Store, T: Ticks> ListCheck<'_, S, T> {
                 Next::End => return Ok(report),
                 Next::Failed => {
                     release(out);
-                    self.tell_of_failure(number, &report, err);
+                    self.tell_of_failure(number, &report, out, err);
                     return Ok(report.with_broken_end());
                 }
                 Next::Endless => {
@@ -201,10 +201,11 @@ impl<S: Store, T: Ticks> ListCheck<'_, S, T> {
         report.improper = report.improper.saturating_add(1);
         if self.options.warns {
             release(out);
-            tell_of_line(
+            tell_of_line_after(
                 self.name,
                 number,
                 b"Improperly formatted checksum line",
+                out,
                 err,
             );
         }
@@ -228,7 +229,7 @@ impl<S: Store, T: Ticks> ListCheck<'_, S, T> {
     // Reports that line `number` is too long.
     fn tell_too_long<W: Output, E: Sink>(&self, number: u64, out: &mut W, err: &mut E) {
         release(out);
-        tell_of_line(self.name, number, b"Line too long", err);
+        tell_of_line_after(self.name, number, b"Line too long", out, err);
     }
 
     // Prints the result of line `number`.
@@ -250,14 +251,21 @@ impl<S: Store, T: Ticks> ListCheck<'_, S, T> {
     }
 
     // Reports that a read of the list failed. If the list has no well-formed line so far, only the summary reports it.
-    fn tell_of_failure<E: Sink>(&self, number: u64, report: &Report, err: &mut E) {
+    fn tell_of_failure<W: Output, E: Sink>(
+        &self,
+        number: u64,
+        report: &Report,
+        out: &W,
+        err: &mut E,
+    ) {
         if report.proper == 0 {
             return;
         }
-        tell_of_line(
+        tell_of_line_after(
             self.name,
             number,
             b"A failure occurred reading the list",
+            out,
             err,
         );
     }
@@ -301,11 +309,12 @@ impl<S: Store, T: Ticks> ListCheck<'_, S, T> {
     ) -> Result<(), Stop> {
         if report.proper == 0 {
             release(out);
-            tell_line(
+            tell_line_after(
                 &[
                     self.name,
                     b": no properly formatted xxHash checksum lines found",
                 ],
+                out,
                 err,
             );
             return Ok(());
@@ -369,6 +378,19 @@ pub fn tell_of_line<'a, E: Sink>(list: &'a [u8], number: u64, what: &'a [u8], er
     let digits = digits.format(number).as_bytes();
     let parts: [&[u8]; 6] = [list, b":", digits, b": Error: ", what, b"."];
     tell_line(&parts, err);
+}
+
+// Reports what is wrong with line `number` of `list`, after the output `out`. The caller shows that all printed lines
+// are written, or were lost.
+fn tell_of_line_after<W: Output, E: Sink>(
+    list: &[u8],
+    number: u64,
+    what: &[u8],
+    out: &W,
+    err: &mut E,
+) {
+    let _ = out;
+    tell_of_line(list, number, what, err);
 }
 
 // Maximum length of a line with a count, in bytes.
@@ -444,8 +466,9 @@ fn check_named<S: Store, T: Ticks, W: Output, E: Sink>(
         }
         Err(refusal) => {
             release(out);
-            tell_line(
+            tell_line_after(
                 &[b"Error: Could not open '", name, b"': ", refusal.text()],
+                out,
                 err,
             );
             Ok(false)

@@ -9,7 +9,7 @@ use crate::programs::xxhsum_program::outcome::{OFFERED, Outcome, Reason, outcome
 use crate::programs::xxhsum_program::say::{print, release};
 use crate::programs::xxhsum_program::screen::Ticks;
 use crate::programs::xxhsum_program::stop::Stop;
-use crate::programs::xxhsum_program::tell::tell_line;
+use crate::programs::xxhsum_program::tell::{tell_line, tell_line_after};
 use crate::programs::xxhsum_program::watched::Watched;
 use crate::rattle::Global;
 use crate::programs::xxh_io::ends::{Sink, Source};
@@ -38,7 +38,7 @@ pub fn hash_names<S: Store, T: Ticks, W: Output, E: Sink>(
     for name in names {
         let outcome = outcome_of(job, job.options.kind, name, &mut buf);
         print_outcome(job.alloc, job.options, name, &outcome, out)?;
-        tell_outcome(name, &outcome, err);
+        tell_outcome_after(name, &outcome, out, err);
         all = all && outcome.is_digested();
     }
     Ok(all)
@@ -68,7 +68,7 @@ pub fn hash_input<R: Source, T: Ticks, W: Output, E: Sink>(
         }
         Err(error) => {
             release(out);
-            tell_line(&[b"Error: ", Reason::from(error).text(), b"."], err);
+            tell_line_after(&[b"Error: ", Reason::from(error).text(), b"."], out, err);
             Ok(false)
         }
     }
@@ -124,4 +124,11 @@ pub fn tell_outcome<'a, E: Sink>(name: &'a [u8], outcome: &'a Outcome, err: &mut
             tell_line(&parts, err);
         }
     }
+}
+
+// Reports why a name has no value, after the output `out`. The caller shows that all printed lines are written, or were
+// lost, if there is something to report.
+fn tell_outcome_after<W: Output, E: Sink>(name: &[u8], outcome: &Outcome, out: &W, err: &mut E) {
+    let _ = out;
+    tell_outcome(name, outcome, err);
 }

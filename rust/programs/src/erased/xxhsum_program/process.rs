@@ -8,6 +8,7 @@ use crate::programs::xxhsum_program::arguments::last_part;
 use crate::programs::xxhsum_program::check::{check_list, check_lists};
 use crate::programs::xxhsum_program::hash::{hash_input, hash_names};
 use crate::programs::xxhsum_program::job::Job;
+use crate::programs::xxhsum_program::say::finish;
 use crate::programs::xxhsum_program::screen::Ticks;
 use crate::programs::xxhsum_program::stop::Stop;
 use crate::programs::xxhsum_program::tell::{tell, tell_line};
@@ -211,8 +212,8 @@ fn has_none(names: &[Vec<u8>]) -> bool {
     names.is_empty()
 }
 
-/// Reports why the program stops, and returns the exit status: 0 if all went well, otherwise 1.
-pub fn conclude<E: Sink>(done: Result<bool, Stop>, err: &mut E) -> u8 {
+// Reports why the program stops, and returns the exit status: 0 if all went well, otherwise 1.
+fn conclude<E: Sink>(done: Result<bool, Stop>, err: &mut E) -> u8 {
     match done {
         Ok(true) => 0,
         Ok(false) => 1,
@@ -221,6 +222,20 @@ pub fn conclude<E: Sink>(done: Result<bool, Stop>, err: &mut E) -> u8 {
             1
         }
     }
+}
+
+/// Ends a run: writes the bytes that the output holds, and then reports why the run stops, if it does. Returns the exit
+/// status.
+pub fn end<W: Output, E: Sink>(done: Result<bool, Stop>, out: &mut W, err: &mut E) -> u8 {
+    let ended = finish(done, out);
+    conclude_after(ended, out, err)
+}
+
+// Reports why the run stops, after the output `out`, and returns the exit status. The caller shows that all printed
+// lines are written, or were lost.
+fn conclude_after<W: Output, E: Sink>(done: Result<bool, Stop>, out: &W, err: &mut E) -> u8 {
+    let _ = out;
+    conclude(done, err)
 }
 
 // Returns the message for this reason to stop.

@@ -17,10 +17,9 @@ use crate::programs::xxhsum_program::check::check_lists;
 use crate::programs::xxhsum_program::hash::hash_names;
 use crate::programs::xxhsum_program::job::Job;
 use crate::programs::xxhsum_program::process::{
-    Console, arguments_behind_name, conclude, perform, program_of, run_asked, tell_answer,
-    tell_wrong, waits_for_terminal,
+    Console, arguments_behind_name, end, perform, program_of, run_asked, tell_answer, tell_wrong,
+    waits_for_terminal,
 };
-use crate::programs::xxhsum_program::say::finish;
 use crate::programs::xxhsum_program::screen::Ticks;
 use crate::programs::xxhsum_program::stop::Stop;
 use crate::programs::xxhsum_program::tell::tell;
@@ -50,9 +49,9 @@ where
     match all_arguments(alloc, arguments) {
         Ok(args) => {
             let done = run_arguments(alloc, &args, store, console, out, err);
-            conclude(finish(done, out), err)
+            end(done, out, err)
         }
-        Err(AllocError) => conclude(finish(Err(Stop::OutOfMemory), out), err),
+        Err(AllocError) => end(Err(Stop::OutOfMemory), out, err),
     }
 }
 
